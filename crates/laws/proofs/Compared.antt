@@ -1,0 +1,49 @@
+-- How two texts compare at a place: what a loop that walks both needs at each turn.
+use Prim.Native.Nat.{ℕ, suc, _+_, _≤_, _<_}
+use mathlib.Core.Path.{_≡_, refl, ap}
+use mathlib.Core.Bool.{Bool, true, false, _&&_}
+use mathlib.Core.List.{List, [], _∷_}
+use lib.ListN.{length, getD, drop, drop-of-length-le}
+use lib.Seq.{drop-cons}
+use lib.Dec.{eqb}
+use native.Mathlib.Omega.{arith}
+use native.Mathlib.Numerals.{add-one}
+use native.Mathlib.Nat.{suc-inj}
+use borrow.Author.Tests.{eq-eqb, ne-eqb}
+use Rattle.laws.specs.Texts.{begins, same}
+
+module _ (p s : List ℕ) (i : ℕ) where
+  pub begins-short : i < length p → length s ≤ i → begins (drop i p) (drop i s) ≡ false
+  unfolding begins
+  begins-short h k = rw (drop-cons p i 0 h, drop-of-length-le s k)
+
+  pub begins-differ : i < length p → i < length s → (getD p i 0 ≡ getD s i 0 → ⊥) → begins (drop i p) (drop i s) ≡ false
+  unfolding begins
+  begins-differ h k e = rw (drop-cons p i 0 h, drop-cons s i 0 k) (rw (ne-eqb _ _ e))
+
+  pub begins-more : i < length p → i < length s → getD p i 0 ≡ getD s i 0 → begins (drop i p) (drop i s) ≡ begins (drop (i + 1) p) (drop (i + 1) s)
+  unfolding begins
+  begins-more h k e = rw (drop-cons p i 0 h, drop-cons s i 0 k) (rw (eq-eqb _ _ e) (rw (add-one i)))
+
+  pub begins-all : length p ≤ i → begins (drop i p) (drop i s) ≡ true
+  unfolding begins
+  begins-all h = rw (drop-of-length-le p h)
+
+-- texts of one length are the same if one begins the other
+pub same-begins : (s t : List ℕ) → length s ≡ length t → same s t ≡ begins s t
+unfolding same begins
+same-begins [] [] h = refl
+same-begins [] (y ∷ t) h = absurd (omega arith)
+same-begins (x ∷ s) [] h = absurd (omega arith)
+same-begins (x ∷ s) (y ∷ t) h = rw (same-begins s t (suc-inj h))
+
+and-false : (b : Bool) → (b && false) ≡ false
+and-false true = refl
+and-false false = refl
+
+pub same-differ : (s t : List ℕ) → (length s ≡ length t → ⊥) → same s t ≡ false
+unfolding same
+same-differ [] [] h = absurd (h refl)
+same-differ [] (y ∷ t) h = refl
+same-differ (x ∷ s) [] h = refl
+same-differ (x ∷ s) (y ∷ t) h = rw (same-differ s t (λ e. h (ap suc e))) (and-false (eqb x y))

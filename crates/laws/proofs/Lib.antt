@@ -1,0 +1,5 @@
+pub mod Choice
+pub mod Places
+pub mod Runs
+pub mod Compared
+pub mod Lent

@@ -1,0 +1,4 @@
+pub mod Choice
+pub mod Quoted
+pub mod Texts
+pub mod Lent
