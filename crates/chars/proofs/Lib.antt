@@ -1,0 +1,9 @@
+pub mod Table
+pub mod Agree
+pub mod Sequences
+pub mod Run
+pub mod Pieces
+pub mod Width
+pub mod Lay
+pub mod Round
+pub mod Spells
