@@ -4,15 +4,16 @@ use native.Mathlib.Omega.{arith}
 use native.Mathlib.Nat.{add-sub-cancel-left}
 use mathlib.Core.Path.{_≡_, refl, ap, sym, _∙_}
 use mathlib.Core.List.{List, [], _∷_, _++_}
-use mathlib.Core.Bool.{Bool, true, false, _||_}
-use mathlib.Core.Logic.{_⊎_, inl, inr, ⊎-elim}
+use mathlib.Core.Bool.{true, false}
+use mathlib.Core.Logic.{⊎-elim}
 use lib.Dec.{ltb}
 use lib.ListN.{length}
 use borrow.Author.Tests.{lt-ltb, le-ltb, ltb-true, ltb-false}
 use Rattle.laws.proofs.Choice.{by-bool}
-use Rattle.chars.specs.Utf8.{within, more, first, char, rest, front}
+use Rattle.chars.specs.Utf8.{more, first, char, rest, front}
 use Rattle.chars.specs.Encode.{isScalar, two, three, four, utf8, width, encode}
-use Rattle.chars.proofs.Table.{within-true, within-in, first-ascii, first-c2, first-e0, first-e1, first-ed, first-ee, first-f0, first-f1, first-f4}
+use Rattle.chars.proofs.Table.{within-in, first-ascii, first-c2, first-e0, first-e1, first-ed, first-ee, first-f0, first-f1, first-f4}
+use Rattle.chars.proofs.Scalar.{scalar-true}
 use Rattle.chars.proofs.Width.{utf8-one, utf8-two, utf8-three, utf8-four, width-utf8}
 
 -- ---- from the first byte's line of the table, and the later bytes within their ranges
@@ -107,14 +108,6 @@ module _ (c : ℕ) (t : List ℕ) where
       by-bool (ltb c 0x100000) (λ f. four-f1 (ltb-false c 0x40000 e) (ltb-true c 0x100000 f)) (λ f. four-f4 (ltb-false c 0x100000 f) h))
 
 -- ---- every character
-
-pub scalar-true : (c : ℕ) → isScalar c ≡ true → (c < 0xD800) ⊎ ((0xE000 ≤ c) × (c < 0x110000))
-unfolding isScalar
-scalar-true c = go (within 0x0000 0xD7FF c) refl
-  where
-    go : (x : Bool) → within 0x0000 0xD7FF c ≡ x → (x || within 0xE000 0x10FFFF c) ≡ true → (c < 0xD800) ⊎ ((0xE000 ≤ c) × (c < 0x110000))
-    go true e f = let h = within-true 0x0000 0xD7FF c e in inl (omega arith)
-    go false e f = let h = within-true 0xE000 0x10FFFF c f in inr (h .0, omega arith)
 
 pub back : (c : ℕ) (t : List ℕ) → isScalar c ≡ true → front (utf8 c ++ t) ≡ char c (width c)
 back c t scalar =

@@ -3,14 +3,15 @@ use Prim.Native.Nat.{ℕ, _+_, _-_, _*_, _/_, _%_, _≤_, _<_}
 use native.Mathlib.Omega.{arith}
 use mathlib.Core.Path.{_≡_, refl, sym, ap, _∙_}
 use mathlib.Core.List.{List, [], _∷_}
-use mathlib.Core.Bool.{Bool, true, false, _||_}
+use mathlib.Core.Bool.{true}
 use mathlib.Core.Logic.{_⊎_, inl, inr, ⊎-elim}
 use lib.ListN.{length, take}
 use Rattle.laws.proofs.Choice.{if-is}
 use Rattle.chars.specs.declared.Step.{Step}
 use Rattle.chars.specs.Utf8.{within, ascii, first, Front, char, bad, cut, none, rest, after, front}
 use Rattle.chars.specs.Encode.{isScalar, utf8}
-use Rattle.chars.proofs.Table.{within-true, within-in}
+use Rattle.chars.proofs.Table.{within-true}
+use Rattle.chars.proofs.Scalar.{scalar-low, scalar-high}
 use Rattle.chars.proofs.Width.{utf8-one, utf8-two, utf8-three, utf8-four}
 
 -- what stands at the front of l, if it is a character c of n bytes: they are c's encoding
@@ -34,18 +35,6 @@ by-4096 c = omega arith
 by-262144 : (c : ℕ) → c / 262144 ≡ c / 64 / 64 / 64
 by-262144 c = omega arith
 
-or-true : (x : Bool) → (x || true) ≡ true
-or-true true = refl
-or-true false = refl
-
-scalar-low : (c : ℕ) → c < 0xD800 → isScalar c ≡ true
-unfolding isScalar
-scalar-low c h = rw (within-in 0x0000 0xD7FF c (omega arith) (omega arith))
-
-scalar-high : (c : ℕ) → 0xE000 ≤ c → c < 0x110000 → isScalar c ≡ true
-unfolding isScalar
-scalar-high c l h = rw (within-in 0xE000 0x10FFFF c l (omega arith)) (or-true (within 0x0000 0xD7FF c))
-
 -- ---- two, three and four bytes within their ranges
 
 spells-two : (b x : ℕ) (t : List ℕ) → 0xC2 ≤ b → b ≤ 0xDF → 0x80 ≤ x → x ≤ 0xBF → Spells (b ∷ x ∷ t) (char ((b - 0xC0) * 64 + x % 64) 2)
@@ -67,10 +56,11 @@ spells-three b x y t g h g′ h′ g″ h″ l clear =
     let w : ℕ = (b - 0xE0) * 64 + x % 64 in
     let c : ℕ = w * 64 + y % 64 in
     let u : c < 0x10000 = omega arith in
-    let p : 0xE0 + w / 64 ≡ b = omega arith in
-    (sym (utf8-three c l u ∙ rw (by-4096 c, high w y, p, low (b - 0xE0) x g′ h′, low w y g″ h″)),
-    ⊎-elim (λ k. scalar-low c k) (λ k. scalar-high c k (omega arith)) clear,
-    omega arith)
+    let p : 0xE0 + w / 64 ≡ b = omega arith in (
+      sym (utf8-three c l u ∙ rw (by-4096 c, high w y, p, low (b - 0xE0) x g′ h′, low w y g″ h″)),
+      ⊎-elim (λ k. scalar-low c k) (λ k. scalar-high c k (omega arith)) clear,
+      omega arith,
+    )
 
 spells-four : (b x y z : ℕ) (t : List ℕ) → 0xF0 ≤ b → b ≤ 0xF4 → 0x80 ≤ x → x ≤ 0xBF → 0x80 ≤ y → y ≤ 0xBF → 0x80 ≤ z → z ≤ 0xBF
     → 0x10000 ≤ (((b - 0xF0) * 64 + x % 64) * 64 + y % 64) * 64 + z % 64 → (b - 0xF0) * 64 + x % 64 < 0x110
@@ -79,10 +69,11 @@ spells-four b x y z t g h g′ h′ g″ h″ g‴ h‴ l top =
     let v : ℕ = (b - 0xF0) * 64 + x % 64 in
     let w : ℕ = v * 64 + y % 64 in
     let c : ℕ = w * 64 + z % 64 in
-    let p : 0xF0 + v / 64 ≡ b = omega arith in
-    (sym (utf8-four c l ∙ rw (by-262144 c, by-4096 c, high w z, high v y, p, low (b - 0xF0) x g′ h′, low v y g″ h″, low w z g‴ h‴)),
-    scalar-high c (omega arith) (omega arith),
-    omega arith)
+    let p : 0xF0 + v / 64 ≡ b = omega arith in (
+      sym (utf8-four c l ∙ rw (by-262144 c, by-4096 c, high w z, high v y, p, low (b - 0xF0) x g′ h′, low v y g″ h″, low w z g‴ h‴)),
+      scalar-high c (omega arith) (omega arith),
+      omega arith,
+    )
 
 -- ---- the bytes after the first, by their count
 

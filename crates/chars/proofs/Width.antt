@@ -43,3 +43,23 @@ pub width-utf8 : (c : ℕ) → length (utf8 c) ≡ width c
 unfolding utf8 width
 width-utf8 c =
     by-bool (ltb c 0x80) (λ e. rw e) (λ e. rw e (by-bool (ltb c 0x800) (λ f. rw f) (λ f. rw f (by-bool (ltb c 0x10000) (λ g. rw g) (λ g. rw g)))))
+
+-- how wide a code point is at least, by the first of each width
+module _ (c : ℕ) where
+  pub width-two : 0x80 ≤ c → 2 ≤ width c
+  unfolding width
+  width-two h = rw (le-ltb c 0x80 h) (if-all P (ltb c 0x800) (omega arith) (if-all P (ltb c 0x10000) (omega arith) (omega arith)))
+    where
+      P : ℕ → Type 0
+      P n = 2 ≤ n
+
+  pub width-three : 0x800 ≤ c → 3 ≤ width c
+  unfolding width
+  width-three h = rw (le-ltb c 0x80 (omega arith), le-ltb c 0x800 h) (if-all P (ltb c 0x10000) (omega arith) (omega arith))
+    where
+      P : ℕ → Type 0
+      P n = 3 ≤ n
+
+  pub width-four : 0x10000 ≤ c → 4 ≤ width c
+  unfolding width
+  width-four h = rw (le-ltb c 0x80 (omega arith), le-ltb c 0x800 (omega arith), le-ltb c 0x10000 h) (omega arith)

@@ -1,53 +1,22 @@
+-- The loop keeps: the `|` of j bytes is ASCII just if the run of ASCII from `at` on has j bytes (Ascii).
+use native.Mathlib.Omega.{arith}
+use Prim.Native.Nat.{ℕ, _-_, _≤_}
+use mathlib.Core.Path.{_≡_, sym, ap, _∙_}
+use denote.Ref.{now}
+use lib.Dec.{ltb, leb}
+use lib.ListN.{drop}
+use borrow.Author.Tests.{le-leb}
+use Rattle.laws.specs.Texts.{span}
+use Rattle.chars.specs.Utf8.{ascii}
+use Rattle.chars.proofs.Ascii.{block-next, block-short}
 use Rattle.chars.proofs.decode.ascii_block.Statement.{statement}
 use Rattle.chars.proofs.decode.ascii_block.Tie as tie
-use Rattle.chars.proofs.decode.ascii_block.Reads as reads
-use Rattle.chars.proofs.decode.ascii_block.Lts as lts
 
 abbrev Inv-loop : tie.InvT-loop
-Inv-loop s at or₀ j₀ or j = ?
+Inv-loop s at or₀ j₀ or j = (j ≤ 16) × (ltb or 0x80 ≡ leb j (span ascii (drop at s)))
 
 abbrev μ-loop : tie.MeasureT-loop
-μ-loop s at or₀ j₀ or j = ?
-
--- src/decode.rt:152:9
-returns : tie.Need-returns Inv-loop μ-loop
-returns c = ?
-
--- src/decode.rt:154:8
-sub-if2 : tie.Need-sub-if2 Inv-loop μ-loop
-sub-if2 c = ?
-
--- src/decode.rt:155:9
-returns-2 : tie.Need-returns-2 Inv-loop μ-loop
-returns-2 c = ?
-
--- src/decode.rt:159:5
-loop-holds : tie.Need-loop-holds Inv-loop μ-loop
-loop-holds c = ?
-
--- src/decode.rt:160:21
-add-or : tie.Need-add-or Inv-loop μ-loop
-add-or c = ?
-
--- src/decode.rt:160:19
-shared-slice-read-or : tie.Need-shared-slice-read-or Inv-loop μ-loop
-shared-slice-read-or c = ?
-
--- src/decode.rt:161:9
-add-j : tie.Need-add-j Inv-loop μ-loop
-add-j c = ?
-
--- src/decode.rt:159:5
-loop-less : tie.Need-loop-less Inv-loop μ-loop
-loop-less c = ?
-
--- src/decode.rt:159:5
-loop-again : tie.Need-loop-again Inv-loop μ-loop
-loop-again c = ?
-
--- src/decode.rt:148:1
-returns-3 : tie.Need-returns-3 Inv-loop μ-loop
-returns-3 c = ?
+μ-loop s at or₀ j₀ or j = 16 - j
 
 pub ascii-block-spec : {M : Type 1} → statement M
 ascii-block-spec =
@@ -55,13 +24,18 @@ ascii-block-spec =
     (tie.spec
     Inv-loop
     μ-loop
-    returns
-    sub-if2
-    returns-2
-    loop-holds
-    add-or
-    shared-slice-read-or
-    add-j
-    loop-less
-    loop-again
-    returns-3)
+    (λ c. sym (block-short (now (c .before .args .s)) (c .before .args .at) 16 (omega arith) (omega arith)))
+    (λ c. omega arith)
+    (λ c. sym (block-short (now (c .before .before .args .s)) (c .before .before .args .at) 16 (omega arith) (omega arith)))
+    (λ c. let a = c .before .before .args in (omega arith, sym (le-leb 0 (span ascii (drop (a .at) (now (a .s)))) (omega arith))))
+    (λ c. omega arith)
+    (λ c. omega arith)
+    (λ c. omega arith)
+    (λ c. omega arith)
+    (λ c. let a = c .before .before .before .before .before .args in
+    let l = c .before .before .loop in
+    (omega arith, block-next (now (a .s)) (a .at) (l .j) (l .or) (omega arith) (l .inv .1)))
+    (λ c. let a = c .before .before .before .before .args in
+    let l = c .before .loop in
+    let e : l .j ≡ 16 = omega arith in
+    l .inv .1 ∙ ap (λ (j : ℕ). leb j (span ascii (drop (a .at) (now (a .s))))) e))

@@ -1,70 +1,32 @@
+-- The loop walks the machine over the bytes from `at` on: what it still reads from place i is what it reads from the start, and that
+-- is what the table says (Agree).
+use borrow.Author.Needs.{needs}
+use Prim.Native.Nat.{_-_}
+use mathlib.Core.Path.{_≡_, sym, _∙_}
+use denote.Ref.{now}
+use lib.ListN.{length, drop, drop-of-length-le}
+use lib.Seq.{drop-cons}
+use Rattle.chars.specs.Utf8.{front, placed}
+use Rattle.chars.specs.Machine.{reads}
+use Rattle.chars.proofs.Agree.{reads-front, reads-at}
 use Rattle.chars.proofs.decode.decode_at.Statement.{statement}
 use Rattle.chars.proofs.decode.decode_at.Tie as tie
-use Rattle.chars.proofs.decode.decode_at.Reads as reads
-use Rattle.chars.proofs.decode.decode_at.Lts as lts
-use Rattle.chars.proofs.decode.byte_step.Reads as byte-step-reads
 
 abbrev Inv-loop : tie.InvT-loop
-Inv-loop s at t₀ i₀ t i = ?
+Inv-loop s at t₀ i₀ t i = reads t i (drop i s) ≡ placed at (front (drop at s))
 
 abbrev μ-loop : tie.MeasureT-loop
-μ-loop s at t₀ i₀ t i = ?
+μ-loop s at t₀ i₀ t i = length s - i
 
--- src/decode.rt:118:9
+-- at the end or past it there is nothing
 returns : tie.Need-returns Inv-loop μ-loop
-returns c = ?
+unfolding front
+returns c = rw (drop-of-length-le (now (c .before .before .args .s)) (c .if1 .taken))
 
--- src/decode.rt:127:5
-loop-holds : tie.Need-loop-holds Inv-loop μ-loop
-loop-holds c = ?
-
--- src/decode.rt:128:28
-shared-slice-read-byte-step : tie.Need-shared-slice-read-byte-step Inv-loop μ-loop
-shared-slice-read-byte-step c = ?
-
--- src/decode.rt:128:15
-byte-step-requires : tie.Need-byte-step-requires Inv-loop μ-loop
-byte-step-requires c κs = ?
-
--- src/decode.rt:129:24
-enum-known-u : tie.Need-enum-known-u Inv-loop μ-loop
-enum-known-u c = ?
-
--- src/decode.rt:132:24
-enum-known-c : tie.Need-enum-known-c Inv-loop μ-loop
-enum-known-c c = ?
-
--- src/decode.rt:135:27
-add-t14 : tie.Need-add-t14 Inv-loop μ-loop
-add-t14 c = ?
-
--- src/decode.rt:133:17
-returns-2 : tie.Need-returns-2 Inv-loop μ-loop
-returns-2 c = ?
-
--- src/decode.rt:139:17
-enum-told : tie.Need-enum-told Inv-loop μ-loop
-enum-told c = ?
-
--- src/decode.rt:139:17
-returns-3 : tie.Need-returns-3 Inv-loop μ-loop
-returns-3 c = ?
-
--- src/decode.rt:142:9
-add-i : tie.Need-add-i Inv-loop μ-loop
-add-i c = ?
-
--- src/decode.rt:127:5
-loop-less : tie.Need-loop-less Inv-loop μ-loop
-loop-less c = ?
-
--- src/decode.rt:127:5
-loop-again : tie.Need-loop-again Inv-loop μ-loop
-loop-again c = ?
-
--- src/decode.rt:114:1
+-- the end cuts the character
 returns-4 : tie.Need-returns-4 Inv-loop μ-loop
-returns-4 c = ?
+unfolding reads
+returns-4 c = rw (drop-of-length-le (now (c .before .before .before .before .args .s)) (c .loop-test .left)) at (c .before .loop .inv)
 
 pub decode-at-spec : {M : Type 1} → statement M
 decode-at-spec =
@@ -73,16 +35,16 @@ decode-at-spec =
     Inv-loop
     μ-loop
     returns
-    loop-holds
-    shared-slice-read-byte-step
-    byte-step-requires
-    enum-known-u
-    enum-known-c
-    add-t14
-    returns-2
-    enum-told
-    returns-3
-    add-i
-    loop-less
-    loop-again
+    (λ c. rw (drop-cons (now (c .before .before .args .s)) (c .before .before .args .at) 0 (c .if1 .left)) (reads-front _ _ _))
+    (λ c. search needs)
+    (λ c κs. search needs)
+    (λ c. search needs)
+    (λ c. search needs)
+    (λ c. search needs)
+    (λ c. sym (reads-at _ _ _ (c .before .before .before .before .before .loop-test .taken) (sym (c .before .c .given .1) ∙ c .before .before .before .byte-step .ensures)) ∙ c .before .before .before .before .before .before .loop .inv)
+    (λ c. search needs)
+    (λ c. sym (reads-at _ _ _ (c .before .before .before .before .loop-test .taken) (sym (c .enum-told .given .1) ∙ c .before .before .byte-step .ensures)) ∙ c .before .before .before .before .before .loop .inv)
+    (λ c. search needs)
+    (λ c. search needs)
+    (λ c. sym (reads-at _ _ _ (c .before .before .before .before .before .loop-test .taken) (sym (c .before .u .given .1) ∙ c .before .before .before .byte-step .ensures)) ∙ c .before .before .before .before .before .before .loop .inv)
     returns-4)

@@ -1,111 +1,31 @@
+-- The tests go through the lines of the table upwards, so that each return knows its byte's line (Table), or the gap that it is in.
 use borrow.Author.Needs.{needs}
+use mathlib.Core.Path.{sym, _∙_}
+use Rattle.chars.proofs.Table.{first-ascii, first-gap, first-c2, first-e0, first-e1, first-ed, first-ee, first-f0, first-f1, first-f4, first-past}
 use Rattle.chars.proofs.decode.first_byte.Statement.{statement}
 use Rattle.chars.proofs.decode.first_byte.Tie as tie
-use Rattle.chars.proofs.decode.first_byte.Reads as reads
-use Rattle.chars.proofs.decode.first_byte.Lts as lts
-use Rattle.chars.proofs.decode.more.Reads as more-reads
-
--- src/decode.rt:53:9
-returns : tie.Need-returns
-returns c = ?
-
--- src/decode.rt:56:9
-returns-2 : tie.Need-returns-2
-returns-2 c = ?
-
--- src/decode.rt:59:45
-sub-more : tie.Need-sub-more
-sub-more c = search needs
-
--- src/decode.rt:59:9
-more-requires : tie.Need-more-requires
-more-requires c κs = search needs
-
--- src/decode.rt:59:9
-returns-3 : tie.Need-returns-3
-returns-3 c = ?
-
--- src/decode.rt:62:9
-more-requires-2 : tie.Need-more-requires-2
-more-requires-2 c κs = search needs
-
--- src/decode.rt:62:9
-returns-4 : tie.Need-returns-4
-returns-4 c = ?
-
--- src/decode.rt:65:9
-more-requires-3 : tie.Need-more-requires-3
-more-requires-3 c κs = search needs
-
--- src/decode.rt:65:9
-returns-5 : tie.Need-returns-5
-returns-5 c = ?
-
--- src/decode.rt:68:9
-more-requires-4 : tie.Need-more-requires-4
-more-requires-4 c κs = search needs
-
--- src/decode.rt:68:9
-returns-6 : tie.Need-returns-6
-returns-6 c = ?
-
--- src/decode.rt:71:9
-more-requires-5 : tie.Need-more-requires-5
-more-requires-5 c κs = search needs
-
--- src/decode.rt:71:9
-returns-7 : tie.Need-returns-7
-returns-7 c = ?
-
--- src/decode.rt:74:9
-more-requires-6 : tie.Need-more-requires-6
-more-requires-6 c κs = search needs
-
--- src/decode.rt:74:9
-returns-8 : tie.Need-returns-8
-returns-8 c = ?
-
--- src/decode.rt:77:9
-more-requires-7 : tie.Need-more-requires-7
-more-requires-7 c κs = search needs
-
--- src/decode.rt:77:9
-returns-9 : tie.Need-returns-9
-returns-9 c = ?
-
--- src/decode.rt:80:9
-more-requires-8 : tie.Need-more-requires-8
-more-requires-8 c κs = search needs
-
--- src/decode.rt:80:9
-returns-10 : tie.Need-returns-10
-returns-10 c = ?
-
--- src/decode.rt:49:1
-returns-11 : tie.Need-returns-11
-returns-11 c = ?
 
 pub first-byte-spec : {M : Type 1} → statement M
 first-byte-spec =
     tie.close
     (tie.spec
-    returns
-    returns-2
-    sub-more
-    more-requires
-    returns-3
-    more-requires-2
-    returns-4
-    more-requires-3
-    returns-5
-    more-requires-4
-    returns-6
-    more-requires-5
-    returns-7
-    more-requires-6
-    returns-8
-    more-requires-7
-    returns-9
-    more-requires-8
-    returns-10
-    returns-11)
+    (λ c. sym (first-ascii _ (c .if1 .taken)))
+    (λ c. sym (first-gap _ (c .before .if1 .left) (c .if2 .taken)))
+    (λ c. search needs)
+    (λ c κs. search needs)
+    (λ c. c .more .ensures ∙ sym (first-c2 _ (c .before .before .if2 .left) (c .before .if3 .taken)))
+    (λ c κs. search needs)
+    (λ c. c .more2 .ensures ∙ sym (first-e0 _ (c .before .before .if3 .left) (c .before .if4 .taken)))
+    (λ c κs. search needs)
+    (λ c. c .more3 .ensures ∙ sym (first-e1 _ (c .before .before .if4 .left) (c .before .if5 .taken)))
+    (λ c κs. search needs)
+    (λ c. c .more4 .ensures ∙ sym (first-ed _ (c .before .before .if5 .left) (c .before .if6 .taken)))
+    (λ c κs. search needs)
+    (λ c. c .more5 .ensures ∙ sym (first-ee _ (c .before .before .if6 .left) (c .before .if7 .taken)))
+    (λ c κs. search needs)
+    (λ c. c .more6 .ensures ∙ sym (first-f0 _ (c .before .before .if7 .left) (c .before .if8 .taken)))
+    (λ c κs. search needs)
+    (λ c. c .more7 .ensures ∙ sym (first-f1 _ (c .before .before .if8 .left) (c .before .if9 .taken)))
+    (λ c κs. search needs)
+    (λ c. c .more8 .ensures ∙ sym (first-f4 _ (c .before .before .if9 .left) (c .before .if10 .taken)))
+    (λ c. sym (first-past _ (c .if10 .left))))
