@@ -14,12 +14,9 @@ fn main() {
         Some(named) => PathBuf::from(named),
         None => manifest.join("../..").join(BESIDE),
     };
-    let folder = folder.canonicalize().unwrap_or_else(|error| {
-        panic!(
-            "no Rust lexer at {}: {error}; name its folder in STEEL_SRC",
-            folder.display()
-        )
-    });
+    let folder = folder
+        .canonicalize()
+        .unwrap_or_else(|error| panic!("no Rust lexer at {}: {error}; name its folder in STEEL_SRC", folder.display()));
     let lexer = folder.join("lexer.rs");
     println!("cargo:rerun-if-changed={}", lexer.display());
     println!("cargo:rustc-env=STEEL_SRC={}", folder.display());
@@ -42,21 +39,14 @@ fn patched(file: &Path, diff: &Path) -> String {
     let diff = fs::read_to_string(diff).unwrap();
     let removed = only_line(&diff, '-');
     let added = only_line(&diff, '+');
-    assert_eq!(
-        text.matches(&removed).count(),
-        1,
-        "the diff's removed line must stand in lexer.rs once"
-    );
+    assert_eq!(text.matches(&removed).count(), 1, "the diff's removed line must stand in lexer.rs once");
     text.replace(&removed, &added)
 }
 
 /// The one line of a diff that `mark` begins, without the mark and with its newline; a file's own line (`---`, `+++`) is none.
 fn only_line(diff: &str, mark: char) -> String {
     let header = String::from(mark).repeat(3);
-    let lines: Vec<&str> = diff
-        .lines()
-        .filter(|line| line.starts_with(mark) && !line.starts_with(&header))
-        .collect();
+    let lines: Vec<&str> = diff.lines().filter(|line| line.starts_with(mark) && !line.starts_with(&header)).collect();
     assert_eq!(lines.len(), 1, "the diff must change one line");
     format!("{}\n", &lines[0][1..])
 }

@@ -10,9 +10,8 @@ const TELLING: &[&str] = &[
 ];
 
 /// Bytes at the borders of RFC 3629's table.
-const BORDERS: &[u8] = &[
-    0x00, 0x7F, 0x80, 0x8F, 0x90, 0x9F, 0xA0, 0xBF, 0xC0, 0xC1, 0xC2, 0xDF, 0xE0, 0xED, 0xEF, 0xF0, 0xF4, 0xF5, 0xFF,
-];
+const BORDERS: &[u8] =
+    &[0x00, 0x7F, 0x80, 0x8F, 0x90, 0x9F, 0xA0, 0xBF, 0xC0, 0xC1, 0xC2, 0xDF, 0xE0, 0xED, 0xEF, 0xF0, 0xF4, 0xF5, 0xFF];
 
 pub fn characters(random: &mut Random, sink: &mut Sink) {
     loop {
@@ -43,11 +42,7 @@ pub fn edited(random: &mut Random, text: &str) -> String {
     let places: Vec<usize> = text.char_indices().map(|(at, _)| at).chain([text.len()]).collect();
     let at = random.below(places.len());
     let next = (at + 1).min(places.len() - 1);
-    let (before, here, behind) = (
-        &text[..places[at]],
-        &text[places[at]..places[next]],
-        &text[places[next]..],
-    );
+    let (before, here, behind) = (&text[..places[at]], &text[places[at]..places[next]], &text[places[next]..]);
     match random.below(8) {
         0 | 1 => format!("{before}{behind}"),
         2 | 3 => format!("{before}{}{here}{behind}", random.one(TELLING)),

@@ -32,78 +32,41 @@ impl Sink<'_> {
 pub struct Family {
     pub name: &'static str,
     pub about: &'static str,
-    make: fn(&mut Random, &mut Sink),
+    /// Whether it lists all its texts and ends, or draws them at random for ever.
+    pub lists: bool,
+    make: Make,
 }
 
 impl Family {
-    /// Hands at most `count` texts of the family to `take`. A family that lists ends by itself and needs no seed.
+    /// Hands at most `count` texts of the family to `take`. One that lists needs no seed.
     pub fn each(&self, seed: u64, count: u64, take: &mut dyn FnMut(&[u8])) {
         (self.make)(&mut Random::new(seed), &mut Sink { left: count, take });
     }
 }
 
-/// The families. The first ones list all their texts, the others are random and without end.
+type Make = fn(&mut Random, &mut Sink);
+
+const fn lists(name: &'static str, about: &'static str, make: Make) -> Family {
+    Family { name, about, lists: true, make }
+}
+
+const fn draws(name: &'static str, about: &'static str, make: Make) -> Family {
+    Family { name, about, lists: false, make }
+}
+
 pub const FAMILIES: &[Family] = &[
-    Family {
-        name: "short",
-        about: "all texts of up to 4 of 35 characters that the lexer tells apart",
-        make: short::texts,
-    },
-    Family {
-        name: "escapes",
-        about: "all beginnings of an escape in \"..\" and |..|, up to 4 characters more",
-        make: short::escapes,
-    },
-    Family {
-        name: "hashes",
-        about: "# and up to 4 of 31 characters",
-        make: short::hashes,
-    },
-    Family {
-        name: "here",
-        about: "#<< and up to 7 of 8 characters",
-        make: short::here,
-    },
-    Family {
-        name: "comments",
-        about: "all texts of up to 8 of 6 characters that make comments",
-        make: short::comments,
-    },
-    Family {
-        name: "numbers",
-        about: "all texts of up to 6 of 16 characters that make numbers",
-        make: short::numbers,
-    },
-    Family {
-        name: "bytes",
-        about: "all byte sequences of up to 3 bytes",
-        make: short::bytes,
-    },
-    Family {
-        name: "long",
-        about: "every kind of item, 4,090 to 4,102 bytes long",
-        make: long::texts,
-    },
-    Family {
-        name: "reals",
-        about: "numbers by their grammar, some damaged",
-        make: real::texts,
-    },
-    Family {
-        name: "plans",
-        about: "felling plans by their grammar",
-        make: plan::texts,
-    },
-    Family {
-        name: "damaged",
-        about: "plans with some characters lost, added, moved or changed",
-        make: damage::characters,
-    },
-    Family {
-        name: "bad",
-        about: "plans with some bytes lost, added or changed: mostly no UTF-8",
-        make: damage::bytes,
-    },
+    lists("short", "all texts of up to 4 of 35 characters that the lexer tells apart", short::texts),
+    lists("escapes", "all beginnings of an escape in \"..\" and |..|, up to 4 of 22 characters more", short::escapes),
+    lists("hashes", "# and up to 4 of 31 characters", short::hashes),
+    lists("here", "#<< and up to 7 of 8 characters", short::here),
+    lists("comments", "all texts of up to 8 of 6 characters that make comments", short::comments),
+    lists("numbers", "all texts of up to 6 of 16 characters that make numbers", short::numbers),
+    lists("bytes", "all byte sequences of up to 3 bytes", short::bytes),
+    lists("long", "every kind of item, 4,090 to 4,102 bytes long", long::texts),
+    draws("reals", "numbers by their grammar, some damaged", real::texts),
+    draws("plans", "felling plans by their grammar", plan::texts),
+    draws("damaged", "plans with some characters lost, added or changed", damage::characters),
+    draws("bad", "plans with some bytes lost, added or changed: mostly no UTF-8", damage::bytes),
 ];
 
 /// The family of a name.

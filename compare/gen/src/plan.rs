@@ -42,14 +42,7 @@ fn datum(random: &mut Random, depth: usize, out: &mut String) {
 }
 
 fn list(random: &mut Random, depth: usize, out: &mut String) {
-    let (open, close) = [
-        ("(", ")"),
-        ("(", ")"),
-        ("[", "]"),
-        ("{", "}"),
-        ("#(", ")"),
-        ("#u8(", ")"),
-    ][random.below(6)];
+    let (open, close) = [("(", ")"), ("(", ")"), ("[", "]"), ("{", "}"), ("#(", ")"), ("#u8(", ")")][random.below(6)];
     out.push_str(open);
     for _ in 0..random.below(5) {
         datum(random, depth, out);
@@ -60,75 +53,22 @@ fn list(random: &mut Random, depth: usize, out: &mut String) {
 
 /// What stands between data: mostly a blank, at times nothing.
 fn blank(random: &mut Random, out: &mut String) {
-    out.push_str(random.one(&[
-        " ", " ", " ", "  ", "\n", "\r\n", "\t", "\u{A0}", "\u{3000}", "\u{2028}", "",
-    ]));
+    out.push_str(random.one(&[" ", " ", " ", "  ", "\n", "\r\n", "\t", "\u{A0}", "\u{3000}", "\u{2028}", ""]));
 }
 
 /// Words with a kind of their own, and words that are nearly such.
 const WORDS: &[&str] = &[
-    ".",
-    "...",
-    "if",
-    "let",
-    "define",
-    "defn",
-    "#%define",
-    "%plain-let",
-    "return!",
-    "begin",
-    "lambda",
-    "fn",
-    "#%plain-lambda",
-    "λ",
-    "quote",
-    "syntax-rules",
-    "define-syntax",
-    "set!",
-    "require",
-    "#t",
-    "#f",
-    "#true",
-    "#false",
-    "#:key",
-    "#:",
-    "#u8",
-    "##",
-    "If",
-    "lets",
-    "defin",
-    "..",
-    "#tru",
-    "#T",
-    "+",
-    "-",
-    "+5",
-    "+foo",
-    "-foo",
-    "...x",
-    "a|b",
-    "a\\ b",
-    "1+",
-    "12,5",
-    "14.7;gps",
-    "stand",
-    "spruce",
-    "Fällung",
-    "gps",
-    "x",
-    "_",
-    "#<a",
-    "#foo'bar",
-    "#1=a",
+    ".", "...", "if", "let", "define", "defn", "#%define", "%plain-let", "return!", "begin", "lambda", "fn",
+    "#%plain-lambda", "λ", "quote", "syntax-rules", "define-syntax", "set!", "require", "#t", "#f", "#true", "#false",
+    "#:key", "#:", "#u8", "##", "If", "lets", "defin", "..", "#tru", "#T", "+", "-", "+5", "+foo", "-foo", "...x",
+    "a|b", "a\\ b", "1+", "12,5", "14.7;gps", "stand", "spruce", "Fällung", "gps", "x", "_", "#<a", "#foo'bar", "#1=a",
     "\\",
 ];
 
 fn word(random: &mut Random, out: &mut String) {
     if random.once_in(3) {
         for _ in 0..1 + random.below(6) {
-            out.push_str(random.one(&[
-                "a", "b", "-", "+", ".", "1", "!", "?", "é", "/", "<", "i", "e", "#", ":",
-            ]));
+            out.push_str(random.one(&["a", "b", "-", "+", ".", "1", "!", "?", "é", "/", "<", "i", "e", "#", ":"]));
         }
     } else {
         out.push_str(random.one(WORDS));
@@ -150,34 +90,9 @@ fn lines(random: &mut Random, out: &mut String) {
 }
 
 const ESCAPES: &[&str] = &[
-    "\\n",
-    "\\t",
-    "\\a",
-    "\\b",
-    "\\r",
-    "\\0",
-    "\\\\",
-    "\\\"",
-    "\\|",
-    "\\x41;",
-    "\\xe9;",
-    "\\x+41;",
-    "\\x10FFFF;",
-    "\\x110000;",
-    "\\xD800;",
-    "\\u41;",
-    "\\u{1F600}",
-    "\\u{}",
-    "\\x;",
-    "\\xg;",
-    "\\x123456789;",
-    "\\x41",
-    "\\q",
-    "\\é",
-    "\\\n   ",
-    "\\  \n\t",
-    "\\ x",
-    "\\\r\n",
+    "\\n", "\\t", "\\a", "\\b", "\\r", "\\0", "\\\\", "\\\"", "\\|", "\\x41;", "\\xe9;", "\\x+41;", "\\x10FFFF;",
+    "\\x110000;", "\\xD800;", "\\u41;", "\\u{1F600}", "\\u{}", "\\x;", "\\xg;", "\\x123456789;", "\\x41", "\\q", "\\é",
+    "\\\n   ", "\\  \n\t", "\\ x", "\\\r\n",
 ];
 
 /// What stands in a string: mostly plain characters, at times an escape.
@@ -192,43 +107,9 @@ fn inside(random: &mut Random, out: &mut String) {
 }
 
 const CHARACTERS: &[&str] = &[
-    "a",
-    "é",
-    "😀",
-    "(",
-    ")",
-    " ",
-    "\"",
-    "\\",
-    "'",
-    "x",
-    "u",
-    "x41",
-    "u41",
-    "u{41}",
-    "u{41",
-    "u{}",
-    "x+41",
-    "xD800",
-    "x110000",
-    "xyz",
-    "xfffffffff",
-    "X41",
-    "alarm",
-    "backspace",
-    "delete",
-    "escape",
-    "newline",
-    "null",
-    "return",
-    "space",
-    "tab",
-    "TAB",
-    "NewLine",
-    "spac",
-    "tabs",
-    "",
-    "ab",
+    "a", "é", "😀", "(", ")", " ", "\"", "\\", "'", "x", "u", "x41", "u41", "u{41}", "u{41", "u{}", "x+41", "xD800",
+    "x110000", "xyz", "xfffffffff", "X41", "alarm", "backspace", "delete", "escape", "newline", "null", "return",
+    "space", "tab", "TAB", "NewLine", "spac", "tabs", "", "ab",
 ];
 
 fn character(random: &mut Random, out: &mut String) {

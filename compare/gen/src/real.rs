@@ -101,11 +101,7 @@ fn decimal(random: &mut Random, digits: &str, out: &mut String) {
 
 /// One or more digits: mostly few, at times more than 64 bits hold.
 fn run(random: &mut Random, digits: &str, out: &mut String) {
-    let count = if random.once_in(10) {
-        15 + random.below(20)
-    } else {
-        1 + random.below(4)
-    };
+    let count = if random.once_in(10) { 15 + random.below(20) } else { 1 + random.below(4) };
     for _ in 0..count {
         let at = random.below(digits.len());
         out.push_str(&digits[at..at + 1]);

@@ -38,9 +38,7 @@ const IN_ESCAPES: &[&str] = &[
 ];
 
 pub fn escapes(_: &mut Random, sink: &mut Sink) {
-    let _ = ESCAPE_BEGINNINGS
-        .iter()
-        .all(|beginning| all(beginning, IN_ESCAPES, 4, sink));
+    let _ = ESCAPE_BEGINNINGS.iter().all(|beginning| all(beginning, IN_ESCAPES, 4, sink));
 }
 
 const IN_HASHES: &[&str] = &[
@@ -60,9 +58,7 @@ pub fn comments(_: &mut Random, sink: &mut Sink) {
     all("", &["#", "|", ";", "\n", "a", "\""], 8, sink);
 }
 
-const IN_NUMBERS: &[&str] = &[
-    "0", "1", "9", "+", "-", ".", "e", "E", "/", "i", "@", "#", "x", "b", "a", "é",
-];
+const IN_NUMBERS: &[&str] = &["0", "1", "9", "+", "-", ".", "e", "E", "/", "i", "@", "#", "x", "b", "a", "é"];
 
 pub fn numbers(_: &mut Random, sink: &mut Sink) {
     all("", IN_NUMBERS, 6, sink);

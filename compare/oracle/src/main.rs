@@ -18,11 +18,7 @@ struct Options {
 }
 
 fn main() {
-    let mut options = Options {
-        report: false,
-        skip: false,
-        framed: false,
-    };
+    let mut options = Options { report: false, skip: false, framed: false };
     for word in env::args().skip(1) {
         match word.as_str() {
             "--report" => options.report = true,
@@ -34,9 +30,7 @@ fn main() {
             }
         }
     }
-    let worker = thread::Builder::new()
-        .stack_size(STACK)
-        .spawn(move || print_all(&options));
+    let worker = thread::Builder::new().stack_size(STACK).spawn(move || print_all(&options));
     if let Err(error) = worker.expect("a thread").join().expect("no panic") {
         eprintln!("oracle: {error}");
         process::exit(1);
@@ -63,11 +57,7 @@ fn print_one(options: &Options, text: &[u8], out: &mut impl Write) -> io::Result
         Ok(source) => source,
         Err(error) => return writeln!(out, "refused 21 {}", error.valid_up_to()),
     };
-    let read = if options.report {
-        steel_report::read
-    } else {
-        steel::read
-    };
+    let read = if options.report { steel_report::read } else { steel::read };
     let reading = panic::catch_unwind(|| {
         let mut reading = Reading::default();
         read(source, options.skip, &mut reading);

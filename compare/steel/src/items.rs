@@ -30,11 +30,7 @@ pub fn read(text: &str, skip_comments: bool, out: &mut Reading) -> u64 {
         let extent = start..start + slice.len();
         let item = match &answer {
             Ok(token) => {
-                let at = Token {
-                    slice,
-                    extent: extent.clone(),
-                    queued: extent == last,
-                };
+                let at = Token { slice, extent: extent.clone(), queued: extent == last };
                 at.item(&token.ty, span, &mut out.memory, &mut zeros)
             }
             Err(error) => {
@@ -97,11 +93,7 @@ impl Token<'_> {
 
     /// Text that stands in the source `skip` bytes behind the extent's start.
     fn in_source(&self, skip: usize, text: &str) -> (u32, Range<usize>) {
-        assert_eq!(
-            self.slice.get(skip..skip + text.len()),
-            Some(text),
-            "a text is in the source or decoded"
-        );
+        assert_eq!(self.slice.get(skip..skip + text.len()), Some(text), "a text is in the source or decoded");
         let start = self.extent.start + skip;
         (IN_SOURCE, start..start + text.len())
     }
@@ -134,10 +126,7 @@ impl Token<'_> {
 
     /// The number's parts: what the number call gives for the extent. The interner may hand back another zero.
     fn number(&self, interned: &InternedNumber, zeros: &mut u64) -> Number {
-        let literal = number_call(self.slice)
-            .ok()
-            .flatten()
-            .expect("a number token is a number");
+        let literal = number_call(self.slice).ok().flatten().expect("a number token is a number");
         let resolved = interned.resolve();
         assert_eq!(resolved, literal, "the interner keeps numbers but for a zero's sign");
         if parts(&resolved) != parts(&literal) {
