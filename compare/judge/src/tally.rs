@@ -68,7 +68,10 @@ impl Tally {
     }
 }
 
-/// An input as a message shows it.
+/// An input as a message shows it: its first bytes, as a text and in hex.
 pub fn shown(text: &[u8]) -> String {
-    format!("{:?} ({})", String::from_utf8_lossy(text), item::hex(text))
+    const ENOUGH: usize = 100;
+    let first = &text[..text.len().min(ENOUGH)];
+    let more = if text.len() > ENOUGH { ".." } else { "" };
+    format!("{:?}{more} ({}{more}, {} bytes)", String::from_utf8_lossy(first), item::hex(first), text.len())
 }

@@ -1,12 +1,14 @@
-//! `oracle [--report] [--skip] [--framed]` prints what the Rust reads standard input as: a line for each item, with its nine
+//! `oracle [--report] [--skip] [--number] [--framed]` prints what the Rust reads standard input as: a line for each item, with its nine
 //! words, its text in hex (`-` for none, else behind an `x`) and a number's parts; then `end` and the count of items.
 //!
 //! --report   with report mode's line changed (steel_report/report.diff): an aid, not the Rust's own word
 //! --skip     comments are skipped
+//! --number   the number call instead, on the whole text: the number's parts, `no number`, or error 8 as `108`
 //! --framed   input is many texts, each behind its length (four bytes, the lowest first), as `gen` writes them
 use item::Reading;
 use std::io::{self, BufWriter, Read, Write};
 use std::{env, panic, process, thread};
+use steel::NumberAnswer;
 
 /// The Rust calls itself for every comment that it skips (difference A4): enough stack for a few million in a row.
 const STACK: usize = 1 << 30;
@@ -14,18 +16,20 @@ const STACK: usize = 1 << 30;
 struct Options {
     report: bool,
     skip: bool,
+    number: bool,
     framed: bool,
 }
 
 fn main() {
-    let mut options = Options { report: false, skip: false, framed: false };
+    let mut options = Options { report: false, skip: false, number: false, framed: false };
     for word in env::args().skip(1) {
         match word.as_str() {
             "--report" => options.report = true,
             "--skip" => options.skip = true,
+            "--number" => options.number = true,
             "--framed" => options.framed = true,
             _ => {
-                eprintln!("usage: oracle [--report] [--skip] [--framed] < TEXT");
+                eprintln!("usage: oracle [--report] [--skip] [--number] [--framed] < TEXT");
                 process::exit(2);
             }
         }
@@ -57,14 +61,21 @@ fn print_one(options: &Options, text: &[u8], out: &mut impl Write) -> io::Result
         Ok(source) => source,
         Err(error) => return writeln!(out, "refused 21 {}", error.valid_up_to()),
     };
+    let answer = panic::catch_unwind(|| if options.number { number(source) } else { items(options, source) });
+    writeln!(out, "{}", answer.as_deref().unwrap_or("panic"))
+}
+
+fn items(options: &Options, text: &str) -> String {
     let read = if options.report { steel_report::read } else { steel::read };
-    let reading = panic::catch_unwind(|| {
-        let mut reading = Reading::default();
-        read(source, options.skip, &mut reading);
-        reading
-    });
-    match reading {
-        Ok(reading) => writeln!(out, "{}end {}", reading.lines(text), reading.items.len()),
-        Err(_) => writeln!(out, "panic"),
+    let mut reading = Reading::default();
+    read(text, options.skip, &mut reading);
+    format!("{}end {}", reading.lines(text.as_bytes()), reading.items.len())
+}
+
+fn number(text: &str) -> String {
+    match steel::number(text) {
+        NumberAnswer::Is(number) => number.to_string(),
+        NumberAnswer::NoNumber => "no number".into(),
+        NumberAnswer::ZeroDenominator => "108".into(),
     }
 }
