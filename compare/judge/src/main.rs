@@ -1,5 +1,6 @@
-//! `judge [--seed N] [--count N] [--limit N] [--huge] [PART..]` compares the proved functions with the Rust, part by part, and prints a line
-//! for each comparison. The last line says how many passed; a difference that is not listed makes the exit status non-zero.
+//! `judge [--seed N] [--count N] [--limit N] [--huge] [PART..]` compares the proved functions with the Rust, part by part,
+//! and prints a line for each comparison. The last line says how many passed; a difference that is not listed makes the
+//! exit status non-zero.
 //!
 //! --seed     where the random texts start (0)
 //! --count    how many texts of a random family are compared (1,000,000); a family that lists is compared whole
