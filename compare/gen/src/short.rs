@@ -1,0 +1,75 @@
+//! All short texts over alphabets of characters that some reader tells apart.
+use crate::{Random, Sink};
+
+/// All texts of up to `length` characters of `alphabet` behind a beginning, the shorter ones first.
+fn all(beginning: &str, alphabet: &[&str], length: usize, sink: &mut Sink) -> bool {
+    (0..=length).all(|n| {
+        let mut text = beginning.as_bytes().to_vec();
+        exactly(&mut text, alphabet, n, sink)
+    })
+}
+
+/// The texts of exactly `n` characters behind `text`, which is left as it was.
+fn exactly(text: &mut Vec<u8>, alphabet: &[&str], n: usize, sink: &mut Sink) -> bool {
+    if n == 0 {
+        return sink.put(text);
+    }
+    let kept = text.len();
+    alphabet.iter().all(|character| {
+        text.extend_from_slice(character.as_bytes());
+        let more = exactly(text, alphabet, n - 1, sink);
+        text.truncate(kept);
+        more
+    })
+}
+
+const CHARACTERS: &[&str] = &[
+    "(", ")", "[", "{", "}", "\"", ";", "#", "|", "\\", "'", "`", ",", "@", "+", "-", ".", "/", "0", "1", "a", "e",
+    "i", "x", "u", "t", "n", "<", "!", ":", " ", "\n", "\r", "é", "\u{A0}",
+];
+
+pub fn texts(_: &mut Random, sink: &mut Sink) {
+    all("", CHARACTERS, 4, sink);
+}
+
+const ESCAPE_BEGINNINGS: &[&str] = &["\"\\", "|\\", "\"\\x", "|\\x", "\"\\u{", "|a\\u", "\"\\ ", "|\\\n"];
+const IN_ESCAPES: &[&str] = &[
+    "\"", "|", "\\", "x", "u", "{", "}", ";", "0", "4", "D", "F", "g", "+", "-", " ", "\t", "\n", "\r", "(", "é", "n",
+];
+
+pub fn escapes(_: &mut Random, sink: &mut Sink) {
+    let _ = ESCAPE_BEGINNINGS.iter().all(|beginning| all(beginning, IN_ESCAPES, 4, sink));
+}
+
+const IN_HASHES: &[&str] = &[
+    "t", "f", "r", "u", "e", "8", "(", "[", ")", "\\", "x", "d", "b", "'", "`", ",", "@", ":", ";", "|", "<", "!", "#",
+    "%", "a", "1", " ", "\n", "é", "{", "}",
+];
+
+pub fn hashes(_: &mut Random, sink: &mut Sink) {
+    all("#", IN_HASHES, 4, sink);
+}
+
+pub fn here(_: &mut Random, sink: &mut Sink) {
+    all("#<<", &["a", "b", "\n", "\r", " ", "é", "\"", "|"], 7, sink);
+}
+
+pub fn comments(_: &mut Random, sink: &mut Sink) {
+    all("", &["#", "|", ";", "\n", "a", "\""], 8, sink);
+}
+
+const IN_NUMBERS: &[&str] = &["0", "1", "9", "+", "-", ".", "e", "E", "/", "i", "@", "#", "x", "b", "a", "é"];
+
+pub fn numbers(_: &mut Random, sink: &mut Sink) {
+    all("", IN_NUMBERS, 6, sink);
+}
+
+pub fn bytes(_: &mut Random, sink: &mut Sink) {
+    for n in 0..=3u32 {
+        for value in 0..1u32 << (8 * n) {
+            if !sink.put(&value.to_be_bytes()[4 - n as usize..]) {
+                return;
+            }
+        }
+    }
+}

@@ -1,0 +1,79 @@
+//! Document 01's examples E1 to E16 and its sample of `lexlist`, written down from the document and compared with the Rust.
+use crate::tally::{shown, Count, Tally};
+use crate::Options;
+use item::{Reading, Record};
+
+/// An example: its name, its text, and the lines that `Reading::lines` must print for it.
+struct Example {
+    name: &'static str,
+    text: &'static str,
+    lines: &'static str,
+}
+
+/// A line is: kind, detail, extent, place, text source and places, then the text in hex, then a number's parts.
+const EXAMPLES: &[Example] = &[
+    Example { name: "E1", text: "", lines: "" },
+    Example { name: "E2", text: "+foo", lines: "27 0 0 4 0 4 1 0 1 x2b\n27 0 0 4 0 4 1 1 4 x666f6f\n" },
+    Example { name: "E3", text: "||", lines: "27 0 0 2 0 2 1 1 1 x\n" },
+    Example { name: "E4", text: "#\\", lines: "107 0 0 2 0 2 0 0 0 -\n" },
+    Example { name: "E5", text: "1/0", lines: "108 0 0 3 0 3 0 0 0 -\n" },
+    Example { name: "E6", text: "1/-2", lines: "27 0 0 4 0 4 1 0 4 x312f2d32\n" },
+    Example { name: "E7", text: "1@1/-2", lines: "29 0 0 6 0 6 0 0 0 - polar 1 1/-2\n" },
+    Example { name: "E8", text: "14.7;gps", lines: "27 0 0 4 0 4 1 0 4 x31342e37\n25 0 4 8 4 8 0 0 0 -\n" },
+    Example { name: "E9", text: "|a\\|", lines: "27 0 0 4 0 4 2 0 2 x617c\n" },
+    Example { name: "E10", text: "\"\\xD800;\"", lines: "112 55296 0 8 1 8 0 0 0 -\n102 0 8 9 1 8 0 0 0 -\n" },
+    Example { name: "E11", text: "\"\\x+41;\"", lines: "30 0 0 8 0 8 2 0 1 x41\n" },
+    Example { name: "E12", text: "#<<\nabc", lines: "30 0 0 5 0 5 1 4 5 x61\n27 0 5 7 5 7 1 5 7 x6263\n" },
+    Example { name: "E13", text: "-|a|", lines: "103 0 0 4 0 4 0 0 0 -\n" },
+    Example { name: "E14", text: "|\\\n|", lines: "27 0 0 4 0 4 1 1 3 x5c0a\n" },
+    Example { name: "E15", text: "#xe+1i", lines: "27 0 0 6 0 6 1 0 6 x2378652b3169\n" },
+    Example {
+        name: "E16",
+        text: "12,5",
+        lines: "27 0 0 2 0 2 1 0 2 x3132\n4 0 2 3 2 3 0 0 0 -\n29 0 3 4 3 4 0 0 0 - real 5\n",
+    },
+];
+
+/// E8 in report mode; 14.7 is the float 402d666666666666.
+const REPORT: Example = Example {
+    name: "E8 in report mode",
+    text: "14.7;gps",
+    lines: "29 0 0 4 0 4 0 0 0 - real float:402d666666666666\n25 0 4 8 4 8 0 0 0 -\n",
+};
+
+const LEXLIST: (&str, &str) = ("(a 14.7;gps\n", "0 0 1\n27 1 2\n27 3 7\n25 7 12\nend 4\n");
+
+pub fn judge(_: &Options) -> Count {
+    let mut tally = Tally::between(["the Rust", "01"], "examples E1 to E16, lexlist");
+    for example in EXAMPLES {
+        same(&mut tally, example, steel::read);
+    }
+    same(&mut tally, &REPORT, steel_report::read);
+    let (text, listed) = LEXLIST;
+    let mut reading = Reading::default();
+    steel::read(text, false, &mut reading);
+    tally.same(lexlist(&reading), listed.to_string(), || "lexlist".into());
+    tally.close()
+}
+
+fn same(tally: &mut Tally, example: &Example, read: fn(&str, bool, &mut Reading) -> u64) {
+    let mut reading = Reading::default();
+    read(example.text, false, &mut reading);
+    let lines = reading.lines(example.text.as_bytes()).to_string();
+    tally.same(lines, example.lines.to_string(), || format!("{} {}", example.name, shown(example.text.as_bytes())));
+}
+
+/// A reading as the program `lexlist` prints it: kind and extent, the place of an error, the count.
+fn lexlist(reading: &Reading) -> String {
+    const FIRST_ERROR: u32 = 101;
+    let mut out = String::new();
+    for item in &reading.items {
+        let [kind, _, start, end, from, to, ..]: Record = item.record;
+        out += &format!("{kind} {start} {end}");
+        if kind >= FIRST_ERROR {
+            out += &format!(" {from} {to}");
+        }
+        out.push('\n');
+    }
+    out + &format!("end {}\n", reading.items.len())
+}

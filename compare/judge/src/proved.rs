@@ -1,0 +1,34 @@
+//! The proved functions (crates/exports), each behind a safe function. A slice is passed as a pointer and a length.
+
+extern "C" {
+    fn mihadrena_good_bytes(text: *const u8, length: usize) -> usize;
+    fn mihadrena_code_at(text: *const u8, length: usize, at: usize) -> u32;
+    fn mihadrena_next_at(text: *const u8, length: usize, at: usize) -> usize;
+    fn mihadrena_is_blank(code: u32) -> bool;
+    fn mihadrena_put_char(code: u32, text: *mut u8, length: usize) -> usize;
+}
+
+/// What `code_at` answers where no character stands.
+pub const BAD: u32 = 0x110000;
+pub const CUT: u32 = 0x110001;
+pub const END: u32 = 0x110002;
+
+pub fn good_bytes(text: &[u8]) -> usize {
+    unsafe { mihadrena_good_bytes(text.as_ptr(), text.len()) }
+}
+
+pub fn code_at(text: &[u8], at: usize) -> u32 {
+    unsafe { mihadrena_code_at(text.as_ptr(), text.len(), at) }
+}
+
+pub fn next_at(text: &[u8], at: usize) -> usize {
+    unsafe { mihadrena_next_at(text.as_ptr(), text.len(), at) }
+}
+
+pub fn is_blank(code: u32) -> bool {
+    unsafe { mihadrena_is_blank(code) }
+}
+
+pub fn put_char(code: u32, text: &mut [u8]) -> usize {
+    unsafe { mihadrena_put_char(code, text.as_mut_ptr(), text.len()) }
+}

@@ -1,0 +1,2 @@
+-- What the exported functions answer: the library's answers as plain numbers.
+pub mod Utf8
