@@ -1,0 +1,1 @@
+// Texts as bytes, by laws' definitions: where a byte stands, and how two texts compare.
