@@ -2,3 +2,5 @@ pub mod Decimals
 pub mod RealParts
 pub mod Cuts
 pub mod Judged
+pub mod Inside
+pub mod Zero

@@ -1,5 +1,6 @@
 -- Each return is the case of `digitOf` that the tests before it left.
-use Rattle.digits.proofs.Digits.{within-is, digit-decimal, digit-upper, digit-lower, digit-none}
+use Rattle.digits.proofs.Digits.{digit-decimal, digit-upper, digit-lower, digit-none}
+use Rattle.laws.proofs.Choice.{within-is}
 use mathlib.Core.Path.{sym, _∙_}
 use borrow.Author.Needs.{needs}
 use Rattle.digits.proofs.digit.Statement.{statement}
