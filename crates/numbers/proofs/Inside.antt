@@ -112,7 +112,11 @@ module _ (n : ℕ) where
   undotted-in neg p w Empty h e = tt
   undotted-in neg p w Bad h e = tt
   undotted-in neg p w (Marked d) h e =
-      if-all (SomeReal n) (eqb w 0) tt (point-in neg (spanAt p w) (record { start = p + w; end = p + w }) (Marked d) (omega arith, h) (omega arith, h) e)
+      if-all (SomeReal n) (eqb w 0) tt (point-in neg (spanAt p w) (record {
+        start =
+            p + w;
+        end = p + w;
+      }) (Marked d) (omega arith, h) (omega arith, h) e)
 
   decimal-in : (neg : Bool) (p : ℕ) (s : List ℕ) → p + length s ≤ n → SomeReal n (decimal neg p s)
   unfolding decimal

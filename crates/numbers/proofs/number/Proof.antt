@@ -25,10 +25,15 @@ serve-requires : tie.Need-serve-requires
 serve-requires c κs = search needs
 
 returns-2 : tie.Need-returns-2
-returns-2 c = sym (not-utf8 _ (c .before .before .before .before .if1 .left) _ (sym (c .before .before .before .first-bad .ensures) ∙ c .before .at .given .1))
+returns-2 c =
+    sym (not-utf8 _ (c .before .before .before .before .if1 .left) _ (sym (c .before .before .before .first-bad .ensures) ∙ c .before .at .given .1))
 
 returns-3 : tie.Need-returns-3
-returns-3 c = c .serve .ensures ∙ ap given (c .before .parse-number .ensures) ∙ sym (served _ (c .before .before .before .before .before .if1 .left) (sym (c .before .before .before .before .first-bad .ensures) ∙ c .before .before .enum-told .given .1))
+returns-3 c =
+    c .serve .ensures
+    ∙ ap given (c .before .parse-number .ensures)
+    ∙ sym
+    (served _ (c .before .before .before .before .before .if1 .left) (sym (c .before .before .before .before .first-bad .ensures) ∙ c .before .before .enum-told .given .1))
 
 pub number-spec : {M : Type 1} → statement M
 number-spec =
