@@ -102,9 +102,16 @@ pub enum MaybeParts {
 // The longest text that is read, in bytes.
 const LONGEST: usize = 4_294_967_295;
 
-// The radix of a text that names none, and the length of a prefix that names one.
-const TEN: u64 = 10;
+// The radices that a prefix names; a text without a prefix is decimal.
+const BINARY: u64 = 2;
 
+const OCTAL: u64 = 8;
+
+const DECIMAL: u64 = 10;
+
+const HEXADECIMAL: u64 = 16;
+
+// The length of a prefix.
 const PREFIX: usize = 2;
 
 // What stands for the radix where none is named.
@@ -169,10 +176,10 @@ fn radix_mark(c: u8) -> u64
     ensures { λ r. ⌜ r ≡ radixMark c ⌝ }
 {
     match c {
-        b'x' | b'X' => 16,
-        b'd' | b'D' => TEN,
-        b'o' | b'O' => 8,
-        b'b' | b'B' => 2,
+        b'x' | b'X' => HEXADECIMAL,
+        b'd' | b'D' => DECIMAL,
+        b'o' | b'O' => OCTAL,
+        b'b' | b'B' => BINARY,
         _ => NO_RADIX,
     }
 }
@@ -197,7 +204,7 @@ pub fn parse_number(t: &[u8]) -> Parsed
 {
     let radix = prefix(t);
     if radix == NO_RADIX {
-        judge(complexes::complex_at(t, 0, TEN))
+        judge(complexes::complex_at(t, 0, DECIMAL))
     } else {
         judge(complexes::complex_at(t, PREFIX, radix))
     }

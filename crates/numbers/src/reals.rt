@@ -1,4 +1,5 @@
 // A real number from a place on: <real R> and the productions below it (specs/Reals).
+use crate::DECIMAL;
 use crate::Exponent;
 use crate::MaybeReal;
 use crate::Point;
@@ -10,8 +11,6 @@ ghost use mathlib.Core.Path.{_≡_};
 ghost use Prim.Native.Nat.{_-_, _≤_};
 ghost use lib.ListN.{drop};
 ghost use Rattle.numbers.specs.Reals.{exponentMarker, exponent, suffix, pointOf, dotted, undotted, decimal, infnan, integralOf, rationalOf, denominator, exact, ureal, real};
-
-const TEN: u64 = 10;
 
 // Whether a byte marks an exponent.
 pub(crate) fn is_marker(c: u8) -> bool
@@ -29,7 +28,7 @@ fn exponent_at(t: &[u8], from: usize) -> Suffix
 {
     let negative = texts::starts_at(t, from, b'-');
     let start = digits::sign_end(t, from);
-    if digits::unsigned(t, start, TEN) {
+    if digits::unsigned(t, start, DECIMAL) {
         let end = t.len();
         Suffix::Marked(Exponent {
             negative,
@@ -86,7 +85,7 @@ fn dotted(t: &[u8], from: usize, neg: bool, start: usize, end: usize) -> MaybeRe
     requires { ⌜ start ≤ end ⌝ }
     ensures { λ r. ⌜ r ≡ dotted neg start (end - start) from (drop from (now (t .entry))) ⌝ }
 {
-    let stop = digits::run_end(t, from, TEN);
+    let stop = digits::run_end(t, from, DECIMAL);
     let whole = Span { start, end };
     let fraction = Span {
         start: from,
@@ -123,7 +122,7 @@ fn undotted(neg: bool, start: usize, end: usize, x: Suffix) -> MaybeReal
 fn decimal_at(t: &[u8], from: usize, neg: bool) -> MaybeReal
     ensures { λ r. ⌜ r ≡ decimal neg from (drop from (now (t .entry))) ⌝ }
 {
-    let end = digits::run_end(t, from, TEN);
+    let end = digits::run_end(t, from, DECIMAL);
     if texts::starts_at(t, end, b'.') {
         dotted(t, end + 1, neg, from, end)
     } else {
@@ -202,7 +201,7 @@ fn ureal_at(t: &[u8], from: usize, radix: u64, neg: bool) -> MaybeReal
     requires { ⌜ (1 ≤ radix) × (radix ≤ 16) ⌝ }
     ensures { λ r. ⌜ r ≡ ureal radix neg from (drop from (now (t .entry))) ⌝ }
 {
-    if radix == TEN {
+    if radix == DECIMAL {
         let x = decimal_at(t, from, neg);
         match x {
             MaybeReal::AReal(_) => x,
