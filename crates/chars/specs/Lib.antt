@@ -1,0 +1,5 @@
+pub mod Utf8
+pub mod Encode
+pub mod Blank
+pub mod Machine
+pub mod Examples

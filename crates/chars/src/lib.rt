@@ -1,0 +1,39 @@
+// Characters out of bytes and back: UTF-8 as RFC 3629 has it, and document 01's blanks. Reads a text as bytes, whole or one byte at a
+// time, and answers characters by their code points; writes a character's bytes into lent memory. What the characters mean is for others.
+
+// Where the byte machine stands within a character: how many bytes it still wants, the range of the next of them, and the code so far.
+// At need 0 it stands between two characters.
+pub struct State {
+    pub need: u8,
+    pub low: u8,
+    pub high: u8,
+    pub code: u32,
+}
+
+// What one byte does.
+pub enum Step {
+    // The character wants more bytes: CE, the first byte of λ.
+    More(State),
+    // The character is whole: BB after CE.
+    Char(u32),
+    // No valid text goes on with this byte: FF anywhere, 28 after CE.
+    Bad,
+}
+
+// What stands at a place of a text.
+pub enum Decoded {
+    // A character, and the place past it.
+    Char { code: u32, next: usize },
+    // A bad sequence: C0, or CE 28.
+    Bad,
+    // A sequence that the end cuts: CE at the end.
+    Cut,
+    // Nothing: the place is at the end or past it.
+    End,
+}
+
+// Whether a text is UTF-8, else where its first bad sequence starts.
+pub enum Utf8 {
+    Good,
+    Bad(usize),
+}
