@@ -79,12 +79,13 @@ unfoldable pub itemsFrom : Bool → ℕ → Place → ℕ → List ℕ → List 
 itemsFrom report zero last at cs = []
 itemsFrom report (suc turns) last at [] = []
 itemsFrom report (suc turns) last at (c ∷ cs) =
-    elim (isBlank c)
-    [ true ↦ itemsFrom report turns last (at + width c) cs
-    | false ↦
-        let r : Read = readItem report at c cs in
-        extentItems report last at (r .what) (r .item)
-        ++ itemsFrom report turns (rangeAfter last at (r .what) (r .item)) (r .item .at) (r .rest) ]
+    elim (isBlank c) [
+      | true ↦ itemsFrom report turns last (at + width c) cs
+      | false ↦
+          let r : Read = readItem report at c cs in
+          extentItems report last at (r .what) (r .item)
+          ++ itemsFrom report turns (rangeAfter last at (r .what) (r .item)) (r .item .at) (r .rest)
+    ]
 
 abbrev pub itemsAt : Bool → ℕ → List ℕ → List Item
 itemsAt report at cs = itemsFrom report (length cs) unset at cs
@@ -136,3 +137,15 @@ records free (i ∷ is) = recordOf free i ++ records (free + length (memoryOf (i
 unfoldable pub texts : List Item → List ℕ
 texts [] = []
 texts (i ∷ is) = memoryOf (i .text) ++ texts is
+
+-- ---- pieces: 01, "an item is ready once a character beyond its extent has been read"
+
+-- the bytes of some characters
+abbrev pub byteCount : List ℕ → ℕ
+byteCount [] = 0
+byteCount (c ∷ cs) = width c + byteCount cs
+
+-- the items whose extents end before the place n
+unfoldable pub endsBefore : ℕ → List Item → List Item
+endsBefore n [] = []
+endsBefore n (i ∷ is) = let more = endsBefore n is in if ltb (i .end) n then i ∷ more else more

@@ -90,9 +90,9 @@ unfoldable pub wordMeans : ℕ → ℕ → List ℕ → List Meaning
 wordMeans s e raw =
     if eqb (wordKind raw) kind.Identifier
     then
-      (if firstIs (code "+") raw && ltb 1 (length raw)
-      then means kind.Identifier 0 (source s (s + 1)) ∷ means kind.Identifier 0 (source (s + 1) e) ∷ []
-      else one kind.Identifier 0 (source s e))
+    (if firstIs (code "+") raw && ltb 1 (length raw)
+    then means kind.Identifier 0 (source s (s + 1)) ∷ means kind.Identifier 0 (source (s + 1) e) ∷ []
+    else one kind.Identifier 0 (source s e))
     else one (wordKind raw) 0 none
 
 -- a number run is a Number; a word where it is no number (E6); or error 8 (E5)
@@ -117,33 +117,37 @@ unfoldable mutual
 
   pub unescapeNext : Quotes → List ℕ → List ℕ
   unescapeNext k [] = []
-  unescapeNext k (c ∷ cs) = elim (afterBackslash c)
-      [ simple x ↦ x ∷ unescape k cs
-      | hexX ↦ unescapeHex k (code ";") [] cs
-      | hexU ↦ unescapeBrace k cs
-      | blank ↦ unescapeTrim k false cs
-      | newline ↦ unescapeTrim k true cs
-      | invalid ↦ [] ]
+  unescapeNext k (c ∷ cs) = elim (afterBackslash c) [
+    | simple x ↦ x ∷ unescape k cs
+    | hexX ↦ unescapeHex k (code ";") [] cs
+    | hexU ↦ unescapeBrace k cs
+    | blank ↦ unescapeTrim k false cs
+    | newline ↦ unescapeTrim k true cs
+    | invalid ↦ []
+  ]
 
   pub unescapeBrace : Quotes → List ℕ → List ℕ
   unescapeBrace k [] = []
-  unescapeBrace k (c ∷ cs) = elim (eqb c (code "{"))
-      [ true ↦ unescapeHex k (code "}") [] cs
-      | false ↦ elim (inHex k (code ";") c) [ closes ↦ [] | stops ↦ [] | digit ↦ unescapeHex k (code ";") (c ∷ []) cs ] ]
+  unescapeBrace k (c ∷ cs) = elim (eqb c (code "{")) [
+    | true ↦ unescapeHex k (code "}") [] cs
+    | false ↦ elim (inHex k (code ";") c) [ closes ↦ [] | stops ↦ [] | digit ↦ unescapeHex k (code ";") (c ∷ []) cs ]
+  ]
 
   pub unescapeHex : Quotes → ℕ → List ℕ → List ℕ → List ℕ
   unescapeHex k closer ds [] = []
-  unescapeHex k closer ds (c ∷ cs) = elim (inHex k closer c)
-      [ closes ↦ elim (scalarOf (hexValue ds)) [ Scalar v ↦ encode v ++ unescape k cs | Wrong e d ↦ [] ]
-      | stops ↦ []
-      | digit ↦ unescapeHex k closer (ds ++ (c ∷ [])) cs ]
+  unescapeHex k closer ds (c ∷ cs) = elim (inHex k closer c) [
+    | closes ↦ elim (scalarOf (hexValue ds)) [ Scalar v ↦ encode v ++ unescape k cs | Wrong e d ↦ [] ]
+    | stops ↦ []
+    | digit ↦ unescapeHex k closer (ds ++ (c ∷ [])) cs
+  ]
 
   pub unescapeTrim : Quotes → Bool → List ℕ → List ℕ
   unescapeTrim k seen [] = []
-  unescapeTrim k seen (c ∷ cs) = elim (inTrim c)
-      [ space ↦ unescapeTrim k seen cs
-      | line ↦ elim seen [ true ↦ c ∷ unescape k cs | false ↦ unescapeTrim k true cs ]
-      | solid ↦ elim (inQuotes k c) [ ends ↦ [] | escapes ↦ unescapeNext k cs | plain ↦ c ∷ unescape k cs ] ]
+  unescapeTrim k seen (c ∷ cs) = elim (inTrim c) [
+    | space ↦ unescapeTrim k seen cs
+    | line ↦ elim seen [ true ↦ c ∷ unescape k cs | false ↦ unescapeTrim k true cs ]
+    | solid ↦ elim (inQuotes k c) [ ends ↦ [] | escapes ↦ unescapeNext k cs | plain ↦ c ∷ unescape k cs ]
+  ]
 
 -- 01: the text "lies in the text memory for a string with an escape, and for an identifier wholly in vertical lines with an escape and
 -- a non-empty decoded text; else in the source" (E14). s and e are the extent, raw its bytes

@@ -63,24 +63,27 @@ readLine i (c ∷ cs) = elim (eqb c (code "\n")) [ true ↦ got comment (eat i c
 unfoldable mutual
   pub readNest : ℕ → SoFar → List ℕ → Read
   readNest depth i [] = got (Error kind.IncompleteComment 0) i []
-  readNest depth i (c ∷ cs) = elim (inNest c)
-      [ bar ↦ afterBar depth (eat i c) cs
-      | sharp ↦ afterSharp depth (eat i c) cs
-      | inside ↦ readNest depth (eat i c) cs ]
+  readNest depth i (c ∷ cs) = elim (inNest c) [
+    | bar ↦ afterBar depth (eat i c) cs
+    | sharp ↦ afterSharp depth (eat i c) cs
+    | inside ↦ readNest depth (eat i c) cs
+  ]
 
   pub afterBar : ℕ → SoFar → List ℕ → Read
   afterBar depth i [] = got (Error kind.IncompleteComment 0) i []
-  afterBar depth i (c ∷ cs) = elim (inNest c)
-      [ bar ↦ afterBar depth (eat i c) cs
-      | sharp ↦ elim (leb depth 1) [ true ↦ got comment (eat i c) cs | false ↦ readNest (depth - 1) (eat i c) cs ]
-      | inside ↦ readNest depth (eat i c) cs ]
+  afterBar depth i (c ∷ cs) = elim (inNest c) [
+    | bar ↦ afterBar depth (eat i c) cs
+    | sharp ↦ elim (leb depth 1) [ true ↦ got comment (eat i c) cs | false ↦ readNest (depth - 1) (eat i c) cs ]
+    | inside ↦ readNest depth (eat i c) cs
+  ]
 
   pub afterSharp : ℕ → SoFar → List ℕ → Read
   afterSharp depth i [] = got (Error kind.IncompleteComment 0) i []
-  afterSharp depth i (c ∷ cs) = elim (inNest c)
-      [ bar ↦ readNest (depth + 1) (eat i c) cs
-      | sharp ↦ afterSharp depth (eat i c) cs
-      | inside ↦ readNest depth (eat i c) cs ]
+  afterSharp depth i (c ∷ cs) = elim (inNest c) [
+    | bar ↦ readNest (depth + 1) (eat i c) cs
+    | sharp ↦ afterSharp depth (eat i c) cs
+    | inside ↦ readNest depth (eat i c) cs
+  ]
 
 -- ---- <string>, and <identifier> in vertical lines: `read_string`, `read_word`
 
@@ -125,62 +128,72 @@ scalarOf (hex.Wrong d p) = Wrong kind.InvalidHexEscapeLiteral d
 unfoldable mutual
   pub readQuoted : Quotes → SoFar → List ℕ → Read
   readQuoted k i [] = got (unclosed k (i .bytes)) i []
-  readQuoted k i (c ∷ cs) = elim (inQuotes k c)
-      [ ends ↦ got (closed k (eat i c .bytes)) (eat i c) cs
-      | escapes ↦ readEscape k (i .at) (eat i c) cs
-      | plain ↦ readQuoted k (eat i c) cs ]
+  readQuoted k i (c ∷ cs) = elim (inQuotes k c) [
+    | ends ↦ got (closed k (eat i c .bytes)) (eat i c) cs
+    | escapes ↦ readEscape k (i .at) (eat i c) cs
+    | plain ↦ readQuoted k (eat i c) cs
+  ]
 
   -- <string element>, <symbol element>: `read_string_escape`
   pub readEscape : Quotes → ℕ → SoFar → List ℕ → Read
   readEscape k from i [] = got (cut k) i []
-  readEscape k from i (c ∷ cs) = elim (afterBackslash c)
-      [ simple x ↦ readQuoted k (eat i c) cs
-      | hexX ↦ readHex k (code ";") from (length (eat i c .bytes)) (eat i c) cs
-      | hexU ↦ readBrace k from (eat i c) cs
-      | blank ↦ readTrim k false (eat i c) cs
-      | newline ↦ readTrim k true (eat i c) cs
-      | invalid ↦ got (ErrorAt kind.InvalidStringEscape c from (eat i c .at)) i (c ∷ cs) ]
+  readEscape k from i (c ∷ cs) = elim (afterBackslash c) [
+    | simple x ↦ readQuoted k (eat i c) cs
+    | hexX ↦ readHex k (code ";") from (length (eat i c .bytes)) (eat i c) cs
+    | hexU ↦ readBrace k from (eat i c) cs
+    | blank ↦ readTrim k false (eat i c) cs
+    | newline ↦ readTrim k true (eat i c) cs
+    | invalid ↦ got (ErrorAt kind.InvalidStringEscape c from (eat i c .at)) i (c ∷ cs)
+  ]
 
   pub readBrace : Quotes → ℕ → SoFar → List ℕ → Read
   readBrace k from i [] = got (cut k) i []
-  readBrace k from i (c ∷ cs) = elim (eqb c (code "{"))
-      [ true ↦ readHex k (code "}") from (length (eat i c .bytes)) (eat i c) cs
-      | false ↦ elim (inHex k (code ";") c)
-          [ closes ↦ got (ErrorAt kind.InvalidHexEscapeLiteral 1 from (eat i c .at)) (eat i c) cs
-          | stops ↦ got (ErrorAt kind.UnclosedHexEscape (code ";") from (i .at)) (eat i c) cs
-          | digit ↦ readHex k (code ";") from (length (i .bytes)) (eat i c) cs ] ]
+  readBrace k from i (c ∷ cs) = elim (eqb c (code "{")) [
+    | true ↦ readHex k (code "}") from (length (eat i c .bytes)) (eat i c) cs
+    | false ↦ elim (inHex k (code ";") c) [
+      | closes ↦ got (ErrorAt kind.InvalidHexEscapeLiteral 1 from (eat i c .at)) (eat i c) cs
+      | stops ↦ got (ErrorAt kind.UnclosedHexEscape (code ";") from (i .at)) (eat i c) cs
+      | digit ↦ readHex k (code ";") from (length (i .bytes)) (eat i c) cs
+    ]
+  ]
 
   -- <hex scalar value>. What breaks it off belongs to the extent and not to the place
   pub readHex : Quotes → ℕ → ℕ → ℕ → SoFar → List ℕ → Read
   readHex k closer from n i [] = got (cut k) i []
-  readHex k closer from n i (c ∷ cs) = elim (inHex k closer c)
-      [ closes ↦ elim (scalarOf (hexValue (drop n (i .bytes))))
-          [ Scalar v ↦ readQuoted k (eat i c) cs
-          | Wrong e d ↦ got (ErrorAt e d from (eat i c .at)) (eat i c) cs ]
-      | stops ↦ got (ErrorAt kind.UnclosedHexEscape closer from (i .at)) (eat i c) cs
-      | digit ↦ readHex k closer from n (eat i c) cs ]
+  readHex k closer from n i (c ∷ cs) = elim (inHex k closer c) [
+    | closes ↦ elim (scalarOf (hexValue (drop n (i .bytes)))) [
+      | Scalar v ↦ readQuoted k (eat i c) cs
+      | Wrong e d ↦ got (ErrorAt e d from (eat i c .at)) (eat i c) cs
+    ]
+    | stops ↦ got (ErrorAt kind.UnclosedHexEscape closer from (i .at)) (eat i c) cs
+    | digit ↦ readHex k closer from n (eat i c) cs
+  ]
 
   pub readTrim : Quotes → Bool → SoFar → List ℕ → Read
   readTrim k seen i [] = got (cut k) i []
-  readTrim k seen i (c ∷ cs) = elim (inTrim c)
-      [ space ↦ readTrim k seen (eat i c) cs
-      | line ↦ elim seen [ true ↦ readQuoted k (eat i c) cs | false ↦ readTrim k true (eat i c) cs ]
-      | solid ↦ elim seen
-          [ true ↦ elim (inQuotes k c)
-              [ ends ↦ got (closed k (eat i c .bytes)) (eat i c) cs
-              | escapes ↦ readEscape k (i .at) (eat i c) cs
-              | plain ↦ readQuoted k (eat i c) cs ]
-          | false ↦ got (ErrorAt kind.InvalidWhitespace 0 (i .at) (eat i c .at)) i (c ∷ cs) ] ]
+  readTrim k seen i (c ∷ cs) = elim (inTrim c) [
+    | space ↦ readTrim k seen (eat i c) cs
+    | line ↦ elim seen [ true ↦ readQuoted k (eat i c) cs | false ↦ readTrim k true (eat i c) cs ]
+    | solid ↦ elim seen [
+      | true ↦ elim (inQuotes k c) [
+        | ends ↦ got (closed k (eat i c .bytes)) (eat i c) cs
+        | escapes ↦ readEscape k (i .at) (eat i c) cs
+        | plain ↦ readQuoted k (eat i c) cs
+      ]
+      | false ↦ got (ErrorAt kind.InvalidWhitespace 0 (i .at) (eat i c .at)) i (c ∷ cs)
+    ]
+  ]
 
 -- ---- <identifier>: `read_word`. A backslash takes the next character with it, whatever it is
 
 unfoldable mutual
   pub wordOn : SoFar → List ℕ → Read
   wordOn i [] = got Word i []
-  wordOn i (c ∷ cs) = elim (inWord c)
-      [ breaks ↦ got Word i (c ∷ cs)
-      | skips ↦ wordSkip (eat i c) cs
-      | goes ↦ wordOn (eat i c) cs ]
+  wordOn i (c ∷ cs) = elim (inWord c) [
+    | breaks ↦ got Word i (c ∷ cs)
+    | skips ↦ wordSkip (eat i c) cs
+    | goes ↦ wordOn (eat i c) cs
+  ]
 
   pub wordSkip : SoFar → List ℕ → Read
   wordSkip i [] = got Word i []
@@ -195,10 +208,11 @@ readWord i (c ∷ cs) = elim (eqb c (code "|")) [ true ↦ readQuoted Lines (eat
 
 unfoldable pub readRun : Bool → SoFar → List ℕ → Read
 readRun report i [] = got Run i []
-readRun report i (c ∷ cs) = elim (inRun report c)
-    [ stays ↦ readRun report (eat i c) cs
-    | stopsRun ↦ got Run i (c ∷ cs)
-    | leaves ↦ readWord i (c ∷ cs) ]
+readRun report i (c ∷ cs) = elim (inRun report c) [
+  | stays ↦ readRun report (eat i c) cs
+  | stopsRun ↦ got Run i (c ∷ cs)
+  | leaves ↦ readWord i (c ∷ cs)
+]
 
 -- ---- words that start with `#`: `read_hash_value`
 
@@ -243,10 +257,11 @@ hashBracket d i (c ∷ cs) = elim (eqb c (code "(")) [ true ↦ got (Token kind.
 
 -- at the end of the run: what it is by its bytes, else a word that may go on
 unfoldable pub hashAt : SoFar → List ℕ → Read
-hashAt i cs = elim (hashKind (i .bytes))
-    [ Decided o ↦ got o i cs
-    | Bracket d ↦ hashBracket d i cs
-    | Undecided ↦ readWord i cs ]
+hashAt i cs = elim (hashKind (i .bytes)) [
+  | Decided o ↦ got o i cs
+  | Bracket d ↦ hashBracket d i cs
+  | Undecided ↦ readWord i cs
+]
 
 -- after a comma, an at sign belongs to the run
 unfoldable pub hashComma : SoFar → List ℕ → Read
@@ -256,12 +271,13 @@ hashComma i (c ∷ cs) = elim (eqb c (code "@")) [ true ↦ hashAt (eat i c) cs 
 unfoldable mutual
   pub hashOn : SoFar → List ℕ → Read
   hashOn i [] = hashAt i []
-  hashOn i (c ∷ cs) = elim (inHash c)
-      [ skipsTwo ↦ hashSkip (eat i c) cs
-      | tick ↦ hashAt (eat i c) cs
-      | commas ↦ hashComma (eat i c) cs
-      | stopsHash ↦ hashAt i (c ∷ cs)
-      | staysHash ↦ hashOn (eat i c) cs ]
+  hashOn i (c ∷ cs) = elim (inHash c) [
+    | skipsTwo ↦ hashSkip (eat i c) cs
+    | tick ↦ hashAt (eat i c) cs
+    | commas ↦ hashComma (eat i c) cs
+    | stopsHash ↦ hashAt i (c ∷ cs)
+    | staysHash ↦ hashOn (eat i c) cs
+  ]
 
   pub hashSkip : SoFar → List ℕ → Read
   hashSkip i [] = hashAt i []
@@ -298,11 +314,12 @@ hereBody i (c ∷ cs) = elim (hereEnds (eat i c .bytes)) [ true ↦ got HereStr 
 
 unfoldable pub hereDelim : SoFar → List ℕ → Read
 hereDelim i [] = got (Error kind.IncompleteString 0) i []
-hereDelim i (c ∷ cs) = elim (inDelim c)
-    [ endsDelim ↦ hereBody (eat i c) cs
-    | returns ↦ hereDelim (eat i c) cs
-    | blankDelim ↦ got (Error kind.UnexpectedChar c) (eat i c) cs
-    | ofDelim ↦ hereDelim (eat i c) cs ]
+hereDelim i (c ∷ cs) = elim (inDelim c) [
+  | endsDelim ↦ hereBody (eat i c) cs
+  | returns ↦ hereDelim (eat i c) cs
+  | blankDelim ↦ got (Error kind.UnexpectedChar c) (eat i c) cs
+  | ofDelim ↦ hereDelim (eat i c) cs
+]
 
 -- ---- `Lexer::next`
 
@@ -312,32 +329,35 @@ afterAngle i (c ∷ cs) = elim (eqb c (code "<")) [ true ↦ hereDelim (eat i c)
 
 unfoldable pub readHash : Bool → SoFar → List ℕ → Read
 readHash report i [] = hashAt i []
-readHash report i (c ∷ cs) = elim (afterHash c)
-    [ radix ↦ readRun report (eat i c) cs
-    | opensNest ↦ readNest 1 (eat i c) cs
-    | datum ↦ got (Token kind.DatumComment 0) (eat i c) cs
-    | twice ↦ got (Error kind.UnexpectedChar c) (eat i c) cs
-    | angle ↦ afterAngle (eat i c) cs
-    | value ↦ hashOn i (c ∷ cs) ]
+readHash report i (c ∷ cs) = elim (afterHash c) [
+  | radix ↦ readRun report (eat i c) cs
+  | opensNest ↦ readNest 1 (eat i c) cs
+  | datum ↦ got (Token kind.DatumComment 0) (eat i c) cs
+  | twice ↦ got (Error kind.UnexpectedChar c) (eat i c) cs
+  | angle ↦ afterAngle (eat i c) cs
+  | value ↦ hashOn i (c ∷ cs)
+]
 
 -- `,` is not known before the next character: `,@` is another
 unfoldable pub readComma : SoFar → List ℕ → Read
 readComma i [] = got (Token kind.Unquote 0) i []
-readComma i (c ∷ cs) = elim (eqb c (code "@"))
-    [ true ↦ got (Token kind.UnquoteSplice 0) (eat i c) cs
-    | false ↦ got (Token kind.Unquote 0) i (c ∷ cs) ]
+readComma i (c ∷ cs) = elim (eqb c (code "@")) [
+  | true ↦ got (Token kind.UnquoteSplice 0) (eat i c) cs
+  | false ↦ got (Token kind.Unquote 0) i (c ∷ cs)
+]
 
 -- the item that starts at the place `at` with c, which is no blank
 unfoldable pub readItem : Bool → ℕ → ℕ → List ℕ → Read
 readItem report at c cs =
     let i : SoFar = eat (soFar [] at) c in
-    elim (firstOf c)
-    [ semicolon ↦ readLine i cs
-    | quote ↦ readQuoted Double i cs
-    | comma ↦ readComma i cs
-    | hash ↦ readHash report i cs
-    | number ↦ readRun report i cs
-    | single k d ↦ got (Token k d) i cs
-    | vertical ↦ readQuoted Lines i cs
-    | backslash ↦ wordSkip i cs
-    | wordy ↦ wordOn i cs ]
+    elim (firstOf c) [
+      | semicolon ↦ readLine i cs
+      | quote ↦ readQuoted Double i cs
+      | comma ↦ readComma i cs
+      | hash ↦ readHash report i cs
+      | number ↦ readRun report i cs
+      | single k d ↦ got (Token k d) i cs
+      | vertical ↦ readQuoted Lines i cs
+      | backslash ↦ wordSkip i cs
+      | wordy ↦ wordOn i cs
+    ]

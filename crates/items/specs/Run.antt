@@ -2,7 +2,7 @@
 use Prim.Native.Nat.{ℕ, _+_}
 use mathlib.Core.Bool.{Bool, true, false}
 use mathlib.Core.List.{List, [], _∷_, _++_}
-use lib.Dec.{eqb, ltb}
+use lib.Dec.{eqb}
 use Rattle.laws.specs.Choice.{if_then_else_}
 use Rattle.laws.specs.Quoted.{code}
 use Rattle.chars.specs.Encode.{width}
@@ -44,15 +44,15 @@ begin at last c = state (beginMode at c) (at + width c) last
 -- what a character gives, items or none, and the state after it
 pub record Fed : Type 0 where
   pub out : List Item
-  pub then : State
+  pub after : State
 
 abbrev pub quietly : State → Fed
-quietly s = record { out = []; then = s }
+quietly s = record { out = []; after = s }
 
 -- in an item that started at s
 abbrev pub onNext : Bool → Next → Place → ℕ → SoFar → ℕ → Fed
 onNext report (Eat q) last s i c = quietly (state (busy s q (eat i c .bytes)) (eat i c .at) last)
-onNext report (Stop o) last s i c = record { out = extentItems report last s o i; then = begin (i .at) (rangeAfter last s o i) c }
+onNext report (Stop o) last s i c = record { out = extentItems report last s o i; after = begin (i .at) (rangeAfter last s o i) c }
 
 -- a `#` at the start of the text
 abbrev pub pounded : ℕ → SoFar
@@ -87,21 +87,9 @@ unfoldable pub advance : Bool → State → List ℕ → Fed
 advance report s [] = quietly s
 advance report s (c ∷ cs) =
     let f : Fed = feed report s c in
-    let g : Fed = advance report (f .then) cs in
-    record { out = f .out ++ g .out; then = g .then }
+    let g : Fed = advance report (f .after) cs in
+    record { out = f .out ++ g .out; after = g .after }
 
 -- the items of a text that ends after these characters
 abbrev pub machineItems : Bool → State → List ℕ → List Item
-machineItems report s cs = advance report s cs .out ++ finish report (advance report s cs .then)
-
--- ---- pieces: 01, "an item is ready once a character beyond its extent has been read"
-
--- the bytes of some characters
-abbrev pub byteCount : List ℕ → ℕ
-byteCount [] = 0
-byteCount (c ∷ cs) = width c + byteCount cs
-
--- the items whose extents end before the place n
-unfoldable pub endsBefore : ℕ → List Item → List Item
-endsBefore n [] = []
-endsBefore n (i ∷ is) = let more = endsBefore n is in if ltb (i .end) n then i ∷ more else more
+machineItems report s cs = advance report s cs .out ++ finish report (advance report s cs .after)

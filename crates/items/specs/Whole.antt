@@ -45,9 +45,9 @@ unfoldable pub deliver : List Item → List ℕ → List ℕ → Call
 deliver is recs text =
     if leb (length is) (length recs / recordWords)
     then
-      (if leb (length (texts is)) (length text)
-      then call (served (length is) (length (texts is))) (written (records 0 is) recs) (written (texts is) text)
-      else call (refused 22 (length is) (length (texts is))) recs text)
+    (if leb (length (texts is)) (length text)
+    then call (served (length is) (length (texts is))) (written (records 0 is) recs) (written (texts is) text)
+    else call (refused 22 (length is) (length (texts is))) recs text)
     else call (refused 22 (length is) (length (texts is))) recs text
 
 -- 21 where the source is not UTF-8
@@ -60,7 +60,7 @@ unfoldable pub readOf : List ℕ → ℕ → Bool → List ℕ → List ℕ → 
 readOf source mode skip recs text =
     if isMode mode
     then
-      (if ltb limit (length source)
-      then call (refused 20 limit 0) recs text
-      else ifGood (firstBad source) (deliver (itemsIn source mode skip) recs text) recs text)
+    (if ltb limit (length source)
+    then call (refused 20 limit 0) recs text
+    else ifGood (firstBad source) (deliver (itemsIn source mode skip) recs text) recs text)
     else call (refused 25 mode 0) recs text
