@@ -2,11 +2,12 @@
 use Rattle.items.specs.declared.Quotes.{Quotes}
 use Rattle.items.specs.declared.Quotes.the-variants.{Double, Lines}
 use Rattle.items.specs.declared.Outcome.{Outcome}
+use Rattle.items.specs.declared.Outcome.the-variants.{HereStr}
 use Rattle.items.specs.declared.Next.{Next}
 use Rattle.items.specs.declared.Next.the-variants.{Eat, Stop}
 use Rattle.items.specs.Classes.{firstOf, inQuotes, afterBackslash, inHex, inTrim, inNest, inWord, inRun, afterHash, inHash, inDelim}
 use Rattle.items.specs.Machine.{enterWord, hashThen, hashLast, onFirst, scanOf}
-use Rattle.items.specs.Readers.{soFar, eat, got, readLine, readNest, afterBar, afterSharp, scalarOf, readQuoted, readEscape, readBrace, readHex, readTrim, wordOn, wordSkip, readWord, readRun, hashKind, hashBracket, hashAt, hashComma, hashOn, hashSkip, hereEnds, hereBody, hereDelim, afterAngle, readHash, readComma, readItem, SoFar, Read}
+use Rattle.items.specs.Readers.{closed, soFar, eat, got, readLine, readNest, afterBar, afterSharp, scalarOf, readQuoted, readEscape, readBrace, readHex, readTrim, wordOn, wordSkip, readWord, readRun, hashKind, hashBracket, hashAt, hashComma, hashOn, hashSkip, hereEnds, hereBody, hereDelim, afterAngle, readHash, readComma, readItem, SoFar, Read}
 use Rattle.items.proofs.Cases.{by-first, by-quotes, by-backslash, by-hex, by-trim, by-nest, by-word, by-run, by-after, by-hash, by-delim, by-value, by-kind}
 use Rattle.laws.specs.Quoted.{code}
 use Rattle.laws.proofs.Choice.{by-bool}
@@ -25,6 +26,11 @@ module _ (report : Bool) where
   unfolding scanOf
   done-same o i [] = refl
   done-same o i (c ∷ cs) = refl
+
+  closed-same : (k : Quotes) (i : SoFar) (cs : List ℕ) → scanOf report (ph.Closed k) i cs ≡ got (closed k (i .bytes)) i cs
+  unfolding scanOf
+  closed-same k i [] = refl
+  closed-same k i (c ∷ cs) = refl
 
   -- ---- comments
 
@@ -69,7 +75,7 @@ module _ (report : Bool) where
     quoted-same : (k : Quotes) (i : SoFar) (cs : List ℕ) → scanOf report (ph.Quoted k) i cs ≡ readQuoted k i cs
     quoted-same k i [] = refl
     quoted-same k i (c ∷ cs) = by-quotes (inQuotes k c)
-        (λ e. rw (e, scanOf, readQuoted) (done-same _ (eat i c) cs))
+        (λ e. rw (e, scanOf, readQuoted) (closed-same k (eat i c) cs))
         (λ e. rw (e, scanOf, readQuoted) (escape-same k (i .at) (eat i c) cs))
         (λ e. rw (e, scanOf, readQuoted) (quoted-same k (eat i c) cs))
 
@@ -114,7 +120,7 @@ module _ (report : Bool) where
         (λ e. rw (e, scanOf, readTrim) (after-same k (eat i c) cs))
         (λ e. rw (e, scanOf, readTrim) (quoted-same k (eat i c) cs))
         (λ e. rw (e, scanOf, readTrim) (by-quotes (inQuotes k c)
-        (λ f. rw f (done-same _ (eat i c) cs))
+        (λ f. rw f (closed-same k (eat i c) cs))
         (λ f. rw f (escape-same k (i .at) (eat i c) cs))
         (λ f. rw f (quoted-same k (eat i c) cs))))
 
@@ -197,18 +203,31 @@ module _ (report : Bool) where
 
   -- ---- here-strings
 
-  body-same : (i : SoFar) (cs : List ℕ) → scanOf report ph.HereBody i cs ≡ hereBody i cs
+  -- a body that ends with its delimiter stops before the next character; any other goes on
+  ended-same : (i : SoFar) (cs : List ℕ) → hereEnds (i .bytes) ≡ true → scanOf report ph.HereBody i cs ≡ got HereStr i cs
+  unfolding scanOf
+  ended-same i [] e = rw e
+  ended-same i (c ∷ cs) e = rw (e, scanOf)
+
+  body-same : (i : SoFar) (cs : List ℕ) → hereEnds (i .bytes) ≡ false → scanOf report ph.HereBody i cs ≡ hereBody i cs
   unfolding scanOf hereBody
-  body-same i [] = refl
-  body-same i (c ∷ cs) = by-bool (hereEnds (eat i c .bytes))
-      (λ e. rw (e, scanOf, hereBody) (done-same _ (eat i c) cs))
-      (λ e. rw (e, scanOf, hereBody) (body-same (eat i c) cs))
+  body-same i [] e = rw e
+  body-same i (c ∷ cs) e = rw (e, scanOf) (by-bool (hereEnds (eat i c .bytes))
+      (λ f. rw (f, hereBody) (ended-same (eat i c) cs f))
+      (λ f. rw (f, hereBody) (body-same (eat i c) cs f)))
+
+  start-same : (i : SoFar) (cs : List ℕ) → scanOf report ph.HereStart i cs ≡ hereBody i cs
+  unfolding scanOf hereBody
+  start-same i [] = refl
+  start-same i (c ∷ cs) = by-bool (hereEnds (eat i c .bytes))
+      (λ f. rw (f, hereBody) (ended-same (eat i c) cs f))
+      (λ f. rw (f, hereBody) (body-same (eat i c) cs f))
 
   delim-same : (i : SoFar) (cs : List ℕ) → scanOf report ph.HereDelim i cs ≡ hereDelim i cs
   unfolding scanOf hereDelim
   delim-same i [] = refl
   delim-same i (c ∷ cs) = by-delim (inDelim c)
-      (λ e. rw (e, scanOf, hereDelim) (body-same (eat i c) cs))
+      (λ e. rw (e, scanOf, hereDelim) (start-same (eat i c) cs))
       (λ e. rw (e, scanOf, hereDelim) (delim-same (eat i c) cs))
       (λ e. rw (e, scanOf, hereDelim) (done-same _ (eat i c) cs))
       (λ e. rw (e, scanOf, hereDelim) (delim-same (eat i c) cs))
