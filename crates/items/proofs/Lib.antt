@@ -1,2 +1,5 @@
 pub mod Cases
+pub mod Width
 pub mod Same
+pub mod Run
+pub mod Splits
