@@ -3,3 +3,5 @@ pub mod Width
 pub mod Same
 pub mod Run
 pub mod Splits
+pub mod Ready
+pub mod Skipped
