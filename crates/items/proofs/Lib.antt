@@ -4,4 +4,5 @@ pub mod Same
 pub mod Run
 pub mod Splits
 pub mod Ready
+pub mod Deep
 pub mod Skipped
