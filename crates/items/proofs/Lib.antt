@@ -1,8 +1,10 @@
 pub mod Cases
 pub mod Width
+pub mod Every
 pub mod Same
 pub mod Run
 pub mod Splits
 pub mod Ready
 pub mod Deep
 pub mod Skipped
+pub mod Outcomes
