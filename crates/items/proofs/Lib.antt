@@ -8,3 +8,4 @@ pub mod Ready
 pub mod Deep
 pub mod Skipped
 pub mod Outcomes
+pub mod Shorter
