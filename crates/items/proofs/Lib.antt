@@ -9,3 +9,4 @@ pub mod Deep
 pub mod Skipped
 pub mod Outcomes
 pub mod Shorter
+pub mod Meanings

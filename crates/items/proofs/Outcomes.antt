@@ -152,7 +152,7 @@ last-is b l =
 
 -- ---- D holds of numbers below 2^32
 
-module _ (D : ℕ → Type 0) (small : (d : ℕ) → d < 2 ^ 32 → D d) (n : ℕ) where
+module _ (D : ℕ → Type 0) (small : (d : ℕ) → d < 2 ^ 32 → D d) where
   fine-hex : (h : Hex) → FineHex h → FineValue D (scalarOf h)
   unfolding scalarOf
   fine-hex (hex.Value v) h = if-all (FineValue D) (isScalar v) (small v h) (omega arith, small v h)
@@ -161,8 +161,9 @@ module _ (D : ℕ → Type 0) (small : (d : ℕ) → d < 2 ^ 32 → D d) (n : �
   pub fine-scalar : (s : List ℕ) → FineValue D (scalarOf (hexValue s))
   fine-scalar s = fine-hex (hexValue s) (hex-value s)
 
-  -- ---- what is asked of the bytes
+-- ---- what is asked of the bytes
 
+module _ (D : ℕ → Type 0) (small : (d : ℕ) → d < 2 ^ 32 → D d) (n : ℕ) where
   fine-lined : (raw : List ℕ) → Fine D n raw (linedOf raw)
   unfolding linedOf
   fine-lined raw =
@@ -278,7 +279,7 @@ module _ (D : ℕ → Type 0) (small : (d : ℕ) → d < 2 ^ 32 → D d) (n : �
     goes-close (Wrong e d) q from h f = (f, (omega arith, room))
 
     goes-hex : (k : InHex) (q : Quotes) (closer from m : ℕ) → from ≤ i .at → D closer → Goes D n i c (onHex k q closer from m i c)
-    goes-hex closes q closer from m h d = goes-close (scalarOf (hexValue (drop m (i .bytes)))) q from h (fine-scalar (drop m (i .bytes)))
+    goes-hex closes q closer from m h d = goes-close (scalarOf (hexValue (drop m (i .bytes)))) q from h (fine-scalar D small (drop m (i .bytes)))
     goes-hex stops q closer from m h d = ((omega arith, d), (h, omega arith))
     goes-hex digit q closer from m h d = (omega arith, d)
 
