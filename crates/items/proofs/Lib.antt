@@ -6,7 +6,9 @@ pub mod Run
 pub mod Splits
 pub mod Ready
 pub mod Deep
-pub mod Skipped
 pub mod Outcomes
 pub mod Shorter
 pub mod Meanings
+pub mod Order
+pub mod Skipped
+pub mod Fit

@@ -42,7 +42,7 @@ Inside s e (source a b) = (s ≤ a) × ((a ≤ b) × (b ≤ e))
 Inside s e (decoded bs) = s + length bs + 2 ≤ e
 
 -- D is what is known of a detail
-abbrev Meant : (ℕ → Type 0) → ℕ → ℕ → Meaning → Type 0
+abbrev pub Meant : (ℕ → Type 0) → ℕ → ℕ → Meaning → Type 0
 Meant D s e m = (m .kind ≤ lastKind) × (D (m .detail) × Inside s e (m .text))
 
 -- how many bytes of text memory some items take
@@ -68,9 +68,37 @@ lookup-le n (r ∷ rs) raw other h o = if-all (λ (k : ℕ). k ≤ n) (same raw 
 
 word-le : (raw : List ℕ) → wordKind raw ≤ kind.Dot
 unfolding wordKind words
-word-le raw = lookup-le kind.Dot words raw kind.Identifier
-    (omega arith, (omega arith, (omega arith, (omega arith, (omega arith, (omega arith, (omega arith, (omega arith, (omega arith, (omega arith,
-    (omega arith, (omega arith, (omega arith, (omega arith, (omega arith, (omega arith, (omega arith, (omega arith, (omega arith, tt)))))))))))))))))))
+word-le raw = lookup-le kind.Dot words raw kind.Identifier (
+  omega arith,
+  (
+    omega arith,
+    (
+      omega arith,
+      (
+        omega arith,
+        (
+          omega arith,
+          (
+            omega arith,
+            (
+              omega arith,
+              (
+                omega arith,
+                (
+                  omega arith,
+                  (
+                    omega arith,
+                    (omega arith, (omega arith, (omega arith, (omega arith, (omega arith, (omega arith, (omega arith, (omega arith, (omega arith, tt))))))))),
+                  ),
+                ),
+              ),
+            ),
+          ),
+        ),
+      ),
+    ),
+  ),
+)
     (omega arith)
 
 name-le : (raw : List ℕ) → lookup charNames raw unnamed ≤ unnamed
@@ -212,10 +240,10 @@ module _ (D : ℕ → Type 0) (small : (d : ℕ) → d < 2 ^ 32 → D d) where
         let P : List Meaning → Type 0 = Made D s e in
         if-all P (eqb (wordKind raw) kind.Identifier)
         (if-is P (firstIs (code "+") raw && ltb 1 (length raw))
-            (λ f. let g : 1 < length raw = ltb-true 1 (length raw) (and-right (firstIs (code "+") raw) (ltb 1 (length raw)) f) in
-                let z : D 0 = small 0 (omega arith) in
-                record { meant = ((omega arith, (z, (omega arith, (omega arith, omega arith)))), ((omega arith, (z, (omega arith, (omega arith, omega arith)))), tt)); count = omega arith; memory = omega arith })
-            (λ f. one-made kind.Identifier 0 (source s e) (omega arith) (small 0 (omega arith)) (omega arith, (omega arith, omega arith))))
+        (λ f. let g : 1 < length raw = ltb-true 1 (length raw) (and-right (firstIs (code "+") raw) (ltb 1 (length raw)) f) in
+        let z : D 0 = small 0 (omega arith) in
+        record { meant = ((omega arith, (z, (omega arith, (omega arith, omega arith)))), ((omega arith, (z, (omega arith, (omega arith, omega arith)))), tt)); count = omega arith; memory = omega arith })
+        (λ f. one-made kind.Identifier 0 (source s e) (omega arith) (small 0 (omega arith)) (omega arith, (omega arith, omega arith))))
         (one-made (wordKind raw) 0 none (omega (arith, word-le raw)) (small 0 (omega arith)) tt)
 
     run-made : (p : Parsed) → Made D s e (runMeans p s e raw)

@@ -6,6 +6,7 @@ use Rattle.items.specs.Items.{byteCount}
 use Rattle.items.specs.Machine.{stepOf, onFirst, scanOf}
 use Rattle.items.specs.Readers.{soFar, eat, readItem, SoFar}
 use Rattle.items.proofs.Cases.{by-next}
+use Rattle.items.proofs.Every.{Every}
 use Rattle.items.proofs.Same.{item-same}
 use Rattle.items.proofs.Width.{wide, width-utf8}
 use Rattle.chars.specs.Encode.{utf8, width, bytesOf}
@@ -44,6 +45,17 @@ module _ (report : Bool) where
   scan-longer p i (c ∷ cs) = by-next (stepOf report p i c)
       (λ q e. rw (e, scanOf) (omega (arith, scan-longer q (eat i c) cs, length-append (i .bytes) (utf8 c))))
       (λ o e. rw (e, scanOf) (le-refl _))
+
+  -- what is left is an end of what there was
+  scan-every : (P : ℕ → Type 0) (p : Phase) (i : SoFar) (cs : List ℕ) → Every P cs → Every P (scanOf report p i cs .rest)
+  unfolding scanOf
+  scan-every P p i [] h = tt
+  scan-every P p i (c ∷ cs) h = by-next (stepOf report p i c)
+      (λ q e. rw (e, scanOf) (scan-every P q (eat i c) cs (h .1)))
+      (λ o e. rw (e, scanOf) h)
+
+  pub read-every : (P : ℕ → Type 0) (at c : ℕ) (cs : List ℕ) → Every P cs → Every P (readItem report at c cs .rest)
+  read-every P at c cs h = rw (item-same report at c cs) at (scan-every P (onFirst (firstOf c)) (eat (soFar [] at) c) cs h)
 
   module _ (at c : ℕ) (cs : List ℕ) where
     -- the item's bytes and what is left are what there was
