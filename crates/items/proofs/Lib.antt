@@ -6,6 +6,7 @@ pub mod Run
 pub mod Splits
 pub mod Ready
 pub mod Deep
+pub mod Fine
 pub mod Outcomes
 pub mod Shorter
 pub mod Meanings

@@ -9,7 +9,7 @@ use Rattle.items.specs.Items.{memoryOf}
 use Rattle.items.specs.Meaning.{one, lookup, words, wordKind, wordMeans, runMeans, escaped, unescape, stringText, linedText, hereText, lower, charNames, unnamed, onlyOne, hexNamed, spelledOut, characterOf, charInside, characterMeans, meaningOf, Text, none, source, decoded, Meaning, Row}
 use Rattle.items.specs.Readers.{firstIs, lastIs, lineOf, afterLine, endsWith, hereInside, hereEnds}
 use Rattle.items.proofs.Every.{Every}
-use Rattle.items.proofs.Outcomes.{Between, Fine, FineValue, fine-scalar}
+use Rattle.items.proofs.Fine.{Between, Fine, FineValue, fine-scalar}
 use Rattle.items.proofs.Shorter.{decoded-shorter}
 use Rattle.laws.specs.Quoted.{code}
 use Rattle.laws.specs.Texts.{before, same}

@@ -9,8 +9,9 @@ use Rattle.items.specs.Items.{range, unset, characterSets, rangeAfter, p
 use Rattle.items.specs.Meaning.{characterOf, charInside, meaningOf, Meaning}
 use Rattle.items.specs.Readers.{readItem, SoFar, Read}
 use Rattle.items.proofs.Every.{Every, every-any, every-then}
+use Rattle.items.proofs.Fine.{Ranged, Fine}
 use Rattle.items.proofs.Meanings.{lastKind, Inside, Meant, held, made, Made}
-use Rattle.items.proofs.Outcomes.{Ranged, Fine, read-fine}
+use Rattle.items.proofs.Outcomes.{read-fine}
 use Rattle.items.proofs.Splits.{read-every, read-at, read-forward, read-end}
 use Rattle.items.proofs.Width.{wide}
 use Rattle.laws.specs.Quoted.{code}

@@ -7,7 +7,7 @@ use Rattle.items.specs.Classes.{delimOf, inQuotes, afterBackslash, stops
 use Rattle.items.specs.Meaning.{one, unescape, unescapeNext, unescapeBrace, unescapeHex, unescapeTrim}
 use Rattle.items.specs.Readers.{lastIs, scalarOf}
 use Rattle.items.proofs.Cases.{by-quotes, by-backslash, by-hex, by-trim, by-value}
-use Rattle.items.proofs.Outcomes.{Between}
+use Rattle.items.proofs.Fine.{Between}
 use Rattle.items.proofs.Width.{width-le, width-utf8}
 use Rattle.laws.specs.Quoted.{code}
 use Rattle.laws.proofs.Choice.{by-bool, if-all}
