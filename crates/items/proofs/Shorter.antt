@@ -122,7 +122,8 @@ unfolding inQuotes
 plain-not k c [] h e = let z : ends ≡ plain = rw h at e in let no : _≡_ {A = ℕ} 0 1 = cc in absurd (omega arith)
 plain-not k c (d ∷ cs) h e = omega arith
 
-closer-not : (k : Quotes) (closer c : ℕ) (cs : List ℕ) → eqb (delimOf k) closer ≡ false → EndsIn (delimOf k) (c ∷ cs) → inHex k closer c ≡ closes → 1 ≤ length cs
+closer-not : (k : Quotes) (closer c : ℕ) (cs : List ℕ) → eqb (delimOf k) closer ≡ false → EndsIn (delimOf k) (c ∷ cs) → inHex k closer c ≡ closes
+    → 1 ≤ length cs
 unfolding inHex
 closer-not k closer c [] a h e =
     let f : c ≡ delimOf k = eqb-true c (delimOf k) h in
