@@ -89,7 +89,7 @@ module _ (D : ℕ → Type 0) (n : ℕ) where
 -- ---- the items of one extent, from s to e, and the items ys after them
 
 module _ (report : Bool) (s e : ℕ) (last : Place) where
-  items-length : (ms : List Meaning) → length (itemsOf report last s e ms) ≡ length ms
+  pub items-length : (ms : List Meaning) → length (itemsOf report last s e ms) ≡ length ms
   items-length [] = refl
   items-length (m ∷ ms) = ap suc (items-length ms)
 
