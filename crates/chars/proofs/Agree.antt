@@ -15,7 +15,8 @@ use Rattle.chars.specs.declared.State.{State}
 use Rattle.chars.specs.declared.Step.{Step}
 use Rattle.chars.specs.declared.Step.the-variants as steps
 use Rattle.chars.specs.declared.Decoded.the-variants as decoded
-use Rattle.chars.specs.Utf8.{within, more, first, bad, rest, after, front, placed}
+use Rattle.laws.specs.Quoted.{within}
+use Rattle.chars.specs.Utf8.{more, first, bad, rest, after, front, placed}
 use Rattle.chars.specs.Machine.{step, start, told, reads}
 use Rattle.chars.proofs.Table.{Small, Wanting, Fine, first-fine}
 

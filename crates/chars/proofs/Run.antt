@@ -10,7 +10,8 @@ use lib.Dec.{eqb·suc-zero}
 use Rattle.laws.specs.Choice.{if_then_else_}
 use Rattle.chars.specs.declared.Step.{Step}
 use Rattle.chars.specs.declared.Step.the-variants as steps
-use Rattle.chars.specs.Utf8.{within, first, Front, char, bad, cut, none, rest, after, front, Sequence, read, broken, onward, sequences, verdict, firstBad, codePoints, chars}
+use Rattle.laws.specs.Quoted.{within}
+use Rattle.chars.specs.Utf8.{first, Front, char, bad, cut, none, rest, after, front, Sequence, read, broken, onward, sequences, verdict, firstBad, codePoints, chars}
 use Rattle.chars.specs.Machine.{step, start, told, run}
 use Rattle.chars.proofs.Table.{Small, Wanting, Fine, first-fine}
 use Rattle.chars.proofs.Agree.{small-next, at-state, goes-on, step-within}

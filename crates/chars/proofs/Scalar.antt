@@ -7,7 +7,7 @@ use mathlib.Core.Logic.{_⊎_, inl, inr}
 use lib.Dec.{ltb}
 use borrow.Author.Tests.{ltb-true, ltb-false}
 use Rattle.laws.proofs.Choice.{by-bool}
-use Rattle.chars.specs.Utf8.{within}
+use Rattle.laws.specs.Quoted.{within}
 use Rattle.chars.specs.Encode.{isScalar}
 use Rattle.chars.proofs.Table.{within-true, within-in, within-below, within-above}
 

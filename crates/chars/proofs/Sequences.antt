@@ -14,7 +14,8 @@ use Rattle.chars.specs.declared.Decoded.{Decoded}
 use Rattle.chars.specs.declared.Decoded.the-variants as decoded
 use Rattle.chars.specs.declared.Utf8.{Utf8}
 use Rattle.chars.specs.declared.Utf8.the-variants as verdicts
-use Rattle.chars.specs.Utf8.{within, first, Front, char, bad, cut, none, rest, after, front, placed, Sequence, read, broken, short, sequences, verdict}
+use Rattle.laws.specs.Quoted.{within}
+use Rattle.chars.specs.Utf8.{first, Front, char, bad, cut, none, rest, after, front, placed, Sequence, read, broken, short, sequences, verdict}
 
 -- something stands there, and if it is a character, it has j bytes
 abbrev pub Ends : ℕ → Front → Type 0

@@ -10,7 +10,8 @@ use Rattle.laws.specs.Choice.{if_then_else_}
 use Rattle.laws.proofs.Choice.{if-all}
 use Rattle.chars.specs.declared.Step.{Step}
 use Rattle.chars.specs.declared.Step.the-variants as steps
-use Rattle.chars.specs.Utf8.{within, first, Front, char, bad, cut, none, rest, after, front}
+use Rattle.laws.specs.Quoted.{within}
+use Rattle.chars.specs.Utf8.{first, Front, char, bad, cut, none, rest, after, front}
 use Rattle.chars.proofs.Table.{within-in, Fine, first-fine}
 
 -- ---- the byte that shows a bad sequence is one of the text's

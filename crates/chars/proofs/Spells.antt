@@ -8,7 +8,8 @@ use mathlib.Core.Logic.{_⊎_, inl, inr, ⊎-elim}
 use lib.ListN.{length, take}
 use Rattle.laws.proofs.Choice.{if-is}
 use Rattle.chars.specs.declared.Step.{Step}
-use Rattle.chars.specs.Utf8.{within, ascii, first, Front, char, bad, cut, none, rest, after, front}
+use Rattle.laws.specs.Quoted.{within}
+use Rattle.chars.specs.Utf8.{ascii, first, Front, char, bad, cut, none, rest, after, front}
 use Rattle.chars.specs.Encode.{isScalar, utf8}
 use Rattle.chars.proofs.Table.{within-true}
 use Rattle.chars.proofs.SixBits.{high, low, div-4096, div-262144}

@@ -8,7 +8,8 @@ use borrow.Author.Tests.{le-leb, lt-leb, leb-true}
 use Rattle.laws.proofs.Choice.{if-is}
 use Rattle.chars.specs.declared.Step.{Step}
 use Rattle.chars.specs.declared.Step.the-variants as steps
-use Rattle.chars.specs.Utf8.{within, ascii, more, first}
+use Rattle.laws.specs.Quoted.{within}
+use Rattle.chars.specs.Utf8.{ascii, more, first}
 
 -- ---- ranges
 

@@ -6,9 +6,8 @@ use mathlib.Core.List.{List, [], _∷_, _++_}
 use lib.Dec.{ltb}
 use lib.ListN.{length}
 use Rattle.laws.specs.Choice.{if_then_else_}
-use Rattle.laws.specs.Quoted.{codes}
+use Rattle.laws.specs.Quoted.{codes, within}
 use Rattle.laws.specs.Lent.{written}
-use Rattle.chars.specs.Utf8.{within}
 
 -- U+0000..D7FF and U+E000..10FFFF: every number that is a character's (the surrogates between are not, nor is what lies past)
 unfoldable pub isScalar : ℕ → Bool

@@ -3,10 +3,10 @@ use Prim.Native.Nat.{ℕ}
 use mathlib.Core.Path.{_≡_, refl}
 use mathlib.Core.List.{List, [], _∷_}
 use mathlib.Core.Bool.{true, false}
-use Rattle.laws.specs.Quoted.{codes}
+use Rattle.laws.specs.Quoted.{codes, within}
 use Rattle.chars.specs.declared.Utf8.{Utf8}
 use Rattle.chars.specs.declared.Utf8.the-variants.{Good, Bad}
-use Rattle.chars.specs.Utf8.{within, first, rest, front, sequences, firstBad, chars}
+use Rattle.chars.specs.Utf8.{first, rest, front, sequences, firstBad, chars}
 use Rattle.chars.specs.Encode.{isScalar, utf8, encode, bytesOf, spelled}
 use Rattle.chars.specs.Blank.{isBlank}
 

@@ -9,7 +9,8 @@ use Rattle.chars.specs.declared.Step.{Step}
 use Rattle.chars.specs.declared.Step.the-variants as steps
 use Rattle.chars.specs.declared.Decoded.{Decoded}
 use Rattle.chars.specs.declared.Decoded.the-variants as decoded
-use Rattle.chars.specs.Utf8.{within, more, first, Sequence, read, broken, short}
+use Rattle.laws.specs.Quoted.{within}
+use Rattle.chars.specs.Utf8.{more, first, Sequence, read, broken, short}
 
 -- One byte more. Between two characters it is a first byte. Within one it is bad out of its range; else its six bits join the code,
 -- which is whole at the last byte. A state may be any, so the step says also what no text leads to: bytes still to come after a code

@@ -1,19 +1,15 @@
 -- UTF-8 as RFC 3629 has it: section 4 says which bytes may stand where, section 3 which bits of a character each of them holds.
 use Prim.Native.Nat.{ℕ, zero, suc, _+_, _-_, _*_, _%_}
 use mathlib.Core.List.{List, [], _∷_}
-use mathlib.Core.Bool.{Bool, _&&_}
-use lib.Dec.{leb}
+use mathlib.Core.Bool.{Bool}
 use Rattle.laws.specs.Choice.{if_then_else_}
+use Rattle.laws.specs.Quoted.{within}
 use Rattle.chars.specs.declared.Step.{Step}
 use Rattle.chars.specs.declared.Step.the-variants as step
 use Rattle.chars.specs.declared.Decoded.{Decoded}
 use Rattle.chars.specs.declared.Decoded.the-variants as decoded
 use Rattle.chars.specs.declared.Utf8.{Utf8}
 use Rattle.chars.specs.declared.Utf8.the-variants as utf8
-
--- whether b is one of lo..hi
-unfoldable pub within : ℕ → ℕ → ℕ → Bool
-within lo hi b = leb lo b && leb b hi
 
 -- whether b is a character by itself, UTF8-1
 abbrev pub ascii : ℕ → Bool

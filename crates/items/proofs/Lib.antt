@@ -1,5 +1,4 @@
 pub mod Cases
-pub mod Width
 pub mod Every
 pub mod Same
 pub mod Run

@@ -13,11 +13,11 @@ use Rattle.items.specs.Readers.{firstIs, lastIs, lineOf, afterLine, ends
 use Rattle.items.proofs.Every.{Every}
 use Rattle.items.proofs.Fine.{Between, Fine, FineValue, fine-scalar}
 use Rattle.items.proofs.Shorter.{decoded-shorter}
-use Rattle.laws.specs.Quoted.{code}
+use Rattle.laws.specs.Quoted.{code, within}
 use Rattle.laws.specs.Texts.{before, same}
 use Rattle.laws.proofs.Choice.{by-bool, if-all, if-is}
 use Rattle.chars.specs.declared.Step.{Step}
-use Rattle.chars.specs.Utf8.{within, first, rest, front, Front}
+use Rattle.chars.specs.Utf8.{first, rest, front, Front}
 use Rattle.numbers.specs.declared.Parsed.{Parsed}
 use Rattle.numbers.specs.Grammar.{parseNumber}
 use Prim.Native.Nat.{ℕ, zero, suc, _+_, _-_, _*_, _%_, _^_, _≤_, _<_}

@@ -14,7 +14,7 @@ use Rattle.items.proofs.Fine.{Ranged, Fine}
 use Rattle.items.proofs.Meanings.{lastKind, Inside, Meant, held, made, Made}
 use Rattle.items.proofs.Outcomes.{read-fine}
 use Rattle.items.proofs.Splits.{read-every, read-at, read-forward, read-end}
-use Rattle.items.proofs.Width.{wide}
+use Rattle.chars.proofs.Width.{wide}
 use Rattle.laws.specs.Quoted.{code}
 use Rattle.laws.proofs.Choice.{by-bool, if-all}
 use Rattle.chars.specs.Blank.{isBlank}

@@ -23,7 +23,7 @@ use Rattle.items.proofs.Cases.{by-next}
 use Rattle.items.proofs.Every.{Every}
 use Rattle.items.proofs.Fine.{Between, Fine, FineKind, FineValue, fine-scalar, fine-closed, fine-unclosed, fine-cut, fine-kind, fine-last}
 use Rattle.items.proofs.Same.{item-same}
-use Rattle.items.proofs.Width.{wide, width-utf8}
+use Rattle.chars.proofs.Width.{wide, width-utf8}
 use Rattle.laws.specs.Quoted.{code}
 use Rattle.laws.proofs.Choice.{by-bool, if-all, if-is}
 use Rattle.chars.specs.Encode.{utf8, width}

@@ -8,7 +8,7 @@ use Rattle.items.specs.Readers.{soFar, SoFar}
 use Rattle.items.specs.Run.{state, fresh, beginMode, pounded, lastMode, finish, advance, Mode, opening, pound, skipping, idle, busy, State}
 use Rattle.items.proofs.Cases.{by-next}
 use Rattle.items.proofs.Run.{run-items}
-use Rattle.items.proofs.Width.{wide}
+use Rattle.chars.proofs.Width.{wide}
 use Rattle.laws.specs.Quoted.{code}
 use Rattle.laws.proofs.Choice.{by-bool}
 use Rattle.chars.specs.Encode.{utf8, width}

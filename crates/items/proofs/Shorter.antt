@@ -8,7 +8,7 @@ use Rattle.items.specs.Meaning.{unescape, unescapeNext, unescapeBrace, u
 use Rattle.items.specs.Readers.{lastIs, scalarOf}
 use Rattle.items.proofs.Cases.{by-quotes, by-backslash, by-hex, by-trim, by-value}
 use Rattle.items.proofs.Fine.{Between}
-use Rattle.items.proofs.Width.{width-le, width-utf8}
+use Rattle.chars.proofs.Width.{width-le, width-utf8}
 use Rattle.laws.specs.Quoted.{code}
 use Rattle.laws.proofs.Choice.{by-bool, if-all}
 use Rattle.chars.specs.Encode.{isScalar, encode}

@@ -8,7 +8,7 @@ use Rattle.items.specs.Readers.{soFar, eat, readItem, SoFar, Read}
 use Rattle.items.proofs.Cases.{by-next}
 use Rattle.items.proofs.Every.{Every}
 use Rattle.items.proofs.Same.{item-same}
-use Rattle.items.proofs.Width.{wide, width-utf8}
+use Rattle.chars.proofs.Width.{wide, width-utf8}
 use Rattle.chars.specs.Encode.{utf8, width, bytesOf}
 use Prim.Native.Nat.{ℕ, _+_, _≤_, _<_}
 use mathlib.Core.Path.{_≡_, refl, sym, ap, _∙_}
