@@ -52,7 +52,7 @@ onSharp inside d = Eat (ph.Nest d)
 -- ---- quotes
 
 abbrev pub onQuoted : InQuotes → Quotes → SoFar → ℕ → Next
-onQuoted ends k i c = Eat (ph.Done (closed k (eat i c .bytes)))
+onQuoted ends k i c = Eat (ph.Closed k)
 onQuoted escapes k i c = Eat (ph.Escape k (i .at))
 onQuoted plain k i c = Eat (ph.Quoted k)
 
@@ -136,7 +136,7 @@ onAfterHash value raw c = onHash (inHash c) raw c
 -- ---- here-strings
 
 abbrev pub onDelim : InDelim → ℕ → Next
-onDelim endsDelim c = Eat ph.HereBody
+onDelim endsDelim c = Eat ph.HereStart
 onDelim returns c = Eat ph.HereDelim
 onDelim blankDelim c = Eat (ph.Done (Error kind.UnexpectedChar c))
 onDelim ofDelim c = Eat ph.HereDelim
@@ -149,7 +149,8 @@ stepOf report ph.AfterComma i c = if eqb c (code "@") then Eat (ph.Done (Token k
 stepOf report ph.AfterHash i c = onAfterHash (afterHash c) (i .bytes) c
 stepOf report ph.AfterAngle i c = if eqb c (code "<") then Eat ph.HereDelim else enterWord c
 stepOf report ph.HereDelim i c = onDelim (inDelim c) c
-stepOf report ph.HereBody i c = if hereEnds (eat i c .bytes) then Eat (ph.Done HereStr) else Eat ph.HereBody
+stepOf report ph.HereStart i c = Eat ph.HereBody
+stepOf report ph.HereBody i c = if hereEnds (i .bytes) then Stop HereStr else Eat ph.HereBody
 stepOf report ph.InWord i c = onWord (inWord c)
 stepOf report ph.WordEscape i c = Eat ph.InWord
 stepOf report ph.InRun i c = onRun (inRun report c) c
@@ -161,6 +162,7 @@ stepOf report (ph.Nest d) i c = onNest (inNest c) d
 stepOf report (ph.NestBar d) i c = onBar (inNest c) d
 stepOf report (ph.NestSharp d) i c = onSharp (inNest c) d
 stepOf report (ph.Quoted k) i c = onQuoted (inQuotes k c) k i c
+stepOf report (ph.Closed k) i c = Stop (closed k (i .bytes))
 stepOf report (ph.TrimBefore k) i c = onTrimBefore (inTrim c) k i c
 stepOf report (ph.TrimAfter k) i c = onTrimAfter (inTrim c) k i c
 stepOf report (ph.Escape k from) i c = onEscape (afterBackslash c) k from i c
@@ -176,7 +178,8 @@ finishOf ph.AfterComma raw = Token kind.Unquote 0
 finishOf ph.AfterHash raw = hashLast (hashKind raw)
 finishOf ph.AfterAngle raw = Word
 finishOf ph.HereDelim raw = Error kind.IncompleteString 0
-finishOf ph.HereBody raw = Error kind.IncompleteString 0
+finishOf ph.HereStart raw = Error kind.IncompleteString 0
+finishOf ph.HereBody raw = if hereEnds raw then HereStr else Error kind.IncompleteString 0
 finishOf ph.InWord raw = Word
 finishOf ph.WordEscape raw = Word
 finishOf ph.InRun raw = Run
@@ -188,6 +191,7 @@ finishOf (ph.Nest d) raw = Error kind.IncompleteComment 0
 finishOf (ph.NestBar d) raw = Error kind.IncompleteComment 0
 finishOf (ph.NestSharp d) raw = Error kind.IncompleteComment 0
 finishOf (ph.Quoted k) raw = unclosed k raw
+finishOf (ph.Closed k) raw = closed k raw
 finishOf (ph.TrimBefore k) raw = cut k
 finishOf (ph.TrimAfter k) raw = cut k
 finishOf (ph.Escape k from) raw = cut k
@@ -219,6 +223,7 @@ depthOf ph.AfterComma = 0
 depthOf ph.AfterHash = 0
 depthOf ph.AfterAngle = 0
 depthOf ph.HereDelim = 0
+depthOf ph.HereStart = 0
 depthOf ph.HereBody = 0
 depthOf ph.InWord = 0
 depthOf ph.WordEscape = 0
@@ -231,6 +236,7 @@ depthOf (ph.Nest d) = d
 depthOf (ph.NestBar d) = d
 depthOf (ph.NestSharp d) = d
 depthOf (ph.Quoted k) = 0
+depthOf (ph.Closed k) = 0
 depthOf (ph.TrimBefore k) = 0
 depthOf (ph.TrimAfter k) = 0
 depthOf (ph.Escape k from) = 0

@@ -49,7 +49,9 @@ pub enum Phase {
     AfterAngle,
     // in the delimiter of a here-string: #<<en
     HereDelim,
-    // in its body
+    // after the newline that ends the delimiter: the body starts here
+    HereStart,
+    // in the body, after a character of it
     HereBody,
     // in a word: fo
     InWord,
@@ -73,6 +75,8 @@ pub enum Phase {
     NestSharp(usize),
     // in quotes: "a
     Quoted(Quotes),
+    // after the closing quote: "a"
+    Closed(Quotes),
     // after a backslash in quotes and a blank: its newline is to come
     TrimBefore(Quotes),
     // after that newline, in the blanks of the next line
@@ -89,8 +93,8 @@ pub enum Phase {
 }
 
 // What a character does in a phase: it belongs to the item, which is then in another phase; or the item ended before it. An item
-// is known to be whole only when a character beyond it has been seen, or the end: the character that closes a string is eaten
-// into the phase `Done`, which stops at the next.
+// is known to be whole only when a character beyond it has been seen, or the end: the quote that closes a string is eaten into the
+// phase `Closed`, which stops before the next character.
 pub enum Next {
     Eat(Phase),
     Stop(Outcome),
