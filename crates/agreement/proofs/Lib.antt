@@ -1,0 +1,4 @@
+pub mod Classes
+pub mod Reading
+pub mod Hash
+pub mod Boolean

@@ -1,0 +1,12 @@
+-- R7RS 7.1.1: <boolean> → #t | #f | #true | #false
+use Rattle.laws.specs.Quoted.{codes}
+use Prim.Native.Nat.{ℕ}
+use mathlib.Core.Bool.{Bool, true, false}
+use mathlib.Core.List.{List}
+
+-- a text, and the truth value that it writes
+pub data Boolean : List ℕ → Bool → Type 0 where
+  short-true : Boolean (codes "#t") true
+  short-false : Boolean (codes "#f") false
+  long-true : Boolean (codes "#true") true
+  long-false : Boolean (codes "#false") false

@@ -1,0 +1,5 @@
+pub mod Reading
+pub mod Repeated
+pub mod Delimiter
+pub mod Boolean
+pub mod Punctuation

@@ -1,0 +1,2 @@
+-- R7RS 7.1.1: <token> → <identifier> | <boolean> | <number> | <character> | <string> | ( | ) | #( | #u8( | ' | ` | , | ,@ | .
+-- The tokens of <token> that are written out, but for the dot, which is in Identifier.
