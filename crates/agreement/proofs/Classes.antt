@@ -3,7 +3,7 @@ use Rattle.laws.specs.Quoted.{oneOf}
 use Rattle.laws.proofs.Choice.{by-bool}
 use Prim.Native.Nat.{ℕ}
 use mathlib.Core.Path.{_≡_}
-use mathlib.Core.Bool.{true}
+use mathlib.Core.Bool.{true, false}
 use mathlib.Core.List.{List, [], _∷_, map}
 use lib.Dec.{eqb}
 use borrow.Author.Tests.{eqb-true}
@@ -16,3 +16,10 @@ module _ {A : Type 0} (f : ℕ → A) (a : A) where
       by-bool (eqb c k)
       (λ g. let i : c ≡ k = eqb-true c k g in rw i (cc))
       (λ g. at-one-of ks c (cc) (rw g at h))
+
+-- one that is none of some characters is not the first of them, and none of the others
+pub not-first : (k : ℕ) (ks : List ℕ) (c : ℕ) → oneOf (k ∷ ks) c ≡ false → eqb c k ≡ false
+not-first k ks c h = by-bool (eqb c k) (λ e. let g = rw e at h in cc) (λ e. e)
+
+pub not-others : (k : ℕ) (ks : List ℕ) (c : ℕ) → oneOf (k ∷ ks) c ≡ false → oneOf ks c ≡ false
+not-others k ks c h = rw (not-first k ks c h) at h

@@ -30,12 +30,19 @@ unfolding bytesOf
 eats-all i [] = rw (append-nil (i .bytes), add-zero (i .at))
 eats-all i (c ∷ t) = eats-all (eat i c) t ∙ rw (append-assoc (i .bytes) (utf8 c) (bytesOf t), add-assoc (i .at) (width c) (byteCount t))
 
+pub eats-append : (i : SoFar) (t u : List ℕ) → eats i (t ++ u) ≡ eats (eats i t) u
+eats-append i [] u = refl
+eats-append i (c ∷ t) u = eats-append (eat i c) t u
+
 -- the item that some characters are, from the place `at` on
 abbrev pub whole : ℕ → List ℕ → SoFar
 whole at t = soFar (bytesOf t) (at + byteCount t)
 
 pub eats-whole : (at : ℕ) (t : List ℕ) → eats (soFar [] at) t ≡ whole at t
 eats-whole at t = eats-all (soFar [] at) t
+
+pub got-whole : (o : Outcome) (at : ℕ) (t cs : List ℕ) → got o (eats (soFar [] at) t) cs ≡ got o (whole at t) cs
+got-whole o at t cs = rw (eats-whole at t)
 
 -- a reader that takes t and leaves cs, with an outcome that means one item, reads t as that item
 module _ (report : Bool) (c : ℕ) (t cs : List ℕ) (o : Outcome) (k d : ℕ) (text : ℕ → Text) where

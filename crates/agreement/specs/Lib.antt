@@ -3,3 +3,4 @@ pub mod Repeated
 pub mod Delimiter
 pub mod Boolean
 pub mod Punctuation
+pub mod Comment

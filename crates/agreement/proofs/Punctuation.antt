@@ -1,0 +1,33 @@
+-- The tokens that are written out: each is decided by its characters, and takes no other.
+use Rattle.agreement.specs.Punctuation.{MayFollow, Punctuation, open-list, close, open-vector, open-bytes, quote, quasiquote, unquote, unquote-splicing, dot}
+use Rattle.agreement.specs.Reading.{nothing, ReadAs}
+use Rattle.agreement.proofs.Reading.{got-whole, read-token}
+use Rattle.items.specs.declared.Outcome.the-variants.{Token}
+use Rattle.items.specs.Classes.{startsRun, firstOf, afterHash, endsHash, inHash}
+use Rattle.items.specs.Readers.{got, boolKind, quoteKind, formKind, hashKind, hashBracket, hashAt, hashOn, readHash, readComma, readItem, SoFar}
+use Rattle.laws.specs.Quoted.{codes, code}
+use Rattle.laws.specs.Texts.{starts, begins, same}
+use Rattle.chars.specs.Blank.{isBlank}
+use Rattle.chars.specs.Encode.{utf8, width, bytesOf}
+use Prim.Native.Nat.{ℕ}
+use mathlib.Core.Path.{_≡_, refl}
+use mathlib.Core.Bool.{Bool, false}
+use mathlib.Core.List.{List, [], _∷_}
+use Rattle.items.specs.Kinds as kind
+
+comma-alone : (i : SoFar) (cs : List ℕ) → starts (code "@") cs ≡ false → readComma i cs ≡ got (Token kind.Unquote 0) i cs
+unfolding readComma starts
+comma-alone i [] h = refl
+comma-alone i (c ∷ cs) h = rw (h, readComma)
+
+pub punctuation : (report : Bool) {t : List ℕ} {k d : ℕ} (cs : List ℕ) (p : Punctuation t k d) → MayFollow p cs → ReadAs report t cs k d nothing
+unfolding isBlank readItem firstOf startsRun readHash afterHash hashOn inHash endsHash hashAt hashKind boolKind quoteKind formKind same begins bytesOf utf8 width hashBracket readComma
+punctuation report cs open-list h = read-token report _ _ cs _ _ refl refl (λ at. refl)
+punctuation report cs close h = read-token report _ _ cs _ _ refl refl (λ at. refl)
+punctuation report cs open-vector h = read-token report _ _ cs _ _ refl refl (λ at. got-whole (Token kind.OpenParen kind.Vector) at (codes "#(") cs)
+punctuation report cs open-bytes h = read-token report _ _ cs _ _ refl refl (λ at. got-whole (Token kind.OpenParen kind.Bytes) at (codes "#u8(") cs)
+punctuation report cs quote h = read-token report _ _ cs _ _ refl refl (λ at. refl)
+punctuation report cs quasiquote h = read-token report _ _ cs _ _ refl refl (λ at. refl)
+punctuation report cs unquote h = read-token report _ _ cs _ _ refl refl (λ at. comma-alone _ cs h)
+punctuation report cs unquote-splicing h = read-token report _ _ cs _ _ refl refl (λ at. got-whole (Token kind.UnquoteSplice 0) at (codes ",@") cs)
+punctuation report cs dot h = ?
