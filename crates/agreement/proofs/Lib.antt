@@ -1,6 +1,10 @@
 pub mod Classes
+pub mod Bytes
 pub mod Reading
 pub mod Hash
+pub mod Words
+pub mod Number
 pub mod Boolean
 pub mod Punctuation
 pub mod Comment
+pub mod Identifier

@@ -4,3 +4,4 @@ pub mod Delimiter
 pub mod Boolean
 pub mod Punctuation
 pub mod Comment
+pub mod Identifier

@@ -1,0 +1,67 @@
+-- R7RS 7.1.1:
+--   <identifier> → <initial> <subsequent>* | <vertical line> <symbol element>* <vertical line> | <peculiar identifier>
+--   <initial> → <letter> | <special initial>
+--   <letter> → a | b | c | ... | z | A | B | C | ... | Z
+--   <special initial> → ! | $ | % | & | * | / | : | < | = | > | ? | ^ | _ | ~
+--   <subsequent> → <initial> | <digit> | <special subsequent>
+--   <digit> → 0 | 1 | 2 | 3 | 4 | 5 | 6 | 7 | 8 | 9
+--   <explicit sign> → + | -
+--   <special subsequent> → <explicit sign> | . | @
+--   <peculiar identifier> → <explicit sign> | <explicit sign> <sign subsequent> <subsequent>*
+--     | <explicit sign> . <dot subsequent> <subsequent>* | . <dot subsequent> <subsequent>*
+--   <dot subsequent> → <sign subsequent> | .
+--   <sign subsequent> → <initial> | <explicit sign> | @
+use Rattle.agreement.specs.Repeated.{Many}
+use Rattle.laws.specs.Quoted.{codes, code, oneOf}
+use Rattle.chars.specs.Blank.{isBlank}
+use Prim.Native.Nat.{ℕ, _≤_}
+use mathlib.Core.Path.{_≡_}
+use mathlib.Core.Bool.{true, false}
+use mathlib.Core.List.{List, [], _∷_}
+use lib.Dec.{eqb}
+
+abbrev pub letters : List ℕ
+letters = codes "abcdefghijklmnopqrstuvwxyzABCDEFGHIJKLMNOPQRSTUVWXYZ"
+
+abbrev pub specialInitials : List ℕ
+specialInitials = codes "!$%&*/:<=>?^_~"
+
+abbrev pub digits : List ℕ
+digits = codes "0123456789"
+
+abbrev pub explicitSigns : List ℕ
+explicitSigns = codes "+-"
+
+pub data Initial : ℕ → Type 0 where
+  letter : {c : ℕ} → oneOf letters c ≡ true → Initial c
+  special : {c : ℕ} → oneOf specialInitials c ≡ true → Initial c
+  -- 2.1 lets an implementation take other characters of Unicode, by general category: letters, marks, numbers, punctuation, symbols.
+  -- None of these is White_Space
+  beyond : {c : ℕ} → 0x80 ≤ c → isBlank c ≡ false → Initial c
+
+pub data Subsequent : ℕ → Type 0 where
+  initial : {c : ℕ} → Initial c → Subsequent c
+  numeral : {c : ℕ} → oneOf digits c ≡ true → Subsequent c
+  special : {c : ℕ} → oneOf (codes "+-.@") c ≡ true → Subsequent c
+
+pub data Plain : List ℕ → Type 0 where
+  plain : {c : ℕ} {t : List ℕ} → Initial c → Many Subsequent t → Plain (c ∷ t)
+
+pub data SignSubsequent : ℕ → Type 0 where
+  initial : {c : ℕ} → Initial c → SignSubsequent c
+  special : {c : ℕ} → oneOf (codes "+-@") c ≡ true → SignSubsequent c
+
+pub data DotSubsequent : ℕ → Type 0 where
+  sign : {c : ℕ} → SignSubsequent c → DotSubsequent c
+  dot-again : DotSubsequent (code ".")
+
+pub data Peculiar : List ℕ → Type 0 where
+  alone : {c : ℕ} → oneOf explicitSigns c ≡ true → Peculiar (c ∷ [])
+  signed : {c d : ℕ} {t : List ℕ} → oneOf explicitSigns c ≡ true → SignSubsequent d → Many Subsequent t → Peculiar (c ∷ d ∷ t)
+  signed-dot : {c d : ℕ} {t : List ℕ} → oneOf explicitSigns c ≡ true → DotSubsequent d → Many Subsequent t → Peculiar (c ∷ code "." ∷ d ∷ t)
+  dotted : {d : ℕ} {t : List ℕ} → DotSubsequent d → Many Subsequent t → Peculiar (code "." ∷ d ∷ t)
+
+-- Departure: a peculiar identifier that begins with + and goes on is two identifiers to the Rust. `+a`
+pub data Unsplit : List ℕ → Type 0 where
+  plus : Unsplit (codes "+")
+  other : {c : ℕ} {t : List ℕ} → eqb c (code "+") ≡ false → Unsplit (c ∷ t)
