@@ -3,6 +3,7 @@ use Rattle.agreement.specs.Delimiter.{delimiters, Ends}
 use Rattle.agreement.specs.Identifier.{explicitSigns, special, initial, Plain, plain, SignSubsequent, DotSubsequent, sign, dot-again, Peculiar, alone, signed, signed-dot, dotted, Unsplit, plus, other}
 use Rattle.agreement.specs.Reading.{bytes, ReadAs}
 use Rattle.agreement.specs.Repeated.{Many, done, more}
+use Rattle.agreement.specs.String.{goes-on}
 use Rattle.agreement.proofs.Bytes.{spells-whole}
 use Rattle.agreement.proofs.Classes.{at-one-of}
 use Rattle.agreement.proofs.Number.{lone-no-number}

@@ -4,6 +4,7 @@ pub mod Reading
 pub mod Hash
 pub mod Words
 pub mod Number
+pub mod Hex
 pub mod Boolean
 pub mod Punctuation
 pub mod Comment

@@ -1,7 +1,8 @@
 -- Words: an identifier that starts with no sign and no dot is a word from its start on; one that does, and a number, starts as a
 -- number run, which goes on as a word at the first character that no number has.
 use Rattle.agreement.specs.Delimiter.{delimiters, Ends, atEnd, before}
-use Rattle.agreement.specs.Identifier.{letters, specialInitials, digits, Initial, letter, special, beyond, Subsequent, initial, numeral, Unsplit, plus, other}
+use Rattle.agreement.specs.Escape.{digits}
+use Rattle.agreement.specs.Identifier.{letters, specialInitials, Initial, letter, special, beyond, Subsequent, initial, numeral, Unsplit, plus, other}
 use Rattle.agreement.specs.Reading.{item}
 use Rattle.agreement.specs.Repeated.{Many, done, more}
 use Rattle.agreement.proofs.Bytes.{first-differs}

@@ -11,13 +11,14 @@
 --     | <explicit sign> . <dot subsequent> <subsequent>* | . <dot subsequent> <subsequent>*
 --   <dot subsequent> → <sign subsequent> | .
 --   <sign subsequent> → <initial> | <explicit sign> | @
+use Rattle.agreement.specs.Escape.{digits, Mnemonic, HexScalar}
 use Rattle.agreement.specs.Repeated.{Many}
 use Rattle.laws.specs.Quoted.{codes, code, oneOf}
 use Rattle.chars.specs.Blank.{isBlank}
 use Prim.Native.Nat.{ℕ, _≤_}
 use mathlib.Core.Path.{_≡_}
 use mathlib.Core.Bool.{true, false}
-use mathlib.Core.List.{List, [], _∷_}
+use mathlib.Core.List.{List, [], _∷_, _++_}
 use lib.Dec.{eqb}
 
 abbrev pub letters : List ℕ
@@ -25,9 +26,6 @@ letters = codes "abcdefghijklmnopqrstuvwxyzABCDEFGHIJKLMNOPQRSTUVWXYZ"
 
 abbrev pub specialInitials : List ℕ
 specialInitials = codes "!$%&*/:<=>?^_~"
-
-abbrev pub digits : List ℕ
-digits = codes "0123456789"
 
 abbrev pub explicitSigns : List ℕ
 explicitSigns = codes "+-"
@@ -65,3 +63,16 @@ pub data Peculiar : List ℕ → Type 0 where
 pub data Unsplit : List ℕ → Type 0 where
   plus : Unsplit (codes "+")
   other : {c : ℕ} {t : List ℕ} → eqb c (code "+") ≡ false → Unsplit (c ∷ t)
+
+-- <symbol element>* → any of these, and the characters that it denotes:
+--   <symbol element> → <any character other than <vertical line> or \> | <inline hex escape> | <mnemonic escape> | \|
+pub data SymbolElements : List ℕ → List ℕ → Type 0 where
+  no-more : SymbolElements [] []
+  itself : {c : ℕ} {t v : List ℕ} → oneOf (codes "|\\") c ≡ false → SymbolElements t v → SymbolElements (c ∷ t) (c ∷ v)
+  mnemonic : {c x : ℕ} {t v : List ℕ} → Mnemonic c x → SymbolElements t v → SymbolElements (code "\\" ∷ c ∷ t) (x ∷ v)
+  vertical : {t v : List ℕ} → SymbolElements t v → SymbolElements (code "\\" ∷ code "|" ∷ t) (code "|" ∷ v)
+  hex : (h : List ℕ) {x : ℕ} {t v : List ℕ} → HexScalar h x → SymbolElements t v → SymbolElements (code "\\" ∷ code "x" ∷ h ++ (code ";" ∷ t)) (x ∷ v)
+
+-- an identifier in vertical lines, and its name
+pub data Lined : List ℕ → List ℕ → Type 0 where
+  lined : {t v : List ℕ} → SymbolElements t v → Lined (code "|" ∷ t ++ codes "|") v

@@ -4,4 +4,6 @@ pub mod Delimiter
 pub mod Boolean
 pub mod Punctuation
 pub mod Comment
+pub mod Escape
+pub mod String
 pub mod Identifier
