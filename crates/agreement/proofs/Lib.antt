@@ -5,6 +5,7 @@ pub mod Hash
 pub mod Words
 pub mod Number
 pub mod Hex
+pub mod Quoted
 pub mod Boolean
 pub mod Punctuation
 pub mod Comment
