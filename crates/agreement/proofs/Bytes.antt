@@ -60,6 +60,10 @@ unfolding bytesOf
 bytes-append [] u = refl
 bytes-append (c ∷ t) u = rw (bytes-append t u, append-assoc (utf8 c) (bytesOf t) (bytesOf u))
 
+pub bytes-ascii : (c : ℕ) (t : List ℕ) → ltb c 0x80 ≡ true → bytesOf (c ∷ t) ≡ c ∷ bytesOf t
+unfolding bytesOf
+bytes-ascii c t h = rw (utf8-low c h)
+
 -- the text of an item that is the item
 pub spells-whole : (at : ℕ) (t : List ℕ) → spelling at (bytesOf t) (source at (at + byteCount t)) ≡ bytes (bytesOf t)
 spells-whole at t =

@@ -1,12 +1,13 @@
 -- Characters by lists of them: what holds of each of some characters holds of any one of them.
 use Rattle.laws.specs.Quoted.{oneOf}
 use Rattle.laws.proofs.Choice.{by-bool}
-use Prim.Native.Nat.{ℕ}
-use mathlib.Core.Path.{_≡_}
+use Prim.Native.Nat.{ℕ, _≤_}
+use mathlib.Core.Path.{_≡_, refl}
 use mathlib.Core.Bool.{true, false}
 use mathlib.Core.List.{List, [], _∷_, map}
-use lib.Dec.{eqb}
-use borrow.Author.Tests.{eqb-true}
+use lib.Dec.{eqb, ltb}
+use native.Mathlib.Omega.{arith}
+use borrow.Author.Tests.{ne-eqb, ltb-true, eqb-true}
 
 module _ {A : Type 0} (f : ℕ → A) (a : A) where
   -- a function that is a at each of the characters ks is a at one of them
@@ -23,3 +24,13 @@ not-first k ks c h = by-bool (eqb c k) (λ e. let g = rw e at h in cc) (λ e. e)
 
 pub not-others : (k : ℕ) (ks : List ℕ) (c : ℕ) → oneOf (k ∷ ks) c ≡ false → oneOf ks c ≡ false
 not-others k ks c h = rw (not-first k ks c h) at h
+
+-- a character past ASCII
+module _ (c : ℕ) (h : 0x80 ≤ c) where
+  pub beyond-differs : (k : ℕ) → ltb k 0x80 ≡ true → eqb c k ≡ false
+  beyond-differs k e = ne-eqb c k (λ z. omega (arith, ltb-true k 0x80 e))
+
+  -- it is none of some ASCII characters
+  pub beyond-none : (ks : List ℕ) → map (λ k. ltb k 0x80) ks ≡ map (λ k. true) ks → oneOf ks c ≡ false
+  beyond-none [] e = refl
+  beyond-none (k ∷ ks) e = rw (beyond-differs k (cc)) (beyond-none ks (cc))

@@ -6,6 +6,7 @@ pub mod Words
 pub mod Number
 pub mod Hex
 pub mod Quoted
+pub mod Unescaped
 pub mod Boolean
 pub mod Punctuation
 pub mod Comment

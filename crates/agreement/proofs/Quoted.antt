@@ -36,26 +36,26 @@ pub data Quoted (k : Quotes) : List ℕ → List ℕ → Type 0 where
 
 -- ---- reading
 
-quotes-escape : (k : Quotes) → inQuotes k (code "\\") ≡ escapes
+pub quotes-escape : (k : Quotes) → inQuotes k (code "\\") ≡ escapes
 unfolding inQuotes
 quotes-escape Double = refl
 quotes-escape Lines = refl
 
-newline-plain : (k : Quotes) → inQuotes k (code "\n") ≡ plain
+pub newline-plain : (k : Quotes) → inQuotes k (code "\n") ≡ plain
 unfolding inQuotes
 newline-plain Double = refl
 newline-plain Lines = refl
 
 -- white space of a line, where a line goes on
-intraline-space : (c : ℕ) → oneOf intraline c ≡ true → inTrim c ≡ space
+pub intraline-space : (c : ℕ) → oneOf intraline c ≡ true → inTrim c ≡ space
 unfolding inTrim
 intraline-space c h = at-one-of inTrim space intraline c refl h
 
-intraline-blank : (c : ℕ) → oneOf intraline c ≡ true → afterBackslash c ≡ blank
+pub intraline-blank : (c : ℕ) → oneOf intraline c ≡ true → afterBackslash c ≡ blank
 unfolding afterBackslash
 intraline-blank c h = at-one-of afterBackslash blank intraline c refl h
 
-solid-or-line : (c : ℕ) → oneOf intraline c ≡ false → inTrim c ≡ (if eqb c (code "\n") then line else solid)
+pub solid-or-line : (c : ℕ) → oneOf intraline c ≡ false → inTrim c ≡ (if eqb c (code "\n") then line else solid)
 unfolding inTrim
 solid-or-line c h = rw (not-first (code " ") (codes "\t") c h, not-first (code "\t") [] c (not-others (code " ") (codes "\t") c h))
 
@@ -113,7 +113,7 @@ module _ (k : Quotes) where
   line-read i [] cs {w} c m h = trim-on true i (c ∷ cs) m ∙ trim-ends (eats i w) c cs h
   line-read i (x ∷ t) cs {w} c m h = trim-on true i (x ∷ t ++ (c ∷ cs)) m ∙ trim-ends (eats i w) x (t ++ (c ∷ cs)) h
 
-  closing-solid : oneOf intraline (delimOf k) ≡ false
+  pub closing-solid : oneOf intraline (delimOf k) ≡ false
   closing-solid = elim k [ Double ↦ refl | Lines ↦ refl ]
 
   unindented : (t : List ℕ) → indented t ≡ false → indented (t ++ (delimOf k ∷ [])) ≡ false

@@ -6,7 +6,7 @@ use Rattle.agreement.specs.Identifier.{letters, specialInitials, Initial
 use Rattle.agreement.specs.Reading.{item}
 use Rattle.agreement.specs.Repeated.{Many, done, more}
 use Rattle.agreement.proofs.Bytes.{first-differs}
-use Rattle.agreement.proofs.Classes.{at-one-of}
+use Rattle.agreement.proofs.Classes.{at-one-of, beyond-differs, beyond-none}
 use Rattle.agreement.proofs.Reading.{eats, got-whole, read-one}
 use Rattle.items.specs.declared.Outcome.{Outcome}
 use Rattle.items.specs.declared.Outcome.the-variants.{Word, Run}
@@ -27,20 +27,10 @@ use mathlib.Core.List.{List, [], _∷_, _++_, map}
 use lib.ListN.{length}
 use lib.Dec.{eqb, leb, ltb}
 use native.Mathlib.Omega.{arith}
-use borrow.Author.Tests.{ne-eqb, ltb-true}
 use Rattle.items.specs.Kinds as kind
 use Rattle.numbers.specs.declared.Parsed.the-variants as parsed
 
 -- ---- the characters of identifiers
-
-module _ (c : ℕ) (h : 0x80 ≤ c) where
-  beyond-differs : (k : ℕ) → ltb k 0x80 ≡ true → eqb c k ≡ false
-  beyond-differs k e = ne-eqb c k (λ z. omega (arith, ltb-true k 0x80 e))
-
-  -- a character past ASCII is none of some ASCII characters
-  beyond-none : (ks : List ℕ) → map (λ k. ltb k 0x80) ks ≡ map (λ k. true) ks → oneOf ks c ≡ false
-  beyond-none [] e = refl
-  beyond-none (k ∷ ks) e = rw (beyond-differs k (cc)) (beyond-none ks (cc))
 
 -- it belongs to a word, and opens no vertical lines
 pub record Goes (c : ℕ) : Type 0 where
