@@ -7,7 +7,9 @@ pub mod Number
 pub mod Hex
 pub mod Quoted
 pub mod Unescaped
+pub mod Between
 pub mod Boolean
 pub mod Punctuation
 pub mod Comment
+pub mod String
 pub mod Identifier
