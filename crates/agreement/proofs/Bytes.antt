@@ -6,7 +6,7 @@ use Rattle.items.specs.Meaning.{source}
 use Rattle.items.specs.Readers.{firstIs}
 use Rattle.laws.proofs.Choice.{by-bool, if-all}
 use Rattle.chars.specs.Encode.{two, three, four, utf8, width, bytesOf}
-use Prim.Native.Nat.{ℕ, _+_, _-_, _≤_}
+use Prim.Native.Nat.{ℕ, _+_, _-_, _≤_, _<_}
 use mathlib.Core.Path.{_≡_, refl, ap}
 use mathlib.Core.Bool.{true, false}
 use mathlib.Core.List.{List, [], _∷_, _++_, append-assoc}
@@ -15,7 +15,7 @@ use lib.Seq.{take-all}
 use lib.Dec.{eqb, leb, ltb}
 use native.Mathlib.Omega.{arith}
 use native.Mathlib.Nat.{le-refl}
-use borrow.Author.Tests.{ne-eqb, ltb-true, leb-true}
+use borrow.Author.Tests.{lt-ltb, ne-eqb, ltb-true, leb-true}
 
 -- a byte past ASCII
 abbrev pub High : ℕ → Type 0
@@ -63,6 +63,13 @@ bytes-append (c ∷ t) u = rw (bytes-append t u, append-assoc (utf8 c) (bytesOf 
 pub bytes-ascii : (c : ℕ) (t : List ℕ) → ltb c 0x80 ≡ true → bytesOf (c ∷ t) ≡ c ∷ bytesOf t
 unfolding bytesOf
 bytes-ascii c t h = rw (utf8-low c h)
+
+width-some : (c : ℕ) → 0 < width c
+unfolding width
+width-some c = if-all (λ n. 0 < n) (ltb c 0x80) (omega arith) (if-all (λ n. 0 < n) (ltb c 0x800) (omega arith) (if-all (λ n. 0 < n) (ltb c 0x10000) (omega arith) (omega arith)))
+
+pub bytes-some : (c : ℕ) (t : List ℕ) → ltb 0 (length (bytesOf (c ∷ t))) ≡ true
+bytes-some c t = rw (bytes-length (c ∷ t)) (lt-ltb 0 (width c + byteCount t) (omega (arith, width-some c)))
 
 -- the text of an item that is the item
 pub spells-whole : (at : ℕ) (t : List ℕ) → spelling at (bytesOf t) (source at (at + byteCount t)) ≡ bytes (bytesOf t)

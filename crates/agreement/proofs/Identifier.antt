@@ -1,4 +1,4 @@
--- <identifier>: words, words that start as a number run, and words in vertical lines.
+-- <identifier>, but for those in vertical lines: words, and words that start as a number run.
 use Rattle.agreement.specs.Delimiter.{delimiters, Ends}
 use Rattle.agreement.specs.Identifier.{explicitSigns, special, initial, Plain, plain, SignSubsequent, DotSubsequent, sign, dot-again, Peculiar, alone, signed, signed-dot, dotted, Unsplit, plus, other}
 use Rattle.agreement.specs.Reading.{bytes, ReadAs}
@@ -28,8 +28,6 @@ use lib.Dec.{eqb}
 use borrow.Author.Tests.{eqb-true}
 use Rattle.items.specs.Kinds as kind
 use Rattle.numbers.specs.declared.Parsed.the-variants as parsed
-
--- ---- <identifier>, but for those in vertical lines
 
 -- a sign or a dot, and characters that belong to a word
 data Led : List ℕ → Type 0 where

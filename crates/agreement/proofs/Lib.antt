@@ -13,3 +13,4 @@ pub mod Punctuation
 pub mod Comment
 pub mod String
 pub mod Identifier
+pub mod Lined
