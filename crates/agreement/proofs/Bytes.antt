@@ -6,7 +6,8 @@ use Rattle.items.specs.Meaning.{source}
 use Rattle.items.specs.Readers.{firstIs}
 use Rattle.laws.proofs.Choice.{by-bool, if-all}
 use Rattle.chars.specs.Encode.{two, three, four, utf8, width, bytesOf}
-use Prim.Native.Nat.{ℕ, _+_, _-_, _≤_, _<_}
+use Rattle.chars.proofs.Width.{wide, width-utf8}
+use Prim.Native.Nat.{ℕ, _+_, _-_, _≤_}
 use mathlib.Core.Path.{_≡_, refl, ap}
 use mathlib.Core.Bool.{true, false}
 use mathlib.Core.List.{List, [], _∷_, _++_, append-assoc}
@@ -46,14 +47,10 @@ module _ (c : ℕ) where
   unfolding utf8
   utf8-high h = rw h (if-all Beyond (ltb c 0x800) two-high (if-all Beyond (ltb c 0x10000) three-high four-high))
 
-width-length : (c : ℕ) → length (utf8 c) ≡ width c
-unfolding utf8 width
-width-length c = by-bool (ltb c 0x80) (λ e. rw e) (λ e. by-bool (ltb c 0x800) (λ f. rw (e, f)) (λ f. by-bool (ltb c 0x10000) (λ g. rw (e, f, g)) (λ g. rw (e, f, g))))
-
 pub bytes-length : (t : List ℕ) → length (bytesOf t) ≡ byteCount t
 unfolding bytesOf
 bytes-length [] = refl
-bytes-length (c ∷ t) = rw (length-append (utf8 c) (bytesOf t), width-length c, bytes-length t)
+bytes-length (c ∷ t) = rw (length-append (utf8 c) (bytesOf t), width-utf8 c, bytes-length t)
 
 pub bytes-append : (t u : List ℕ) → bytesOf (t ++ u) ≡ bytesOf t ++ bytesOf u
 unfolding bytesOf
@@ -64,12 +61,8 @@ pub bytes-ascii : (c : ℕ) (t : List ℕ) → ltb c 0x80 ≡ true → bytesOf (
 unfolding bytesOf
 bytes-ascii c t h = rw (utf8-low c h)
 
-width-some : (c : ℕ) → 0 < width c
-unfolding width
-width-some c = if-all (λ n. 0 < n) (ltb c 0x80) (omega arith) (if-all (λ n. 0 < n) (ltb c 0x800) (omega arith) (if-all (λ n. 0 < n) (ltb c 0x10000) (omega arith) (omega arith)))
-
 pub bytes-some : (c : ℕ) (t : List ℕ) → ltb 0 (length (bytesOf (c ∷ t))) ≡ true
-bytes-some c t = rw (bytes-length (c ∷ t)) (lt-ltb 0 (width c + byteCount t) (omega (arith, width-some c)))
+bytes-some c t = rw (bytes-length (c ∷ t)) (lt-ltb 0 (width c + byteCount t) (omega (arith, wide c)))
 
 -- the text of an item that is the item
 pub spells-whole : (at : ℕ) (t : List ℕ) → spelling at (bytesOf t) (source at (at + byteCount t)) ≡ bytes (bytesOf t)
@@ -81,6 +74,9 @@ spells-whole at t =
 -- whether a text starts with an ASCII character is seen by its first byte
 high-differs : (b : ℕ) (t : List ℕ) {bs : List ℕ} → ltb b 0x80 ≡ true → Beyond bs → firstIs b (bs ++ t) ≡ false
 high-differs b t h (all-high {b = x} l m) = ne-eqb x b (λ e. omega (arith, ltb-true b 0x80 h))
+
+pub high-first : (b : ℕ) {bs : List ℕ} → ltb b 0x80 ≡ true → Beyond bs → firstIs b bs ≡ false
+high-first b h (all-high {b = x} l m) = ne-eqb x b (λ e. omega (arith, ltb-true b 0x80 h))
 
 pub first-differs : (b c : ℕ) (t : List ℕ) → ltb b 0x80 ≡ true → eqb c b ≡ false → firstIs b (bytesOf (c ∷ t)) ≡ false
 unfolding bytesOf

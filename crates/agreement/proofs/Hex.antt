@@ -9,20 +9,21 @@ use Rattle.items.specs.declared.CharValue.the-variants.{Scalar}
 use Rattle.items.specs.Classes.{stopsHex, inHex, endsHash, inHash, digit, staysHash}
 use Rattle.items.specs.Readers.{scalarOf}
 use Rattle.laws.specs.Quoted.{codes, code}
-use Rattle.laws.proofs.Choice.{by-bool}
 use Rattle.chars.specs.Blank.{isBlank}
 use Rattle.chars.specs.Encode.{isScalar, bytesOf}
-use Rattle.chars.specs.Utf8.{within}
+use Rattle.chars.proofs.Scalar.{scalar-true}
 use Rattle.digits.specs.Hex.{hexValue, hexDigits}
 use Rattle.digits.specs.Digits.{digitOf}
 use Prim.Native.Nat.{ℕ, _+_, _-_, _*_, _^_, _≤_, _<_}
 use mathlib.Core.Path.{_≡_, refl}
 use mathlib.Core.Bool.{true, false}
 use mathlib.Core.List.{List, map}
+use mathlib.Core.Logic.{⊎-elim}
+use lib.ListN.{length}
 use lib.Dec.{eqb, ltb}
 use native.Mathlib.Omega.{arith}
 use native.Mathlib.Nat.{le-refl}
-use borrow.Author.Tests.{lt-ltb, le-leb, lt-leb, ltb-true, ltb-false, eqb-true}
+use borrow.Author.Tests.{lt-ltb, eqb-true}
 use Rattle.digits.specs.declared.Hex.the-variants as hex
 use Rattle.digits.specs.Digits as number
 
@@ -57,15 +58,7 @@ digits-value p (and-more {n = n} {c = c} {d = d} h m) l =
     rw (digit-fits c h) (rw (digit-value c h) (rw (lt-ltb (n * 16 + d) (2 ^ 32) b) (digits-value (p + 1) m l)))
 
 scalar-small : (v : ℕ) → isScalar v ≡ true → v < 2 ^ 32
-unfolding isScalar within
-scalar-small v h =
-    by-bool (ltb v (2 ^ 32))
-    (λ e. ltb-true v (2 ^ 32) e)
-    (λ e.
-      let l : 2 ^ 32 ≤ v = ltb-false v (2 ^ 32) e in
-      let z = rw (le-leb 0x0000 v (omega arith), lt-leb v 0xD7FF (omega arith), le-leb 0xE000 v (omega arith), lt-leb v 0x10FFFF (omega arith)) at h in
-      let w : _≡_ {A = ℕ} 0 1 = cc in
-      absurd (omega arith))
+scalar-small v h = ⊎-elim (λ e. omega arith) (λ e. omega arith) (scalar-true v h)
 
 pub scalar-value : {h : List ℕ} {v : ℕ} → HexScalar h v → hexValue h ≡ hex.Value v
 unfolding hexValue
@@ -78,6 +71,9 @@ is-scalar (scalar m s) = s
 pub scalar-of : {h : List ℕ} {v : ℕ} → HexScalar h v → scalarOf (hexValue h) ≡ Scalar v
 unfolding scalarOf
 scalar-of s = rw (scalar-value s) (rw (is-scalar s))
+
+pub scalar-some : {h : List ℕ} {v : ℕ} → HexScalar h v → 0 < length h
+scalar-some (scalar m s) = omega arith
 
 -- ---- what digits are where they stand
 

@@ -19,6 +19,7 @@ use Rattle.laws.specs.Texts.{same}
 use Rattle.laws.proofs.Choice.{by-bool}
 use Rattle.chars.specs.Blank.{isBlank}
 use Rattle.chars.specs.Encode.{utf8, bytesOf}
+use Rattle.chars.proofs.Spells.{spells}
 use Rattle.numbers.specs.Grammar.{parseNumber}
 use Prim.Native.Nat.{ℕ, _+_}
 use mathlib.Core.Path.{_≡_, refl, _∙_}

@@ -12,5 +12,6 @@ pub mod Boolean
 pub mod Punctuation
 pub mod Comment
 pub mod String
+pub mod Character
 pub mod Identifier
 pub mod Lined

@@ -14,6 +14,7 @@ use Rattle.laws.specs.Quoted.{codes, code}
 use Rattle.laws.specs.Texts.{starts, begins, same}
 use Rattle.chars.specs.Blank.{isBlank}
 use Rattle.chars.specs.Encode.{utf8, width, bytesOf, spelled}
+use Rattle.chars.proofs.Spells.{spells}
 use Prim.Native.Nat.{ℕ}
 use mathlib.Core.Path.{_≡_, refl}
 use mathlib.Core.Bool.{Bool, false}

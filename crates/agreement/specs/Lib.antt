@@ -6,4 +6,5 @@ pub mod Punctuation
 pub mod Comment
 pub mod Escape
 pub mod String
+pub mod Character
 pub mod Identifier
