@@ -21,8 +21,8 @@ use Rattle.laws.proofs.Compared.{same-differ}
 use Rattle.chars.specs.Blank.{isBlank}
 use Rattle.chars.specs.Encode.{isScalar, utf8, width, bytesOf}
 use Rattle.chars.specs.Utf8.{front, char}
-use Rattle.chars.proofs.Round.{back}
 use Rattle.chars.proofs.Width.{width-utf8}
+use Rattle.chars.proofs.Round.{back}
 use Prim.Native.Nat.{ℕ, _<_}
 use mathlib.Core.Path.{_≡_, refl, _∙_}
 use mathlib.Core.Bool.{Bool, true, false, _&&_, _||_}

@@ -6,7 +6,7 @@ use Rattle.agreement.specs.Repeated.{Many, done, more}
 use Rattle.agreement.specs.String.{goes-on}
 use Rattle.agreement.proofs.Bytes.{spells-whole}
 use Rattle.agreement.proofs.Classes.{at-one-of}
-use Rattle.agreement.proofs.Number.{lone-no-number}
+use Rattle.agreement.proofs.Lone.{lone-no-number}
 use Rattle.agreement.proofs.Reading.{got-whole, read-one}
 use Rattle.agreement.proofs.Words.{one-goes, initial-goes, initial-begins, initial-nonblank, initial-no-plus, all-go, word-on, word-ends, word-means, unsplit-plain, unsplit, run-read, Goes}
 use Rattle.items.specs.declared.Outcome.the-variants.{Word}
@@ -19,7 +19,6 @@ use Rattle.laws.specs.Texts.{same}
 use Rattle.laws.proofs.Choice.{by-bool}
 use Rattle.chars.specs.Blank.{isBlank}
 use Rattle.chars.specs.Encode.{utf8, bytesOf}
-use Rattle.chars.proofs.Spells.{spells}
 use Rattle.numbers.specs.Grammar.{parseNumber}
 use Prim.Native.Nat.{ℕ, _+_}
 use mathlib.Core.Path.{_≡_, refl, _∙_}

@@ -3,7 +3,7 @@ pub mod Bytes
 pub mod Reading
 pub mod Hash
 pub mod Words
-pub mod Number
+pub mod Lone
 pub mod Hex
 pub mod Quoted
 pub mod Unescaped
@@ -15,3 +15,4 @@ pub mod String
 pub mod Character
 pub mod Identifier
 pub mod Lined
+pub mod Number

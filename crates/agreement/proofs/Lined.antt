@@ -16,7 +16,6 @@ use Rattle.laws.specs.Quoted.{codes, code, oneOf}
 use Rattle.laws.proofs.Choice.{by-bool}
 use Rattle.chars.specs.Blank.{isBlank}
 use Rattle.chars.specs.Encode.{utf8, bytesOf}
-use Rattle.chars.proofs.Spells.{spells}
 use Prim.Native.Nat.{ℕ, _+_, _-_}
 use mathlib.Core.Path.{_≡_, refl, sym, ap, _∙_}
 use mathlib.Core.Bool.{Bool, true, false}

@@ -3,7 +3,7 @@ use Rattle.agreement.specs.Delimiter.{delimiters, Ends}
 use Rattle.agreement.specs.Punctuation.{MayFollow, Punctuation, open-list, close, open-vector, open-bytes, quote, quasiquote, unquote, unquote-splicing, dot}
 use Rattle.agreement.specs.Reading.{nothing, ReadAs}
 use Rattle.agreement.specs.Repeated.{done}
-use Rattle.agreement.proofs.Number.{lone-no-number}
+use Rattle.agreement.proofs.Lone.{lone-no-number}
 use Rattle.agreement.proofs.Reading.{got-whole, read-token}
 use Rattle.agreement.proofs.Words.{run-read}
 use Rattle.items.specs.declared.Outcome.the-variants.{Token}
@@ -14,7 +14,6 @@ use Rattle.laws.specs.Quoted.{codes, code}
 use Rattle.laws.specs.Texts.{starts, begins, same}
 use Rattle.chars.specs.Blank.{isBlank}
 use Rattle.chars.specs.Encode.{utf8, width, bytesOf, spelled}
-use Rattle.chars.proofs.Spells.{spells}
 use Prim.Native.Nat.{ℕ}
 use mathlib.Core.Path.{_≡_, refl}
 use mathlib.Core.Bool.{Bool, false}

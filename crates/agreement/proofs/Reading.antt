@@ -10,8 +10,6 @@ use Rattle.laws.specs.Texts.{begins}
 use Rattle.laws.proofs.Choice.{by-bool}
 use Rattle.chars.specs.Blank.{isBlank}
 use Rattle.chars.specs.Encode.{utf8, width, bytesOf}
-use Rattle.chars.proofs.Sequences.{turns}
-use Rattle.chars.proofs.Spells.{spells}
 use Prim.Native.Nat.{ℕ, zero, suc, _+_}
 use mathlib.Core.Path.{_≡_, refl, _∙_}
 use mathlib.Core.Bool.{Bool, false}

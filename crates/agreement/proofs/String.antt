@@ -17,7 +17,6 @@ use Rattle.laws.specs.Quoted.{codes, code, oneOf}
 use Rattle.laws.proofs.Choice.{by-bool}
 use Rattle.chars.specs.Blank.{isBlank}
 use Rattle.chars.specs.Encode.{bytesOf}
-use Rattle.chars.proofs.Spells.{spells}
 use Prim.Native.Nat.{ℕ, _+_}
 use mathlib.Core.Path.{_≡_, refl, ap, _∙_}
 use mathlib.Core.Bool.{Bool, true, false}

@@ -18,7 +18,6 @@ use Rattle.laws.specs.Quoted.{codes, code, oneOf}
 use Rattle.laws.proofs.Choice.{by-bool}
 use Rattle.chars.specs.Blank.{isBlank}
 use Rattle.chars.specs.Encode.{utf8, bytesOf}
-use Rattle.chars.proofs.Sequences.{turns, further}
 use Rattle.numbers.specs.Grammar.{parseNumber}
 use Prim.Native.Nat.{ℕ, suc, _+_, _≤_}
 use Prim.Native.String.{String}

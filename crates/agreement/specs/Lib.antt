@@ -8,3 +8,4 @@ pub mod Escape
 pub mod String
 pub mod Character
 pub mod Identifier
+pub mod Number

@@ -1,0 +1,18 @@
+-- A sign alone and a dot alone are no numbers: by computation.
+use Rattle.agreement.proofs.Classes.{at-one-of}
+use Rattle.laws.specs.Quoted.{codes, oneOf}
+use Rattle.laws.specs.Texts.{span, starts, begins, same}
+use Rattle.chars.specs.Encode.{utf8, bytesOf}
+use Rattle.digits.specs.Digits.{digitOf, sign, uinteger, value, fit, signed, wholeOf, integer}
+use Rattle.numbers.specs.Grammar.{justOf, complexOf, polarOf, endsI, imaginary, aloneOf, pairOf, toSign, startsE, rectangular, complex, zeroInt, zeroReal, zeroParts, judged, radixMark, prefix, parseNumber}
+use Rattle.numbers.specs.Reals.{exponentMarker, exponent, suffix, pointOf, dotted, undotted, decimal, infnan, integralOf, rationalOf, denominator, exact, orElse, ureal, real}
+use Prim.Native.Nat.{ℕ}
+use mathlib.Core.Path.{_≡_, refl}
+use mathlib.Core.Bool.{true}
+use mathlib.Core.List.{[], _∷_}
+use Rattle.numbers.specs.declared.Parsed.the-variants as parsed
+use Rattle.digits.specs.Digits as digits
+
+pub lone-no-number : (c : ℕ) → oneOf (codes "+-.") c ≡ true → parseNumber (bytesOf (c ∷ [])) ≡ parsed.NoNumber
+unfolding span starts begins same utf8 bytesOf digits.within digitOf sign uinteger value fit signed wholeOf integer exponentMarker exponent suffix pointOf dotted undotted decimal infnan integralOf rationalOf denominator exact orElse ureal real justOf complexOf polarOf endsI imaginary aloneOf pairOf toSign startsE rectangular complex zeroInt zeroReal zeroParts judged radixMark prefix parseNumber
+lone-no-number c h = at-one-of (λ k. parseNumber (bytesOf (k ∷ []))) parsed.NoNumber (codes "+-.") c refl h
