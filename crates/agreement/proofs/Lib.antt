@@ -16,3 +16,4 @@ pub mod Character
 pub mod Identifier
 pub mod Lined
 pub mod Number
+pub mod Reals

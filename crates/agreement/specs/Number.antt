@@ -12,10 +12,12 @@
 use Rattle.agreement.specs.Escape.{digits}
 use Rattle.agreement.specs.Repeated.{Many, Some}
 use Rattle.laws.specs.Quoted.{codes, code, oneOf}
+use Rattle.digits.specs.Digits.{value}
 use Prim.Native.Nat.{ℕ}
 use mathlib.Core.Path.{_≡_}
 use mathlib.Core.Bool.{Bool, true, false}
 use mathlib.Core.List.{List, [], _∷_, _++_}
+use lib.Dec.{eqb}
 
 abbrev pub Digit : ℕ → Type 0
 Digit c = oneOf digits c ≡ true
@@ -37,7 +39,8 @@ pub data Decimal : List ℕ → Type 0 where
 
 pub data Ureal : List ℕ → Type 0 where
   is-integer : {d : List ℕ} → Some Digit d → Ureal d
-  is-ratio : (n d : List ℕ) → Some Digit n → Some Digit d → Ureal (n ++ (code "/" ∷ d))
+  -- Departure: a denominator that is zero makes error 8. `1/0`
+  is-ratio : (n d : List ℕ) → Some Digit n → Some Digit d → eqb (value 10 0 d) 0 ≡ false → Ureal (n ++ (code "/" ∷ d))
   is-decimal : {d : List ℕ} → Decimal d → Ureal d
 
 pub data Infnan : List ℕ → Type 0 where
