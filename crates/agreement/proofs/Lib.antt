@@ -17,3 +17,4 @@ pub mod Identifier
 pub mod Lined
 pub mod Number
 pub mod Reals
+pub mod Ureal

@@ -30,14 +30,14 @@ use Rattle.digits.specs.declared.MaybeInt.the-variants as whole
 -- ---- runs of characters that pass a test
 
 module _ {P Q : ℕ → Type 0} (f : (c : ℕ) → P c → Q c) where
-  many-map : {t : List ℕ} → Many P t → Many Q t
+  pub many-map : {t : List ℕ} → Many P t → Many Q t
   many-map done = done
   many-map (more {c = c} h m) = more (f c h) (many-map m)
 
-some-many : {P : ℕ → Type 0} {t : List ℕ} → Some P t → Many P t
+pub some-many : {P : ℕ → Type 0} {t : List ℕ} → Some P t → Many P t
 some-many (some h m) = more h m
 
-some-length : {P : ℕ → Type 0} {t : List ℕ} → Some P t → 0 < length t
+pub some-length : {P : ℕ → Type 0} {t : List ℕ} → Some P t → 0 < length t
 some-length (some h m) = omega arith
 
 many-append : {P : ℕ → Type 0} {t u : List ℕ} → Many P t → Many P u → Many P (t ++ u)
@@ -45,22 +45,22 @@ many-append done n = n
 many-append (more h m) n = more h (many-append m n)
 
 module _ (f : ℕ → Bool) where
-  span-on : (r : List ℕ) {t : List ℕ} → Many (λ c. f c ≡ true) t → span f (t ++ r) ≡ length t + span f r
+  pub span-on : (r : List ℕ) {t : List ℕ} → Many (λ c. f c ≡ true) t → span f (t ++ r) ≡ length t + span f r
   unfolding span
   span-on r done = sym (zero-add (span f r))
   span-on r (more {t = t} h m) = rw (h, span-on r m) (sym (suc-add (length t) (span f r)))
 
-  span-all : {t : List ℕ} → Many (λ c. f c ≡ true) t → span f t ≡ length t
+  pub span-all : {t : List ℕ} → Many (λ c. f c ≡ true) t → span f t ≡ length t
   unfolding span
   span-all done = refl
   span-all (more h m) = rw (h, span-all m)
 
 -- ---- characters
 
-abbrev numerals : List ℕ
+abbrev pub numerals : List ℕ
 numerals = codes "0123456789./eE+-"
 
-abbrev Numeral : ℕ → Type 0
+abbrev pub Numeral : ℕ → Type 0
 Numeral c = oneOf numerals c ≡ true
 
 digit-numeral : (c : ℕ) → Digit c → Numeral c
@@ -155,15 +155,15 @@ suffix-calm no-suffix = refl
 suffix-calm (e-suffix {c = c} s d h g m) = marker-step c (s ++ d) h ∙ ap suc (after-marker g m)
 
 -- what begins a <ureal 10>
-abbrev leaders : List ℕ
+abbrev pub leaders : List ℕ
 leaders = codes "0123456789."
 
 -- what every <ureal 10> is: numerals, with no sign to cut it at, and with a digit or a dot at its start
-record Shape (u : List ℕ) : Type 0 where
-  all : Many Numeral u
-  calm : toSign false u ≡ length u
-  leads : oneOf leaders (getD u 0 0) ≡ true
-  length-some : 0 < length u
+pub record Shape (u : List ℕ) : Type 0 where
+  pub all : Many Numeral u
+  pub calm : toSign false u ≡ length u
+  pub leads : oneOf leaders (getD u 0 0) ≡ true
+  pub length-some : 0 < length u
 
 digits-numerals : {t : List ℕ} → Many Digit t → Many Numeral t
 digits-numerals m = many-map digit-numeral m
@@ -171,7 +171,7 @@ digits-numerals m = many-map digit-numeral m
 digit-leads : (c : ℕ) → Digit c → oneOf leaders c ≡ true
 digit-leads c h = at-one-of (λ k. oneOf leaders k) true digits c refl h
 
-sign-numerals : {s : List ℕ} {b : Bool} → Sign s b → Many Numeral s
+pub sign-numerals : {s : List ℕ} {b : Bool} → Sign s b → Many Numeral s
 sign-numerals no-sign = done
 sign-numerals plus-sign = more refl done
 sign-numerals minus-sign = more refl done
@@ -210,7 +210,7 @@ decimal-shape (dot-first f s m x) = record {
 }
 decimal-shape (dot-inside d f s m n x) = digits-then m (more refl (fraction-numerals n x)) (dot-then (fraction-numerals n x) (fraction-calm n x))
 
-shape : {u : List ℕ} → Ureal u → Shape u
+pub shape : {u : List ℕ} → Ureal u → Shape u
 unfolding toSign
 shape (is-integer {d = d} m) = rw (append-nil d) at (digits-then m done refl)
 shape (is-ratio n d m k z) = digits-then m (more refl (digits-numerals (some-many k))) (calm-step (code "/") d refl ∙ ap suc (digits-calm (some-many k)))
@@ -222,15 +222,15 @@ leader-is : (f : ℕ → Bool) (b : Bool) → map f leaders ≡ map (λ k. b) le
 leader-is f b e c h = at-one-of f b leaders c e h
 
 -- what a text with a sign, or with none, is to the grammar: its cut, its sign and what follows it
-record Signed (t u : List ℕ) (b : Bool) (n : ℕ) : Type 0 where
-  cut-at-end : toSign (startsE t) (drop 1 t) ≡ length (drop 1 t)
-  nonempty : 0 < length t
-  sign-length : sign t ≡ n
-  after-sign : drop n t ≡ u
-  sign-is : digit.negative t ≡ b
-  no-prefix : eqb (getD t 0 0) (code "#") ≡ false
+pub record Signed (t u : List ℕ) (b : Bool) (n : ℕ) : Type 0 where
+  pub cut-at-end : toSign (startsE t) (drop 1 t) ≡ length (drop 1 t)
+  pub nonempty : 0 < length t
+  pub sign-length : sign t ≡ n
+  pub after-sign : drop n t ≡ u
+  pub sign-is : digit.negative t ≡ b
+  pub no-prefix : eqb (getD t 0 0) (code "#") ≡ false
 
-signed-text : {s u : List ℕ} {b : Bool} → Sign s b → Shape u → Signed (s ++ u) u b (length s)
+pub signed-text : {s u : List ℕ} {b : Bool} → Sign s b → Shape u → Signed (s ++ u) u b (length s)
 unfolding startsE exponentMarker sign starts toSign
 signed-text no-sign h = unsigned _ h
   where
@@ -256,7 +256,7 @@ module _ {t u : List ℕ} {b : Bool} {n : ℕ} (m : Many Numeral t) (g : Signed 
   not-cut : ltb (1 + toSign (startsE t) (drop 1 t)) (length t) ≡ false
   not-cut = rw (g .cut-at-end) (le-ltb (1 + length (drop 1 t)) (length t) (omega (arith, length-drop 1 t, g .nonempty)))
 
-  real-parse : parseNumber (bytesOf t) ≡ judged (justOf (ureal 10 b n u))
+  pub real-parse : parseNumber (bytesOf t) ≡ judged (justOf (ureal 10 b n u))
   unfolding parseNumber prefix complex rectangular aloneOf real orElse
   real-parse =
       rw (numerals-bytes m)
