@@ -5,7 +5,7 @@ use Rattle.agreement.specs.Escape.{HexScalar}
 use Rattle.agreement.specs.Reading.{nothing, ReadAs}
 use Rattle.agreement.specs.Repeated.{Many, done, more}
 use Rattle.agreement.proofs.Bytes.{High, utf8-low, utf8-high, bytes-ascii, bytes-some, high-first, Beyond, all-high}
-use Rattle.agreement.proofs.Classes.{beyond-differs}
+use Rattle.agreement.proofs.Classes.{many-all, beyond-differs}
 use Rattle.agreement.proofs.Hash.{Staying, hash-on, hash-ends, hash-decided, after-hash}
 use Rattle.agreement.proofs.Hex.{scalar-of, scalar-some, scalar-digits, digits-bytes, digit-stays, Hexadecimal}
 use Rattle.agreement.proofs.Reading.{eats, whole, eats-whole, read-one}
@@ -152,10 +152,6 @@ hex-character {h} s =
 
 -- ---- the theorem
 
-all-stay : (t : List ℕ) → map inHash t ≡ map (λ c. staysHash) t → Many Staying t
-all-stay [] e = done
-all-stay (c ∷ t) e = let h : Staying c = cc in more h (all-stay t (cc))
-
 digits-stay : {t : List ℕ} → Many Hexadecimal t → Many Staying t
 digits-stay done = done
 digits-stay (more h m) = more (digit-stays h) (digits-stay m)
@@ -166,15 +162,15 @@ data Letters : List ℕ → Type 0 where
 
 name-letters : {t : List ℕ} {c : ℕ} → CharacterName t c → Letters t
 unfolding inHash endsHash isBlank
-name-letters named-alarm = first-and (all-stay (codes "larm") refl)
-name-letters named-backspace = first-and (all-stay (codes "ackspace") refl)
-name-letters named-delete = first-and (all-stay (codes "elete") refl)
-name-letters named-escape = first-and (all-stay (codes "scape") refl)
-name-letters named-newline = first-and (all-stay (codes "ewline") refl)
-name-letters named-null = first-and (all-stay (codes "ull") refl)
-name-letters named-return = first-and (all-stay (codes "eturn") refl)
-name-letters named-space = first-and (all-stay (codes "pace") refl)
-name-letters named-tab = first-and (all-stay (codes "ab") refl)
+name-letters named-alarm = first-and (many-all inHash staysHash (codes "larm") refl)
+name-letters named-backspace = first-and (many-all inHash staysHash (codes "ackspace") refl)
+name-letters named-delete = first-and (many-all inHash staysHash (codes "elete") refl)
+name-letters named-escape = first-and (many-all inHash staysHash (codes "scape") refl)
+name-letters named-newline = first-and (many-all inHash staysHash (codes "ewline") refl)
+name-letters named-null = first-and (many-all inHash staysHash (codes "ull") refl)
+name-letters named-return = first-and (many-all inHash staysHash (codes "eturn") refl)
+name-letters named-space = first-and (many-all inHash staysHash (codes "pace") refl)
+name-letters named-tab = first-and (many-all inHash staysHash (codes "ab") refl)
 
 letters-read : (report : Bool) (cs : List ℕ) {t : List ℕ} (c : ℕ) → Letters t → characterOf (bytesOf t) ≡ Scalar c → Ends hashDelimiters cs
     → ReadAs report (code "#" ∷ code "\\" ∷ t) cs kind.CharacterLiteral c nothing

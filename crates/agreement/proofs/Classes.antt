@@ -1,4 +1,5 @@
 -- Characters by lists of them: what holds of each of some characters holds of any one of them.
+use Rattle.agreement.specs.Repeated.{Many, done, more}
 use Rattle.laws.specs.Quoted.{oneOf}
 use Rattle.laws.proofs.Choice.{by-bool}
 use Prim.Native.Nat.{ℕ, _≤_}
@@ -17,6 +18,11 @@ module _ {A : Type 0} (f : ℕ → A) (a : A) where
       by-bool (eqb c k)
       (λ g. let i : c ≡ k = eqb-true c k g in rw i (cc))
       (λ g. at-one-of ks c (cc) (rw g at h))
+
+  -- the same of a whole text
+  pub many-all : (t : List ℕ) → map f t ≡ map (λ k. a) t → Many (λ c. f c ≡ a) t
+  many-all [] e = done
+  many-all (c ∷ t) e = let h : f c ≡ a = cc in more {c = c} h (many-all t (cc))
 
 -- one that is none of some characters is not the first of them, and none of the others
 pub not-first : (k : ℕ) (ks : List ℕ) (c : ℕ) → oneOf (k ∷ ks) c ≡ false → eqb c k ≡ false

@@ -6,7 +6,7 @@ use Rattle.agreement.specs.Repeated.{Many, done, more}
 use Rattle.agreement.specs.String.{goes-on}
 use Rattle.agreement.proofs.Bytes.{spells-whole}
 use Rattle.agreement.proofs.Classes.{at-one-of}
-use Rattle.agreement.proofs.Lone.{lone-no-number}
+use Rattle.agreement.proofs.Computed.{lone-no-number}
 use Rattle.agreement.proofs.Reading.{got-whole, read-one}
 use Rattle.agreement.proofs.Words.{one-goes, initial-goes, initial-begins, initial-nonblank, initial-no-plus, all-go, word-on, word-ends, word-means, unsplit-plain, unsplit, run-read, Goes}
 use Rattle.items.specs.declared.Outcome.the-variants.{Word}

@@ -3,11 +3,13 @@ pub mod Bytes
 pub mod Reading
 pub mod Hash
 pub mod Words
-pub mod Lone
+pub mod Computed
 pub mod Hex
 pub mod Quoted
 pub mod Unescaped
 pub mod Between
+pub mod Reals
+pub mod Ureal
 pub mod Boolean
 pub mod Punctuation
 pub mod Comment
@@ -16,5 +18,3 @@ pub mod Character
 pub mod Identifier
 pub mod Lined
 pub mod Number
-pub mod Reals
-pub mod Ureal

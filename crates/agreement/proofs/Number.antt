@@ -1,9 +1,13 @@
 -- Numbers: a number run goes on to a delimiter, and is one Number where its bytes are a number.
 use Rattle.agreement.specs.Delimiter.{numberDelimiters, Ends, atEnd, before}
+use Rattle.agreement.specs.Number.{Digit, Sign, no-sign, plus-sign, minus-sign, is-integer, Infnan, plus-inf, minus-inf, plus-nan, minus-nan, RealText, a-real, an-infnan}
 use Rattle.agreement.specs.Reading.{nothing, ReadAs}
-use Rattle.agreement.specs.Repeated.{Many, done, more}
-use Rattle.agreement.proofs.Classes.{at-one-of}
+use Rattle.agreement.specs.Repeated.{Many, done, more, Some}
+use Rattle.agreement.proofs.Classes.{at-one-of, many-all}
+use Rattle.agreement.proofs.Computed.{infnan-number}
 use Rattle.agreement.proofs.Reading.{eats, got-whole, read-one}
+use Rattle.agreement.proofs.Reals.{many-map, many-append, Numeral, numeral-is, leaders, sign-numerals, shape, signed-text, real-parse, Shape}
+use Rattle.agreement.proofs.Ureal.{integerOf, integer-ureal, ureal-real}
 use Rattle.items.specs.declared.Outcome.the-variants.{Run}
 use Rattle.items.specs.Classes.{startsRun, firstOf, staysRun, endsRun, inRun, afterHash, number, stopsRun}
 use Rattle.items.specs.Meaning.{one, runMeans, none}
@@ -11,12 +15,16 @@ use Rattle.items.specs.Readers.{got, readRun, readHash, readItem, SoFar}
 use Rattle.laws.specs.Quoted.{codes, code, oneOf}
 use Rattle.chars.specs.Blank.{isBlank}
 use Rattle.chars.specs.Encode.{bytesOf}
+use Rattle.numbers.specs.declared.Real.the-variants.{Integer}
 use Rattle.numbers.specs.declared.Parts.{Parts}
-use Rattle.numbers.specs.Grammar.{parseNumber}
-use Prim.Native.Nat.{ℕ}
+use Rattle.numbers.specs.declared.Parts.the-variants.{Just}
+use Rattle.numbers.specs.Grammar.{justOf, zeroReal, zeroParts, judged, parseNumber}
+use Prim.Native.Nat.{ℕ, _<_}
 use mathlib.Core.Path.{_≡_, refl, _∙_}
 use mathlib.Core.Bool.{Bool, true, false}
-use mathlib.Core.List.{List, _∷_, _++_}
+use mathlib.Core.List.{List, [], _∷_, _++_}
+use lib.ListN.{length, getD}
+use native.Mathlib.Omega.{arith}
 use Rattle.items.specs.Kinds as kind
 use Rattle.numbers.specs.declared.Parsed.the-variants as parsed
 
@@ -75,3 +83,57 @@ module _ (report : Bool) (c : ℕ) {t cs : List ℕ} where
         (λ at. rw n);
     spells = λ at. refl;
   }
+
+-- ---- <real 10>
+
+-- the value of an integer is that of its digits by place; where it is too large, its digits' places stand for it
+pub integer-number : {s d : List ℕ} {b : Bool} → Sign s b → Some Digit d → parseNumber (bytesOf (s ++ d)) ≡ parsed.Is (Just (Integer (integerOf b (length s) d)))
+unfolding judged justOf zeroParts zeroReal
+integer-number {s} {d} {b} g m =
+    let h = shape (is-integer m) in
+    real-parse (many-append (sign-numerals g) (h .all)) (signed-text g h) ∙ rw (integer-ureal b (length s) m)
+
+pub real-number : {t : List ℕ} → RealText t → (p : Parts) × (parseNumber (bytesOf t) ≡ parsed.Is p)
+unfolding judged justOf zeroParts
+real-number (a-real s u {b = b} g x) =
+    let h = shape x in
+    let r = ureal-real b (length s) x in
+    (Just (r .real-is), real-parse (many-append (sign-numerals g) (h .all)) (signed-text g h) ∙ rw (r .gives, r .proper))
+real-number (an-infnan x) = infnan-number x
+
+-- it is a run from its first character on
+numerals-stay : {t : List ℕ} → Many Numeral t → Many Stays t
+unfolding staysRun
+numerals-stay m = many-map (numeral-is staysRun true refl) m
+
+shape-starts : {u : List ℕ} → Shape u → startsRun (getD u 0 0) ≡ true
+unfolding startsRun
+shape-starts {u} h = at-one-of startsRun true leaders (getD u 0 0) refl (h .leads)
+
+signed-run : {s u : List ℕ} {b : Bool} → Sign s b → Shape u → (0 < length (s ++ u)) × (startsRun (getD (s ++ u) 0 0) ≡ true) × (Many Stays (s ++ u))
+unfolding startsRun
+signed-run no-sign h = (h .length-some, shape-starts h, numerals-stay (h .all))
+signed-run plus-sign h = (omega arith, refl, numerals-stay (more refl (h .all)))
+signed-run minus-sign h = (omega arith, refl, numerals-stay (more refl (h .all)))
+
+infnan-run : {t : List ℕ} → Infnan t → (0 < length t) × (startsRun (getD t 0 0) ≡ true) × (Many Stays t)
+unfolding startsRun staysRun
+infnan-run plus-inf = (omega arith, refl, many-all staysRun true (codes "+inf.0") refl)
+infnan-run minus-inf = (omega arith, refl, many-all staysRun true (codes "-inf.0") refl)
+infnan-run plus-nan = (omega arith, refl, many-all staysRun true (codes "+nan.0") refl)
+infnan-run minus-nan = (omega arith, refl, many-all staysRun true (codes "-nan.0") refl)
+
+real-run : {t : List ℕ} → RealText t → (0 < length t) × (startsRun (getD t 0 0) ≡ true) × (Many Stays t)
+real-run (a-real s u g x) = signed-run g (shape x)
+real-run (an-infnan x) = infnan-run x
+
+first-run : (report : Bool) (t cs : List ℕ) → 0 < length t → startsRun (getD t 0 0) ≡ true → Many Stays t → (p : Parts) → parseNumber (bytesOf t) ≡ parsed.Is p
+    → Ends (numberDelimiters report) cs → ReadAs report t cs kind.Number 0 nothing
+first-run report [] cs l s m p n e = absurd (omega arith)
+first-run report (c ∷ t) cs l s (more h m) p n e = number-run report c s m p n e
+
+pub real-text : (report : Bool) {t : List ℕ} (cs : List ℕ) → RealText t → Ends (numberDelimiters report) cs → ReadAs report t cs kind.Number 0 nothing
+real-text report {t} cs x e =
+    let r = real-run x in
+    let n = real-number x in
+    first-run report t cs (r .0) (r .1) (r .2) (n .0) (n .1) e

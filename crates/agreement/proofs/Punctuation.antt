@@ -3,7 +3,7 @@ use Rattle.agreement.specs.Delimiter.{delimiters, Ends}
 use Rattle.agreement.specs.Punctuation.{MayFollow, Punctuation, open-list, close, open-vector, open-bytes, quote, quasiquote, unquote, unquote-splicing, dot}
 use Rattle.agreement.specs.Reading.{nothing, ReadAs}
 use Rattle.agreement.specs.Repeated.{done}
-use Rattle.agreement.proofs.Lone.{lone-no-number}
+use Rattle.agreement.proofs.Computed.{lone-no-number}
 use Rattle.agreement.proofs.Reading.{got-whole, read-token}
 use Rattle.agreement.proofs.Words.{run-read}
 use Rattle.items.specs.declared.Outcome.the-variants.{Token}

@@ -40,7 +40,7 @@ some-many (some h m) = more h m
 pub some-length : {P : ℕ → Type 0} {t : List ℕ} → Some P t → 0 < length t
 some-length (some h m) = omega arith
 
-many-append : {P : ℕ → Type 0} {t u : List ℕ} → Many P t → Many P u → Many P (t ++ u)
+pub many-append : {P : ℕ → Type 0} {t u : List ℕ} → Many P t → Many P u → Many P (t ++ u)
 many-append done n = n
 many-append (more h m) n = more h (many-append m n)
 
@@ -66,7 +66,7 @@ Numeral c = oneOf numerals c ≡ true
 digit-numeral : (c : ℕ) → Digit c → Numeral c
 digit-numeral c h = at-one-of (λ k. oneOf numerals k) true digits c refl h
 
-numeral-is : (f : ℕ → Bool) (b : Bool) → map f numerals ≡ map (λ k. b) numerals → (c : ℕ) → Numeral c → f c ≡ b
+pub numeral-is : (f : ℕ → Bool) (b : Bool) → map f numerals ≡ map (λ k. b) numerals → (c : ℕ) → Numeral c → f c ≡ b
 numeral-is f b e c h = at-one-of f b numerals c e h
 
 numerals-bytes : {t : List ℕ} → Many Numeral t → bytesOf t ≡ t
