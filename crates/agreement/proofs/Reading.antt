@@ -88,6 +88,6 @@ module _ (report : Bool) (k d : ℕ) (w : Spelling) where
       (λ e. rw (e, items) (at-start (c ∷ []) r))
   alone (c ∷ x ∷ t) h r = by-bool (eqb c (code "#"))
       (λ e. by-bool (eqb x (code "!"))
-        (λ f. let g = rw (eqb-true c (code "#") e, eqb-true x (code "!") f) at h in cc)
-        (λ f. rw (e, items) (rw (f, afterPound) (rw (← eqb-true c (code "#") e) (at-start (c ∷ x ∷ t) r)))))
+      (λ f. let g = rw (eqb-true c (code "#") e, eqb-true x (code "!") f) at h in cc)
+      (λ f. rw (e, items) (rw (f, afterPound) (rw (← eqb-true c (code "#") e) (at-start (c ∷ x ∷ t) r)))))
       (λ e. rw (e, items) (at-start (c ∷ x ∷ t) r))

@@ -93,8 +93,12 @@ same-foreign f (x ∷ w) (more {c = c} {t = t} p m) h =
 not-infnan : {t : List ℕ} → Many Numeral t → infnan t ≡ maybe.NoReal
 unfolding infnan foreign
 not-infnan m =
-    rw (same-foreign (oneOf numerals) (codes "+inf.0") m refl, same-foreign (oneOf numerals) (codes "-inf.0") m refl,
-      same-foreign (oneOf numerals) (codes "+nan.0") m refl, same-foreign (oneOf numerals) (codes "-nan.0") m refl)
+    rw (
+      same-foreign (oneOf numerals) (codes "+inf.0") m refl,
+      same-foreign (oneOf numerals) (codes "-inf.0") m refl,
+      same-foreign (oneOf numerals) (codes "+nan.0") m refl,
+      same-foreign (oneOf numerals) (codes "-nan.0") m refl,
+    )
 
 drop-starts : (n : ℕ) {t : List ℕ} → Many Numeral t → starts (code "i") (drop n t) ≡ false
 unfolding starts
@@ -124,8 +128,12 @@ digit-calm c h = at-one-of (λ k. oneOf (codes "0123456789./") k) true digits c 
 calm-step : (c : ℕ) (r : List ℕ) → Calm c → toSign false (c ∷ r) ≡ suc (toSign false r)
 unfolding toSign exponentMarker
 calm-step c r h =
-    rw (calm-is (λ k. eqb k (code "+")) false refl c h, calm-is (λ k. eqb k (code "-")) false refl c h,
-      calm-is (λ k. eqb k (code "e")) false refl c h, calm-is (λ k. eqb k (code "E")) false refl c h)
+    rw (
+      calm-is (λ k. eqb k (code "+")) false refl c h,
+      calm-is (λ k. eqb k (code "-")) false refl c h,
+      calm-is (λ k. eqb k (code "e")) false refl c h,
+      calm-is (λ k. eqb k (code "E")) false refl c h,
+    )
 
 calm-on : (r : List ℕ) {t : List ℕ} → Many Calm t → toSign false (t ++ r) ≡ length t + toSign false r
 calm-on r done = sym (zero-add (toSign false r))

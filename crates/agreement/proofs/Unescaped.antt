@@ -120,16 +120,30 @@ module _ (k : Quotes) where
       rw (utf8-low (code "\\") refl, utf8-low c m, utf8-low x l) (escape-byte (c ∷ rest) ∙ (simple-bytes c x rest e ∙ ap (λ l. x ∷ l) (unescaped r q)))
   unescaped r (hexadecimal h {x = x} {t = t} s q) =
       let rest : List ℕ = bytesOf t ++ (delimOf k ∷ r) in
-      rw (bytes-append h (code ";" ∷ t), digits-bytes (scalar-digits s), utf8-low (code "\\") refl, utf8-low (code "x") refl, utf8-low (code ";") refl,
-        append-assoc h (code ";" ∷ bytesOf t) (delimOf k ∷ r))
+      rw (
+        bytes-append h (code ";" ∷ t),
+        digits-bytes (scalar-digits s),
+        utf8-low (code "\\") refl,
+        utf8-low (code "x") refl,
+        utf8-low (code ";") refl,
+        append-assoc h (code ";" ∷ bytesOf t) (delimOf k ∷ r),
+      )
       (escape-byte (code "x" ∷ h ++ (code ";" ∷ rest))
       ∙ (x-byte (h ++ (code ";" ∷ rest))
       ∙ (hex-bytes [] (code ";" ∷ rest) (scalar-digits s)
       ∙ (hex-closed h rest s ∙ ap (λ l. utf8 x ++ l) (unescaped r q)))))
   unescaped r (continued u w {t = t} m n e q) =
       let rest : List ℕ = bytesOf t ++ (delimOf k ∷ r) in
-      rw (bytes-append u (code "\n" ∷ w ++ t), spaces-ascii m, bytes-append w t, spaces-ascii n, utf8-low (code "\\") refl, utf8-low (code "\n") refl,
-        append-assoc u (code "\n" ∷ w ++ bytesOf t) (delimOf k ∷ r), append-assoc w (bytesOf t) (delimOf k ∷ r))
+      rw (
+        bytes-append u (code "\n" ∷ w ++ t),
+        spaces-ascii m,
+        bytes-append w t,
+        spaces-ascii n,
+        utf8-low (code "\\") refl,
+        utf8-low (code "\n") refl,
+        append-assoc u (code "\n" ∷ w ++ bytesOf t) (delimOf k ∷ r),
+        append-assoc w (bytesOf t) (delimOf k ∷ r),
+      )
       (escape-byte (u ++ (code "\n" ∷ w ++ rest))
       ∙ (newline-bytes (w ++ rest) m ∙ (space-bytes true rest n ∙ (text-bytes t r e ∙ unescaped r q))))
 

@@ -60,9 +60,23 @@ module _ (c : ℕ) (h : 0x80 ≤ c) where
   beyond-begins : firstOf c ≡ wordy
   unfolding firstOf startsRun
   beyond-begins =
-      rw (differs ";" refl, differs "\"" refl, differs "," refl, differs "#" refl,
-        differs "(" refl, differs "[" refl, differs "{" refl, differs ")" refl, differs "]" refl, differs "}" refl,
-        differs "'" refl, differs "`" refl, beyond-none c h (codes "+-.0123456789") refl, differs "|" refl, differs "\\" refl)
+      rw (
+        differs ";" refl,
+        differs "\"" refl,
+        differs "," refl,
+        differs "#" refl,
+        differs "(" refl,
+        differs "[" refl,
+        differs "{" refl,
+        differs ")" refl,
+        differs "]" refl,
+        differs "}" refl,
+        differs "'" refl,
+        differs "`" refl,
+        beyond-none c h (codes "+-.0123456789") refl,
+        differs "|" refl,
+        differs "\\" refl,
+      )
 
 pub initial-begins : {c : ℕ} → Initial c → firstOf c ≡ wordy
 unfolding firstOf startsRun
@@ -123,11 +137,11 @@ ends-breaks report c h =
     by-bool (oneOf (codes "([)]{}'\"`;,") c)
     (λ e. rw e)
     (λ e. rw e
-      (by-bool (oneOf (codes "()[]") c)
-      (λ f. let z = at-one-of (λ k. oneOf (codes "([)]{}'\"`;,") k) true (codes "()[]") c refl f in cc)
-      (λ f. by-bool (oneOf (codes ";\"") c)
-        (λ g. let z = at-one-of (λ k. oneOf (codes "([)]{}'\"`;,") k) true (codes ";\"") c refl g in cc)
-        (λ g. rw (f, g) at h))))
+    (by-bool (oneOf (codes "()[]") c)
+    (λ f. let z = at-one-of (λ k. oneOf (codes "([)]{}'\"`;,") k) true (codes "()[]") c refl f in cc)
+    (λ f. by-bool (oneOf (codes ";\"") c)
+    (λ g. let z = at-one-of (λ k. oneOf (codes "([)]{}'\"`;,") k) true (codes ";\"") c refl g in cc)
+    (λ g. rw (f, g) at h))))
 
 module _ (report : Bool) where
   -- what the standard's delimiters do to a run: they end it, or take it on as a word, which they break
@@ -148,8 +162,8 @@ module _ (report : Bool) where
       by-bool (staysRun c)
       (λ f. (further .0, further .1, λ i. rw (f, readRun) (further .2 (eat i c))))
       (λ f. by-bool (endsRun report c)
-        (λ g. let z = ends-breaks report c g in let y = rw z at (h .goes-on) in let w : _≡_ {A = ℕ} 0 1 = cc in absurd (omega arith))
-        (λ g. (Word, word, λ i. rw (f, g, readRun) (word-begins i c (t ++ cs) (h .no-line) ∙ (word-on i cs (more h m) ∙ word-ends _ e)))))
+      (λ g. let z = ends-breaks report c g in let y = rw z at (h .goes-on) in let w : _≡_ {A = ℕ} 0 1 = cc in absurd (omega arith))
+      (λ g. (Word, word, λ i. rw (f, g, readRun) (word-begins i c (t ++ cs) (h .no-line) ∙ (word-on i cs (more h m) ∙ word-ends _ e)))))
 
 -- ---- what words mean
 
@@ -179,9 +193,8 @@ unsplit (other {c = c} {t = t} h) = unsplit-plain c t h
 
 -- a word that starts as a number run and is no number
 module _ (report : Bool) (c : ℕ) {t cs : List ℕ} (k : ℕ) (text : ℕ → Text) (starts-run : oneOf (codes "+-.") c ≡ true) (on : Many Goes t) (end : Ends delimiters cs)
-  (no-number : parseNumber (bytesOf (c ∷ t)) ≡ parsed.NoNumber) (good : leb kind.firstError k ≡ false)
-  (meant : (at : ℕ) → wordMeans at (at + byteCount (c ∷ t)) (bytesOf (c ∷ t)) ≡ one k 0 (text at)) where
-
+    (no-number : parseNumber (bytesOf (c ∷ t)) ≡ parsed.NoNumber) (good : leb kind.firstError k ≡ false)
+    (meant : (at : ℕ) → wordMeans at (at + byteCount (c ∷ t)) (bytesOf (c ∷ t)) ≡ one k 0 (text at)) where
   begins-run : firstOf c ≡ number
   unfolding firstOf startsRun
   begins-run = at-one-of firstOf number (codes "+-.") c refl starts-run
