@@ -1,14 +1,4 @@
 -- A whole quoted text, with its quotes: its bytes, and the text between them.
-use Rattle.agreement.specs.Reading.{spelling, bytes}
-use Rattle.agreement.proofs.Bytes.{utf8-low, bytes-length, bytes-append, bytes-ascii}
-use Rattle.agreement.proofs.Quoted.{Quoted}
-use Rattle.agreement.proofs.Unescaped.{unescaped, escaped-none}
-use Rattle.items.specs.declared.Quotes.{Quotes}
-use Rattle.items.specs.declared.Quotes.the-variants.{Double, Lines}
-use Rattle.items.specs.Classes.{delimOf}
-use Rattle.items.specs.Items.{byteCount}
-use Rattle.items.specs.Meaning.{escaped, unescape, source}
-use Rattle.chars.specs.Encode.{bytesOf}
 use Prim.Native.Nat.{ℕ, _+_, _-_}
 use mathlib.Core.Path.{_≡_, refl, sym, ap, _∙_}
 use mathlib.Core.Bool.{true, false}
@@ -17,6 +7,16 @@ use lib.ListN.{length, drop, length-append}
 use lib.Seq.{take-at}
 use lib.Dec.{ltb}
 use native.Mathlib.Omega.{arith}
+use Rattle.chars.specs.Encode.{bytesOf}
+use Rattle.items.specs.declared.Quotes.{Quotes}
+use Rattle.items.specs.declared.Quotes.the-variants.{Double, Lines}
+use Rattle.items.specs.Classes.{delimOf}
+use Rattle.items.specs.Items.{byteCount}
+use Rattle.items.specs.Meaning.{escaped, unescape, source}
+use Rattle.agreement.specs.Reading.{spelling, bytes}
+use Rattle.agreement.proofs.Bytes.{utf8-low, bytes-length, bytes-append, bytes-ascii}
+use Rattle.agreement.proofs.Quoted.{Quoted}
+use Rattle.agreement.proofs.Unescaped.{unescaped, escaped-none}
 
 module _ (k : Quotes) where
   closing-ascii : ltb (delimOf k) 0x80 ≡ true

@@ -1,20 +1,20 @@
 -- <boolean>: a `#` word that its bytes decide.
+use Prim.Native.Nat.{ℕ}
+use mathlib.Core.Path.{refl}
+use mathlib.Core.Bool.{Bool, true, false}
+use mathlib.Core.List.{List}
+use Rattle.laws.specs.Texts.{same}
+use Rattle.chars.specs.Blank.{isBlank}
+use Rattle.chars.specs.Encode.{utf8, bytesOf}
+use Rattle.items.specs.Classes.{afterHash, endsHash, inHash}
+use Rattle.items.specs.Readers.{boolKind, hashKind}
+use Rattle.items.specs.Kinds as kind
 use Rattle.agreement.specs.Boolean.{Boolean, short-true, short-false, long-true, long-false}
 use Rattle.agreement.specs.Delimiter.{hashDelimiters, Ends}
 use Rattle.agreement.specs.Reading.{nothing, ReadAs}
 use Rattle.agreement.specs.Repeated.{done, more}
 use Rattle.agreement.proofs.Hash.{hash-word}
 use Rattle.agreement.proofs.Reading.{read-token}
-use Rattle.items.specs.Classes.{afterHash, endsHash, inHash}
-use Rattle.items.specs.Readers.{boolKind, hashKind}
-use Rattle.laws.specs.Texts.{same}
-use Rattle.chars.specs.Blank.{isBlank}
-use Rattle.chars.specs.Encode.{utf8, bytesOf}
-use Prim.Native.Nat.{ℕ}
-use mathlib.Core.Path.{refl}
-use mathlib.Core.Bool.{Bool, true, false}
-use mathlib.Core.List.{List}
-use Rattle.items.specs.Kinds as kind
 
 -- the detail of a boolean
 abbrev pub detail : Bool → ℕ

@@ -1,12 +1,4 @@
 -- The bytes of characters: an ASCII character is its byte, and the bytes of any other are past ASCII.
-use Rattle.agreement.specs.Reading.{spelling, bytes}
-use Rattle.agreement.specs.Repeated.{Many, done, more}
-use Rattle.items.specs.Items.{byteCount}
-use Rattle.items.specs.Meaning.{source}
-use Rattle.items.specs.Readers.{firstIs}
-use Rattle.laws.proofs.Choice.{by-bool, if-all}
-use Rattle.chars.specs.Encode.{two, three, four, utf8, width, bytesOf}
-use Rattle.chars.proofs.Width.{wide, width-utf8}
 use Prim.Native.Nat.{ℕ, _+_, _-_, _≤_}
 use mathlib.Core.Path.{_≡_, refl, ap}
 use mathlib.Core.Bool.{true, false}
@@ -17,6 +9,14 @@ use lib.Dec.{eqb, leb, ltb}
 use native.Mathlib.Omega.{arith}
 use native.Mathlib.Nat.{le-refl}
 use borrow.Author.Tests.{lt-ltb, ne-eqb, ltb-true, leb-true}
+use Rattle.laws.proofs.Choice.{by-bool, if-all}
+use Rattle.chars.specs.Encode.{two, three, four, utf8, width, bytesOf}
+use Rattle.chars.proofs.Width.{wide, width-utf8}
+use Rattle.items.specs.Items.{byteCount}
+use Rattle.items.specs.Meaning.{source}
+use Rattle.items.specs.Readers.{firstIs}
+use Rattle.agreement.specs.Reading.{spelling, bytes}
+use Rattle.agreement.specs.Repeated.{Many, done, more}
 
 -- a byte past ASCII
 abbrev pub High : ℕ → Type 0

@@ -1,4 +1,28 @@
 -- <character>: after `#\` the next character is taken whatever it is, and then all up to a delimiter; what that spells is the character.
+use Prim.Native.Nat.{ℕ, _<_}
+use mathlib.Core.Path.{_≡_, refl, _∙_}
+use mathlib.Core.Bool.{Bool, true, false, _&&_, _||_}
+use mathlib.Core.List.{List, [], _∷_, _++_, map, append-nil}
+use lib.ListN.{length, getD}
+use lib.Dec.{ltb}
+use native.Mathlib.Omega.{arith}
+use borrow.Author.Tests.{lt-ltb, le-leb, lt-leb, eq-eqb, ltb-true}
+use Rattle.laws.specs.Quoted.{codes, code}
+use Rattle.laws.specs.Texts.{begins, same}
+use Rattle.laws.proofs.Choice.{by-bool}
+use Rattle.laws.proofs.Compared.{same-differ}
+use Rattle.chars.specs.Blank.{isBlank}
+use Rattle.chars.specs.Encode.{isScalar, utf8, width, bytesOf}
+use Rattle.chars.specs.Utf8.{front, char}
+use Rattle.chars.proofs.Width.{width-utf8}
+use Rattle.chars.proofs.Round.{back}
+use Rattle.items.specs.declared.HashKind.the-variants.{Decided}
+use Rattle.items.specs.declared.CharValue.the-variants.{Scalar}
+use Rattle.items.specs.declared.Outcome.the-variants as outcome
+use Rattle.items.specs.Classes.{afterHash, endsHash, inHash, staysHash}
+use Rattle.items.specs.Meaning.{lookup, lower, charNames, unnamed, onlyOne, hexNamed, spelledOut, characterOf, charInside, none, Row}
+use Rattle.items.specs.Readers.{soFar, got, firstIs, boolKind, quoteKind, formKind, hashKind, hashOn, readItem}
+use Rattle.items.specs.Kinds as kind
 use Rattle.agreement.specs.Character.{CharacterName, named-alarm, named-backspace, named-delete, named-escape, named-newline, named-null, named-return, named-space, named-tab, CharacterText, any, by-name, by-hex}
 use Rattle.agreement.specs.Delimiter.{hashDelimiters, Ends}
 use Rattle.agreement.specs.Escape.{HexScalar}
@@ -9,30 +33,6 @@ use Rattle.agreement.proofs.Classes.{many-all, beyond-differs}
 use Rattle.agreement.proofs.Hash.{Staying, hash-on, hash-ends, hash-decided, after-hash}
 use Rattle.agreement.proofs.Hex.{scalar-of, scalar-some, scalar-digits, digits-bytes, digit-stays, Hexadecimal}
 use Rattle.agreement.proofs.Reading.{eats, whole, eats-whole, read-one}
-use Rattle.items.specs.declared.HashKind.the-variants.{Decided}
-use Rattle.items.specs.declared.CharValue.the-variants.{Scalar}
-use Rattle.items.specs.Classes.{afterHash, endsHash, inHash, staysHash}
-use Rattle.items.specs.Meaning.{one, lookup, lower, charNames, unnamed, onlyOne, hexNamed, spelledOut, characterOf, charInside, none, Row}
-use Rattle.items.specs.Readers.{soFar, got, firstIs, boolKind, quoteKind, formKind, hashKind, hashOn, readItem}
-use Rattle.laws.specs.Quoted.{codes, code}
-use Rattle.laws.specs.Texts.{begins, same}
-use Rattle.laws.proofs.Choice.{by-bool}
-use Rattle.laws.proofs.Compared.{same-differ}
-use Rattle.chars.specs.Blank.{isBlank}
-use Rattle.chars.specs.Encode.{isScalar, utf8, width, bytesOf}
-use Rattle.chars.specs.Utf8.{front, char}
-use Rattle.chars.proofs.Width.{width-utf8}
-use Rattle.chars.proofs.Round.{back}
-use Prim.Native.Nat.{ℕ, _<_}
-use mathlib.Core.Path.{_≡_, refl, _∙_}
-use mathlib.Core.Bool.{Bool, true, false, _&&_, _||_}
-use mathlib.Core.List.{List, [], _∷_, _++_, map, append-nil}
-use lib.ListN.{length, getD}
-use lib.Dec.{ltb}
-use native.Mathlib.Omega.{arith}
-use borrow.Author.Tests.{lt-ltb, le-leb, lt-leb, eq-eqb, ltb-true}
-use Rattle.items.specs.Kinds as kind
-use Rattle.items.specs.declared.Outcome.the-variants as outcome
 
 -- ---- reading
 

@@ -1,7 +1,4 @@
 -- Characters by lists of them: what holds of each of some characters holds of any one of them.
-use Rattle.agreement.specs.Repeated.{Many, done, more}
-use Rattle.laws.specs.Quoted.{oneOf}
-use Rattle.laws.proofs.Choice.{by-bool}
 use Prim.Native.Nat.{ℕ, _≤_}
 use mathlib.Core.Path.{_≡_, refl}
 use mathlib.Core.Bool.{true, false}
@@ -9,6 +6,9 @@ use mathlib.Core.List.{List, [], _∷_, map}
 use lib.Dec.{eqb, ltb}
 use native.Mathlib.Omega.{arith}
 use borrow.Author.Tests.{ne-eqb, ltb-true, eqb-true}
+use Rattle.laws.specs.Quoted.{oneOf}
+use Rattle.laws.proofs.Choice.{by-bool}
+use Rattle.agreement.specs.Repeated.{Many, done, more}
 
 module _ {A : Type 0} (f : ℕ → A) (a : A) where
   -- a function that is a at each of the characters ks is a at one of them

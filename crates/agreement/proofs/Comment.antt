@@ -1,15 +1,4 @@
 -- Comments: a line comment goes to its newline; in a nested comment only the marks #| and |# count, each taken from the left.
-use Rattle.agreement.specs.Comment.{InLine, mark, unmarked, LineComment, line, LineEnd, at-end, newline, return-newline, NestedRest, closes, continues, NestedComment, nested}
-use Rattle.agreement.specs.Reading.{nothing, ReadAs}
-use Rattle.agreement.specs.Repeated.{Many, done, more}
-use Rattle.agreement.proofs.Classes.{not-first}
-use Rattle.agreement.proofs.Reading.{eats, eats-append, eats-whole, got-whole, read-token}
-use Rattle.items.specs.declared.Outcome.the-variants.{Token}
-use Rattle.items.specs.Classes.{firstOf, inNest, afterHash, InNest, bar, sharp, inside}
-use Rattle.items.specs.Readers.{soFar, eat, got, comment, readLine, readNest, afterBar, afterSharp, readHash, readItem, SoFar, Read}
-use Rattle.laws.specs.Quoted.{codes, code}
-use Rattle.laws.proofs.Choice.{by-bool}
-use Rattle.chars.specs.Blank.{isBlank}
 use Prim.Native.Nat.{ℕ, zero, suc, _-_}
 use mathlib.Core.Path.{_≡_, refl, ap, _∙_}
 use mathlib.Core.Bool.{Bool, true, false}
@@ -18,7 +7,18 @@ use lib.Dec.{eqb}
 use native.Mathlib.Omega.{arith}
 use native.Mathlib.Numerals.{add-one}
 use borrow.Author.Tests.{lt-leb, eqb-true}
+use Rattle.laws.specs.Quoted.{codes, code}
+use Rattle.laws.proofs.Choice.{by-bool}
+use Rattle.chars.specs.Blank.{isBlank}
+use Rattle.items.specs.declared.Outcome.the-variants.{Token}
+use Rattle.items.specs.Classes.{firstOf, inNest, afterHash, InNest, bar, sharp, inside}
+use Rattle.items.specs.Readers.{soFar, eat, got, comment, readLine, readNest, afterBar, afterSharp, readHash, readItem, SoFar, Read}
 use Rattle.items.specs.Kinds as kind
+use Rattle.agreement.specs.Comment.{InLine, mark, unmarked, LineComment, line, LineEnd, at-end, newline, return-newline, NestedRest, closes, continues, NestedComment, nested}
+use Rattle.agreement.specs.Reading.{nothing, ReadAs}
+use Rattle.agreement.specs.Repeated.{Many, done, more}
+use Rattle.agreement.proofs.Classes.{not-first}
+use Rattle.agreement.proofs.Reading.{eats, eats-append, eats-whole, got-whole, read-token}
 
 -- ---- line comments
 

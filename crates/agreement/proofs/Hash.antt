@@ -1,19 +1,19 @@
 -- What starts with `#` is read up to a delimiter, and is then what its bytes say.
-use Rattle.agreement.specs.Delimiter.{hashDelimiters, Ends, atEnd, before}
-use Rattle.agreement.specs.Repeated.{Many, done, more}
-use Rattle.agreement.proofs.Classes.{at-one-of}
-use Rattle.agreement.proofs.Reading.{eats, whole, eats-whole}
-use Rattle.items.specs.declared.Outcome.{Outcome}
-use Rattle.items.specs.declared.HashKind.the-variants.{Decided}
-use Rattle.items.specs.Classes.{firstOf, afterHash, endsHash, inHash, value, stopsHash, staysHash}
-use Rattle.items.specs.Readers.{soFar, got, hashKind, hashAt, hashOn, readHash, readItem, SoFar}
-use Rattle.laws.specs.Quoted.{code, oneOf}
-use Rattle.chars.specs.Blank.{isBlank}
-use Rattle.chars.specs.Encode.{bytesOf}
 use Prim.Native.Nat.{ℕ}
 use mathlib.Core.Path.{_≡_, refl, _∙_}
 use mathlib.Core.Bool.{Bool, true}
 use mathlib.Core.List.{List, [], _∷_, _++_}
+use Rattle.laws.specs.Quoted.{code, oneOf}
+use Rattle.chars.specs.Blank.{isBlank}
+use Rattle.chars.specs.Encode.{bytesOf}
+use Rattle.items.specs.declared.Outcome.{Outcome}
+use Rattle.items.specs.declared.HashKind.the-variants.{Decided}
+use Rattle.items.specs.Classes.{firstOf, afterHash, endsHash, inHash, value, stopsHash, staysHash}
+use Rattle.items.specs.Readers.{soFar, got, hashKind, hashAt, hashOn, readHash, readItem, SoFar}
+use Rattle.agreement.specs.Delimiter.{hashDelimiters, Ends, atEnd, before}
+use Rattle.agreement.specs.Repeated.{Many, done, more}
+use Rattle.agreement.proofs.Classes.{at-one-of}
+use Rattle.agreement.proofs.Reading.{eats, whole, eats-whole}
 
 -- the characters of such a word
 abbrev pub Staying : ℕ → Type 0

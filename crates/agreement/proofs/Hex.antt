@@ -1,19 +1,4 @@
 -- Hexadecimal digits: they are ASCII, and their value is the standard's.
-use Rattle.agreement.specs.Escape.{digits, HexDigit, decimal, lower, upper, HexDigits, no-more, and-more, HexScalar, scalar}
-use Rattle.agreement.specs.Repeated.{Many, done, more}
-use Rattle.agreement.proofs.Bytes.{utf8-low}
-use Rattle.agreement.proofs.Classes.{at-one-of}
-use Rattle.items.specs.declared.Quotes.{Quotes}
-use Rattle.items.specs.declared.Quotes.the-variants.{Double, Lines}
-use Rattle.items.specs.declared.CharValue.the-variants.{Scalar}
-use Rattle.items.specs.Classes.{stopsHex, inHex, endsHash, inHash, digit, staysHash}
-use Rattle.items.specs.Readers.{scalarOf}
-use Rattle.laws.specs.Quoted.{codes, code}
-use Rattle.chars.specs.Blank.{isBlank}
-use Rattle.chars.specs.Encode.{isScalar, bytesOf}
-use Rattle.chars.proofs.Scalar.{scalar-true}
-use Rattle.digits.specs.Hex.{hexValue, hexDigits}
-use Rattle.digits.specs.Digits.{digitOf}
 use Prim.Native.Nat.{ℕ, _+_, _-_, _*_, _^_, _≤_, _<_}
 use mathlib.Core.Path.{_≡_, refl}
 use mathlib.Core.Bool.{true, false}
@@ -24,8 +9,23 @@ use lib.Dec.{eqb, ltb}
 use native.Mathlib.Omega.{arith}
 use native.Mathlib.Nat.{le-refl}
 use borrow.Author.Tests.{lt-ltb, eqb-true}
+use Rattle.laws.specs.Quoted.{codes, code}
+use Rattle.chars.specs.Blank.{isBlank}
+use Rattle.chars.specs.Encode.{isScalar, bytesOf}
+use Rattle.chars.proofs.Scalar.{scalar-true}
 use Rattle.digits.specs.declared.Hex.the-variants as hex
+use Rattle.digits.specs.Hex.{hexValue, hexDigits}
+use Rattle.digits.specs.Digits.{digitOf}
 use Rattle.digits.specs.Digits as number
+use Rattle.items.specs.declared.Quotes.{Quotes}
+use Rattle.items.specs.declared.Quotes.the-variants.{Double, Lines}
+use Rattle.items.specs.declared.CharValue.the-variants.{Scalar}
+use Rattle.items.specs.Classes.{stopsHex, inHex, endsHash, inHash, digit, staysHash}
+use Rattle.items.specs.Readers.{scalarOf}
+use Rattle.agreement.specs.Escape.{digits, HexDigit, decimal, lower, upper, HexDigits, no-more, and-more, HexScalar, scalar}
+use Rattle.agreement.specs.Repeated.{Many, done, more}
+use Rattle.agreement.proofs.Bytes.{utf8-low}
+use Rattle.agreement.proofs.Classes.{at-one-of}
 
 -- what holds of each hexadecimal digit holds of one
 module _ {A : Type 0} (f : ℕ → A) (a : A) where

@@ -1,33 +1,32 @@
 -- <identifier>, but for those in vertical lines: words, and words that start as a number run.
-use Rattle.agreement.specs.Delimiter.{delimiters, Ends}
-use Rattle.agreement.specs.Identifier.{explicitSigns, special, initial, Plain, plain, SignSubsequent, DotSubsequent, sign, dot-again, Peculiar, alone, signed, signed-dot, dotted, Unsplit, plus, other}
-use Rattle.agreement.specs.Reading.{bytes, ReadAs}
-use Rattle.agreement.specs.Repeated.{Many, done, more}
-use Rattle.agreement.specs.String.{goes-on}
-use Rattle.agreement.proofs.Bytes.{spells-whole}
-use Rattle.agreement.proofs.Classes.{at-one-of}
-use Rattle.agreement.proofs.Computed.{lone-no-number}
-use Rattle.agreement.proofs.Reading.{got-whole, read-one}
-use Rattle.agreement.proofs.Words.{one-goes, initial-goes, initial-begins, initial-nonblank, initial-no-plus, all-go, word-on, word-ends, word-means, unsplit-plain, unsplit, run-read, Goes}
-use Rattle.items.specs.declared.Outcome.the-variants.{Word}
-use Rattle.items.specs.Classes.{breaksWord, inWord}
-use Rattle.items.specs.Items.{byteCount}
-use Rattle.items.specs.Meaning.{one, lookup, words, wordKind, source}
-use Rattle.items.specs.Readers.{readItem}
-use Rattle.laws.specs.Quoted.{codes, code, oneOf}
-use Rattle.laws.specs.Texts.{same}
-use Rattle.laws.proofs.Choice.{by-bool}
-use Rattle.chars.specs.Blank.{isBlank}
-use Rattle.chars.specs.Encode.{utf8, bytesOf}
-use Rattle.numbers.specs.Grammar.{parseNumber}
 use Prim.Native.Nat.{ℕ, _+_}
 use mathlib.Core.Path.{_≡_, refl, _∙_}
 use mathlib.Core.Bool.{Bool, true}
 use mathlib.Core.List.{List, [], _∷_}
 use lib.Dec.{eqb}
 use borrow.Author.Tests.{eqb-true}
-use Rattle.items.specs.Kinds as kind
+use Rattle.laws.specs.Quoted.{codes, code, oneOf}
+use Rattle.laws.specs.Texts.{same}
+use Rattle.laws.proofs.Choice.{by-bool}
+use Rattle.chars.specs.Blank.{isBlank}
+use Rattle.chars.specs.Encode.{utf8, bytesOf}
 use Rattle.numbers.specs.declared.Parsed.the-variants as parsed
+use Rattle.numbers.specs.Grammar.{parseNumber}
+use Rattle.items.specs.declared.Outcome.the-variants.{Word}
+use Rattle.items.specs.Classes.{breaksWord, inWord}
+use Rattle.items.specs.Items.{byteCount}
+use Rattle.items.specs.Meaning.{lookup, words, wordKind, source}
+use Rattle.items.specs.Readers.{readItem}
+use Rattle.items.specs.Kinds as kind
+use Rattle.agreement.specs.Delimiter.{delimiters, Ends}
+use Rattle.agreement.specs.Identifier.{explicitSigns, special, initial, Plain, plain, SignSubsequent, DotSubsequent, sign, dot-again, Peculiar, alone, signed, signed-dot, dotted, Unsplit, plus, other}
+use Rattle.agreement.specs.Reading.{bytes, ReadAs}
+use Rattle.agreement.specs.Repeated.{Many, done, more}
+use Rattle.agreement.proofs.Bytes.{spells-whole}
+use Rattle.agreement.proofs.Classes.{at-one-of}
+use Rattle.agreement.proofs.Computed.{lone-no-number}
+use Rattle.agreement.proofs.Reading.{got-whole, read-one}
+use Rattle.agreement.proofs.Words.{one-goes, initial-goes, initial-begins, initial-nonblank, initial-no-plus, all-go, word-on, word-ends, word-means, unsplit-plain, unsplit, run-read, Goes}
 
 -- a sign or a dot, and characters that belong to a word
 data Led : List ℕ → Type 0 where

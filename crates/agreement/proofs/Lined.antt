@@ -1,21 +1,4 @@
 -- <identifier> in vertical lines: read to its closing line, and named by what its elements denote.
-use Rattle.agreement.specs.Identifier.{SymbolElements, no-more, itself, mnemonic, vertical, hex, Lined, lined}
-use Rattle.agreement.specs.Reading.{spelling, bytes, ReadAs}
-use Rattle.agreement.proofs.Between.{between, between-bytes, spells-between, between-unescaped, between-same}
-use Rattle.agreement.proofs.Bytes.{bytes-some}
-use Rattle.agreement.proofs.Classes.{not-first, not-others}
-use Rattle.agreement.proofs.Quoted.{quoted-on, Quoted, empty, character, escape, hexadecimal}
-use Rattle.agreement.proofs.Reading.{eats, eats-append, whole, eats-whole, read-one}
-use Rattle.agreement.proofs.String.{quoted-mnemonic}
-use Rattle.items.specs.declared.Quotes.the-variants.{Lines}
-use Rattle.items.specs.Classes.{startsRun, firstOf, inQuotes, afterBackslash, plain}
-use Rattle.items.specs.Items.{byteCount}
-use Rattle.items.specs.Meaning.{one, escaped, linedText, Text}
-use Rattle.items.specs.Readers.{soFar, got, lastIs, linedOf, readQuoted, readItem, SoFar}
-use Rattle.laws.specs.Quoted.{codes, code, oneOf}
-use Rattle.laws.proofs.Choice.{by-bool}
-use Rattle.chars.specs.Blank.{isBlank}
-use Rattle.chars.specs.Encode.{utf8, bytesOf}
 use Prim.Native.Nat.{ℕ, _+_, _-_}
 use mathlib.Core.Path.{_≡_, refl, sym, ap, _∙_}
 use mathlib.Core.Bool.{Bool, true, false}
@@ -25,8 +8,25 @@ use lib.Seq.{getD-at}
 use lib.Dec.{ltb}
 use native.Mathlib.Omega.{arith}
 use borrow.Author.Tests.{lt-leb}
-use Rattle.items.specs.Kinds as kind
+use Rattle.laws.specs.Quoted.{codes, code, oneOf}
+use Rattle.laws.proofs.Choice.{by-bool}
+use Rattle.chars.specs.Blank.{isBlank}
+use Rattle.chars.specs.Encode.{utf8, bytesOf}
+use Rattle.items.specs.declared.Quotes.the-variants.{Lines}
 use Rattle.items.specs.declared.Outcome.the-variants as outcome
+use Rattle.items.specs.Classes.{startsRun, firstOf, inQuotes, afterBackslash, plain}
+use Rattle.items.specs.Items.{byteCount}
+use Rattle.items.specs.Meaning.{escaped, linedText, Text}
+use Rattle.items.specs.Readers.{soFar, got, lastIs, linedOf, readQuoted, readItem, SoFar}
+use Rattle.items.specs.Kinds as kind
+use Rattle.agreement.specs.Identifier.{SymbolElements, no-more, itself, mnemonic, vertical, hex, Lined, lined}
+use Rattle.agreement.specs.Reading.{spelling, bytes, ReadAs}
+use Rattle.agreement.proofs.Between.{between, between-bytes, spells-between, between-unescaped, between-same}
+use Rattle.agreement.proofs.Bytes.{bytes-some}
+use Rattle.agreement.proofs.Classes.{not-first, not-others}
+use Rattle.agreement.proofs.Quoted.{quoted-on, Quoted, empty, character, escape, hexadecimal}
+use Rattle.agreement.proofs.Reading.{eats, eats-append, whole, eats-whole, read-one}
+use Rattle.agreement.proofs.String.{quoted-mnemonic}
 
 itself-plain : (c : ℕ) → oneOf (codes "|\\") c ≡ false → inQuotes Lines c ≡ plain
 unfolding inQuotes

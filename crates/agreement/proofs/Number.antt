@@ -1,4 +1,23 @@
 -- Numbers: a number run goes on to a delimiter, and is one Number where its bytes are a number.
+use Prim.Native.Nat.{ℕ, _<_}
+use mathlib.Core.Path.{_≡_, refl, _∙_}
+use mathlib.Core.Bool.{Bool, true, false}
+use mathlib.Core.List.{List, [], _∷_, _++_}
+use lib.ListN.{length, getD}
+use native.Mathlib.Omega.{arith}
+use Rattle.laws.specs.Quoted.{codes, code, oneOf}
+use Rattle.chars.specs.Blank.{isBlank}
+use Rattle.chars.specs.Encode.{bytesOf}
+use Rattle.numbers.specs.declared.Real.the-variants.{Integer}
+use Rattle.numbers.specs.declared.Parts.{Parts}
+use Rattle.numbers.specs.declared.Parts.the-variants.{Just}
+use Rattle.numbers.specs.declared.Parsed.the-variants as parsed
+use Rattle.numbers.specs.Grammar.{justOf, zeroReal, zeroParts, judged, parseNumber}
+use Rattle.items.specs.declared.Outcome.the-variants.{Run}
+use Rattle.items.specs.Classes.{startsRun, firstOf, staysRun, endsRun, inRun, afterHash, number, stopsRun}
+use Rattle.items.specs.Meaning.{runMeans, none}
+use Rattle.items.specs.Readers.{got, readRun, readHash, readItem, SoFar}
+use Rattle.items.specs.Kinds as kind
 use Rattle.agreement.specs.Delimiter.{numberDelimiters, Ends, atEnd, before}
 use Rattle.agreement.specs.Number.{Digit, Sign, no-sign, plus-sign, minus-sign, is-integer, Infnan, plus-inf, minus-inf, plus-nan, minus-nan, RealText, a-real, an-infnan}
 use Rattle.agreement.specs.Reading.{nothing, ReadAs}
@@ -8,25 +27,6 @@ use Rattle.agreement.proofs.Computed.{infnan-number}
 use Rattle.agreement.proofs.Reading.{eats, got-whole, read-one}
 use Rattle.agreement.proofs.Reals.{many-map, many-append, Numeral, numeral-is, leaders, sign-numerals, shape, signed-text, real-parse, Shape}
 use Rattle.agreement.proofs.Ureal.{integerOf, integer-ureal, ureal-real}
-use Rattle.items.specs.declared.Outcome.the-variants.{Run}
-use Rattle.items.specs.Classes.{startsRun, firstOf, staysRun, endsRun, inRun, afterHash, number, stopsRun}
-use Rattle.items.specs.Meaning.{one, runMeans, none}
-use Rattle.items.specs.Readers.{got, readRun, readHash, readItem, SoFar}
-use Rattle.laws.specs.Quoted.{codes, code, oneOf}
-use Rattle.chars.specs.Blank.{isBlank}
-use Rattle.chars.specs.Encode.{bytesOf}
-use Rattle.numbers.specs.declared.Real.the-variants.{Integer}
-use Rattle.numbers.specs.declared.Parts.{Parts}
-use Rattle.numbers.specs.declared.Parts.the-variants.{Just}
-use Rattle.numbers.specs.Grammar.{justOf, zeroReal, zeroParts, judged, parseNumber}
-use Prim.Native.Nat.{ℕ, _<_}
-use mathlib.Core.Path.{_≡_, refl, _∙_}
-use mathlib.Core.Bool.{Bool, true, false}
-use mathlib.Core.List.{List, [], _∷_, _++_}
-use lib.ListN.{length, getD}
-use native.Mathlib.Omega.{arith}
-use Rattle.items.specs.Kinds as kind
-use Rattle.numbers.specs.declared.Parsed.the-variants as parsed
 
 -- ---- runs
 

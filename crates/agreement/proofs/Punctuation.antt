@@ -1,4 +1,17 @@
 -- The tokens that are written out: each is decided by its characters, and takes no other.
+use Prim.Native.Nat.{ℕ}
+use mathlib.Core.Path.{_≡_, refl}
+use mathlib.Core.Bool.{Bool, false}
+use mathlib.Core.List.{List, [], _∷_}
+use Rattle.laws.specs.Quoted.{codes, code}
+use Rattle.laws.specs.Texts.{starts, begins, same}
+use Rattle.chars.specs.Blank.{isBlank}
+use Rattle.chars.specs.Encode.{utf8, width, bytesOf, spelled}
+use Rattle.items.specs.declared.Outcome.the-variants.{Token}
+use Rattle.items.specs.Classes.{startsRun, firstOf, afterHash, endsHash, inHash}
+use Rattle.items.specs.Meaning.{one, lookup, words, wordKind, wordMeans, none}
+use Rattle.items.specs.Readers.{got, boolKind, quoteKind, formKind, hashKind, hashBracket, hashAt, hashOn, readHash, readComma, readItem, SoFar}
+use Rattle.items.specs.Kinds as kind
 use Rattle.agreement.specs.Delimiter.{delimiters, Ends}
 use Rattle.agreement.specs.Punctuation.{MayFollow, Punctuation, open-list, close, open-vector, open-bytes, quote, quasiquote, unquote, unquote-splicing, dot}
 use Rattle.agreement.specs.Reading.{nothing, ReadAs}
@@ -6,19 +19,6 @@ use Rattle.agreement.specs.Repeated.{done}
 use Rattle.agreement.proofs.Computed.{lone-no-number}
 use Rattle.agreement.proofs.Reading.{got-whole, read-token}
 use Rattle.agreement.proofs.Words.{run-read}
-use Rattle.items.specs.declared.Outcome.the-variants.{Token}
-use Rattle.items.specs.Classes.{startsRun, firstOf, afterHash, endsHash, inHash}
-use Rattle.items.specs.Meaning.{one, lookup, words, wordKind, wordMeans, none}
-use Rattle.items.specs.Readers.{got, boolKind, quoteKind, formKind, hashKind, hashBracket, hashAt, hashOn, readHash, readComma, readItem, SoFar}
-use Rattle.laws.specs.Quoted.{codes, code}
-use Rattle.laws.specs.Texts.{starts, begins, same}
-use Rattle.chars.specs.Blank.{isBlank}
-use Rattle.chars.specs.Encode.{utf8, width, bytesOf, spelled}
-use Prim.Native.Nat.{ℕ}
-use mathlib.Core.Path.{_≡_, refl}
-use mathlib.Core.Bool.{Bool, false}
-use mathlib.Core.List.{List, [], _∷_}
-use Rattle.items.specs.Kinds as kind
 
 comma-alone : (i : SoFar) (cs : List ℕ) → starts (code "@") cs ≡ false → readComma i cs ≡ got (Token kind.Unquote 0) i cs
 unfolding readComma starts

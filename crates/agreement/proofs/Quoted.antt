@@ -1,21 +1,5 @@
 -- What stands between quotes, in strings and in vertical lines alike: it is read element by element up to the closing quote, and its
 -- bytes, each escape as what it stands for, are those of the characters that it denotes.
-use Rattle.agreement.specs.Escape.{HexScalar}
-use Rattle.agreement.specs.Repeated.{Many, done, more}
-use Rattle.agreement.specs.String.{intraline, Intraline, indented}
-use Rattle.agreement.proofs.Classes.{at-one-of, not-first, not-others}
-use Rattle.agreement.proofs.Hex.{scalar-of, scalar-digits, digits-bytes, digit-in-escape, Hexadecimal}
-use Rattle.agreement.proofs.Reading.{eats, eats-all, eats-append}
-use Rattle.items.specs.declared.Quotes.{Quotes}
-use Rattle.items.specs.declared.Quotes.the-variants.{Double, Lines}
-use Rattle.items.specs.declared.CharValue.the-variants.{Scalar}
-use Rattle.items.specs.Classes.{delimOf, inQuotes, afterBackslash, inHex, inTrim, escapes, plain, simple, blank, space, line, solid}
-use Rattle.items.specs.Readers.{eat, scalarOf, readQuoted, readEscape, readHex, readTrim, SoFar}
-use Rattle.laws.specs.Choice.{if_then_else_}
-use Rattle.laws.specs.Quoted.{codes, code, oneOf}
-use Rattle.laws.proofs.Choice.{by-bool}
-use Rattle.chars.specs.Encode.{bytesOf}
-use Rattle.digits.specs.Hex.{hexValue}
 use Prim.Native.Nat.{ℕ}
 use mathlib.Core.Path.{_≡_, refl, _∙_}
 use mathlib.Core.Bool.{Bool, true, false}
@@ -24,6 +8,22 @@ use lib.ListN.{length, drop}
 use lib.Seq.{drop-at}
 use lib.Dec.{eqb, ltb}
 use borrow.Author.Tests.{eqb-true}
+use Rattle.laws.specs.Choice.{if_then_else_}
+use Rattle.laws.specs.Quoted.{codes, code, oneOf}
+use Rattle.laws.proofs.Choice.{by-bool}
+use Rattle.chars.specs.Encode.{bytesOf}
+use Rattle.digits.specs.Hex.{hexValue}
+use Rattle.items.specs.declared.Quotes.{Quotes}
+use Rattle.items.specs.declared.Quotes.the-variants.{Double, Lines}
+use Rattle.items.specs.declared.CharValue.the-variants.{Scalar}
+use Rattle.items.specs.Classes.{delimOf, inQuotes, afterBackslash, inHex, inTrim, escapes, plain, simple, blank, space, line, solid}
+use Rattle.items.specs.Readers.{eat, scalarOf, readQuoted, readEscape, readHex, readTrim, SoFar}
+use Rattle.agreement.specs.Escape.{HexScalar}
+use Rattle.agreement.specs.Repeated.{Many, done, more}
+use Rattle.agreement.specs.String.{intraline, Intraline, indented}
+use Rattle.agreement.proofs.Classes.{at-one-of, not-first, not-others}
+use Rattle.agreement.proofs.Hex.{scalar-of, scalar-digits, digits-bytes, digit-in-escape, Hexadecimal}
+use Rattle.agreement.proofs.Reading.{eats, eats-all, eats-append}
 
 -- the elements of both, each with the class that it has here: characters, and what they denote
 pub data Quoted (k : Quotes) : List ℕ → List ℕ → Type 0 where

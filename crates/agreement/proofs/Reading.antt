@@ -1,15 +1,4 @@
 -- From what a reader gives to the items of a text.
-use Rattle.agreement.specs.Reading.{item, Spelling, nothing, ReadAs}
-use Rattle.items.specs.declared.Outcome.{Outcome}
-use Rattle.items.specs.declared.Outcome.the-variants.{Token}
-use Rattle.items.specs.Items.{unset, rangeAfter, extentItems, itemsFrom, itemsAt, afterPound, items, byteCount, Place}
-use Rattle.items.specs.Meaning.{one, meaningOf, Text, none}
-use Rattle.items.specs.Readers.{soFar, eat, got, readItem, SoFar}
-use Rattle.laws.specs.Quoted.{codes, code}
-use Rattle.laws.specs.Texts.{begins}
-use Rattle.laws.proofs.Choice.{by-bool}
-use Rattle.chars.specs.Blank.{isBlank}
-use Rattle.chars.specs.Encode.{utf8, width, bytesOf}
 use Prim.Native.Nat.{ℕ, zero, suc, _+_}
 use mathlib.Core.Path.{_≡_, refl, _∙_}
 use mathlib.Core.Bool.{Bool, false}
@@ -18,7 +7,18 @@ use lib.ListN.{length}
 use lib.Dec.{eqb, leb}
 use native.Mathlib.Nat.{add-assoc, add-zero, zero-add}
 use borrow.Author.Tests.{eqb-true}
+use Rattle.laws.specs.Quoted.{codes, code}
+use Rattle.laws.specs.Texts.{begins}
+use Rattle.laws.proofs.Choice.{by-bool}
+use Rattle.chars.specs.Blank.{isBlank}
+use Rattle.chars.specs.Encode.{utf8, width, bytesOf}
+use Rattle.items.specs.declared.Outcome.{Outcome}
+use Rattle.items.specs.declared.Outcome.the-variants.{Token}
+use Rattle.items.specs.Items.{unset, rangeAfter, extentItems, itemsFrom, itemsAt, afterPound, items, byteCount, Place}
+use Rattle.items.specs.Meaning.{one, meaningOf, Text, none}
+use Rattle.items.specs.Readers.{soFar, eat, got, readItem, SoFar}
 use Rattle.items.specs.Kinds as kind
+use Rattle.agreement.specs.Reading.{item, Spelling, nothing, ReadAs}
 
 -- the item with some characters more
 abbrev pub eats : SoFar → List ℕ → SoFar

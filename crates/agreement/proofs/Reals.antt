@@ -1,18 +1,4 @@
 -- Real numbers of radix 10: the productions below <real 10> are numbers to crate numbers' grammar.
-use Rattle.agreement.specs.Escape.{digits}
-use Rattle.agreement.specs.Identifier.{plain}
-use Rattle.agreement.specs.Number.{Digit, Sign, no-sign, plus-sign, minus-sign, Suffix, no-suffix, e-suffix, Decimal, scaled, dot-first, dot-inside, Ureal, is-integer, is-ratio, is-decimal}
-use Rattle.agreement.specs.Repeated.{Many, done, more, Some, some}
-use Rattle.agreement.proofs.Bytes.{utf8-low}
-use Rattle.agreement.proofs.Classes.{at-one-of}
-use Rattle.laws.specs.Choice.{if_then_else_}
-use Rattle.laws.specs.Quoted.{codes, code, oneOf}
-use Rattle.laws.specs.Texts.{span, before, starts, same}
-use Rattle.laws.proofs.Choice.{by-bool}
-use Rattle.chars.specs.Encode.{bytesOf}
-use Rattle.digits.specs.Digits.{sign}
-use Rattle.numbers.specs.Grammar.{justOf, endsI, aloneOf, toSign, startsE, rectangular, complex, judged, prefix, parseNumber}
-use Rattle.numbers.specs.Reals.{exponentMarker, infnan, orElse, ureal, real}
 use Prim.Native.Nat.{ℕ, zero, suc, _+_, _-_, _<_}
 use mathlib.Core.Path.{_≡_, refl, sym, ap, _∙_}
 use mathlib.Core.Bool.{Bool, true, false, not}
@@ -22,10 +8,21 @@ use lib.Dec.{eqb, ltb}
 use native.Mathlib.Omega.{arith}
 use native.Mathlib.Nat.{le-refl, zero-add, suc-inj, suc-add}
 use borrow.Author.Tests.{le-ltb, eqb-true}
+use Rattle.laws.specs.Choice.{if_then_else_}
+use Rattle.laws.specs.Quoted.{codes, code, oneOf}
+use Rattle.laws.specs.Texts.{span, before, starts, same}
+use Rattle.laws.proofs.Choice.{by-bool}
+use Rattle.chars.specs.Encode.{bytesOf}
+use Rattle.digits.specs.Digits.{sign}
 use Rattle.digits.specs.Digits as digit
-use Rattle.numbers.specs.declared.Parsed.the-variants as parsed
 use Rattle.numbers.specs.declared.MaybeReal.the-variants as maybe
-use Rattle.digits.specs.declared.MaybeInt.the-variants as whole
+use Rattle.numbers.specs.Grammar.{justOf, endsI, aloneOf, toSign, startsE, rectangular, complex, judged, prefix, parseNumber}
+use Rattle.numbers.specs.Reals.{exponentMarker, infnan, orElse, ureal, real}
+use Rattle.agreement.specs.Escape.{digits}
+use Rattle.agreement.specs.Number.{Digit, Sign, no-sign, plus-sign, minus-sign, Suffix, no-suffix, e-suffix, Decimal, scaled, dot-first, dot-inside, Ureal, is-integer, is-ratio, is-decimal}
+use Rattle.agreement.specs.Repeated.{Many, done, more, Some, some}
+use Rattle.agreement.proofs.Bytes.{utf8-low}
+use Rattle.agreement.proofs.Classes.{at-one-of}
 
 -- ---- runs of characters that pass a test
 

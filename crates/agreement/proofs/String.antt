@@ -1,4 +1,21 @@
 -- <string>: read to its closing quote; its text is what its elements denote, decoded where one of them is an escape.
+use Prim.Native.Nat.{ℕ, _+_}
+use mathlib.Core.Path.{_≡_, refl, ap, _∙_}
+use mathlib.Core.Bool.{Bool, true, false}
+use mathlib.Core.List.{List, [], _∷_, _++_, append-assoc}
+use lib.Dec.{ltb}
+use Rattle.laws.specs.Quoted.{codes, code, oneOf}
+use Rattle.laws.proofs.Choice.{by-bool}
+use Rattle.chars.specs.Blank.{isBlank}
+use Rattle.chars.specs.Encode.{bytesOf}
+use Rattle.items.specs.declared.Quotes.{Quotes}
+use Rattle.items.specs.declared.Quotes.the-variants.{Double}
+use Rattle.items.specs.declared.Outcome.the-variants.{Str}
+use Rattle.items.specs.Classes.{firstOf, inQuotes, afterBackslash, plain, simple}
+use Rattle.items.specs.Items.{byteCount}
+use Rattle.items.specs.Meaning.{escaped, stringText, Text}
+use Rattle.items.specs.Readers.{soFar, got, readQuoted, readItem, SoFar}
+use Rattle.items.specs.Kinds as kind
 use Rattle.agreement.specs.Escape.{Mnemonic, alarm, backspace, tab, linefeed, return}
 use Rattle.agreement.specs.Reading.{spelling, bytes, ReadAs}
 use Rattle.agreement.specs.String.{StringElements, no-more, itself, mnemonic, doublequote, backslash, goes-on, hex, StringText, quoted}
@@ -6,23 +23,6 @@ use Rattle.agreement.proofs.Between.{between, spells-between, between-u
 use Rattle.agreement.proofs.Classes.{not-first, not-others}
 use Rattle.agreement.proofs.Quoted.{quoted-on, Quoted, empty, character, escape, hexadecimal, continued}
 use Rattle.agreement.proofs.Reading.{eats, eats-append, whole, eats-whole, read-one}
-use Rattle.items.specs.declared.Quotes.{Quotes}
-use Rattle.items.specs.declared.Quotes.the-variants.{Double}
-use Rattle.items.specs.declared.Outcome.the-variants.{Str}
-use Rattle.items.specs.Classes.{firstOf, inQuotes, afterBackslash, plain, simple}
-use Rattle.items.specs.Items.{byteCount}
-use Rattle.items.specs.Meaning.{one, escaped, stringText, Text}
-use Rattle.items.specs.Readers.{soFar, got, readQuoted, readItem, SoFar}
-use Rattle.laws.specs.Quoted.{codes, code, oneOf}
-use Rattle.laws.proofs.Choice.{by-bool}
-use Rattle.chars.specs.Blank.{isBlank}
-use Rattle.chars.specs.Encode.{bytesOf}
-use Prim.Native.Nat.{ℕ, _+_}
-use mathlib.Core.Path.{_≡_, refl, ap, _∙_}
-use mathlib.Core.Bool.{Bool, true, false}
-use mathlib.Core.List.{List, [], _∷_, _++_, append-assoc}
-use lib.Dec.{ltb}
-use Rattle.items.specs.Kinds as kind
 
 mnemonic-simple : {c x : ℕ} → Mnemonic c x → afterBackslash c ≡ simple x
 unfolding afterBackslash

@@ -1,5 +1,18 @@
 -- The text between quotes, on bytes: its escapes decoded, it is the bytes of the characters that it denotes; and where it has none, it is
 -- these characters itself.
+use Prim.Native.Nat.{ℕ}
+use mathlib.Core.Path.{_≡_, refl, sym, ap, _∙_}
+use mathlib.Core.Bool.{Bool, true, false}
+use mathlib.Core.List.{List, [], _∷_, _++_, append-assoc, append-nil}
+use lib.Dec.{eqb, ltb}
+use borrow.Author.Tests.{eqb-true}
+use Rattle.laws.specs.Quoted.{code, oneOf}
+use Rattle.laws.proofs.Choice.{by-bool}
+use Rattle.chars.specs.Encode.{utf8, encode, bytesOf}
+use Rattle.items.specs.declared.Quotes.{Quotes}
+use Rattle.items.specs.declared.Quotes.the-variants.{Double, Lines}
+use Rattle.items.specs.Classes.{delimOf, inQuotes, afterBackslash, inHex, inTrim, plain, simple}
+use Rattle.items.specs.Meaning.{escaped, unescape, unescapeNext, unescapeHex, unescapeTrim}
 use Rattle.agreement.specs.Escape.{HexScalar}
 use Rattle.agreement.specs.Repeated.{Many, done, more}
 use Rattle.agreement.specs.String.{intraline, Intraline, indented}
@@ -7,19 +20,6 @@ use Rattle.agreement.proofs.Bytes.{High, utf8-low, utf8-high, bytes-app
 use Rattle.agreement.proofs.Classes.{at-one-of, beyond-differs, beyond-none}
 use Rattle.agreement.proofs.Hex.{is-scalar, scalar-of, scalar-digits, digits-bytes, digit-in-escape, Hexadecimal}
 use Rattle.agreement.proofs.Quoted.{quotes-escape, newline-plain, intraline-space, intraline-blank, solid-or-line, closing-solid, Quoted, empty, character, escape, hexadecimal, continued}
-use Rattle.items.specs.declared.Quotes.{Quotes}
-use Rattle.items.specs.declared.Quotes.the-variants.{Double, Lines}
-use Rattle.items.specs.Classes.{delimOf, inQuotes, afterBackslash, inHex, inTrim, plain, simple}
-use Rattle.items.specs.Meaning.{escaped, unescape, unescapeNext, unescapeHex, unescapeTrim}
-use Rattle.laws.specs.Quoted.{code, oneOf}
-use Rattle.laws.proofs.Choice.{by-bool}
-use Rattle.chars.specs.Encode.{utf8, encode, bytesOf}
-use Prim.Native.Nat.{ℕ}
-use mathlib.Core.Path.{_≡_, refl, sym, ap, _∙_}
-use mathlib.Core.Bool.{Bool, true, false}
-use mathlib.Core.List.{List, [], _∷_, _++_, append-assoc, append-nil}
-use lib.Dec.{eqb, ltb}
-use borrow.Author.Tests.{eqb-true}
 
 module _ (k : Quotes) where
   high-plain : (b : ℕ) → High b → inQuotes k b ≡ plain

@@ -1,23 +1,4 @@
 -- The <ureal 10> after a sign is an integer, a ratio or a decimal to crate numbers' grammar.
-use Rattle.agreement.specs.Escape.{digits}
-use Rattle.agreement.specs.Number.{Digit, Sign, no-sign, Suffix, no-suffix, e-suffix, Decimal, scaled, dot-first, dot-inside, Ureal, is-integer, is-ratio, is-decimal}
-use Rattle.agreement.specs.Repeated.{Many, done, Some}
-use Rattle.agreement.proofs.Classes.{at-one-of}
-use Rattle.agreement.proofs.Reals.{many-map, some-many, some-length, span-on, span-all, shape, signed-text}
-use Rattle.laws.specs.Choice.{if_then_else_}
-use Rattle.laws.specs.Quoted.{codes, code, oneOf}
-use Rattle.laws.specs.Texts.{span, starts}
-use Rattle.laws.proofs.Choice.{by-bool}
-use Rattle.digits.specs.declared.Span.{Span}
-use Rattle.digits.specs.declared.Int.{Int}
-use Rattle.digits.specs.declared.Int.the-variants.{Small, Big}
-use Rattle.digits.specs.Digits.{digitOf, uinteger, value, wholeOf, integer}
-use Rattle.numbers.specs.declared.Exponent.{Exponent}
-use Rattle.numbers.specs.declared.Real.{Real}
-use Rattle.numbers.specs.declared.Real.the-variants.{Integer, Rational}
-use Rattle.numbers.specs.declared.MaybeReal.{MaybeReal}
-use Rattle.numbers.specs.Grammar.{zeroInt, zeroReal}
-use Rattle.numbers.specs.Reals.{exponentMarker, exponent, suffix, pointOf, dotted, undotted, decimal, integralOf, rationalOf, denominator, exact, orElse, ureal}
 use Prim.Native.Nat.{ℕ, _+_, _<_}
 use mathlib.Core.Path.{_≡_, refl, sym, _∙_}
 use mathlib.Core.Bool.{Bool, true, false, not}
@@ -28,11 +9,30 @@ use lib.Dec.{eqb, ltb}
 use native.Mathlib.Omega.{arith}
 use native.Mathlib.Nat.{le-refl, add-zero, zero-add}
 use borrow.Author.Tests.{lt-ltb, le-ltb, eq-eqb, ne-eqb}
-use Rattle.digits.specs.Digits as digit
-use Rattle.numbers.specs.declared.MaybeReal.the-variants as maybe
+use Rattle.laws.specs.Choice.{if_then_else_}
+use Rattle.laws.specs.Quoted.{codes, code, oneOf}
+use Rattle.laws.specs.Texts.{span, starts}
+use Rattle.laws.proofs.Choice.{by-bool}
+use Rattle.digits.specs.declared.Span.{Span}
+use Rattle.digits.specs.declared.Int.{Int}
+use Rattle.digits.specs.declared.Int.the-variants.{Small, Big}
 use Rattle.digits.specs.declared.MaybeInt.the-variants as whole
+use Rattle.digits.specs.Digits.{digitOf, uinteger, value, wholeOf, integer}
+use Rattle.digits.specs.Digits as digit
+use Rattle.numbers.specs.declared.Exponent.{Exponent}
+use Rattle.numbers.specs.declared.Real.{Real}
+use Rattle.numbers.specs.declared.Real.the-variants.{Integer, Rational}
+use Rattle.numbers.specs.declared.MaybeReal.{MaybeReal}
+use Rattle.numbers.specs.declared.MaybeReal.the-variants as maybe
 use Rattle.numbers.specs.declared.Suffix as declared
 use Rattle.numbers.specs.declared.Suffix.the-variants as suffixes
+use Rattle.numbers.specs.Grammar.{zeroInt, zeroReal}
+use Rattle.numbers.specs.Reals.{exponentMarker, exponent, suffix, pointOf, dotted, undotted, decimal, integralOf, rationalOf, denominator, exact, orElse, ureal}
+use Rattle.agreement.specs.Escape.{digits}
+use Rattle.agreement.specs.Number.{Digit, Sign, no-sign, Suffix, no-suffix, e-suffix, Decimal, scaled, dot-first, dot-inside, Ureal, is-integer, is-ratio, is-decimal}
+use Rattle.agreement.specs.Repeated.{Many, done, Some}
+use Rattle.agreement.proofs.Classes.{at-one-of}
+use Rattle.agreement.proofs.Reals.{many-map, some-many, some-length, span-on, span-all, shape, signed-text}
 
 -- a real number, whose denominator is not zero
 pub record IsReal (m : MaybeReal) : Type 0 where

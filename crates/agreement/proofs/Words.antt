@@ -1,24 +1,5 @@
 -- Words: an identifier that starts with no sign and no dot is a word from its start on; one that does, and a number, starts as a
 -- number run, which goes on as a word at the first character that no number has.
-use Rattle.agreement.specs.Delimiter.{delimiters, Ends, atEnd, before}
-use Rattle.agreement.specs.Escape.{digits}
-use Rattle.agreement.specs.Identifier.{letters, specialInitials, Initial, letter, special, beyond, Subsequent, initial, numeral, Unsplit, plus, other}
-use Rattle.agreement.specs.Reading.{item}
-use Rattle.agreement.specs.Repeated.{Many, done, more}
-use Rattle.agreement.proofs.Bytes.{first-differs}
-use Rattle.agreement.proofs.Classes.{at-one-of, beyond-differs, beyond-none}
-use Rattle.agreement.proofs.Reading.{eats, got-whole, read-one}
-use Rattle.items.specs.declared.Outcome.{Outcome}
-use Rattle.items.specs.declared.Outcome.the-variants.{Word, Run}
-use Rattle.items.specs.Classes.{startsRun, firstOf, breaksWord, inWord, staysRun, endsRun, inRun, number, wordy, breaks, goes}
-use Rattle.items.specs.Items.{rangeAfter, itemsFrom, byteCount, Place}
-use Rattle.items.specs.Meaning.{one, wordKind, wordMeans, runMeans, meaningOf, Text, source}
-use Rattle.items.specs.Readers.{soFar, eat, got, firstIs, wordOn, readWord, readRun, readItem, SoFar}
-use Rattle.laws.specs.Quoted.{codes, code, oneOf}
-use Rattle.laws.proofs.Choice.{by-bool}
-use Rattle.chars.specs.Blank.{isBlank}
-use Rattle.chars.specs.Encode.{utf8, bytesOf}
-use Rattle.numbers.specs.Grammar.{parseNumber}
 use Prim.Native.Nat.{ℕ, suc, _+_, _≤_}
 use Prim.Native.String.{String}
 use mathlib.Core.Path.{_≡_, refl, _∙_}
@@ -27,8 +8,27 @@ use mathlib.Core.List.{List, [], _∷_, _++_, map}
 use lib.ListN.{length}
 use lib.Dec.{eqb, leb, ltb}
 use native.Mathlib.Omega.{arith}
-use Rattle.items.specs.Kinds as kind
+use Rattle.laws.specs.Quoted.{codes, code, oneOf}
+use Rattle.laws.proofs.Choice.{by-bool}
+use Rattle.chars.specs.Blank.{isBlank}
+use Rattle.chars.specs.Encode.{utf8, bytesOf}
 use Rattle.numbers.specs.declared.Parsed.the-variants as parsed
+use Rattle.numbers.specs.Grammar.{parseNumber}
+use Rattle.items.specs.declared.Outcome.{Outcome}
+use Rattle.items.specs.declared.Outcome.the-variants.{Word, Run}
+use Rattle.items.specs.Classes.{startsRun, firstOf, breaksWord, inWord, staysRun, endsRun, inRun, number, wordy, breaks, goes}
+use Rattle.items.specs.Items.{rangeAfter, itemsFrom, byteCount, Place}
+use Rattle.items.specs.Meaning.{one, wordKind, wordMeans, runMeans, meaningOf, Text, source}
+use Rattle.items.specs.Readers.{soFar, eat, got, firstIs, wordOn, readWord, readRun, readItem, SoFar}
+use Rattle.items.specs.Kinds as kind
+use Rattle.agreement.specs.Delimiter.{delimiters, Ends, atEnd, before}
+use Rattle.agreement.specs.Escape.{digits}
+use Rattle.agreement.specs.Identifier.{letters, specialInitials, Initial, letter, special, beyond, Subsequent, initial, numeral, Unsplit, plus, other}
+use Rattle.agreement.specs.Reading.{item}
+use Rattle.agreement.specs.Repeated.{Many, done, more}
+use Rattle.agreement.proofs.Bytes.{first-differs}
+use Rattle.agreement.proofs.Classes.{at-one-of, beyond-differs, beyond-none}
+use Rattle.agreement.proofs.Reading.{eats, got-whole, read-one}
 
 -- ---- the characters of identifiers
 

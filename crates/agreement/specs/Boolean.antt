@@ -1,8 +1,8 @@
 -- R7RS 7.1.1: <boolean> → #t | #f | #true | #false
-use Rattle.laws.specs.Quoted.{codes}
 use Prim.Native.Nat.{ℕ}
 use mathlib.Core.Bool.{Bool, true, false}
 use mathlib.Core.List.{List}
+use Rattle.laws.specs.Quoted.{codes}
 
 -- a text, and the truth value that it writes
 pub data Boolean : List ℕ → Bool → Type 0 where

@@ -3,13 +3,13 @@
 --   <character name> → alarm | backspace | delete | escape | newline | null | return | space | tab
 -- The case of a letter is significant in <character name>, and not in the x. Departure: the Rust has error 10 for #\X0; and it takes
 -- the names in any case, where the standard has none of #\SPACE
-use Rattle.agreement.specs.Escape.{HexScalar}
-use Rattle.laws.specs.Quoted.{codes, code}
-use Rattle.chars.specs.Encode.{isScalar}
 use Prim.Native.Nat.{ℕ}
 use mathlib.Core.Path.{_≡_}
 use mathlib.Core.Bool.{true}
 use mathlib.Core.List.{List, [], _∷_}
+use Rattle.laws.specs.Quoted.{codes, code}
+use Rattle.chars.specs.Encode.{isScalar}
+use Rattle.agreement.specs.Escape.{HexScalar}
 
 -- a name, and the character that 6.6 gives it
 pub data CharacterName : List ℕ → ℕ → Type 0 where

@@ -4,15 +4,13 @@
 --   <comment text> → <character sequence not containing #| or |#>
 --   <comment cont> → <nested comment> <comment text>
 -- Of the third kind the lexer reads the `#;`; which datum follows is for who reads its items.
-use Rattle.agreement.specs.Repeated.{Many}
-use Rattle.laws.specs.Quoted.{codes, code, oneOf}
-use Rattle.chars.specs.Utf8.{rest}
 use Prim.Native.Nat.{ℕ}
 use mathlib.Core.Path.{_≡_}
 use mathlib.Core.Bool.{Bool, true, false, not, _&&_, _||_}
 use mathlib.Core.List.{List, [], _∷_, _++_}
 use lib.Dec.{eqb}
-use Rattle.items.specs.Kinds as kind
+use Rattle.laws.specs.Quoted.{codes, code, oneOf}
+use Rattle.agreement.specs.Repeated.{Many}
 
 -- neither <newline> nor <return>
 abbrev pub InLine : ℕ → Type 0

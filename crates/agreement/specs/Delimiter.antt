@@ -4,11 +4,11 @@
 --   <whitespace> → <intraline whitespace> | <line ending>
 --   <intraline whitespace> → <space or tab>
 --   <line ending> → <newline> | <return> <newline> | <return>
-use Rattle.laws.specs.Quoted.{codes, oneOf}
 use Prim.Native.Nat.{ℕ}
 use mathlib.Core.Path.{_≡_}
 use mathlib.Core.Bool.{Bool, true, false}
 use mathlib.Core.List.{List, [], _∷_}
+use Rattle.laws.specs.Quoted.{codes, oneOf}
 
 -- Departure: the Rust ends no token at a vertical line. `a|b|` is one identifier there
 abbrev pub delimiters : List ℕ

@@ -5,12 +5,12 @@
 --   <mnemonic escape> → \a | \b | \t | \n | \r
 -- In <hex digit> the case of a letter is not significant; it is in <mnemonic escape>. Departure: nor is it in the x, to the standard. The
 -- Rust has error 6 for "\X41;"
-use Rattle.laws.specs.Quoted.{codes, code, oneOf}
-use Rattle.chars.specs.Encode.{isScalar}
 use Prim.Native.Nat.{ℕ, _+_, _-_, _*_}
 use mathlib.Core.Path.{_≡_}
 use mathlib.Core.Bool.{true}
 use mathlib.Core.List.{List, [], _∷_}
+use Rattle.laws.specs.Quoted.{codes, code, oneOf}
+use Rattle.chars.specs.Encode.{isScalar}
 
 abbrev pub digits : List ℕ
 digits = codes "0123456789"

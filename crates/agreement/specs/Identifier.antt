@@ -11,15 +11,15 @@
 --     | <explicit sign> . <dot subsequent> <subsequent>* | . <dot subsequent> <subsequent>*
 --   <dot subsequent> → <sign subsequent> | .
 --   <sign subsequent> → <initial> | <explicit sign> | @
-use Rattle.agreement.specs.Escape.{digits, Mnemonic, HexScalar}
-use Rattle.agreement.specs.Repeated.{Many}
-use Rattle.laws.specs.Quoted.{codes, code, oneOf}
-use Rattle.chars.specs.Blank.{isBlank}
 use Prim.Native.Nat.{ℕ, _≤_}
 use mathlib.Core.Path.{_≡_}
 use mathlib.Core.Bool.{true, false}
 use mathlib.Core.List.{List, [], _∷_, _++_}
 use lib.Dec.{eqb}
+use Rattle.laws.specs.Quoted.{codes, code, oneOf}
+use Rattle.chars.specs.Blank.{isBlank}
+use Rattle.agreement.specs.Escape.{digits, Mnemonic, HexScalar}
+use Rattle.agreement.specs.Repeated.{Many}
 
 abbrev pub letters : List ℕ
 letters = codes "abcdefghijklmnopqrstuvwxyzABCDEFGHIJKLMNOPQRSTUVWXYZ"

@@ -9,15 +9,15 @@
 --   <exponent marker> → e
 --   <sign> → <empty> | + | -
 -- The case of the exponent marker is not significant
-use Rattle.agreement.specs.Escape.{digits}
-use Rattle.agreement.specs.Repeated.{Many, Some}
-use Rattle.laws.specs.Quoted.{codes, code, oneOf}
-use Rattle.digits.specs.Digits.{value}
 use Prim.Native.Nat.{ℕ}
 use mathlib.Core.Path.{_≡_}
 use mathlib.Core.Bool.{Bool, true, false}
 use mathlib.Core.List.{List, [], _∷_, _++_}
 use lib.Dec.{eqb}
+use Rattle.laws.specs.Quoted.{codes, code, oneOf}
+use Rattle.digits.specs.Digits.{value}
+use Rattle.agreement.specs.Escape.{digits}
+use Rattle.agreement.specs.Repeated.{Many, Some}
 
 abbrev pub Digit : ℕ → Type 0
 Digit c = oneOf digits c ≡ true

@@ -1,14 +1,14 @@
 -- R7RS 7.1.1: <token> → <identifier> | <boolean> | <number> | <character> | <string> | ( | ) | #( | #u8( | ' | ` | , | ,@ | .
 -- The tokens that this writes out, each with the kind and the detail of its item. Departure: `[`, `]`, `{` and `}`, which the standard
 -- reserves, are brackets too
-use Rattle.agreement.specs.Delimiter.{delimiters, Ends}
-use Rattle.laws.specs.Quoted.{codes, code}
-use Rattle.laws.specs.Texts.{starts}
 use Prim.Native.Nat.{ℕ}
 use mathlib.Core.Path.{_≡_}
 use mathlib.Core.Bool.{false}
 use mathlib.Core.List.{List}
+use Rattle.laws.specs.Quoted.{codes, code}
+use Rattle.laws.specs.Texts.{starts}
 use Rattle.items.specs.Kinds as kind
+use Rattle.agreement.specs.Delimiter.{delimiters, Ends}
 
 pub data Punctuation : List ℕ → ℕ → ℕ → Type 0 where
   open-list : Punctuation (codes "(") kind.OpenParen kind.Round

@@ -1,12 +1,12 @@
 -- What it is for a text of a production to be read as one item.
-use Rattle.items.specs.Items.{range, itemsFrom, byteCount, Place, Item}
-use Rattle.items.specs.Meaning.{Text, none, source, decoded}
-use Rattle.chars.specs.Encode.{bytesOf}
 use Prim.Native.Nat.{ℕ, suc, _+_, _-_}
 use mathlib.Core.Path.{_≡_}
 use mathlib.Core.Bool.{Bool}
 use mathlib.Core.List.{List, _∷_, _++_}
 use lib.ListN.{take, drop}
+use Rattle.chars.specs.Encode.{bytesOf}
+use Rattle.items.specs.Items.{range, itemsFrom, byteCount, Place, Item}
+use Rattle.items.specs.Meaning.{Text, none, source, decoded}
 
 -- what an item's text spells: nothing where the item has no text, else some bytes
 pub data Spelling : Type 0 where

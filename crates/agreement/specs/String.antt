@@ -3,14 +3,13 @@
 --   <string element> → <any character other than " or \> | <mnemonic escape> | \" | \\
 --     | \<intraline whitespace>*<line ending><intraline whitespace>* | <inline hex escape>
 --   <intraline whitespace> → <space or tab>
-use Rattle.agreement.specs.Escape.{Mnemonic, HexScalar}
-use Rattle.agreement.specs.Repeated.{Many}
-use Rattle.laws.specs.Quoted.{codes, code, oneOf}
-use Rattle.chars.specs.Utf8.{after}
 use Prim.Native.Nat.{ℕ}
 use mathlib.Core.Path.{_≡_}
 use mathlib.Core.Bool.{Bool, true, false}
 use mathlib.Core.List.{List, [], _∷_, _++_}
+use Rattle.laws.specs.Quoted.{codes, code, oneOf}
+use Rattle.agreement.specs.Escape.{Mnemonic, HexScalar}
+use Rattle.agreement.specs.Repeated.{Many}
 
 abbrev pub intraline : List ℕ
 intraline = codes " \t"
@@ -32,8 +31,8 @@ pub data StringElements : List ℕ → List ℕ → Type 0 where
   doublequote : {t v : List ℕ} → StringElements t v → StringElements (code "\\" ∷ code "\"" ∷ t) (code "\"" ∷ v)
   backslash : {t v : List ℕ} → StringElements t v → StringElements (code "\\" ∷ code "\\" ∷ t) (code "\\" ∷ v)
   -- all the whitespace of the next line's start is this element's
-  goes-on : (before after : List ℕ) {t v : List ℕ} → Many Intraline before → Many Intraline after → indented t ≡ false → StringElements t v
-      → StringElements (code "\\" ∷ before ++ (code "\n" ∷ after ++ t)) v
+  goes-on : (trailing indent : List ℕ) {t v : List ℕ} → Many Intraline trailing → Many Intraline indent → indented t ≡ false → StringElements t v
+      → StringElements (code "\\" ∷ trailing ++ (code "\n" ∷ indent ++ t)) v
   hex : (h : List ℕ) {x : ℕ} {t v : List ℕ} → HexScalar h x → StringElements t v → StringElements (code "\\" ∷ code "x" ∷ h ++ (code ";" ∷ t)) (x ∷ v)
 
 pub data StringText : List ℕ → List ℕ → Type 0 where
