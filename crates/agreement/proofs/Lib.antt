@@ -18,3 +18,4 @@ pub mod Character
 pub mod Identifier
 pub mod Lined
 pub mod Number
+pub mod Example

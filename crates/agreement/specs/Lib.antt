@@ -9,3 +9,4 @@ pub mod String
 pub mod Character
 pub mod Identifier
 pub mod Number
+pub mod Departures
