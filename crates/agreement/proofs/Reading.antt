@@ -94,6 +94,6 @@ text-items report (c ∷ []) h r =
 text-items report (c ∷ x ∷ cs) h r =
     by-bool (eqb c (code "#"))
     (λ e. by-bool (eqb x (code "!"))
-      (λ f. let g = rw (eqb-true c (code "#") e, eqb-true x (code "!") f) at h in cc)
-      (λ f. rw (e, items) (rw (f, afterPound) (rw (← eqb-true c (code "#") e) (turns-on report _ unset r (le-refl _))))))
+    (λ f. let g = rw (eqb-true c (code "#") e, eqb-true x (code "!") f) at h in cc)
+    (λ f. rw (e, items) (rw (f, afterPound) (rw (← eqb-true c (code "#") e) (turns-on report _ unset r (le-refl _))))))
     (λ e. rw (e, items) (turns-on report _ unset r (le-refl _)))

@@ -1,4 +1,5 @@
 -- R7RS 7.1.1: <boolean> → #t | #f | #true | #false
+-- Departure: to the standard the case of a letter is not significant here; to the Rust `#T` is an identifier
 use Prim.Native.Nat.{ℕ}
 use mathlib.Core.Bool.{Bool, true, false}
 use mathlib.Core.List.{List}

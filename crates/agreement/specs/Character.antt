@@ -1,8 +1,8 @@
 -- R7RS 7.1.1:
 --   <character> → #\<any character> | #\<character name> | #\x<hex scalar value>
 --   <character name> → alarm | backspace | delete | escape | newline | null | return | space | tab
--- The case of a letter is significant in <character name>, and not in the x. Departure: the Rust has error 10 for #\X0; and it takes
--- the names in any case, where the standard has none of #\SPACE
+-- The case of a letter is significant in <character name>, and not in the x. Departures: the Rust has error 10 for #\X0, and it takes a
+-- name in any case, #\SPACE
 use Prim.Native.Nat.{ℕ}
 use mathlib.Core.Path.{_≡_}
 use mathlib.Core.Bool.{true}

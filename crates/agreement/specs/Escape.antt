@@ -3,8 +3,8 @@
 --   <hex scalar value> → <hex digit>+
 --   <hex digit> → <digit> | a | b | c | d | e | f
 --   <mnemonic escape> → \a | \b | \t | \n | \r
--- In <hex digit> the case of a letter is not significant; it is in <mnemonic escape>. Departure: nor is it in the x, to the standard. The
--- Rust has error 6 for "\X41;"
+-- The case of a letter is significant in <mnemonic escape>, and not in <hex digit>. Departure: to the standard it is not in the x of
+-- an escape either; the Rust has error 6 for the string "\X0;"
 use Prim.Native.Nat.{ℕ, _+_, _-_, _*_}
 use mathlib.Core.Path.{_≡_}
 use mathlib.Core.Bool.{true}

@@ -33,8 +33,8 @@ explicitSigns = codes "+-"
 pub data Initial : ℕ → Type 0 where
   letter : {c : ℕ} → oneOf letters c ≡ true → Initial c
   special : {c : ℕ} → oneOf specialInitials c ≡ true → Initial c
-  -- 2.1 lets an implementation take other characters of Unicode, by general category: letters, marks, numbers, punctuation, symbols.
-  -- None of these is White_Space
+  -- the standard lets an implementation take other characters of Unicode, by their general category: letters, marks, numbers,
+  -- punctuation, symbols. None of these is White_Space
   beyond : {c : ℕ} → 0x80 ≤ c → isBlank c ≡ false → Initial c
 
 pub data Subsequent : ℕ → Type 0 where
@@ -42,6 +42,7 @@ pub data Subsequent : ℕ → Type 0 where
   numeral : {c : ℕ} → oneOf digits c ≡ true → Subsequent c
   special : {c : ℕ} → oneOf (codes "+-.@") c ≡ true → Subsequent c
 
+-- <initial> <subsequent>*
 pub data Plain : List ℕ → Type 0 where
   plain : {c : ℕ} {t : List ℕ} → Initial c → Many Subsequent t → Plain (c ∷ t)
 
@@ -53,6 +54,7 @@ pub data DotSubsequent : ℕ → Type 0 where
   sign : {c : ℕ} → SignSubsequent c → DotSubsequent c
   dot-again : DotSubsequent (code ".")
 
+-- <peculiar identifier>, a line for each of its four forms
 pub data Peculiar : List ℕ → Type 0 where
   alone : {c : ℕ} → oneOf explicitSigns c ≡ true → Peculiar (c ∷ [])
   signed : {c d : ℕ} {t : List ℕ} → oneOf explicitSigns c ≡ true → SignSubsequent d → Many Subsequent t → Peculiar (c ∷ d ∷ t)
@@ -64,7 +66,7 @@ pub data Unsplit : List ℕ → Type 0 where
   plus : Unsplit (codes "+")
   other : {c : ℕ} {t : List ℕ} → eqb c (code "+") ≡ false → Unsplit (c ∷ t)
 
--- <symbol element>* → any of these, and the characters that it denotes:
+-- <symbol element>*, and the characters that it denotes:
 --   <symbol element> → <any character other than <vertical line> or \> | <inline hex escape> | <mnemonic escape> | \|
 pub data SymbolElements : List ℕ → List ℕ → Type 0 where
   no-more : SymbolElements [] []

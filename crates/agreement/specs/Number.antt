@@ -8,7 +8,7 @@
 --   <suffix> → <empty> | <exponent marker> <sign> <digit 10>+
 --   <exponent marker> → e
 --   <sign> → <empty> | + | -
--- The case of the exponent marker is not significant
+-- The case of the exponent marker is not significant.
 use Prim.Native.Nat.{ℕ}
 use mathlib.Core.Path.{_≡_}
 use mathlib.Core.Bool.{Bool, true, false}

@@ -1,6 +1,6 @@
 -- R7RS 7.1.1: <token> → <identifier> | <boolean> | <number> | <character> | <string> | ( | ) | #( | #u8( | ' | ` | , | ,@ | .
--- The tokens that this writes out, each with the kind and the detail of its item. Departure: `[`, `]`, `{` and `}`, which the standard
--- reserves, are brackets too
+-- The tokens that this writes out, each with the kind and the detail of its item. Departures: `[`, `]`, `{` and `}`, which the standard
+-- reserves, are brackets too; and `#U8(` is an identifier and a bracket
 use Prim.Native.Nat.{ℕ}
 use mathlib.Core.Path.{_≡_}
 use mathlib.Core.Bool.{false}

@@ -22,8 +22,9 @@ abbrev pub indented : List ℕ → Bool
 indented [] = false
 indented (c ∷ t) = oneOf intraline c
 
--- <string element>*, and the characters that 6.7 says it denotes. Departures: "any other line ending has the same effect as inserting a
--- \n", but to the Rust a <return> stands for itself; and a line that goes on ends in <newline> only, a <return> there is error 6
+-- <string element>*, and the characters that 6.7 says it denotes: a character stands for itself, and a line that goes on for nothing.
+-- Departures: to the standard a <return> in a string stands for a newline, to the Rust for itself; and a line that goes on ends in
+-- <newline> only, a <return> there is error 6
 pub data StringElements : List ℕ → List ℕ → Type 0 where
   no-more : StringElements [] []
   itself : {c : ℕ} {t v : List ℕ} → oneOf (codes "\"\\\r") c ≡ false → StringElements t v → StringElements (c ∷ t) (c ∷ v)
