@@ -1,4 +1,4 @@
--- A text of four tokens and a blank, read by the theorems on its tokens alone: `(#t 12)`.
+-- A text of four tokens and a blank, read by the theorem on tokens alone: `(#t 12)`.
 use Prim.Native.Nat.{ℕ}
 use mathlib.Core.Path.{_≡_, refl, ap}
 use mathlib.Core.Bool.{false}
@@ -15,10 +15,9 @@ use Rattle.agreement.specs.Delimiter.{before}
 use Rattle.agreement.specs.Boolean.{short-true}
 use Rattle.agreement.specs.Punctuation.{open-list, close}
 use Rattle.agreement.specs.Number.{a-real, no-sign, is-integer}
+use Rattle.agreement.specs.Token as token
 use Rattle.agreement.proofs.Reading.{text-items}
-use Rattle.agreement.proofs.Boolean.{boolean}
-use Rattle.agreement.proofs.Punctuation.{punctuation}
-use Rattle.agreement.proofs.Number.{real-text}
+use Rattle.agreement.proofs.Token.{read-as}
 
 -- an item's kind, detail and extent
 abbrev shown : Item → List ℕ
@@ -34,8 +33,8 @@ unfolding begins isBlank width
 example =
     ap (map shown)
     (text-items false (codes "(#t 12)") refl
-    (reads [] (codes "#t 12)") (punctuation false (codes "#t 12)") open-list tt)
-    (reads (codes "t") (codes " 12)") (boolean false (codes " 12)") short-true (before refl))
+    (reads [] (codes "#t 12)") (read-as false (codes "#t 12)") (token.punctuation open-list tt))
+    (reads (codes "t") (codes " 12)") (read-as false (codes " 12)") (token.boolean short-true (before refl)))
     (blank refl
-    (reads (codes "2") (codes ")") (real-text false (codes ")") (a-real [] (codes "12") no-sign (is-integer (some refl (more refl done)))) (before refl))
-    (reads [] [] (punctuation false [] close tt) ends))))))
+    (reads (codes "2") (codes ")") (read-as false (codes ")") (token.number (a-real [] (codes "12") no-sign (is-integer (some refl (more refl done)))) (before refl)))
+    (reads [] [] (read-as false [] (token.punctuation close tt)) ends))))))

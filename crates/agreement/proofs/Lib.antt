@@ -18,4 +18,5 @@ pub mod Character
 pub mod Identifier
 pub mod Lined
 pub mod Number
+pub mod Token
 pub mod Example

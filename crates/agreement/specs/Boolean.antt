@@ -11,3 +11,8 @@ pub data Boolean : List ℕ → Bool → Type 0 where
   short-false : Boolean (codes "#f") false
   long-true : Boolean (codes "#true") true
   long-false : Boolean (codes "#false") false
+
+-- a truth value as the detail of an item
+abbrev pub truth : Bool → ℕ
+truth true = 1
+truth false = 0

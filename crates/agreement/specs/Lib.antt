@@ -9,4 +9,5 @@ pub mod String
 pub mod Character
 pub mod Identifier
 pub mod Number
+pub mod Token
 pub mod Departures
