@@ -57,7 +57,7 @@ run-nonblank : (c : ℕ) → startsRun c ≡ true → isBlank c ≡ false
 unfolding startsRun isBlank
 run-nonblank c h = at-one-of isBlank false (codes "+-.0123456789") c refl h
 
--- any text that crate numbers takes for a number and that is a run, as all but those with a prefix are
+-- a run whose bytes are a number to crate numbers' grammar
 module _ (report : Bool) (c : ℕ) {t cs : List ℕ} where
   pub number-run : startsRun c ≡ true → Many Stays t → (p : Parts) → parseNumber (bytesOf (c ∷ t)) ≡ parsed.Is p → Ends (numberDelimiters report) cs
       → ReadAs report (c ∷ t) cs kind.Number 0 nothing
