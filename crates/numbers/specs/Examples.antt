@@ -81,5 +81,5 @@ table =
     []
 
 computed : map (λ r. number (r .text)) table ≡ map (λ r. r .answer) table
-unfolding table within span starts same digitOf sign uinteger value signed wholeOf integer exponentMarker exponent suffix pointOf dotted undotted decimal infnan integralOf rationalOf denominator exact orElse ureal real justOf complexOf polarOf endsI imaginary aloneOf pairOf toSign startsE rectangular complex zeroInt zeroReal zeroParts judged radixMark prefix parseNumber number chars.within chars.first chars.rest chars.front chars.sequences chars.firstBad encode.utf8 encode.bytesOf
+unfolding table within span starts same digitOf sign uinteger value signed wholeOf integer exponentMarker exponent suffix pointOf dotted undotted decimal infnan integralOf rationalOf denominator exact orElse ureal real justOf complexOf polarOf endsI imaginary aloneOf pairOf toSign startsE rectangular complex zeroInt zeroReal zeroParts judged radixMark prefix parseNumber number chars.first chars.rest chars.front chars.sequences chars.firstBad encode.utf8 encode.bytesOf
 computed = refl

@@ -1,0 +1,91 @@
+-- <identifier>, but for those in vertical lines: words, and words that start as a number run.
+use Prim.Native.Nat.{ℕ, _+_}
+use mathlib.Core.Path.{_≡_, refl, _∙_}
+use mathlib.Core.Bool.{Bool, true}
+use mathlib.Core.List.{List, [], _∷_}
+use lib.Dec.{eqb}
+use borrow.Author.Tests.{eqb-true}
+use Rattle.laws.specs.Quoted.{codes, code, oneOf}
+use Rattle.laws.specs.Texts.{same}
+use Rattle.laws.proofs.Choice.{by-bool}
+use Rattle.chars.specs.Blank.{isBlank}
+use Rattle.chars.specs.Encode.{utf8, bytesOf}
+use Rattle.numbers.specs.declared.Parsed.the-variants as parsed
+use Rattle.numbers.specs.Grammar.{parseNumber}
+use Rattle.items.specs.declared.Outcome.the-variants.{Word}
+use Rattle.items.specs.Classes.{breaksWord, inWord}
+use Rattle.items.specs.Items.{byteCount}
+use Rattle.items.specs.Meaning.{lookup, words, wordKind, source}
+use Rattle.items.specs.Readers.{readItem}
+use Rattle.items.specs.Kinds as kind
+use Rattle.agreement.specs.Delimiter.{delimiters, Ends}
+use Rattle.agreement.specs.Identifier.{explicitSigns, special, initial, Plain, plain, SignSubsequent, DotSubsequent, sign, dot-again, Peculiar, alone, signed, signed-dot, dotted, Unsplit, plus, other}
+use Rattle.agreement.specs.Reading.{bytes, ReadAs}
+use Rattle.agreement.specs.Repeated.{Many, done, more}
+use Rattle.agreement.proofs.Bytes.{spells-whole}
+use Rattle.agreement.proofs.Classes.{at-one-of}
+use Rattle.agreement.proofs.Computed.{lone-no-number}
+use Rattle.agreement.proofs.Reading.{got-whole, read-one}
+use Rattle.agreement.proofs.Words.{one-goes, initial-goes, initial-begins, initial-nonblank, initial-no-plus, all-go, word-on, word-ends, word-means, unsplit-plain, unsplit, run-read, Goes}
+
+-- a sign or a dot, and characters that belong to a word
+data Led : List ℕ → Type 0 where
+  led : {c : ℕ} {t : List ℕ} → oneOf (codes "+-.") c ≡ true → Many Goes t → Led (c ∷ t)
+
+sign-subsequent-goes : {c : ℕ} → SignSubsequent c → Goes c
+unfolding inWord breaksWord isBlank
+sign-subsequent-goes (initial h) = initial-goes h
+sign-subsequent-goes (special h) = one-goes (codes "+-@") refl refl h
+
+dot-goes : Goes (code ".")
+unfolding inWord breaksWord isBlank
+dot-goes = record { goes-on = refl; no-line = refl }
+
+dot-subsequent-goes : {c : ℕ} → DotSubsequent c → Goes c
+dot-subsequent-goes (sign h) = sign-subsequent-goes h
+dot-subsequent-goes dot-again = dot-goes
+
+sign-leads : (c : ℕ) → oneOf explicitSigns c ≡ true → oneOf (codes "+-.") c ≡ true
+sign-leads c h = at-one-of (λ k. oneOf (codes "+-.") k) true explicitSigns c refl h
+
+peculiar-led : {t : List ℕ} → Peculiar t → Led t
+peculiar-led (alone {c = c} s) = led (sign-leads c s) done
+peculiar-led (signed {c = c} s h m) = led (sign-leads c s) (more (sign-subsequent-goes h) (all-go m))
+peculiar-led (signed-dot {c = c} s h m) = led (sign-leads c s) (more dot-goes (more (dot-subsequent-goes h) (all-go m)))
+peculiar-led (dotted h m) = led refl (more (dot-subsequent-goes h) (all-go m))
+
+module _ (report : Bool) where
+  -- Departure: the Rust has kinds of their own for some identifiers. `if`
+  pub plain-identifier : {t : List ℕ} (cs : List ℕ) → Plain t → wordKind (bytesOf t) ≡ kind.Identifier → Ends delimiters cs
+      → ReadAs report t cs kind.Identifier 0 (bytes (bytesOf t))
+  unfolding readItem
+  plain-identifier cs (plain {c = c} {t = t} h m) k e = record {
+    text = λ at. source at (at + byteCount (c ∷ t));
+    one = read-one report c t cs Word kind.Identifier 0 (λ at. source at (at + byteCount (c ∷ t))) (initial-nonblank h) refl
+        (λ at. rw (initial-begins h, readItem) (word-on _ cs (all-go m) ∙ (word-ends _ e ∙ got-whole Word at (c ∷ t) cs)))
+        (λ last at. refl)
+        (λ at. word-means _ _ _ k (unsplit-plain c t (initial-no-plus h)));
+    spells = λ at. spells-whole at (c ∷ t);
+  }
+
+  led-word : {t : List ℕ} (cs : List ℕ) → Led t → Unsplit t → parseNumber (bytesOf t) ≡ parsed.NoNumber
+      → wordKind (bytesOf t) ≡ kind.Identifier → Ends delimiters cs → ReadAs report t cs kind.Identifier 0 (bytes (bytesOf t))
+  led-word cs (led {c = c} {t = t} s m) u n k e = record {
+    text = λ at. source at (at + byteCount (c ∷ t));
+    one = run-read report c kind.Identifier (λ at. source at (at + byteCount (c ∷ t))) s m e n refl (λ at. word-means _ _ _ k (unsplit u));
+    spells = λ at. spells-whole at (c ∷ t);
+  }
+
+  -- <peculiar identifier>. "Note that +i, -i and <infnan> below are exceptions to the <peculiar identifier> rule; they are parsed as
+  -- numbers, not identifiers": so is any text that is also a number
+  pub peculiar-identifier : {t : List ℕ} (cs : List ℕ) → Peculiar t → Unsplit t → parseNumber (bytesOf t) ≡ parsed.NoNumber
+      → wordKind (bytesOf t) ≡ kind.Identifier → Ends delimiters cs → ReadAs report t cs kind.Identifier 0 (bytes (bytesOf t))
+  peculiar-identifier cs p u n k e = led-word cs (peculiar-led p) u n k e
+
+  -- a sign alone
+  pub sign-identifier : (c : ℕ) (cs : List ℕ) → oneOf explicitSigns c ≡ true → Ends delimiters cs
+      → ReadAs report (c ∷ []) cs kind.Identifier 0 (bytes (bytesOf (c ∷ [])))
+  unfolding wordKind lookup words same bytesOf utf8
+  sign-identifier c cs h e =
+      let u : Unsplit (c ∷ []) = by-bool (eqb c (code "+")) (λ g. rw (eqb-true c (code "+") g) plus) (λ g. other g) in
+      peculiar-identifier cs (alone h) u (lone-no-number c (sign-leads c h)) (at-one-of (λ k. wordKind (bytesOf (k ∷ []))) kind.Identifier explicitSigns c refl h) e

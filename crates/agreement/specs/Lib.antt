@@ -1,0 +1,13 @@
+pub mod Reading
+pub mod Repeated
+pub mod Delimiter
+pub mod Boolean
+pub mod Punctuation
+pub mod Comment
+pub mod Escape
+pub mod String
+pub mod Character
+pub mod Identifier
+pub mod Number
+pub mod Token
+pub mod Departures
