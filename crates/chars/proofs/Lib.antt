@@ -1,0 +1,16 @@
+pub mod Table
+pub mod Agree
+pub mod Sequences
+pub mod Run
+pub mod Pieces
+pub mod Scalar
+pub mod Width
+pub mod Lay
+pub mod Round
+pub mod Spells
+pub mod Chars
+pub mod Good
+pub mod Sharp
+pub mod Ascii
+pub mod FirstBad
+pub mod Blanks
