@@ -1,6 +1,6 @@
 -- A line that goes on. Its spaces and tabs vanish with one newline among them, and what follows is read as if nothing had been there: a
 -- second newline stays.
-use Prim.Native.Nat.{ℕ, suc, _+_, _≤_, _<_}
+use Prim.Native.Nat.{ℕ, _+_, _≤_}
 use mathlib.Core.Path.{_≡_, refl, sym, ap, _∙_}
 use mathlib.Core.Bool.{Bool, true, false}
 use mathlib.Core.List.{List, [], _∷_}
