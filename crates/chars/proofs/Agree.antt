@@ -14,7 +14,6 @@ use Rattle.laws.specs.Choice.{if_then_else_}
 use Rattle.chars.specs.declared.State.{State}
 use Rattle.chars.specs.declared.Step.{Step}
 use Rattle.chars.specs.declared.Step.the-variants as steps
-use Rattle.chars.specs.declared.Decoded.{Decoded}
 use Rattle.chars.specs.declared.Decoded.the-variants as decoded
 use Rattle.chars.specs.Utf8.{within, more, first, bad, rest, after, front, placed}
 use Rattle.chars.specs.Machine.{step, start, told, reads}

@@ -1,8 +1,7 @@
 -- Many bytes tested at once: their `|` is ASCII just if each of them is. And a run of ASCII is passed a byte a character.
-use Prim.Native.Nat.{ℕ, zero, suc, _+_, _≤_, _<_, _^_}
+use Prim.Native.Nat.{ℕ, zero, suc, _+_, _≤_, _<_}
 use native.Mathlib.Omega.{arith}
 use native.Mathlib.Nat.{add-zero, suc-add}
-use native.Mathlib.Numerals.{add-one}
 use mathlib.Core.Path.{_≡_, refl, ap, sym, _∙_}
 use mathlib.Core.List.{List, [], _∷_}
 use mathlib.Core.Bool.{Bool, true, false, _&&_}
@@ -14,7 +13,7 @@ use borrow.Author.Tests.{lt-ltb, le-ltb, le-leb, lt-leb, ltb-true, ltb-false, le
 use Rattle.laws.specs.Choice.{if_then_else_}
 use Rattle.laws.specs.Texts.{span}
 use Rattle.laws.proofs.Choice.{by-bool}
-use Rattle.chars.specs.Utf8.{within, ascii, char, front, sequences, verdict}
+use Rattle.chars.specs.Utf8.{ascii, sequences, verdict}
 use Rattle.chars.proofs.Table.{within-true, within-in, within-above}
 use Rattle.chars.proofs.Sequences.{sequences-char}
 use Rattle.chars.proofs.Round.{one-read}

@@ -1,17 +1,18 @@
 -- A whole text: its first bad sequence is known at the first byte that shows it. With the text up to and including that byte, no text
 -- that goes on from there is UTF-8; without that byte, some text is.
-use Prim.Native.Nat.{ℕ, zero, suc, _+_, _-_, _≤_, _<_}
+use Prim.Native.Nat.{ℕ, zero, suc, _+_, _-_, _≤_}
 use native.Mathlib.Omega.{arith}
-use native.Mathlib.Numerals.{sub-one}
 use mathlib.Core.Path.{_≡_, refl, ap, sym, subst, _∙_}
 use mathlib.Core.List.{List, [], _∷_, _++_}
-use lib.ListN.{length, drop}
+use lib.ListN.{length}
 use lib.Seq.{drop-length}
 use Rattle.chars.specs.declared.Step.{Step}
 use Rattle.chars.specs.declared.Step.the-variants as steps
 use Rattle.chars.specs.declared.Utf8.the-variants as verdicts
 use Rattle.chars.specs.Utf8.{first, Front, char, bad, cut, none, rest, after, front, Sequence, read, broken, short, onward, sequences, verdict, firstBad}
+use Rattle.chars.specs.Machine.{start, run}
 use Rattle.chars.proofs.Sequences.{Ends, wants, after-ends, sequences-char, sequences-bad}
+use Rattle.chars.proofs.Run.{run-sequences}
 use Rattle.chars.proofs.Sharp.{shown, dead, alive, rest-local}
 
 -- the bad sequence that the sequences end with starts at f, and t is past the byte that shows it
@@ -80,9 +81,13 @@ reads-one at b s c n f t e r =
     k : front (b ∷ r .before ++ r .byte ∷ r .after) ≡ char c n
     k = sym (ap (λ (l : List ℕ). front (b ∷ l)) (r .text)) ∙ e
 
+-- a text that is one character is good
+one-good : (at : ℕ) (l : List ℕ) (c : ℕ) → front l ≡ char c (length l) → verdict (sequences 0 at l) ≡ verdicts.Good
+unfolding sequences
+one-good at l c e = ap verdict (sequences-char at l c (length l) e) ∙ ap (λ (m : List ℕ). verdict (sequences 0 (at + length l) m)) (drop-length l)
+
 -- the bad sequence itself
 breaks : (at : ℕ) (s : List ℕ) (n : ℕ) → front s ≡ bad n → Shows 0 at s at (at + n)
-unfolding sequences
 breaks at s n e =
     let w = shown s n e in
     let p = w .0 in
@@ -99,9 +104,7 @@ breaks at s n e =
       passed = omega arith;
       with = λ q. ap verdict (sequences-bad at (p ++ b ∷ q) (length p + 1) (dead p b _ q k));
       rest = a .0;
-      without =
-          ap verdict (sequences-char at (p ++ a .0) (a .1) (length (p ++ a .0)) (a .2))
-          ∙ ap (λ (l : List ℕ). verdict (sequences 0 (at + length (p ++ a .0)) l)) (drop-length (p ++ a .0));
+      without = one-good at (p ++ a .0) (a .1) (a .2);
     }
 
 shows : (s : List ℕ) (skip at f t : ℕ) → Breaks f t (sequences skip at s) → Shows skip at s f t
@@ -117,7 +120,7 @@ shows (b ∷ s) zero at f t h = go (λ k. shows s k (at + 1) f t) (front (b ∷ 
     go ih cut e h = absurd h
     go ih none e h = absurd h
 
--- The text's first bad sequence starts at f and the byte before the place t shows it: the text is p, that byte b, and q.
+-- The text's first bad sequence starts at f, and the byte that shows it is the one before the place t.
 pub record FirstShown (s : List ℕ) (f t : ℕ) : Type 0 where
   pub before : List ℕ
   pub byte : ℕ
@@ -144,3 +147,7 @@ first-shown s f t h =
       rest = r .rest;
       without = r .without;
     }
+
+-- So the byte machine stops at the first byte after which no valid text can follow.
+pub run-first-shown : (s : List ℕ) (f t : ℕ) → Breaks f t (run start 0 0 s) → FirstShown s f t
+run-first-shown s f t h = first-shown s f t (subst (Breaks f t) (run-sequences s 0) h)

@@ -1,9 +1,9 @@
 -- Good UTF-8 and lists of characters are one thing: a good text is the bytes of its characters, and the bytes of characters are a good
 -- text that has just them. So what holds of characters carries over to bytes.
-use Prim.Native.Nat.{ℕ, zero, suc, _+_, _-_, _≤_, _<_}
+use Prim.Native.Nat.{ℕ, zero, suc, _+_, _≤_}
 use native.Mathlib.Omega.{arith}
 use mathlib.Core.Path.{_≡_, refl, sym, ap, subst, _∙_}
-use mathlib.Core.List.{List, [], _∷_, _++_}
+use mathlib.Core.List.{List, [], _∷_}
 use mathlib.Core.Bool.{true}
 use lib.ListN.{length, drop, length-drop, take-append-drop}
 use lib.Seq.{drop-at}
@@ -21,7 +21,7 @@ abbrev pub Scalars : List ℕ → Type 0
 Scalars [] = Unit {0}
 Scalars (c ∷ cs) = (isScalar c ≡ true) × Scalars cs
 
--- a text whose sequences from place `at` on are all good
+-- what a good text is
 abbrev GoodText : List ℕ → Type 0
 GoodText l = (bytesOf (chars l) ≡ l) × Scalars (chars l)
 

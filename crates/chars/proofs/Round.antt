@@ -2,17 +2,18 @@
 use Prim.Native.Nat.{ℕ, _+_, _-_, _*_, _/_, _%_, _≤_, _<_}
 use native.Mathlib.Omega.{arith}
 use native.Mathlib.Nat.{add-sub-cancel-left}
-use mathlib.Core.Path.{_≡_, refl, ap, sym, _∙_}
+use mathlib.Core.Path.{_≡_, ap, _∙_}
 use mathlib.Core.List.{List, [], _∷_, _++_}
 use mathlib.Core.Bool.{true, false}
 use mathlib.Core.Logic.{⊎-elim}
 use lib.Dec.{ltb}
 use lib.ListN.{length}
-use borrow.Author.Tests.{lt-ltb, le-ltb, ltb-true, ltb-false}
+use borrow.Author.Tests.{ltb-true, ltb-false}
 use Rattle.laws.proofs.Choice.{by-bool}
 use Rattle.chars.specs.Utf8.{more, first, char, rest, front}
 use Rattle.chars.specs.Encode.{isScalar, two, three, four, utf8, width, encode}
 use Rattle.chars.proofs.Table.{within-in, first-ascii, first-c2, first-e0, first-e1, first-ed, first-ee, first-f0, first-f1, first-f4}
+use Rattle.chars.proofs.SixBits.{low-six, join-three, div-4096, div-262144}
 use Rattle.chars.proofs.Scalar.{scalar-true}
 use Rattle.chars.proofs.Width.{utf8-one, utf8-two, utf8-three, utf8-four, width-utf8}
 
@@ -37,22 +38,9 @@ four-read : (b lo hi x y z : ℕ) (t : List ℕ) → first b ≡ more 3 lo hi (b
 unfolding front rest
 four-read b lo hi x y z t e l h l′ h′ l″ h″ = rw (e, within-in lo hi x l h, within-in 0x80 0xBF y l′ h′, within-in 0x80 0xBF z l″ h″)
 
--- ---- the bits of the bytes join; of four bytes three at a time
-
-low6 : (y : ℕ) → (0x80 + y % 64) % 64 ≡ y % 64
-low6 y = omega arith
-
-join3 : (p : ℕ) → (p / 4096 * 64 + p / 64 % 64) * 64 + p % 64 ≡ p
-join3 p = omega arith
-
-div-4096 : (c : ℕ) → c / 4096 ≡ c / 64 / 64
-div-4096 c = omega arith
-
-div-262144 : (c : ℕ) → c / 262144 ≡ c / 64 / 4096
-div-262144 c = omega arith
-
-join4 : (c : ℕ) → (((0xF0 + c / 262144 - 0xF0) * 64 + (0x80 + c / 4096 % 64) % 64) * 64 + (0x80 + c / 64 % 64) % 64) * 64 + (0x80 + c % 64) % 64 ≡ c
-join4 c = simp (add-sub-cancel-left, low6, div-262144, div-4096) (omega (arith, join3 (c / 64)))
+-- the bits of four bytes join, three at a time
+join-four : (c : ℕ) → (((0xF0 + c / 262144 - 0xF0) * 64 + (0x80 + c / 4096 % 64) % 64) * 64 + (0x80 + c / 64 % 64) % 64) * 64 + (0x80 + c % 64) % 64 ≡ c
+join-four c = simp (add-sub-cancel-left, low-six, div-262144, div-4096) (omega (arith, join-three (c / 64)))
 
 -- ---- the encodings, by the line of the table that their first byte is on
 
@@ -85,17 +73,17 @@ module _ (c : ℕ) (t : List ℕ) where
   four-f0 : 0x10000 ≤ c → c < 0x40000 → front (four c ++ t) ≡ char c 4
   four-f0 l h =
       four-read _ 0x90 0xBF _ _ _ t (first-f0 _ (omega arith) (omega arith)) (omega arith) (omega arith) (omega arith) (omega arith) (omega arith) (omega arith)
-      ∙ ap (λ (x : ℕ). char x 4) (join4 c)
+      ∙ ap (λ (x : ℕ). char x 4) (join-four c)
 
   four-f1 : 0x40000 ≤ c → c < 0x100000 → front (four c ++ t) ≡ char c 4
   four-f1 l h =
       four-read _ 0x80 0xBF _ _ _ t (first-f1 _ (omega arith) (omega arith)) (omega arith) (omega arith) (omega arith) (omega arith) (omega arith) (omega arith)
-      ∙ ap (λ (x : ℕ). char x 4) (join4 c)
+      ∙ ap (λ (x : ℕ). char x 4) (join-four c)
 
   four-f4 : 0x100000 ≤ c → c < 0x110000 → front (four c ++ t) ≡ char c 4
   four-f4 l h =
       four-read _ 0x80 0x8F _ _ _ t (first-f4 _ (omega arith) (omega arith)) (omega arith) (omega arith) (omega arith) (omega arith) (omega arith) (omega arith)
-      ∙ ap (λ (x : ℕ). char x 4) (join4 c)
+      ∙ ap (λ (x : ℕ). char x 4) (join-four c)
 
   three-back : 0x800 ≤ c → c < 0xD800 → front (three c ++ t) ≡ char c 3
   three-back l h =

@@ -1,5 +1,5 @@
 -- The sequences of a text one after the other: what a loop over `decode_at` leans on.
-use Prim.Native.Nat.{ℕ, zero, suc, _+_, _-_, _*_, _%_, _≤_, _<_}
+use Prim.Native.Nat.{ℕ, zero, suc, _+_, _*_, _%_, _≤_, _<_}
 use native.Mathlib.Omega.{arith}
 use native.Mathlib.Nat.{add-zero}
 use native.Mathlib.Numerals.{sub-one}
@@ -14,7 +14,7 @@ use Rattle.chars.specs.declared.Decoded.{Decoded}
 use Rattle.chars.specs.declared.Decoded.the-variants as decoded
 use Rattle.chars.specs.declared.Utf8.{Utf8}
 use Rattle.chars.specs.declared.Utf8.the-variants as verdicts
-use Rattle.chars.specs.Utf8.{within, first, Front, char, bad, cut, none, rest, after, front, placed, Sequence, read, broken, short, onward, sequences, verdict}
+use Rattle.chars.specs.Utf8.{within, first, Front, char, bad, cut, none, rest, after, front, placed, Sequence, read, broken, short, sequences, verdict}
 
 -- something stands there, and if it is a character, it has j bytes
 abbrev pub Ends : ℕ → Front → Type 0

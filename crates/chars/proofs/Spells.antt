@@ -1,7 +1,7 @@
 -- The bytes of a decoded character are its encoding, and it is a character's number: the inverse of Round.
 use Prim.Native.Nat.{ℕ, _+_, _-_, _*_, _/_, _%_, _≤_, _<_}
 use native.Mathlib.Omega.{arith}
-use mathlib.Core.Path.{_≡_, refl, sym, ap, _∙_}
+use mathlib.Core.Path.{_≡_, sym, _∙_}
 use mathlib.Core.List.{List, [], _∷_}
 use mathlib.Core.Bool.{true}
 use mathlib.Core.Logic.{_⊎_, inl, inr, ⊎-elim}
@@ -11,6 +11,7 @@ use Rattle.chars.specs.declared.Step.{Step}
 use Rattle.chars.specs.Utf8.{within, ascii, first, Front, char, bad, cut, none, rest, after, front}
 use Rattle.chars.specs.Encode.{isScalar, utf8}
 use Rattle.chars.proofs.Table.{within-true}
+use Rattle.chars.proofs.SixBits.{high, low, div-4096, div-262144}
 use Rattle.chars.proofs.Scalar.{scalar-low, scalar-high}
 use Rattle.chars.proofs.Width.{utf8-one, utf8-two, utf8-three, utf8-four}
 
@@ -20,20 +21,6 @@ Spells l (char c n) = (take n l ≡ utf8 c) × (isScalar c ≡ true) × (n ≤ l
 Spells l (bad n) = Unit {0}
 Spells l cut = Unit {0}
 Spells l none = Unit {0}
-
--- ---- the bits of each byte, out of the code that they were joined to
-
-high : (w z : ℕ) → (w * 64 + z % 64) / 64 ≡ w
-high w z = omega arith
-
-low : (w z : ℕ) → 0x80 ≤ z → z ≤ 0xBF → 0x80 + (w * 64 + z % 64) % 64 ≡ z
-low w z g h = omega arith
-
-by-4096 : (c : ℕ) → c / 4096 ≡ c / 64 / 64
-by-4096 c = omega arith
-
-by-262144 : (c : ℕ) → c / 262144 ≡ c / 64 / 64 / 64
-by-262144 c = omega arith
 
 -- ---- two, three and four bytes within their ranges
 
@@ -57,7 +44,7 @@ spells-three b x y t g h g′ h′ g″ h″ l clear =
     let c : ℕ = w * 64 + y % 64 in
     let u : c < 0x10000 = omega arith in
     let p : 0xE0 + w / 64 ≡ b = omega arith in (
-      sym (utf8-three c l u ∙ rw (by-4096 c, high w y, p, low (b - 0xE0) x g′ h′, low w y g″ h″)),
+      sym (utf8-three c l u ∙ rw (div-4096 c, high w y, p, low (b - 0xE0) x g′ h′, low w y g″ h″)),
       ⊎-elim (λ k. scalar-low c k) (λ k. scalar-high c k (omega arith)) clear,
       omega arith,
     )
@@ -70,7 +57,7 @@ spells-four b x y z t g h g′ h′ g″ h″ g‴ h‴ l top =
     let w : ℕ = v * 64 + y % 64 in
     let c : ℕ = w * 64 + z % 64 in
     let p : 0xF0 + v / 64 ≡ b = omega arith in (
-      sym (utf8-four c l ∙ rw (by-262144 c, by-4096 c, high w z, high v y, p, low (b - 0xF0) x g′ h′, low v y g″ h″, low w z g‴ h‴)),
+      sym (utf8-four c l ∙ rw (div-262144 c, div-4096 c, high w z, high v y, p, low (b - 0xF0) x g′ h′, low v y g″ h″, low w z g‴ h‴)),
       scalar-high c (omega arith) (omega arith),
       omega arith,
     )

@@ -4,7 +4,6 @@ use mathlib.Core.List.{List, [], _∷_}
 use mathlib.Core.Bool.{Bool, _&&_}
 use lib.Dec.{leb}
 use Rattle.laws.specs.Choice.{if_then_else_}
-use Rattle.chars.specs.declared.State.{State}
 use Rattle.chars.specs.declared.Step.{Step}
 use Rattle.chars.specs.declared.Step.the-variants as step
 use Rattle.chars.specs.declared.Decoded.{Decoded}

@@ -1,7 +1,6 @@
 -- A character below the tab is in no part of the list; the two runs of the list and its single characters answer true; what is left
 -- lies between the parts (Blanks).
-use mathlib.Core.Path.{_≡_, sym, _∙_}
-use mathlib.Core.Bool.{Bool, true, false}
+use mathlib.Core.Path.{sym, _∙_}
 use lib.Dec.{leb}
 use borrow.Author.Tests.{leb-true, leb-false}
 use Rattle.laws.proofs.Choice.{by-bool}

@@ -1,5 +1,5 @@
 -- Below the surrogates every number is a character's, among them none; past them the first range is out, and the second ends where the
--- test does (Round).
+-- test does (Scalar).
 use mathlib.Core.Path.{sym}
 use Rattle.chars.proofs.Scalar.{scalar-low, scalar-gap, scalar-past}
 use Rattle.chars.proofs.encode.is_scalar.Statement.{statement}
