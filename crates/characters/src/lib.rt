@@ -15,7 +15,7 @@ use chars::Decoded;
 use chars::decode_at;
 use chars::is_scalar;
 use digits::Hex;
-use digits::hexadecimal::hex_value;
+use digits::hex_value;
 use items::CharValue;
 use words::kinds;
 

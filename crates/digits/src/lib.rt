@@ -4,9 +4,12 @@
 ghost use mathlib.Core.Path.{_≡_};
 ghost use Prim.Native.Nat.{_+_, _≤_, _<_};
 ghost use lib.ListN.{drop};
-ghost use Rattle.digits.specs.Digits.{within, digitOf, digits, sign, uinteger, value, fit, signed, top, wholeOf, integer};
+ghost use Rattle.laws.specs.Quoted.{within};
+ghost use Rattle.digits.specs.Digits.{digitOf, digits, sign, uinteger, value, fit, signed, top, wholeOf, integer};
 
-pub mod hexadecimal;
+mod hexadecimal;
+
+pub use hexadecimal::hex_value;
 
 // Places of a text: from `start` to before `end`.
 pub struct Span {
@@ -26,7 +29,7 @@ pub enum MaybeInt {
 }
 
 // The value of digits without their sign, where it is at most 2^63: Large is 9223372036854775809.
-pub enum Magnitude {
+enum Magnitude {
     Fits(u64),
     Large,
 }
@@ -40,7 +43,8 @@ pub enum Hex {
 // The digit of a byte that is none, a digit of no radix.
 const NO_DIGIT: u64 = 16;
 
-const TEN: u64 = 10;
+// The value of the letter A as a digit.
+const LETTER: u64 = 10;
 
 // The first magnitude past signed 64 bits, and the first one after a minus sign.
 const TOP: u64 = 0x8000_0000_0000_0000;
@@ -65,10 +69,10 @@ pub fn digit(c: u8) -> u64
         return (c - b'0') as u64;
     }
     if within(b'A', b'F', c) {
-        return (c - b'A') as u64 + TEN;
+        return (c - b'A') as u64 + LETTER;
     }
     if within(b'a', b'f', c) {
-        return (c - b'a') as u64 + TEN;
+        return (c - b'a') as u64 + LETTER;
     }
     NO_DIGIT
 }

@@ -13,7 +13,7 @@ ghost use Rattle.escapes.specs.Elements.{element, closedHex, isSpace, Go
 use crate::Element;
 use crate::Given;
 use characters::scalar_of;
-use digits::hexadecimal::hex_value;
+use digits::hex_value;
 use items::CharValue;
 use items::Quotes;
 use texts::starts_at;
