@@ -9,14 +9,13 @@ use lib.Dec.{eqb, ltb}
 use native.Mathlib.Omega.{arith}
 use native.Mathlib.Nat.{le-refl}
 use borrow.Author.Tests.{lt-ltb, eqb-true}
-use Rattle.laws.specs.Quoted.{codes, code}
+use Rattle.laws.specs.Quoted.{codes, code, within}
 use Rattle.chars.specs.Blank.{isBlank}
 use Rattle.chars.specs.Encode.{isScalar, bytesOf}
 use Rattle.chars.proofs.Scalar.{scalar-true}
 use Rattle.digits.specs.declared.Hex.the-variants as hex
 use Rattle.digits.specs.Hex.{hexValue, hexDigits}
 use Rattle.digits.specs.Digits.{digitOf}
-use Rattle.digits.specs.Digits as number
 use Rattle.items.specs.declared.Quotes.{Quotes}
 use Rattle.items.specs.declared.Quotes.the-variants.{Double, Lines}
 use Rattle.items.specs.declared.CharValue.the-variants.{Scalar}
@@ -36,13 +35,13 @@ module _ {A : Type 0} (f : ℕ → A) (a : A) where
   at-digit e₁ e₂ e₃ c (upper h) = at-one-of f a (codes "ABCDEF") c e₃ h
 
 digit-value : (c : ℕ) {d : ℕ} → HexDigit c d → digitOf c ≡ d
-unfolding digitOf number.within
+unfolding digitOf within
 digit-value c (decimal h) = eqb-true _ _ (at-one-of (λ k. eqb (digitOf k) (k - code "0")) true digits c refl h)
 digit-value c (lower h) = eqb-true _ _ (at-one-of (λ k. eqb (digitOf k) (k - code "a" + 10)) true (codes "abcdef") c refl h)
 digit-value c (upper h) = eqb-true _ _ (at-one-of (λ k. eqb (digitOf k) (k - code "A" + 10)) true (codes "ABCDEF") c refl h)
 
 digit-fits : (c : ℕ) {d : ℕ} → HexDigit c d → ltb (digitOf c) 16 ≡ true
-unfolding digitOf number.within
+unfolding digitOf within
 digit-fits c h = at-digit (λ k. ltb (digitOf k) 16) true refl refl refl c h
 
 -- the value grows

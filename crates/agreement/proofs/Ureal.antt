@@ -10,7 +10,7 @@ use native.Mathlib.Omega.{arith}
 use native.Mathlib.Nat.{le-refl, add-zero, zero-add}
 use borrow.Author.Tests.{lt-ltb, le-ltb, eq-eqb, ne-eqb}
 use Rattle.laws.specs.Choice.{if_then_else_}
-use Rattle.laws.specs.Quoted.{codes, code, oneOf}
+use Rattle.laws.specs.Quoted.{codes, code, oneOf, within}
 use Rattle.laws.specs.Texts.{span, starts}
 use Rattle.laws.proofs.Choice.{by-bool}
 use Rattle.digits.specs.declared.Span.{Span}
@@ -43,7 +43,7 @@ pub record IsReal (m : MaybeReal) : Type 0 where
 -- ---- digits
 
 digit-ten : (c : ℕ) → Digit c → ltb (digitOf c) 10 ≡ true
-unfolding digitOf digit.within
+unfolding digitOf within
 digit-ten c h = at-one-of (λ k. ltb (digitOf k) 10) true digits c refl h
 
 module _ {d : List ℕ} (m : Many Digit d) where
@@ -110,7 +110,7 @@ module _ (b : Bool) (p : ℕ) (n d : List ℕ) (m : Some Digit n) (k : Some Digi
   to-slash = span-on (λ c. not (eqb c (code "/"))) (code "/" ∷ d) (no-slash (some-many m)) ∙ add-zero (length n)
 
   slash-digits : digit.digits 10 (n ++ (code "/" ∷ d)) ≡ length n
-  unfolding digitOf digit.within
+  unfolding digitOf within
   slash-digits = digits-then-other (some-many m) (code "/") d refl
 
   ratio-no-decimal : decimal b p (n ++ (code "/" ∷ d)) ≡ maybe.NoReal
@@ -137,7 +137,7 @@ module _ (b : Bool) (p : ℕ) (n d : List ℕ) (m : Some Digit n) (k : Some Digi
 -- ---- <suffix>
 
 marker-other : (c : ℕ) → oneOf (codes "eE") c ≡ true → ltb (digitOf c) 10 ≡ false
-unfolding digitOf digit.within
+unfolding digitOf within
 marker-other c h = at-one-of (λ k. ltb (digitOf k) 10) false (codes "eE") c refl h
 
 -- an exponent; and that, or none
@@ -198,7 +198,7 @@ decimal-ureal b p u r = or-real (exact 10 b p u) r
 
 -- digits, and then a dot
 dot-after : (b : Bool) (p : ℕ) (d r : List ℕ) → Many Digit d → decimal b p (d ++ (code "." ∷ r)) ≡ dotted b p (length d) (p + length d + 1) r
-unfolding decimal starts digitOf digit.within
+unfolding decimal starts digitOf within
 dot-after b p d r m =
     rw (digits-then-other m (code ".") r refl, drop-at d (code "." ∷ r) (length d) refl, sym (drop-drop 1 (length d) (d ++ (code "." ∷ r))))
     (rw (drop-at d (code "." ∷ r) (length d) refl))

@@ -17,7 +17,7 @@ use chars::is_scalar;
 use digits::Hex;
 use digits::hex_value;
 use items::CharValue;
-use words::kinds;
+use items::kinds;
 
 // No name of a character: `#\lambda`.
 fn no_name() -> CharValue

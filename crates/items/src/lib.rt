@@ -3,7 +3,9 @@
 // The definition of the items of a text, which is what a reviewer must believe, stands in specs/: Kinds, Classes, Readers, Meaning,
 // Items, Whole, with 01's examples in Examples. The machine, in specs/Machine and specs/Run, is a means of proof and cited by no
 // public contract: proofs/ shows that it gives exactly the definition's items, however a text is cut. The code of its steps is in
-// crate `steps`.
+// crate `steps`. `kinds` has the numbers of kinds, errors and details for all code.
+
+pub mod kinds;
 
 // What stands between quotes.
 pub enum Quotes {

@@ -1,12 +1,10 @@
-// The kind of a word by its bytes, and the numbers of kinds and errors (document 01, "An item"). Reads the bytes of a word whose extent
+// The kind of a word by its bytes (document 01, "An item"). Reads the bytes of a word whose extent
 // is known, and answers what the `match` of the Rust's `read_word` does. Internal: used by the lexer and the pieces.
 ghost use mathlib.Core.Path.{_≡_};
 ghost use Rattle.laws.specs.Choice.{if_then_else_};
 ghost use Rattle.laws.specs.Texts.{same};
 ghost use Rattle.items.specs.Meaning.{wordKind};
-
-pub mod kinds;
-
+use items::kinds;
 use texts::equal;
 
 // λ in UTF-8.
