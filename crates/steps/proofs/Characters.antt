@@ -13,8 +13,7 @@ use Rattle.laws.proofs.Choice.{by-bool}
 use Rattle.laws.proofs.Places.{past}
 use Rattle.chars.specs.Encode.{utf8, width}
 use Rattle.chars.proofs.Width.{width-utf8}
-use Rattle.digits.specs.Hex.{hexValue, empty}
-use Rattle.digits.specs.declared.Hex.the-variants as hex
+use Rattle.digits.specs.Hex.{hexValue}
 use Rattle.items.specs.declared.Quotes.{Quotes}
 use Rattle.items.specs.Classes.{delimOf, stopsHex, inHex, stops, digit}
 
@@ -59,6 +58,5 @@ pub with-length : (raw : List ℕ) (c w : ℕ) → w ≡ width c → length raw 
 with-length raw c w e = rw (length-append raw (utf8 c), width-utf8 c, e)
 
 -- an item that ends before its digits
-pub no-digits : (raw : List ℕ) (n : ℕ) → length raw ≤ n → hex.Wrong empty 0 ≡ hexValue (drop n raw)
-unfolding hexValue
-no-digits raw n h = rw (past raw n h)
+pub no-digits : (raw : List ℕ) (n : ℕ) → length raw < n → hexValue [] ≡ hexValue (drop n raw)
+no-digits raw n h = rw (past raw n (omega arith))

@@ -1,3 +1,4 @@
 pub mod Characters
 pub mod Delimiter
 pub mod Turn
+pub mod Item

@@ -165,9 +165,8 @@ pub(crate) fn after_hash(raw: &[u8], c: u32) -> Next
     ensures { λ r. ⌜ r ≡ onAfterHash (afterHash c) (now (raw .entry)) c ⌝ }
 {
     match c {
-        LOWER_X | UPPER_X | LOWER_D | UPPER_D | LOWER_O | UPPER_O | LOWER_B | UPPER_B => Next::Eat(
-            Phase::InRun,
-        ),
+        LOWER_X | LOWER_D | LOWER_O | LOWER_B => Next::Eat(Phase::InRun),
+        UPPER_X | UPPER_D | UPPER_O | UPPER_B => Next::Eat(Phase::InRun),
         VERTICAL => Next::Eat(Phase::Nest(1)),
         SEMICOLON => Next::Eat(Phase::Done(Outcome::Token(kinds::DATUM_COMMENT, kinds::NO_DETAIL))),
         HASH => Next::Eat(Phase::Done(Outcome::Error(kinds::UNEXPECTED_CHAR, c))),

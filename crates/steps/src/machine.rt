@@ -166,8 +166,8 @@ pub fn finish(phase: Phase, raw: &[u8]) -> Outcome
     }
 }
 
-// The item from `start` to `at` where the text ends.
-fn last(s: &[u8], start: usize, at: usize, phase: Phase) -> Scanned
+// The item from `start` to `at`, where the text ends.
+fn scan_end(s: &[u8], start: usize, at: usize, phase: Phase) -> Scanned
     requires { ⌜ (start ≤ at) × (at ≤ length (now s)) ⌝ }
     ensures { λ r. ⌜ r ≡ record { what = finishOf phase (part (now (s .entry)) start at); end = at } ⌝ }
 {
@@ -196,15 +196,15 @@ pub fn scan(s: &[u8], report: bool, start: usize, from: usize, first: Phase) -> 
                 }
             },
             Decoded::Bad => {
-                return last(s, start, at, phase);
+                return scan_end(s, start, at, phase);
             }
             Decoded::Cut => {
-                return last(s, start, at, phase);
+                return scan_end(s, start, at, phase);
             }
             Decoded::End => {
-                return last(s, start, at, phase);
+                return scan_end(s, start, at, phase);
             }
         }
     }
-    last(s, start, at, phase)
+    scan_end(s, start, at, phase)
 }

@@ -34,7 +34,7 @@ fn delim_of(k: Quotes) -> u32
     }
 }
 
-// What a word with a vertical line where `read_word` began is, at its end.
+// What a word is, at its end, that has a vertical line where `read_word` began.
 fn lined_of(raw: &[u8]) -> Outcome
     ensures { λ r. ⌜ r ≡ linedOf (now (raw .entry)) ⌝ }
 {
@@ -84,7 +84,7 @@ pub(crate) fn cut(k: Quotes) -> Outcome
     }
 }
 
-// In quotes: `read_string`.
+// In quotes, whatever stands in them so far: `read_string`.
 pub(crate) fn read_string(k: Quotes, at: usize, c: u32) -> Next
     ensures { λ r. ⌜ ((raw : List ℕ) → r ≡ onQuoted (inQuotes k c) k (soFar raw at) c) ⌝ }
 {
@@ -119,6 +119,13 @@ pub(crate) fn read_string_escape(k: Quotes, from: usize, raw: &[u8], at: usize, 
     }
 }
 
+// The item ends with this character, as an error that sets a range.
+fn broken(error: u32, detail: u32, from: usize, to: usize) -> Next
+    ensures { λ r. ⌜ r ≡ Next.Eat (Phase.Done (Outcome.ErrorAt error detail from to)) ⌝ }
+{
+    Next::Eat(Phase::Done(Outcome::ErrorAt(error, detail, from, to)))
+}
+
 // Whether c breaks a hex escape off before its closer.
 fn breaks_hex(k: Quotes, c: u32) -> bool
     ensures { λ r. ⌜ r ≡ (if stopsHex c then true else eqb c (delimOf k)) ⌝ }
@@ -143,20 +150,15 @@ pub(crate) fn open_brace(k: Quotes, from: usize, raw: &[u8], at: usize, c: u32) 
         return Next::Eat(Phase::Hex(k, CLOSE_CURLY, from, raw.len() + char_width(c)));
     }
     if c == SEMICOLON {
-        return Next::Eat(Phase::Done(Outcome::ErrorAt(
+        return broken(
             kinds::INVALID_HEX_ESCAPE_LITERAL,
             kinds::NO_DIGITS,
             from,
             at + char_width(c),
-        )));
+        );
     }
     if breaks_hex(k, c) {
-        return Next::Eat(Phase::Done(Outcome::ErrorAt(
-            kinds::UNCLOSED_HEX_ESCAPE,
-            SEMICOLON,
-            from,
-            at,
-        )));
+        return broken(kinds::UNCLOSED_HEX_ESCAPE, SEMICOLON, from, at);
     }
     Next::Eat(Phase::Hex(k, SEMICOLON, from, raw.len()))
 }
@@ -165,8 +167,8 @@ pub(crate) fn open_brace(k: Quotes, from: usize, raw: &[u8], at: usize, c: u32) 
 fn hex_from(raw: &[u8], n: usize) -> Hex
     ensures { λ r. ⌜ r ≡ hexValue (drop n (now (raw .entry))) ⌝ }
 {
-    if raw.len() <= n {
-        return Hex::Wrong(kinds::NO_DIGITS, 0);
+    if raw.len() < n {
+        return hex_value(b"");
     }
     hex_value(&raw[n..])
 }
@@ -192,12 +194,7 @@ fn close_hex(v: CharValue, k: Quotes, from: usize, to: usize) -> Next
 {
     match v {
         CharValue::Scalar(_) => Next::Eat(Phase::Quoted(k)),
-        CharValue::Wrong(error, detail) => Next::Eat(Phase::Done(Outcome::ErrorAt(
-            error,
-            detail,
-            from,
-            to,
-        ))),
+        CharValue::Wrong(error, detail) => broken(error, detail, from, to),
     }
 }
 
@@ -218,12 +215,7 @@ pub(crate) fn hex_digits(
         return close_hex(scalar_of(hex_from(raw, n)), k, from, at + char_width(c));
     }
     if breaks_hex(k, c) {
-        return Next::Eat(Phase::Done(Outcome::ErrorAt(
-            kinds::UNCLOSED_HEX_ESCAPE,
-            closer,
-            from,
-            at,
-        )));
+        return broken(kinds::UNCLOSED_HEX_ESCAPE, closer, from, at);
     }
     Next::Eat(Phase::Hex(k, closer, from, n))
 }

@@ -11,11 +11,11 @@ read-hash-value-requires c κs = search needs
 
 returns : tie.Need-returns
 unfolding afterHash
-returns c = ⊎-elim (λ h. rw h) (⊎-elim (λ h. rw h) (⊎-elim (λ h. rw h) (⊎-elim (λ h. rw h) (⊎-elim (λ h. rw h) (⊎-elim (λ h. rw h) (⊎-elim (λ h. rw h) (λ h. rw h))))))) (c .match .keys1)
+returns c = ⊎-elim (λ h. rw h) (⊎-elim (λ h. rw h) (⊎-elim (λ h. rw h) (λ h. rw h))) (c .match .keys1)
 
 returns-2 : tie.Need-returns-2
 unfolding afterHash
-returns-2 c = rw (c .match .keys2)
+returns-2 c = ⊎-elim (λ h. rw h) (⊎-elim (λ h. rw h) (⊎-elim (λ h. rw h) (λ h. rw h))) (c .match .keys2)
 
 returns-3 : tie.Need-returns-3
 unfolding afterHash
@@ -31,7 +31,11 @@ returns-5 c = rw (c .match .keys5)
 
 returns-6 : tie.Need-returns-6
 unfolding afterHash
-returns-6 c = simp (ne-eqb _ _ (λ h. c .before .match .rest .0 .0 .0 .0 .1 (inl h)), ne-eqb _ _ (λ h. c .before .match .rest .0 .0 .0 .0 .1 (inr (inl h))), ne-eqb _ _ (λ h. c .before .match .rest .0 .0 .0 .0 .1 (inr (inr (inl h)))), ne-eqb _ _ (λ h. c .before .match .rest .0 .0 .0 .0 .1 (inr (inr (inr (inl h))))), ne-eqb _ _ (λ h. c .before .match .rest .0 .0 .0 .0 .1 (inr (inr (inr (inr (inl h)))))), ne-eqb _ _ (λ h. c .before .match .rest .0 .0 .0 .0 .1 (inr (inr (inr (inr (inr (inl h))))))), ne-eqb _ _ (λ h. c .before .match .rest .0 .0 .0 .0 .1 (inr (inr (inr (inr (inr (inr (inl h)))))))), ne-eqb _ _ (λ h. c .before .match .rest .0 .0 .0 .0 .1 (inr (inr (inr (inr (inr (inr (inr h)))))))), ne-eqb _ _ (c .before .match .rest .0 .0 .0 .1), ne-eqb _ _ (c .before .match .rest .0 .0 .1), ne-eqb _ _ (c .before .match .rest .0 .1), ne-eqb _ _ (c .before .match .rest .1), c .read-hash-value .ensures)
+returns-6 c = rw (c .match .keys6)
+
+returns-7 : tie.Need-returns-7
+unfolding afterHash
+returns-7 c = simp (ne-eqb _ _ (λ h. c .before .match .rest .0 .0 .0 .0 .0 .1 (inl h)), ne-eqb _ _ (λ h. c .before .match .rest .0 .0 .0 .0 .0 .1 (inr (inl h))), ne-eqb _ _ (λ h. c .before .match .rest .0 .0 .0 .0 .0 .1 (inr (inr (inl h)))), ne-eqb _ _ (λ h. c .before .match .rest .0 .0 .0 .0 .0 .1 (inr (inr (inr h)))), ne-eqb _ _ (λ h. c .before .match .rest .0 .0 .0 .0 .1 (inl h)), ne-eqb _ _ (λ h. c .before .match .rest .0 .0 .0 .0 .1 (inr (inl h))), ne-eqb _ _ (λ h. c .before .match .rest .0 .0 .0 .0 .1 (inr (inr (inl h)))), ne-eqb _ _ (λ h. c .before .match .rest .0 .0 .0 .0 .1 (inr (inr (inr h)))), ne-eqb _ _ (c .before .match .rest .0 .0 .0 .1), ne-eqb _ _ (c .before .match .rest .0 .0 .1), ne-eqb _ _ (c .before .match .rest .0 .1), ne-eqb _ _ (c .before .match .rest .1), c .read-hash-value .ensures)
 
 pub after-hash-spec : {M : Type 1} → statement M
 after-hash-spec =
@@ -43,4 +47,5 @@ after-hash-spec =
     returns-3
     returns-4
     returns-5
-    returns-6)
+    returns-6
+    returns-7)

@@ -59,35 +59,35 @@ returns c = sym (c .before .before .before .before .before .before .before .befo
 enum-told : tie.Need-enum-told Inv-loop μ-loop
 enum-told c = search needs
 
-last-requires : tie.Need-last-requires Inv-loop μ-loop
-last-requires c κs = search needs
+scan-end-requires : tie.Need-scan-end-requires Inv-loop μ-loop
+scan-end-requires c κs = search needs
 
 returns-2 : tie.Need-returns-2 Inv-loop μ-loop
-returns-2 c = c .last .ensures ∙ sym (c .before .before .before .before .before .loop .inv .3 ∙ turn-last (now (c .before .before .before .before .before .before .before .args .s)) (c .before .before .before .before .before .before .before .args .report) (c .before .before .before .before .before .before .before .args .start) (c .before .before .before .before .before .loop .phase) (c .before .before .before .before .before .loop .at) (none-bad (now (c .before .before .before .before .before .before .before .args .s)) (c .before .before .before .before .before .loop .at) (sym (c .before .enum-told .given .1) ∙ c .before .before .before .decode-at .ensures)))
+returns-2 c = c .scan-end .ensures ∙ sym (c .before .before .before .before .before .loop .inv .3 ∙ turn-last (now (c .before .before .before .before .before .before .before .args .s)) (c .before .before .before .before .before .before .before .args .report) (c .before .before .before .before .before .before .before .args .start) (c .before .before .before .before .before .loop .phase) (c .before .before .before .before .before .loop .at) (none-bad (now (c .before .before .before .before .before .before .before .args .s)) (c .before .before .before .before .before .loop .at) (sym (c .before .enum-told .given .1) ∙ c .before .before .before .decode-at .ensures)))
 
 enum-told-2 : tie.Need-enum-told-2 Inv-loop μ-loop
 enum-told-2 c = search needs
 
-last-requires-2 : tie.Need-last-requires-2 Inv-loop μ-loop
-last-requires-2 c κs = search needs
+scan-end-requires-2 : tie.Need-scan-end-requires-2 Inv-loop μ-loop
+scan-end-requires-2 c κs = search needs
 
 returns-3 : tie.Need-returns-3 Inv-loop μ-loop
-returns-3 c = c .last2 .ensures ∙ sym (c .before .before .before .before .before .loop .inv .3 ∙ turn-last (now (c .before .before .before .before .before .before .before .args .s)) (c .before .before .before .before .before .before .before .args .report) (c .before .before .before .before .before .before .before .args .start) (c .before .before .before .before .before .loop .phase) (c .before .before .before .before .before .loop .at) (none-cut (now (c .before .before .before .before .before .before .before .args .s)) (c .before .before .before .before .before .loop .at) (sym (c .before .enum-told2 .given .1) ∙ c .before .before .before .decode-at .ensures)))
+returns-3 c = c .scan-end2 .ensures ∙ sym (c .before .before .before .before .before .loop .inv .3 ∙ turn-last (now (c .before .before .before .before .before .before .before .args .s)) (c .before .before .before .before .before .before .before .args .report) (c .before .before .before .before .before .before .before .args .start) (c .before .before .before .before .before .loop .phase) (c .before .before .before .before .before .loop .at) (none-cut (now (c .before .before .before .before .before .before .before .args .s)) (c .before .before .before .before .before .loop .at) (sym (c .before .enum-told2 .given .1) ∙ c .before .before .before .decode-at .ensures)))
 
 enum-told-3 : tie.Need-enum-told-3 Inv-loop μ-loop
 enum-told-3 c = search needs
 
-last-requires-3 : tie.Need-last-requires-3 Inv-loop μ-loop
-last-requires-3 c κs = search needs
+scan-end-requires-3 : tie.Need-scan-end-requires-3 Inv-loop μ-loop
+scan-end-requires-3 c κs = search needs
 
 returns-4 : tie.Need-returns-4 Inv-loop μ-loop
-returns-4 c = c .last3 .ensures ∙ sym (c .before .before .before .before .before .loop .inv .3 ∙ turn-last (now (c .before .before .before .before .before .before .before .args .s)) (c .before .before .before .before .before .before .before .args .report) (c .before .before .before .before .before .before .before .args .start) (c .before .before .before .before .before .loop .phase) (c .before .before .before .before .before .loop .at) (none-end (now (c .before .before .before .before .before .before .before .args .s)) (c .before .before .before .before .before .loop .at) (sym (c .before .enum-told3 .given .1) ∙ c .before .before .before .decode-at .ensures)))
+returns-4 c = c .scan-end3 .ensures ∙ sym (c .before .before .before .before .before .loop .inv .3 ∙ turn-last (now (c .before .before .before .before .before .before .before .args .s)) (c .before .before .before .before .before .before .before .args .report) (c .before .before .before .before .before .before .before .args .start) (c .before .before .before .before .before .loop .phase) (c .before .before .before .before .before .loop .at) (none-end (now (c .before .before .before .before .before .before .before .args .s)) (c .before .before .before .before .before .loop .at) (sym (c .before .enum-told3 .given .1) ∙ c .before .before .before .decode-at .ensures)))
 
-last-requires-4 : tie.Need-last-requires-4 Inv-loop μ-loop
-last-requires-4 c κs = search needs
+scan-end-requires-4 : tie.Need-scan-end-requires-4 Inv-loop μ-loop
+scan-end-requires-4 c κs = search needs
 
 returns-5 : tie.Need-returns-5 Inv-loop μ-loop
-returns-5 c = c .last4 .ensures ∙ sym (c .before .before .loop .inv .3 ∙ turn-out (now (c .before .before .before .before .args .s)) (c .before .before .before .before .args .report) (c .before .before .before .before .args .start) (c .before .before .loop .phase) (c .before .before .loop .at) (c .before .loop-test .left))
+returns-5 c = c .scan-end4 .ensures ∙ sym (c .before .before .loop .inv .3 ∙ turn-out (now (c .before .before .before .before .args .s)) (c .before .before .before .before .args .report) (c .before .before .before .before .args .start) (c .before .before .loop .phase) (c .before .before .loop .at) (c .before .loop-test .left))
 
 pub scan-spec : {M : Type 1} → statement M
 scan-spec =
@@ -108,13 +108,13 @@ scan-spec =
     enum-known-what
     returns
     enum-told
-    last-requires
+    scan-end-requires
     returns-2
     enum-told-2
-    last-requires-2
+    scan-end-requires-2
     returns-3
     enum-told-3
-    last-requires-3
+    scan-end-requires-3
     returns-4
-    last-requires-4
+    scan-end-requires-4
     returns-5)

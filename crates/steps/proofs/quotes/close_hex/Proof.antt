@@ -9,11 +9,14 @@ enum-told c = search needs
 enum-known-v : tie.Need-enum-known-v
 enum-known-v c = search needs
 
+broken-requires : tie.Need-broken-requires
+broken-requires c κs = search needs
+
 returns : tie.Need-returns
 returns c = rw (c .enum-told .given .1)
 
 returns-2 : tie.Need-returns-2
-returns-2 c = rw (c .before .v .given .1)
+returns-2 c = rw (c .before .before .v .given .1) (simp (c .broken .ensures))
 
 pub close-hex-spec : {M : Type 1} → statement M
 close-hex-spec =
@@ -21,5 +24,6 @@ close-hex-spec =
     (tie.spec
     enum-told
     enum-known-v
+    broken-requires
     returns
     returns-2)

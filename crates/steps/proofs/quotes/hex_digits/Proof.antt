@@ -30,8 +30,11 @@ returns c = simp (eq-eqb _ _ (c .before .before .before .before .if1 .taken), c 
 breaks-hex-requires : tie.Need-breaks-hex-requires
 breaks-hex-requires c κs = search needs
 
+broken-requires : tie.Need-broken-requires
+broken-requires c κs = search needs
+
 returns-2 : tie.Need-returns-2
-returns-2 c = simp (hex-breaks (c .before .before .before .before .args .k) _ (c .before .before .before .before .args .c) (ne-eqb _ _ (c .before .before .if1 .left)) (sym (c .before .breaks-hex .ensures) ∙ c .if2 .taken))
+returns-2 c = simp (hex-breaks (c .before .before .before .before .before .args .k) _ (c .before .before .before .before .before .args .c) (ne-eqb _ _ (c .before .before .before .if1 .left)) (sym (c .before .before .breaks-hex .ensures) ∙ c .before .if2 .taken), c .broken .ensures)
 
 returns-3 : tie.Need-returns-3
 returns-3 c = simp (hex-goes (c .before .before .before .before .args .k) _ (c .before .before .before .before .args .c) (ne-eqb _ _ (c .before .before .if1 .left)) (sym (c .before .breaks-hex .ensures) ∙ c .if2 .left))
@@ -47,5 +50,6 @@ hex-digits-spec =
     close-hex-requires
     returns
     breaks-hex-requires
+    broken-requires
     returns-2
     returns-3)

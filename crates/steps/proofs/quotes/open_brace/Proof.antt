@@ -21,18 +21,24 @@ returns c = rw (with-length (now (c .before .before .before .args .raw)) (c .bef
 char-width-requires-2 : tie.Need-char-width-requires-2
 char-width-requires-2 c κs = search needs
 
-add-t12 : tie.Need-add-t12
-add-t12 c = omega (arith, c .char-width2 .ensures)
+add-broken : tie.Need-add-broken
+add-broken c = omega (arith, c .char-width2 .ensures)
+
+broken-requires : tie.Need-broken-requires
+broken-requires c κs = search needs
 
 returns-2 : tie.Need-returns-2
 unfolding inHex
-returns-2 c = simp (ne-eqb _ _ (c .before .before .if1 .left), eq-eqb _ _ (c .before .if2 .taken), c .char-width2 .ensures)
+returns-2 c = simp (ne-eqb _ _ (c .before .before .before .if1 .left), eq-eqb _ _ (c .before .before .if2 .taken), c .broken .ensures, c .before .char-width2 .ensures)
 
 breaks-hex-requires : tie.Need-breaks-hex-requires
 breaks-hex-requires c κs = search needs
 
+broken-requires-2 : tie.Need-broken-requires-2
+broken-requires-2 c κs = search needs
+
 returns-3 : tie.Need-returns-3
-returns-3 c = simp (ne-eqb _ _ (c .before .before .before .if1 .left), hex-breaks (c .before .before .before .before .before .args .k) _ (c .before .before .before .before .before .args .c) (ne-eqb _ _ (c .before .before .if2 .left)) (sym (c .before .breaks-hex .ensures) ∙ c .if3 .taken))
+returns-3 c = simp (ne-eqb _ _ (c .before .before .before .before .if1 .left), hex-breaks (c .before .before .before .before .before .before .args .k) _ (c .before .before .before .before .before .before .args .c) (ne-eqb _ _ (c .before .before .before .if2 .left)) (sym (c .before .before .breaks-hex .ensures) ∙ c .before .if3 .taken), c .broken2 .ensures)
 
 returns-4 : tie.Need-returns-4
 returns-4 c = simp (ne-eqb _ _ (c .before .before .before .if1 .left), hex-goes (c .before .before .before .before .before .args .k) _ (c .before .before .before .before .before .args .c) (ne-eqb _ _ (c .before .before .if2 .left)) (sym (c .before .breaks-hex .ensures) ∙ c .if3 .left))
@@ -45,8 +51,10 @@ open-brace-spec =
     add-t9
     returns
     char-width-requires-2
-    add-t12
+    add-broken
+    broken-requires
     returns-2
     breaks-hex-requires
+    broken-requires-2
     returns-3
     returns-4)

@@ -1,7 +1,7 @@
 -- The item is the part that `finish` is asked of.
 use borrow.Author.Needs.{needs}
-use Rattle.steps.proofs.machine.last.Statement.{statement}
-use Rattle.steps.proofs.machine.last.Tie as tie
+use Rattle.steps.proofs.machine.scan_end.Statement.{statement}
+use Rattle.steps.proofs.machine.scan_end.Tie as tie
 
 sub-finish : tie.Need-sub-finish
 sub-finish c = search needs
@@ -18,8 +18,8 @@ finish-requires c κs = search needs
 returns : tie.Need-returns
 returns c = simp (c .finish .ensures)
 
-pub last-spec : {M : Type 1} → statement M
-last-spec =
+pub scan-end-spec : {M : Type 1} → statement M
+scan-end-spec =
     tie.close
     (tie.spec
     sub-finish
