@@ -211,8 +211,9 @@ pub(crate) fn hex_digits(
     requires { ⌜ at + width c < 2 ^ 64 ⌝ }
     ensures { λ r. ⌜ r ≡ onHex (inHex k closer c) k closer from n (soFar (now (raw .entry)) at) c ⌝ }
 {
+    let next = at + char_width(c);
     if c == closer {
-        return close_hex(scalar_of(hex_from(raw, n)), k, from, at + char_width(c));
+        return close_hex(scalar_of(hex_from(raw, n)), k, from, next);
     }
     if breaks_hex(k, c) {
         return broken(kinds::UNCLOSED_HEX_ESCAPE, closer, from, at);
