@@ -1,7 +1,7 @@
 -- A here-string's delimiter: one turn of the loops over its line, and the parts of the item that they are called with.
 use Prim.Native.Nat.{ℕ, _+_, _-_, _≤_, _<_}
 use mathlib.Core.Path.{_≡_, sym, ap, _∙_}
-use mathlib.Core.Bool.{Bool, true, false, not}
+use mathlib.Core.Bool.{Bool, true, false}
 use mathlib.Core.List.{List, [], _∷_}
 use lib.ListN.{length, getD, take, drop, length-drop}
 use lib.Seq.{drop-drop}
@@ -63,7 +63,8 @@ module _ (d body : List ℕ) (n : ℕ) (e : n ≡ length d) where
   unfolding endsWith
   ends-short h = rw (lt-ltb (length body) (length d) (omega arith))
 
-  pub ends-on : {x : Bool} → n ≤ length body → x ≡ begins d (take (length body - (length body - n)) (drop (length body - n) body)) → x ≡ endsWith d body
+  pub ends-on : {x : Bool} → n ≤ length body
+      → x ≡ begins d (take (length body - (length body - n)) (drop (length body - n) body)) → x ≡ endsWith d body
   unfolding endsWith
   ends-on h q = rw (le-ltb (length body) (length d) (omega arith), ← e) (q ∙ ap (begins d) (part-rest body (length body - n)))
 
@@ -93,7 +94,8 @@ module _ (raw : List ℕ) (k : ℕ) (e : k ≡ 3 + before (code "\n") (hereInsid
   pub line-length : {n : ℕ} → n ≡ length (unreturned (take (k - 3) (drop 3 raw))) → n ≡ length (lineOf (hereInside raw))
   line-length q = q ∙ rw line-at
 
-  pub here-in : {x : Bool} → x ≡ endsWith (unreturned (take (k - 3) (drop 3 raw))) (take (length raw - (k + 1)) (drop (k + 1) raw)) → x ≡ hereEnds raw
+  pub here-in : {x : Bool}
+      → x ≡ endsWith (unreturned (take (k - 3) (drop 3 raw))) (take (length raw - (k + 1)) (drop (k + 1) raw)) → x ≡ hereEnds raw
   unfolding hereEnds
   here-in q =
       let m = before (code "\n") (hereInside raw) in
@@ -101,7 +103,8 @@ module _ (raw : List ℕ) (k : ℕ) (e : k ≡ 3 + before (code "\n") (hereInsid
       let r : drop (k + 1) raw ≡ drop (m + 1) (drop 3 raw) = ap (λ (i : ℕ). drop i raw) p ∙ sym (drop-drop (m + 1) 3 raw) in
       q ∙ rw (part-rest raw (k + 1), r, line-at)
 
-  pub here-out : {x : Bool} → length raw ≤ k → x ≡ endsWith (unreturned (take (k - 3) (drop 3 raw))) (take (length raw - k) (drop k raw)) → x ≡ hereEnds raw
+  pub here-out : {x : Bool} → length raw ≤ k
+      → x ≡ endsWith (unreturned (take (k - 3) (drop 3 raw))) (take (length raw - k) (drop k raw)) → x ≡ hereEnds raw
   unfolding hereEnds
   here-out g q =
       let m = before (code "\n") (hereInside raw) in

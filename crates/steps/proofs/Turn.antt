@@ -1,5 +1,5 @@
 -- One turn of the scan.
-use Prim.Native.Nat.{ℕ, zero, suc, _+_, _-_, _≤_, _<_}
+use Prim.Native.Nat.{ℕ, zero, suc, _+_, _-_, _≤_}
 use mathlib.Core.Path.{_≡_, refl, sym, ap, _∙_}
 use mathlib.Core.Bool.{Bool}
 use mathlib.Core.List.{List, [], _∷_, _++_}
@@ -8,7 +8,7 @@ use lib.Seq.{drop-drop, take-nil}
 use native.Mathlib.Omega.{arith}
 use Rattle.laws.proofs.Places.{past}
 use Rattle.chars.specs.declared.Decoded.the-variants as decoded
-use Rattle.chars.specs.Encode.{utf8, width}
+use Rattle.chars.specs.Encode.{utf8}
 use Rattle.chars.specs.Utf8.{front, placed, sequences, chars}
 use Rattle.chars.proofs.Chars.{CharAt, nothing-at}
 use Rattle.chars.proofs.Width.{wide}
@@ -26,6 +26,15 @@ take-more : (l : List ℕ) (a b : ℕ) → take (a + b) l ≡ take a l ++ take b
 take-more l zero b = let e : 0 + b ≡ b = omega arith in rw e
 take-more [] (suc a) b = let e : suc a + b ≡ suc (a + b) = omega arith in rw e (sym (take-nil b))
 take-more (x ∷ l) (suc a) b = let e : suc a + b ≡ suc (a + b) = omega arith in rw e (ap (λ (r : List ℕ). x ∷ r) (take-more l a b))
+
+take-short : (n : ℕ) (l : List ℕ) → length (take n l) ≤ n
+take-short zero l = omega arith
+take-short (suc n) [] = omega arith
+take-short (suc n) (x ∷ l) = omega (arith, take-short n l)
+
+-- an item ends at a place that is no less than its length
+pub part-short : (s : List ℕ) (a at : ℕ) → length (part s a at) ≤ at
+part-short s a at = omega (arith, take-short (at - a) (drop a s))
 
 no-chars : chars [] ≡ []
 unfolding chars sequences
@@ -73,12 +82,3 @@ module _ (s : List ℕ) (at : ℕ) where
 
   pub none-end : decoded.End ≡ placed at (front (drop at s)) → chars (drop at s) ≡ []
   none-end e = nothing-at s at decoded.End e (λ c n h. let z : _≡_ {A = ℕ} 0 1 = cc in absurd (omega arith))
-
-take-short : (n : ℕ) (l : List ℕ) → length (take n l) ≤ n
-take-short zero l = omega arith
-take-short (suc n) [] = omega arith
-take-short (suc n) (x ∷ l) = omega (arith, take-short n l)
-
--- an item ends at a place that is no less than its length
-pub part-short : (s : List ℕ) (a at : ℕ) → length (part s a at) ≤ at
-part-short s a at = omega (arith, take-short (at - a) (drop a s))

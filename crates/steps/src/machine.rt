@@ -1,33 +1,12 @@
 // The machine: the first character of an item, each further one, the end of the text, and the scan of an item over all of them.
 use crate::Scanned;
-use crate::comments::nest_bar;
-use crate::comments::nest_sharp;
-use crate::comments::read_nestable_comment;
-use crate::comments::read_rest_of_line;
-use crate::hash::after_hash;
-use crate::hash::hash_comma;
-use crate::hash::hash_kind;
-use crate::hash::hash_last;
-use crate::hash::hash_then;
-use crate::hash::read_hash_value;
-use crate::here::after_angle;
-use crate::here::here_body;
-use crate::here::here_delim;
-use crate::here::here_last;
+use crate::comments;
+use crate::hash;
+use crate::here;
 use crate::kinds;
-use crate::quotes::closed;
-use crate::quotes::cut;
-use crate::quotes::hex_digits;
-use crate::quotes::open_brace;
-use crate::quotes::read_string;
-use crate::quotes::read_string_escape;
-use crate::quotes::trim_after;
-use crate::quotes::trim_before;
-use crate::quotes::unclosed;
+use crate::quotes;
 use crate::signs::*;
-use crate::words::is_digit;
-use crate::words::read_number;
-use crate::words::read_word;
+use crate::words;
 use chars::Decoded;
 use chars::decode_at;
 use items::Next;
@@ -77,7 +56,7 @@ pub fn first_phase(c: u32) -> Phase
         VERTICAL => Phase::Quoted(Quotes::Lines),
         BACKSLASH => Phase::WordEscape,
         _ => {
-            if is_digit(c) {
+            if words::is_digit(c) {
                 return Phase::InRun;
             }
             Phase::InWord
@@ -98,37 +77,37 @@ fn after_comma(c: u32) -> Next
     Next::Stop(Outcome::Token(kinds::UNQUOTE, kinds::NO_DETAIL))
 }
 
-// What the character c does in a phase: `raw` is the item before it, which ends at the place `at`. Internal: the caller shows that no
-// more comments are open than characters were read, and that the place past c is a number of 64 bits.
+// What the character c does in a phase; `raw` is the item before it, which ends at the place `at`. Internal: the caller shows that the
+// item and its open comments are no more than the bytes read, and that the place past c fits.
 pub fn step(report: bool, phase: Phase, raw: &[u8], at: usize, c: u32) -> Next
     requires { ⌜ (length (now raw) ≤ at) × (depthOf phase ≤ at) × (at + width c < 2 ^ 64) ⌝ }
     ensures { λ r. ⌜ r ≡ stepOf report phase (soFar (now (raw .entry)) at) c ⌝ }
 {
     match phase {
-        Phase::InLine => read_rest_of_line(c),
+        Phase::InLine => comments::read_rest_of_line(c),
         Phase::AfterComma => after_comma(c),
-        Phase::AfterHash => after_hash(raw, c),
-        Phase::AfterAngle => after_angle(c),
-        Phase::HereDelim => here_delim(c),
+        Phase::AfterHash => hash::after_hash(raw, c),
+        Phase::AfterAngle => here::after_angle(c),
+        Phase::HereDelim => here::here_delim(c),
         Phase::HereStart => Next::Eat(Phase::HereBody),
-        Phase::HereBody => here_body(raw),
-        Phase::InWord => read_word(c),
+        Phase::HereBody => here::here_body(raw),
+        Phase::InWord => words::read_word(c),
         Phase::WordEscape => Next::Eat(Phase::InWord),
-        Phase::InRun => read_number(report, c),
-        Phase::InHash => read_hash_value(raw, c),
+        Phase::InRun => words::read_number(report, c),
+        Phase::InHash => hash::read_hash_value(raw, c),
         Phase::HashEscape => Next::Eat(Phase::InHash),
-        Phase::HashTick => hash_then(hash_kind(raw), c),
-        Phase::HashComma => hash_comma(raw, c),
-        Phase::Nest(depth) => read_nestable_comment(depth, c),
-        Phase::NestBar(depth) => nest_bar(depth, c),
-        Phase::NestSharp(depth) => nest_sharp(depth, c),
-        Phase::Quoted(k) => read_string(k, at, c),
-        Phase::Closed(k) => Next::Stop(closed(k, raw)),
-        Phase::TrimBefore(k) => trim_before(k, at, c),
-        Phase::TrimAfter(k) => trim_after(k, at, c),
-        Phase::Escape(k, from) => read_string_escape(k, from, raw, at, c),
-        Phase::Brace(k, from) => open_brace(k, from, raw, at, c),
-        Phase::Hex(k, closer, from, n) => hex_digits(k, closer, from, n, raw, at, c),
+        Phase::HashTick => hash::hash_then(hash::hash_kind(raw), c),
+        Phase::HashComma => hash::hash_comma(raw, c),
+        Phase::Nest(depth) => comments::read_nestable_comment(depth, c),
+        Phase::NestBar(depth) => comments::nest_bar(depth, c),
+        Phase::NestSharp(depth) => comments::nest_sharp(depth, c),
+        Phase::Quoted(k) => quotes::read_string(k, at, c),
+        Phase::Closed(k) => Next::Stop(quotes::closed(k, raw)),
+        Phase::TrimBefore(k) => quotes::trim_before(k, at, c),
+        Phase::TrimAfter(k) => quotes::trim_after(k, at, c),
+        Phase::Escape(k, from) => quotes::read_string_escape(k, from, raw, at, c),
+        Phase::Brace(k, from) => quotes::open_brace(k, from, raw, at, c),
+        Phase::Hex(k, closer, from, n) => quotes::hex_digits(k, closer, from, n, raw, at, c),
         Phase::Done(o) => Next::Stop(o),
     }
 }
@@ -140,28 +119,28 @@ pub fn finish(phase: Phase, raw: &[u8]) -> Outcome
     match phase {
         Phase::InLine => Outcome::Token(kinds::COMMENT, kinds::NO_DETAIL),
         Phase::AfterComma => Outcome::Token(kinds::UNQUOTE, kinds::NO_DETAIL),
-        Phase::AfterHash => hash_last(hash_kind(raw)),
+        Phase::AfterHash => hash::hash_last(hash::hash_kind(raw)),
         Phase::AfterAngle => Outcome::Word,
         Phase::HereDelim => Outcome::Error(kinds::INCOMPLETE_STRING, kinds::NO_DETAIL),
         Phase::HereStart => Outcome::Error(kinds::INCOMPLETE_STRING, kinds::NO_DETAIL),
-        Phase::HereBody => here_last(raw),
+        Phase::HereBody => here::here_last(raw),
         Phase::InWord => Outcome::Word,
         Phase::WordEscape => Outcome::Word,
         Phase::InRun => Outcome::Run,
-        Phase::InHash => hash_last(hash_kind(raw)),
-        Phase::HashEscape => hash_last(hash_kind(raw)),
-        Phase::HashTick => hash_last(hash_kind(raw)),
-        Phase::HashComma => hash_last(hash_kind(raw)),
+        Phase::InHash => hash::hash_last(hash::hash_kind(raw)),
+        Phase::HashEscape => hash::hash_last(hash::hash_kind(raw)),
+        Phase::HashTick => hash::hash_last(hash::hash_kind(raw)),
+        Phase::HashComma => hash::hash_last(hash::hash_kind(raw)),
         Phase::Nest(_) => Outcome::Error(kinds::INCOMPLETE_COMMENT, kinds::NO_DETAIL),
         Phase::NestBar(_) => Outcome::Error(kinds::INCOMPLETE_COMMENT, kinds::NO_DETAIL),
         Phase::NestSharp(_) => Outcome::Error(kinds::INCOMPLETE_COMMENT, kinds::NO_DETAIL),
-        Phase::Quoted(k) => unclosed(k, raw),
-        Phase::Closed(k) => closed(k, raw),
-        Phase::TrimBefore(k) => cut(k),
-        Phase::TrimAfter(k) => cut(k),
-        Phase::Escape(k, _) => cut(k),
-        Phase::Brace(k, _) => cut(k),
-        Phase::Hex(k, _, _, _) => cut(k),
+        Phase::Quoted(k) => quotes::unclosed(k, raw),
+        Phase::Closed(k) => quotes::closed(k, raw),
+        Phase::TrimBefore(k) => quotes::cut(k),
+        Phase::TrimAfter(k) => quotes::cut(k),
+        Phase::Escape(k, _) => quotes::cut(k),
+        Phase::Brace(k, _) => quotes::cut(k),
+        Phase::Hex(k, _, _, _) => quotes::cut(k),
         Phase::Done(o) => o,
     }
 }
@@ -177,10 +156,12 @@ fn scan_end(s: &[u8], start: usize, at: usize, phase: Phase) -> Scanned
     }
 }
 
-// What the item is that starts at `start` and is in the phase `first` at the place `from`, and where it ends. Internal.
+// What the item is that starts at `start` and stands in the phase `first` at the place `from`, and where it ends. Internal: the caller
+// shows that the places are in the text, and that no more comments are open than bytes were read.
 pub fn scan(s: &[u8], report: bool, start: usize, from: usize, first: Phase) -> Scanned
     requires { ⌜ (start ≤ from) × (from ≤ length (now s)) × (depthOf first ≤ from) ⌝ }
-    ensures { λ r. ⌜ r ≡ scanned (scanOf report first (soFar (part (now (s .entry)) start from) from) (chars (drop from (now (s .entry))))) ⌝ }
+    ensures { λ r. ⌜ r ≡
+        scanned (scanOf report first (soFar (part (now (s .entry)) start from) from) (chars (drop from (now (s .entry))))) ⌝ }
 {
     let mut phase = first;
     let mut at = from;

@@ -6,6 +6,7 @@ use lib.ListN.{length}
 use native.Mathlib.Omega.{arith}
 use borrow.Author.Needs.{needs}
 use denote.Ref.{now}
+use Rattle.laws.specs.Quoted.{code}
 use Rattle.chars.proofs.Chars.{char-at}
 use Rattle.chars.proofs.Width.{wide}
 use Rattle.items.specs.Machine.{depthOf}
@@ -39,22 +40,64 @@ part-step-end : tie.Need-part-step-end Inv-loop μ-loop
 part-step-end c = search needs
 
 step-requires : tie.Need-step-requires Inv-loop μ-loop
-step-requires c κs = let k = char-at (now (c .before .before .before .before .before .before .before .before .args .s)) (c .before .before .before .before .before .before .loop .at) (c .before .before .code .given .0 .0) (c .before .before .code .given .0 .1 .0) (sym (c .before .before .code .given .1) ∙ c .before .before .before .before .decode-at .ensures) (c .before .before .before .before .before .before .loop .inv .0) in (part-short (now (c .before .before .before .before .before .before .before .before .args .s)) (c .before .before .before .before .before .before .before .before .args .start) (c .before .before .before .before .before .before .loop .at), c .before .before .before .before .before .before .loop .inv .2, omega (arith, k .on, k .inside))
+step-requires c κs =
+    let entry = c .before .before .before .before .before .before .before .before in
+    let turn = c .before .before .before .before .before .before in
+    let s = now (entry .args .s) in
+    let at = turn .loop .at in
+    let read = c .before .before in
+    let code = read .code .given .0 .0 in
+    let next = read .code .given .0 .1 .0 in
+    let k = char-at s at code next (sym (read .code .given .1) ∙ read .before .before .decode-at .ensures) (turn .loop .inv .0) in
+    (part-short s (entry .args .start) at, turn .loop .inv .2, omega (arith, k .on, k .inside))
 
 enum-known-then : tie.Need-enum-known-then Inv-loop μ-loop
 enum-known-then c = search needs
 
 loop-less : tie.Need-loop-less Inv-loop μ-loop
-loop-less c = let k = char-at (now (c .before .before .before .before .before .before .before .before .before .before .before .before .args .s)) (c .before .before .before .before .before .before .before .before .before .before .loop .at) (c .before .before .before .before .before .before .code .given .0 .0) (c .before .before .before .before .before .before .code .given .0 .1 .0) (sym (c .before .before .before .before .before .before .code .given .1) ∙ c .before .before .before .before .before .before .before .before .decode-at .ensures) (c .before .before .before .before .before .before .before .before .before .before .loop .inv .0) in omega (arith, k .on, k .inside, wide (c .before .before .before .before .before .before .code .given .0 .0))
+loop-less c =
+    let entry = c .before .before .before .before .before .before .before .before .before .before .before .before in
+    let turn = c .before .before .before .before .before .before .before .before .before .before in
+    let s = now (entry .args .s) in
+    let at = turn .loop .at in
+    let read = c .before .before .before .before .before .before in
+    let code = read .code .given .0 .0 in
+    let next = read .code .given .0 .1 .0 in
+    let k = char-at s at code next (sym (read .code .given .1) ∙ read .before .before .decode-at .ensures) (turn .loop .inv .0) in
+    omega (arith, k .on, k .inside, wide code)
 
 loop-again : tie.Need-loop-again Inv-loop μ-loop
-loop-again c = let k = char-at (now (c .before .before .before .before .before .before .before .before .before .before .before .before .args .s)) (c .before .before .before .before .before .before .before .before .before .before .loop .at) (c .before .before .before .before .before .before .code .given .0 .0) (c .before .before .before .before .before .before .code .given .0 .1 .0) (sym (c .before .before .before .before .before .before .code .given .1) ∙ c .before .before .before .before .before .before .before .before .decode-at .ensures) (c .before .before .before .before .before .before .before .before .before .before .loop .inv .0) in let e = sym (c .before .before .before .step .ensures) ∙ c .before .then .given .1 in (k .inside, omega (arith, k .on), turn-deep (now (c .before .before .before .before .before .before .before .before .before .before .before .before .args .s)) (c .before .before .before .before .before .before .before .before .before .before .before .before .args .report) (c .before .before .before .before .before .before .before .before .before .before .before .before .args .start) (c .before .before .before .before .before .before .before .before .before .before .loop .phase) (c .before .before .before .before .before .before .before .before .before .before .loop .at) (c .before .before .before .before .before .before .code .given .0 .0) (c .before .before .before .before .before .before .code .given .0 .1 .0) k _ (c .before .before .before .before .before .before .before .before .before .before .loop .inv .2) e, c .before .before .before .before .before .before .before .before .before .before .loop .inv .3 ∙ turn-eat (now (c .before .before .before .before .before .before .before .before .before .before .before .before .args .s)) (c .before .before .before .before .before .before .before .before .before .before .before .before .args .report) (c .before .before .before .before .before .before .before .before .before .before .before .before .args .start) (c .before .before .before .before .before .before .before .before .before .before .loop .phase) (c .before .before .before .before .before .before .before .before .before .before .loop .at) (c .before .before .before .before .before .before .code .given .0 .0) (c .before .before .before .before .before .before .code .given .0 .1 .0) k _ (c .before .before .before .before .before .before .before .before .before .before .loop .inv .1) e)
+loop-again c =
+    let entry = c .before .before .before .before .before .before .before .before .before .before .before .before in
+    let turn = c .before .before .before .before .before .before .before .before .before .before in
+    let s = now (entry .args .s) in
+    let at = turn .loop .at in
+    let read = c .before .before .before .before .before .before in
+    let code = read .code .given .0 .0 in
+    let next = read .code .given .0 .1 .0 in
+    let k = char-at s at code next (sym (read .code .given .1) ∙ read .before .before .decode-at .ensures) (turn .loop .inv .0) in
+    let e = sym (c .before .before .before .step .ensures) ∙ c .before .then .given .1 in (
+      k .inside,
+      omega (arith, k .on),
+      turn-deep s (entry .args .report) (entry .args .start) (turn .loop .phase) at code next k _ (turn .loop .inv .2) e,
+      turn .loop .inv .3 ∙ turn-eat s (entry .args .report) (entry .args .start) (turn .loop .phase) at code next k _ (turn .loop .inv .1) e,
+    )
 
 enum-known-what : tie.Need-enum-known-what Inv-loop μ-loop
 enum-known-what c = search needs
 
 returns : tie.Need-returns Inv-loop μ-loop
-returns c = sym (c .before .before .before .before .before .before .before .before .before .before .loop .inv .3 ∙ turn-stop (now (c .before .before .before .before .before .before .before .before .before .before .before .before .args .s)) (c .before .before .before .before .before .before .before .before .before .before .before .before .args .report) (c .before .before .before .before .before .before .before .before .before .before .before .before .args .start) (c .before .before .before .before .before .before .before .before .before .before .loop .phase) (c .before .before .before .before .before .before .before .before .before .before .loop .at) (c .before .before .before .before .before .before .code .given .0 .0) (c .before .before .before .before .before .before .code .given .0 .1 .0) (char-at (now (c .before .before .before .before .before .before .before .before .before .before .before .before .args .s)) (c .before .before .before .before .before .before .before .before .before .before .loop .at) (c .before .before .before .before .before .before .code .given .0 .0) (c .before .before .before .before .before .before .code .given .0 .1 .0) (sym (c .before .before .before .before .before .before .code .given .1) ∙ c .before .before .before .before .before .before .before .before .decode-at .ensures) (c .before .before .before .before .before .before .before .before .before .before .loop .inv .0)) _ (sym (c .before .before .before .step .ensures) ∙ c .before .what .given .1))
+returns c =
+    let entry = c .before .before .before .before .before .before .before .before .before .before .before .before in
+    let turn = c .before .before .before .before .before .before .before .before .before .before in
+    let s = now (entry .args .s) in
+    let at = turn .loop .at in
+    let read = c .before .before .before .before .before .before in
+    let code = read .code .given .0 .0 in
+    let next = read .code .given .0 .1 .0 in
+    let k = char-at s at code next (sym (read .code .given .1) ∙ read .before .before .decode-at .ensures) (turn .loop .inv .0) in
+    let e = sym (c .before .before .before .step .ensures) ∙ c .before .what .given .1 in
+    sym (turn .loop .inv .3 ∙ turn-stop s (entry .args .report) (entry .args .start) (turn .loop .phase) at code next k _ e)
 
 enum-told : tie.Need-enum-told Inv-loop μ-loop
 enum-told c = search needs
@@ -63,7 +106,13 @@ scan-end-requires : tie.Need-scan-end-requires Inv-loop μ-loop
 scan-end-requires c κs = search needs
 
 returns-2 : tie.Need-returns-2 Inv-loop μ-loop
-returns-2 c = c .scan-end .ensures ∙ sym (c .before .before .before .before .before .loop .inv .3 ∙ turn-last (now (c .before .before .before .before .before .before .before .args .s)) (c .before .before .before .before .before .before .before .args .report) (c .before .before .before .before .before .before .before .args .start) (c .before .before .before .before .before .loop .phase) (c .before .before .before .before .before .loop .at) (none-bad (now (c .before .before .before .before .before .before .before .args .s)) (c .before .before .before .before .before .loop .at) (sym (c .before .enum-told .given .1) ∙ c .before .before .before .decode-at .ensures)))
+returns-2 c =
+    let entry = c .before .before .before .before .before .before .before in
+    let turn = c .before .before .before .before .before in
+    let s = now (entry .args .s) in
+    let at = turn .loop .at in
+    let none = none-bad s at (sym (c .before .enum-told .given .1) ∙ c .before .before .before .decode-at .ensures) in
+    c .scan-end .ensures ∙ sym (turn .loop .inv .3 ∙ turn-last s (entry .args .report) (entry .args .start) (turn .loop .phase) at none)
 
 enum-told-2 : tie.Need-enum-told-2 Inv-loop μ-loop
 enum-told-2 c = search needs
@@ -72,7 +121,13 @@ scan-end-requires-2 : tie.Need-scan-end-requires-2 Inv-loop μ-loop
 scan-end-requires-2 c κs = search needs
 
 returns-3 : tie.Need-returns-3 Inv-loop μ-loop
-returns-3 c = c .scan-end2 .ensures ∙ sym (c .before .before .before .before .before .loop .inv .3 ∙ turn-last (now (c .before .before .before .before .before .before .before .args .s)) (c .before .before .before .before .before .before .before .args .report) (c .before .before .before .before .before .before .before .args .start) (c .before .before .before .before .before .loop .phase) (c .before .before .before .before .before .loop .at) (none-cut (now (c .before .before .before .before .before .before .before .args .s)) (c .before .before .before .before .before .loop .at) (sym (c .before .enum-told2 .given .1) ∙ c .before .before .before .decode-at .ensures)))
+returns-3 c =
+    let entry = c .before .before .before .before .before .before .before in
+    let turn = c .before .before .before .before .before in
+    let s = now (entry .args .s) in
+    let at = turn .loop .at in
+    let none = none-cut s at (sym (c .before .enum-told2 .given .1) ∙ c .before .before .before .decode-at .ensures) in
+    c .scan-end2 .ensures ∙ sym (turn .loop .inv .3 ∙ turn-last s (entry .args .report) (entry .args .start) (turn .loop .phase) at none)
 
 enum-told-3 : tie.Need-enum-told-3 Inv-loop μ-loop
 enum-told-3 c = search needs
@@ -81,13 +136,24 @@ scan-end-requires-3 : tie.Need-scan-end-requires-3 Inv-loop μ-loop
 scan-end-requires-3 c κs = search needs
 
 returns-4 : tie.Need-returns-4 Inv-loop μ-loop
-returns-4 c = c .scan-end3 .ensures ∙ sym (c .before .before .before .before .before .loop .inv .3 ∙ turn-last (now (c .before .before .before .before .before .before .before .args .s)) (c .before .before .before .before .before .before .before .args .report) (c .before .before .before .before .before .before .before .args .start) (c .before .before .before .before .before .loop .phase) (c .before .before .before .before .before .loop .at) (none-end (now (c .before .before .before .before .before .before .before .args .s)) (c .before .before .before .before .before .loop .at) (sym (c .before .enum-told3 .given .1) ∙ c .before .before .before .decode-at .ensures)))
+returns-4 c =
+    let entry = c .before .before .before .before .before .before .before in
+    let turn = c .before .before .before .before .before in
+    let s = now (entry .args .s) in
+    let at = turn .loop .at in
+    let none = none-end s at (sym (c .before .enum-told3 .given .1) ∙ c .before .before .before .decode-at .ensures) in
+    c .scan-end3 .ensures ∙ sym (turn .loop .inv .3 ∙ turn-last s (entry .args .report) (entry .args .start) (turn .loop .phase) at none)
 
 scan-end-requires-4 : tie.Need-scan-end-requires-4 Inv-loop μ-loop
 scan-end-requires-4 c κs = search needs
 
 returns-5 : tie.Need-returns-5 Inv-loop μ-loop
-returns-5 c = c .scan-end4 .ensures ∙ sym (c .before .before .loop .inv .3 ∙ turn-out (now (c .before .before .before .before .args .s)) (c .before .before .before .before .args .report) (c .before .before .before .before .args .start) (c .before .before .loop .phase) (c .before .before .loop .at) (c .before .loop-test .left))
+returns-5 c =
+    let entry = c .before .before .before .before in
+    let turn = c .before .before in
+    let s = now (entry .args .s) in
+    let at = turn .loop .at in
+    c .scan-end4 .ensures ∙ sym (turn .loop .inv .3 ∙ turn-out s (entry .args .report) (entry .args .start) (turn .loop .phase) at (c .before .loop-test .left))
 
 pub scan-spec : {M : Type 1} → statement M
 scan-spec =
