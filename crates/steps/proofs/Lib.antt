@@ -1,0 +1,4 @@
+pub mod Characters
+pub mod Delimiter
+pub mod Turn
+pub mod Item
