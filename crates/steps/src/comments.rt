@@ -1,9 +1,9 @@
 // Comments: to the end of the line, and nested ones.
-use crate::kinds;
 use crate::signs::*;
 use items::Next;
 use items::Outcome;
 use items::Phase;
+use items::kinds;
 ghost use mathlib.Core.Path.{_≡_};
 ghost use Prim.Native.Nat.{_+_, _^_, _<_};
 ghost use Rattle.items.specs.Classes.{inNest};

@@ -1,5 +1,4 @@
 // Words that start with `#`: `read_hash_value`.
-use crate::kinds;
 use crate::signs::*;
 use crate::words::enter_word;
 use chars::is_blank;
@@ -7,6 +6,7 @@ use items::HashKind;
 use items::Next;
 use items::Outcome;
 use items::Phase;
+use items::kinds;
 use texts::begins_with;
 use texts::equal;
 ghost use mathlib.Core.Path.{_≡_};

@@ -1,12 +1,12 @@
 // Here-strings: `read_here_string`. `#<<` and the rest of its line name the delimiter, carriage returns left out; the body follows, and
 // ends as soon as it ends with the delimiter.
-use crate::kinds;
 use crate::signs::*;
 use crate::words::enter_word;
 use chars::is_blank;
 use items::Next;
 use items::Outcome;
 use items::Phase;
+use items::kinds;
 use texts::find;
 ghost use mathlib.Core.Path.{_≡_};
 ghost use lib.Dec.{eqb};

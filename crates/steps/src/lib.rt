@@ -7,7 +7,6 @@ use items::Outcome;
 mod comments;
 mod hash;
 mod here;
-pub mod kinds;
 mod machine;
 mod quotes;
 mod signs;
@@ -19,7 +18,6 @@ pub use machine::finish;
 pub use machine::first_phase;
 pub use machine::scan;
 pub use machine::step;
-pub use quotes::scalar_of;
 
 // What an item turned out to be, and where it ends.
 pub struct Scanned {

@@ -1,15 +1,15 @@
 // Strings and identifiers in vertical lines: `read_string`, `read_string_escape`, and `read_word` where a vertical line opens the word.
-use crate::kinds;
 use crate::signs::*;
+use characters::scalar_of;
 use chars::char_width;
-use chars::is_scalar;
 use digits::Hex;
-use digits::hexadecimal::hex_value;
+use digits::hex_value;
 use items::CharValue;
 use items::Next;
 use items::Outcome;
 use items::Phase;
 use items::Quotes;
+use items::kinds;
 ghost use mathlib.Core.Path.{_≡_};
 ghost use mathlib.Core.Bool.{true};
 ghost use mathlib.Core.List.{List};
@@ -21,7 +21,7 @@ ghost use Rattle.laws.specs.Quoted.{code};
 ghost use Rattle.chars.specs.Encode.{width};
 ghost use Rattle.digits.specs.Hex.{hexValue};
 ghost use Rattle.items.specs.Classes.{delimOf, inQuotes, afterBackslash, stopsHex, inHex, inTrim};
-ghost use Rattle.items.specs.Readers.{soFar, eat, linedOf, closed, unclosed, cut, scalarOf};
+ghost use Rattle.items.specs.Readers.{soFar, eat, linedOf, closed, unclosed, cut};
 ghost use Rattle.items.specs.Machine.{onQuoted, onEscape, closeHex, onHex, onBrace, onTrimBefore, onTrimAfter};
 
 // What closes the quotes.
@@ -171,21 +171,6 @@ fn hex_from(raw: &[u8], n: usize) -> Hex
         return hex_value(b"");
     }
     hex_value(&raw[n..])
-}
-
-// The character that hex digits stand for, or the error. Internal: for escapes and for characters.
-pub fn scalar_of(h: Hex) -> CharValue
-    ensures { λ r. ⌜ r ≡ scalarOf h ⌝ }
-{
-    match h {
-        Hex::Value(v) => {
-            if is_scalar(v) {
-                return CharValue::Scalar(v);
-            }
-            CharValue::Wrong(kinds::INVALID_HEX_CODE_POINT, v)
-        }
-        Hex::Wrong(detail, _) => CharValue::Wrong(kinds::INVALID_HEX_ESCAPE_LITERAL, detail),
-    }
 }
 
 // At the closer of a hex escape that goes from `from` to `to`.
