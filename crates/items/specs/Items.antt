@@ -10,6 +10,7 @@ use Rattle.chars.specs.Encode.{width}
 use Rattle.chars.specs.Blank.{isBlank}
 use Rattle.items.specs.declared.Outcome.{Outcome}
 use Rattle.items.specs.declared.Outcome.the-variants.{Token, Str, HereStr, Word, Run, Lined, Keyword, Character, Error, ErrorAt}
+use Rattle.items.specs.declared.Record.{Record}
 use Rattle.items.specs.declared.CharValue.{CharValue}
 use Rattle.items.specs.declared.CharValue.the-variants.{Scalar, Wrong}
 use Rattle.items.specs.Kinds as kind
@@ -122,6 +123,10 @@ textWords free (decoded bs) = 2 ∷ free ∷ (free + length bs) ∷ []
 
 abbrev pub recordOf : ℕ → Item → List ℕ
 recordOf free i = i .kind ∷ i .detail ∷ i .start ∷ i .end ∷ i .place .from ∷ i .place .to ∷ textWords free (i .text)
+
+-- the words of a record, as they lie in lent memory
+abbrev pub wordsOf : Record → List ℕ
+wordsOf r = r .kind ∷ r .detail ∷ r .start ∷ r .end ∷ r .from ∷ r .to ∷ r .source ∷ r .first ∷ r .past ∷ []
 
 -- the bytes of a text that go into the text memory
 abbrev pub memoryOf : Text → List ℕ

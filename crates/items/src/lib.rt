@@ -115,3 +115,20 @@ pub enum CharValue {
     Scalar(u32),
     Wrong(u32, u32),
 }
+
+// A record: an item in nine words, as document 01 lays them out.
+pub struct Record {
+    // the kind, or 100 plus an error's number
+    pub kind: u32,
+    pub detail: u32,
+    // the extent
+    pub start: u32,
+    pub end: u32,
+    // the place: the extent, or for an error the last range set
+    pub from: u32,
+    pub to: u32,
+    // where the text lies: 0 nowhere, 1 in the source, 2 in the text memory; and its places there
+    pub source: u32,
+    pub first: u32,
+    pub past: u32,
+}
