@@ -1,2 +1,3 @@
 pub mod Reals
 pub mod Grammar
+pub mod Inside

@@ -1,0 +1,6 @@
+pub mod Decimals
+pub mod RealParts
+pub mod Cuts
+pub mod Judged
+pub mod Inside
+pub mod Zero
