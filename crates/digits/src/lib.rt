@@ -29,7 +29,7 @@ pub enum MaybeInt {
 }
 
 // The value of digits without their sign, where it is at most 2^63: Large is 9223372036854775809.
-pub enum Magnitude {
+enum Magnitude {
     Fits(u64),
     Large,
 }

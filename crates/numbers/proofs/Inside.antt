@@ -1,5 +1,6 @@
 -- The digit places of a number lie in its text: each production gives places from the start of its part to the part's end.
-use Rattle.numbers.specs.declared.Real.the-variants.{ImpliedZero}
+use Rattle.numbers.specs.declared.Point.{Point}
+use Rattle.numbers.specs.declared.Real.the-variants.{Decimal, ImpliedZero}
 use Rattle.numbers.specs.declared.Parts.{Parts}
 use Rattle.numbers.specs.declared.Parsed.the-variants.{Is, ZeroDenominator}
 use Rattle.numbers.specs.declared.Suffix.{Suffix}
@@ -9,7 +10,7 @@ use Rattle.numbers.specs.declared.MaybeReal.the-variants.{AReal, NoReal}
 use Rattle.numbers.specs.declared.MaybeParts.{MaybeParts}
 use Rattle.numbers.specs.declared.MaybeParts.the-variants.{SomeParts, NoParts}
 use Rattle.numbers.specs.Grammar.{justOf, complexOf, polarOf, endsI, init, imaginary, aloneOf, pairOf, toSign, cut, rectangular, complex, zeroParts, judged, prefix, parseNumber}
-use Rattle.numbers.specs.Inside.{InSpan, InInt, InReal, InParts}
+use Rattle.numbers.specs.Inside.{InSpan, InInt, InPoint, InReal, InParts}
 use Rattle.numbers.specs.Reals.{exponentMarker, exponent, suffix, pointOf, dotted, undotted, decimal, infnan, integralOf, rationalOf, denominator, exact, orElse, ureal, real}
 use Rattle.numbers.proofs.Judged.{prefix-short}
 use Rattle.laws.specs.Choice.{if_then_else_}
@@ -17,6 +18,7 @@ use Rattle.laws.specs.Quoted.{codes, code}
 use Rattle.laws.specs.Texts.{span, before, starts, same}
 use Rattle.laws.proofs.Choice.{by-bool, if-all, if-is}
 use Rattle.laws.proofs.Compared.{starts-in}
+use Rattle.chars.specs.Machine.{start}
 use Rattle.digits.specs.declared.Span.{Span}
 use Rattle.digits.specs.declared.MaybeInt.{MaybeInt}
 use Rattle.digits.specs.declared.MaybeInt.the-variants.{AnInt, NoInt}
@@ -29,6 +31,7 @@ use lib.ListN.{length, take, drop, length-drop}
 use lib.Seq.{length-take-le}
 use lib.Dec.{lit≤, eqb, ltb}
 use native.Mathlib.Omega.{arith}
+use native.Mathlib.Nat.{le-refl}
 use borrow.Author.Tests.{ltb-true, ltb-false, eqb-false}
 
 module _ (n : ℕ) where
@@ -111,8 +114,7 @@ module _ (n : ℕ) where
   undotted-in neg p w (Marked d) h e =
       if-all (SomeReal n) (eqb w 0) tt (point-in neg (spanAt p w) (record { start = p + w; end = p + w }) (Marked d) (omega arith, h) (omega arith, h) e)
 
-  -- the places of a decimal lie in its part
-  pub decimal-in : (neg : Bool) (p : ℕ) (s : List ℕ) → p + length s ≤ n → SomeReal n (decimal neg p s)
+  decimal-in : (neg : Bool) (p : ℕ) (s : List ℕ) → p + length s ≤ n → SomeReal n (decimal neg p s)
   unfolding decimal
   decimal-in neg p s h =
       let d = span-le (λ c. ltb (digitOf c) 10) s in
@@ -231,6 +233,10 @@ module _ (n : ℕ) where
       by-bool (zeroParts q)
       (λ z. let f : judged (SomeParts q) ≡ ZeroDenominator = simp z in absurd (let y : _≡_ {A = ℕ} 0 1 = cc in omega arith))
       (λ z. let f : judged (SomeParts q) ≡ Is q = simp z in (let g : q ≡ p = cc in rw g at h))
+
+-- the places of a decimal lie in its part
+pub decimal-inside : (neg : Bool) (p : ℕ) (s : List ℕ) (d : Point) → decimal neg p s ≡ AReal (Decimal d) → InPoint (p + length s) d
+decimal-inside neg p s d e = rw e at (decimal-in (p + length s) neg p s (le-refl (p + length s)))
 
 -- a prefix takes two bytes
 prefix-in : (s : List ℕ) → (prefix s ≡ 0 → ⊥) → 2 + length (drop 2 s) ≤ length s
