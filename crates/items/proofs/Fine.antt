@@ -10,7 +10,8 @@ use Rattle.items.specs.declared.CharValue.{CharValue}
 use Rattle.items.specs.declared.CharValue.the-variants.{Scalar, Wrong}
 use Rattle.items.specs.Classes.{delimOf}
 use Rattle.items.specs.Machine.{hashLast}
-use Rattle.items.specs.Readers.{firstIs, lastIs, linedOf, closed, unclosed, cut, scalarOf, boolKind, quoteKind, formKind, orElse, hashKind, hereEnds}
+use Rattle.items.specs.Readers.{firstIs, lastIs, linedOf, closed, unclosed, cut, scalarOf, boolKind, quoteKind, formKind, orElse}
+use Rattle.items.specs.Readers.{hashKind, hereEnds}
 use Rattle.laws.specs.Quoted.{code}
 use Rattle.laws.specs.Texts.{begins, same}
 use Rattle.laws.proofs.Choice.{if-all, if-is}

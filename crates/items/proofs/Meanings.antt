@@ -6,7 +6,9 @@ use Rattle.items.specs.declared.Outcome.the-variants.{Token, Str, HereSt
 use Rattle.items.specs.declared.CharValue.{CharValue}
 use Rattle.items.specs.declared.CharValue.the-variants.{Scalar, Wrong}
 use Rattle.items.specs.Items.{memoryOf}
-use Rattle.items.specs.Meaning.{one, lookup, words, wordKind, wordMeans, runMeans, escaped, unescape, stringText, linedText, hereText, lower, charNames, unnamed, onlyOne, hexNamed, spelledOut, characterOf, charInside, characterMeans, meaningOf, Text, none, source, decoded, Meaning, Row}
+use Rattle.items.specs.Meaning.{means, one, lookup, words, wordKind, wordMeans, runMeans, escaped, unescape, stringText, linedText}
+use Rattle.items.specs.Meaning.{hereText, lower, charNames, unnamed, onlyOne, hexNamed, spelledOut, characterOf, charInside}
+use Rattle.items.specs.Meaning.{characterMeans, meaningOf, Text, none, source, decoded, Meaning, Row}
 use Rattle.items.specs.Readers.{firstIs, lastIs, lineOf, afterLine, endsWith, hereInside, hereEnds}
 use Rattle.items.proofs.Every.{Every}
 use Rattle.items.proofs.Fine.{Between, Fine, FineValue, fine-scalar}
@@ -19,7 +21,7 @@ use Rattle.chars.specs.Utf8.{within, first, rest, front, Front}
 use Rattle.numbers.specs.declared.Parsed.{Parsed}
 use Rattle.numbers.specs.Grammar.{parseNumber}
 use Prim.Native.Nat.{ℕ, zero, suc, _+_, _-_, _*_, _%_, _^_, _≤_, _<_}
-use mathlib.Core.Path.{_≡_}
+use mathlib.Core.Path.{_≡_, refl}
 use mathlib.Core.Bool.{Bool, true, false, _&&_, _||_}
 use mathlib.Core.List.{List, [], _∷_, map}
 use lib.ListN.{length, getD, take, drop, length-drop}
@@ -55,57 +57,35 @@ pub record Made (D : ℕ → Type 0) (s e : ℕ) (ms : List Meaning) : Type 0 wh
   pub count : s + length ms ≤ e
   pub memory : s + held ms ≤ e
 
+and-left : (a b : Bool) → (a && b) ≡ true → a ≡ true
+and-left true b e = refl
+and-left false b e = e
+
 and-right : (a b : Bool) → (a && b) ≡ true → b ≡ true
 and-right true b e = e
 and-right false b e = let z : _≡_ {A = ℕ} 0 1 = cc in absurd (omega arith)
 
 -- ---- tables
 
-lookup-le : (n : ℕ) (rows : List Row) (raw : List ℕ) (other : ℕ) → Every (λ (r : Row). r .number ≤ n) rows → other ≤ n → lookup rows raw other ≤ n
+-- whether no number of a table is above n
+abbrev allBelow : ℕ → List Row → Bool
+allBelow n [] = true
+allBelow n (r ∷ rs) = leb (r .number) n && allBelow n rs
+
+lookup-le : (n : ℕ) (rows : List Row) (raw : List ℕ) (other : ℕ) → allBelow n rows ≡ true → other ≤ n → lookup rows raw other ≤ n
 unfolding lookup
 lookup-le n [] raw other h o = o
-lookup-le n (r ∷ rs) raw other h o = if-all (λ (k : ℕ). k ≤ n) (same raw (r .text)) (h .0) (lookup-le n rs raw other (h .1) o)
+lookup-le n (r ∷ rs) raw other h o =
+    if-all (λ (k : ℕ). k ≤ n) (same raw (r .text)) (leb-true (r .number) n (and-left (leb (r .number) n) (allBelow n rs) h))
+    (lookup-le n rs raw other (and-right (leb (r .number) n) (allBelow n rs) h) o)
 
 word-le : (raw : List ℕ) → wordKind raw ≤ kind.Dot
 unfolding wordKind words
-word-le raw = lookup-le kind.Dot words raw kind.Identifier (
-  omega arith,
-  (
-    omega arith,
-    (
-      omega arith,
-      (
-        omega arith,
-        (
-          omega arith,
-          (
-            omega arith,
-            (
-              omega arith,
-              (
-                omega arith,
-                (
-                  omega arith,
-                  (
-                    omega arith,
-                    (omega arith, (omega arith, (omega arith, (omega arith, (omega arith, (omega arith, (omega arith, (omega arith, (omega arith, tt))))))))),
-                  ),
-                ),
-              ),
-            ),
-          ),
-        ),
-      ),
-    ),
-  ),
-)
-    (omega arith)
+word-le raw = lookup-le kind.Dot words raw kind.Identifier refl (omega arith)
 
 name-le : (raw : List ℕ) → lookup charNames raw unnamed ≤ unnamed
 unfolding charNames
-name-le raw = lookup-le unnamed charNames raw unnamed
-    (omega arith, (omega arith, (omega arith, (omega arith, (omega arith, (omega arith, (omega arith, (omega arith, (omega arith, tt)))))))))
-    (omega arith)
+name-le raw = lookup-le unnamed charNames raw unnamed refl (omega arith)
 
 -- ---- one character and nothing else
 
@@ -234,15 +214,23 @@ module _ (D : ℕ → Type 0) (small : (d : ℕ) → d < 2 ^ 32 → D d) where
     one-made : (k d : ℕ) (t : Text) → k ≤ lastKind → D d → Inside s e t → Made D s e (one k d t)
     one-made k d t h g f = record { meant = ((h, (g, f)), tt); count = omega arith; memory = memory-le t f }
 
+    -- a plus, and the rest
+    pair-made : 1 < length raw → Made D s e (means kind.Identifier 0 (source s (s + 1)) ∷ means kind.Identifier 0 (source (s + 1) e) ∷ [])
+    pair-made h =
+        let z : D 0 = small 0 (omega arith) in
+        record {
+          meant = ((omega arith, (z, (omega arith, (omega arith, omega arith)))), ((omega arith, (z, (omega arith, (omega arith, omega arith)))), tt));
+          count = omega arith;
+          memory = omega arith;
+        }
+
     word-made : Made D s e (wordMeans s e raw)
     unfolding wordMeans
     word-made =
         let P : List Meaning → Type 0 = Made D s e in
         if-all P (eqb (wordKind raw) kind.Identifier)
         (if-is P (firstIs (code "+") raw && ltb 1 (length raw))
-        (λ f. let g : 1 < length raw = ltb-true 1 (length raw) (and-right (firstIs (code "+") raw) (ltb 1 (length raw)) f) in
-        let z : D 0 = small 0 (omega arith) in
-        record { meant = ((omega arith, (z, (omega arith, (omega arith, omega arith)))), ((omega arith, (z, (omega arith, (omega arith, omega arith)))), tt)); count = omega arith; memory = omega arith })
+        (λ f. pair-made (ltb-true 1 (length raw) (and-right (firstIs (code "+") raw) (ltb 1 (length raw)) f)))
         (λ f. one-made kind.Identifier 0 (source s e) (omega arith) (small 0 (omega arith)) (omega arith, (omega arith, omega arith))))
         (one-made (wordKind raw) 0 none (omega (arith, word-le raw)) (small 0 (omega arith)) tt)
 

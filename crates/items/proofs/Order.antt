@@ -5,7 +5,8 @@ use Rattle.items.specs.declared.Outcome.{Outcome}
 use Rattle.items.specs.declared.Outcome.the-variants.{Token, Str, HereStr, Word, Run, Lined, Keyword, Character, Error, ErrorAt}
 use Rattle.items.specs.declared.CharValue.{CharValue}
 use Rattle.items.specs.declared.CharValue.the-variants.{Scalar, Wrong}
-use Rattle.items.specs.Items.{range, unset, characterSets, rangeAfter, placeOf, itemOf, itemsOf, extentItems, itemsFrom, itemsAt, pastLine, afterPound, items, memoryOf, texts, byteCount, Place, Item}
+use Rattle.items.specs.Items.{range, unset, characterSets, rangeAfter, placeOf, itemOf, itemsOf, extentItems, itemsFrom, itemsAt}
+use Rattle.items.specs.Items.{pastLine, afterPound, items, memoryOf, texts, byteCount, Place, Item}
 use Rattle.items.specs.Meaning.{characterOf, charInside, meaningOf, Meaning}
 use Rattle.items.specs.Readers.{readItem, SoFar, Read}
 use Rattle.items.proofs.Every.{Every, every-any, every-then}
@@ -47,20 +48,20 @@ pub record Placed (n : ℕ) (i : Item) : Type 0 where
   pub place : Ranged n (i .place .from) (i .place .to)
   -- its text lies where it does
   pub text : Inside (i .start) (i .end) (i .text)
-  -- its kind is one of 01's
+  -- its kind is not past 01's last
   pub kind : i .kind ≤ lastKind
 
 -- the items from the place `at` on in a text of n bytes; D is what is known of a detail
-record Sorted (D : ℕ → Type 0) (n at : ℕ) (is : List Item) : Type 0 where
-  placed : Every (Placed n) is
-  details : Every (λ (i : Item). D (i .detail)) is
-  onward : Every (λ (i : Item). at ≤ i .start) is
-  order : InOrder is
+pub record Sorted (D : ℕ → Type 0) (n at : ℕ) (is : List Item) : Type 0 where
+  pub placed : Every (Placed n) is
+  pub details : Every (λ (i : Item). D (i .detail)) is
+  pub onward : Every (λ (i : Item). at ≤ i .start) is
+  pub order : InOrder is
 
-record Laws (D : ℕ → Type 0) (n at : ℕ) (is : List Item) : Type 0 where
-  sorted : Sorted D n at is
-  count : at + length is ≤ n
-  memory : at + length (texts is) ≤ n
+pub record Laws (D : ℕ → Type 0) (n at : ℕ) (is : List Item) : Type 0 where
+  pub sorted : Sorted D n at is
+  pub count : at + length is ≤ n
+  pub memory : at + length (texts is) ≤ n
 
 pub texts-append : (xs ys : List Item) → length (texts (xs ++ ys)) ≡ length (texts xs) + length (texts ys)
 unfolding texts
@@ -88,7 +89,7 @@ module _ (D : ℕ → Type 0) (n : ℕ) where
 -- ---- the items of one extent, from s to e, and the items ys after them
 
 module _ (report : Bool) (s e : ℕ) (last : Place) where
-  items-length : (ms : List Meaning) → length (itemsOf report last s e ms) ≡ length ms
+  pub items-length : (ms : List Meaning) → length (itemsOf report last s e ms) ≡ length ms
   items-length [] = refl
   items-length (m ∷ ms) = ap suc (items-length ms)
 
@@ -126,7 +127,8 @@ module _ (report : Bool) (s e : ℕ) (last : Place) where
 
 module _ (D : ℕ → Type 0) (small : (d : ℕ) → d < 2 ^ 32 → D d) (report : Bool) where
   -- the last range lies in the text
-  range-ranged : (n : ℕ) (last : Place) (s : ℕ) (o : Outcome) (i : SoFar) → Fine D n (i .bytes) o → Ranged n (last .from) (last .to) → Ranged n s (i .at)
+  range-ranged : (n : ℕ) (last : Place) (s : ℕ) (o : Outcome) (i : SoFar) → Fine D n (i .bytes) o → Ranged n (last .from) (last .to)
+      → Ranged n s (i .at)
       → Ranged n (rangeAfter last s o i .from) (rangeAfter last s o i .to)
   range-ranged n last s (Token k d) i f h g = h
   range-ranged n last s Str i f h g = h
@@ -143,25 +145,39 @@ module _ (D : ℕ → Type 0) (small : (d : ℕ) → d < 2 ^ 32 → D d) (report
   range-ranged n last s (Error k d) i f h g = h
   range-ranged n last s (ErrorAt k d a b) i f h g = f .1
 
-  from-laws : (n turns : ℕ) (last : Place) (at : ℕ) (cs : List ℕ) → Ranged n (last .from) (last .to) → at + byteCount cs ≤ n → Every D cs
+  -- the item that is read at a place, and the items ys after it
+  module _ (n : ℕ) (last : Place) (at c : ℕ) (cs : List ℕ) (ranged : Ranged n (last .from) (last .to)) (room : at + byteCount (c ∷ cs) ≤ n)
+      (ds : Every D (c ∷ cs)) where
+    abbrev pub it : Read
+    it = readItem report at c cs
+
+    abbrev pub after : Place
+    after = rangeAfter last at (it .what) (it .item)
+
+    pub after-ranged : Ranged n (after .from) (after .to)
+    after-ranged =
+        range-ranged n last at (it .what) (it .item) (read-fine D small n report at c cs room ds) ranged
+        (omega (arith, read-forward report at c cs), omega (arith, read-end report at c cs))
+
+    pub item-laws : (ys : List Item) → Laws D n (it .item .at) ys → Laws D n at (extentItems report last at (it .what) (it .item) ++ ys)
+    unfolding extentItems
+    item-laws ys l =
+        let e : it .item .at ≡ at + length (it .item .bytes) = read-at report at c cs in
+        let long : at < it .item .at = read-forward report at c cs in
+        extent-laws report at (it .item .at) after D n long (omega (arith, read-end report at c cs)) after-ranged
+        (meaningOf (it .what) at (it .item .at) (it .item .bytes)) ys
+        (made D small at (it .item .at) (it .item .bytes) e (omega arith) n (it .what) (read-fine D small n report at c cs room ds))
+        l
+
+  pub from-laws : (n turns : ℕ) (last : Place) (at : ℕ) (cs : List ℕ) → Ranged n (last .from) (last .to) → at + byteCount cs ≤ n → Every D cs
       → Laws D n at (itemsFrom report turns last at cs)
-  unfolding itemsFrom extentItems
+  unfolding itemsFrom
   from-laws n zero last at cs h room ds = no-items D n at (omega arith)
   from-laws n (suc turns) last at [] h room ds = no-items D n at (omega arith)
   from-laws n (suc turns) last at (c ∷ cs) h room ds = by-bool (isBlank c)
       (λ b. rw (b, itemsFrom) (earlier D n at (at + width c) _ (omega arith) (from-laws n turns last (at + width c) cs h (omega arith) (ds .1))))
-      (λ b. rw (b, itemsFrom)
-      (let r : Read = readItem report at c cs in
-      let f : Fine D n (r .item .bytes) (r .what) = read-fine D small n report at c cs room ds in
-      let e : r .item .at ≡ at + length (r .item .bytes) = read-at report at c cs in
-      let long : at < r .item .at = read-forward report at c cs in
-      let left : r .item .at + byteCount (r .rest) ≡ at + byteCount (c ∷ cs) = read-end report at c cs in
-      let g : Ranged n (rangeAfter last at (r .what) (r .item) .from) (rangeAfter last at (r .what) (r .item) .to)
-      = range-ranged n last at (r .what) (r .item) f h (omega arith, omega arith) in
-      extent-laws report at (r .item .at) (rangeAfter last at (r .what) (r .item)) D n long (omega arith) g
-      (meaningOf (r .what) at (r .item .at) (r .item .bytes)) _
-      (made D small at (r .item .at) (r .item .bytes) e (omega arith) n (r .what) f)
-      (from-laws n turns (rangeAfter last at (r .what) (r .item)) (r .item .at) (r .rest) g (omega arith) (read-every report D at c cs (ds .1)))))
+      (λ b. rw (b, itemsFrom) (item-laws n last at c cs h room ds _ (from-laws n turns _ _ (readItem report at c cs .rest)
+      (after-ranged n last at c cs h room ds) (omega (arith, read-end report at c cs)) (read-every report D at c cs (ds .1)))))
 
   at-laws : (n at : ℕ) (cs : List ℕ) → at + byteCount cs ≤ n → Every D cs → Laws D n at (itemsAt report at cs)
   at-laws n at cs room ds = from-laws n (length cs) unset at cs (omega arith, omega arith) room ds
@@ -180,7 +196,7 @@ module _ (D : ℕ → Type 0) (small : (d : ℕ) → d < 2 ^ 32 → D d) (report
       (λ e. rw (e, afterPound) (earlier D n 0 2 _ (omega arith) (line-laws n 2 cs (omega (arith, wide c)) (ds .1))))
       (λ e. rw (e, afterPound) (at-laws n 0 (code "#" ∷ c ∷ cs) (omega arith) (small (code "#") (omega arith), ds)))
 
-  text-laws : (cs : List ℕ) → Every D cs → Laws D (byteCount cs) 0 (items report cs)
+  pub text-laws : (cs : List ℕ) → Every D cs → Laws D (byteCount cs) 0 (items report cs)
   unfolding items
   text-laws [] ds = no-items D 0 0 (omega arith)
   text-laws (c ∷ cs) ds = by-bool (eqb c (code "#"))

@@ -9,9 +9,15 @@ use Rattle.items.specs.declared.HashKind.{HashKind}
 use Rattle.items.specs.declared.HashKind.the-variants.{Decided, Bracket, Undecided}
 use Rattle.items.specs.declared.CharValue.{CharValue}
 use Rattle.items.specs.declared.CharValue.the-variants.{Scalar, Wrong}
-use Rattle.items.specs.Classes.{startsRun, firstOf, delimOf, inQuotes, afterBackslash, inHex, inTrim, inNest, inWord, inRun, afterHash, inHash, inDelim, First, InQuotes, ends, escapes, plain, AfterBackslash, simple, hexX, hexU, blank, newline, invalid, InHex, closes, stops, digit, InTrim, space, line, solid, InNest, bar, sharp, inside, InWord, breaks, skips, goes, InRun, stays, stopsRun, leaves, AfterHash, radix, opensNest, datum, twice, angle, value, InHash, skipsTwo, tick, commas, stopsHash, staysHash, InDelim, endsDelim, returns, blankDelim, ofDelim}
+use Rattle.items.specs.Classes.{startsRun, firstOf, delimOf, inQuotes, afterBackslash, inHex, inTrim, inNest, inWord, inRun}
+use Rattle.items.specs.Classes.{afterHash, inHash, inDelim, First, InQuotes, ends, escapes, plain, AfterBackslash, simple, hexX, hexU}
+use Rattle.items.specs.Classes.{blank, newline, invalid, InHex, closes, stops, digit, InTrim, space, line, solid, InNest, bar, sharp}
+use Rattle.items.specs.Classes.{inside, InWord, breaks, skips, goes, InRun, stays, stopsRun, leaves, AfterHash, radix, opensNest}
+use Rattle.items.specs.Classes.{datum, twice, angle, value, InHash, skipsTwo, tick, commas, stopsHash, staysHash, InDelim, endsDelim}
+use Rattle.items.specs.Classes.{returns, blankDelim, ofDelim}
 use Rattle.items.specs.Items.{byteCount}
-use Rattle.items.specs.Machine.{onNest, onBar, onSharp, onQuoted, onEscape, onBrace, closeHex, onHex, onTrimBefore, onTrimAfter, onWord, enterWord, onRun, hashThen, onHash, onAfterHash, onDelim, stepOf, finishOf, onFirst, scanOf}
+use Rattle.items.specs.Machine.{onNest, onBar, onSharp, onQuoted, onEscape, onBrace, closeHex, onHex, onTrimBefore, onTrimAfter}
+use Rattle.items.specs.Machine.{onWord, enterWord, onRun, hashThen, onHash, onAfterHash, onDelim, stepOf, finishOf, onFirst, scanOf}
 use Rattle.items.specs.Readers.{soFar, eat, lastIs, scalarOf, hashKind, hereEnds, readItem, SoFar}
 use Rattle.items.proofs.Cases.{by-next}
 use Rattle.items.proofs.Every.{Every}
