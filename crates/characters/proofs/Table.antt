@@ -74,9 +74,9 @@ unfolding span
 own-name k n row e f =
     let g : n ≡ before 0 row = omega arith in
     rw (g, e) (
-      sym (List·getD-map (λ (r : Row). own (padded (r .text))) charNames k noRow)
-      ∙ ap (λ (l : List (List ℕ)). getD l k (own (padded []))) names-rule
-      ∙ List·getD-map (λ (r : Row). r .text) charNames k noRow)
+    sym (List·getD-map (λ (r : Row). own (padded (r .text))) charNames k noRow)
+    ∙ ap (λ (l : List (List ℕ)). getD l k (own (padded []))) names-rule
+    ∙ List·getD-map (λ (r : Row). r .text) charNames k noRow)
 
 -- ---- the search from row k on
 

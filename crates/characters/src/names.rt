@@ -5,7 +5,6 @@ ghost use Prim.Native.Nat.{_<_};
 ghost use Rattle.laws.specs.Texts.{same};
 ghost use Rattle.items.specs.Meaning.{lower, lookup, charNames, unnamed};
 ghost use Rattle.characters.specs.Names.{padded, nameOf, codeOf};
-
 use texts::find;
 
 const ROWS: usize = 9;

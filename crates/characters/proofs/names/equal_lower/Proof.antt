@@ -33,7 +33,7 @@ shared-slice-read-if2 : tie.Need-shared-slice-read-if2 Inv-loop μ-loop
 shared-slice-read-if2 c = omega (arith, c .before .before .before .loop-test .taken, c .before .before .before .before .before .if1 .left)
 
 returns-2 : tie.Need-returns-2 Inv-loop μ-loop
-returns-2 c = 
+returns-2 c =
     let t = c .before .before .before .before .before .before .before .before .before .args .t .now in let name = c .before .before .before .before .before .before .before .before .before .args .name .now in let l = c .before .before .before .before .before .loop in
     let in-name : l .i < length name = omega (arith, c .before .before .before .before .loop-test .taken, c .before .before .before .before .before .before .if1 .left) in
     sym (l .inv .1 ∙ case-differ t name (l .i) (c .before .before .before .before .loop-test .taken) in-name (λ h. c .if2 .taken (c .before .before .lower-case .ensures ∙ h)))
@@ -45,7 +45,7 @@ loop-less : tie.Need-loop-less Inv-loop μ-loop
 loop-less c = search needs
 
 loop-again : tie.Need-loop-again Inv-loop μ-loop
-loop-again c = 
+loop-again c =
     let t = c .before .before .before .before .before .before .before .before .before .args .t .now in let name = c .before .before .before .before .before .before .before .before .before .args .name .now in let l = c .before .before .before .before .before .loop in
     let in-name : l .i < length name = omega (arith, c .before .before .before .before .loop-test .taken, c .before .before .before .before .before .before .if1 .left) in
     (omega arith, l .inv .1 ∙ case-more t name (l .i) (c .before .before .before .before .loop-test .taken) in-name (sym (c .before .before .lower-case .ensures) ∙ c .if2 .left))
