@@ -16,3 +16,5 @@ pub mod Going
 pub mod Writing
 pub mod Delivered
 pub mod Texts
+pub mod ReadsOn
+pub mod Placed

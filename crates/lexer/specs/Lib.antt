@@ -3,3 +3,4 @@ pub mod Opening
 pub mod Answers
 pub mod Text
 pub mod Inner
+pub mod ReadOn
