@@ -10,7 +10,7 @@ use Rattle.items.proofs.Fine.{Fine}
 use Rattle.items.proofs.Meanings.{Inside, Meant, Made, made}
 use Rattle.items.proofs.Outcomes.{read-fine}
 use Rattle.items.proofs.Splits.{read-at, read-longer}
-use Rattle.items.proofs.Width.{wide}
+use Rattle.chars.proofs.Width.{wide}
 use Rattle.meaning.specs.Meant.{sizedText, errorOf, lastError}
 use Rattle.meaning.specs.Places.{reach, reachFrom}
 use Rattle.meaning.specs.Records.{TextFits}

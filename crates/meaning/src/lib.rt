@@ -23,17 +23,17 @@ pub mod records;
 
 use characters::character;
 use items::CharValue;
+use items::kinds::CHARACTER_LITERAL;
+use items::kinds::FIRST_ERROR;
+use items::kinds::IDENTIFIER;
+use items::kinds::KEYWORD;
+use items::kinds::NUMBER;
+use items::kinds::STRING_LITERAL;
+use items::kinds::ZERO_DENOMINATOR;
 use quoted::here_text;
 use quoted::lined_text;
 use quoted::rest;
 use quoted::string_text;
-use words::kinds::CHARACTER_LITERAL;
-use words::kinds::FIRST_ERROR;
-use words::kinds::IDENTIFIER;
-use words::kinds::KEYWORD;
-use words::kinds::NUMBER;
-use words::kinds::STRING_LITERAL;
-use words::kinds::ZERO_DENOMINATOR;
 
 const NO_DETAIL: u32 = 0;
 

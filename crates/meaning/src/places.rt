@@ -5,7 +5,7 @@ use crate::quoted::rest;
 use characters::character;
 use items::CharValue;
 use items::Outcome;
-use words::kinds::FIRST_ERROR;
+use items::kinds::FIRST_ERROR;
 ghost use mathlib.Core.Path.{_≡_};
 ghost use mathlib.Core.Bool.{false};
 ghost use Prim.Native.Nat.{_<_, _^_};

@@ -7,7 +7,7 @@ use borrow.Author.Tests.{eq-eqb, ne-eqb}
 use denote.Ref.{now}
 use Rattle.chars.specs.Utf8.{chars}
 use Rattle.chars.specs.declared.Decoded.the-variants as decoded
-use Rattle.items.proofs.Width.{wide}
+use Rattle.chars.proofs.Width.{wide}
 use Rattle.lexer.specs.Opening.{lineEnd}
 use Rattle.lexer.proofs.Here.{char-found}
 use Rattle.lexer.proofs.Opens.{line-stop, line-on, line-none}

@@ -6,7 +6,7 @@ use native.Mathlib.Omega.{arith}
 use denote.Ref.{now}
 use Rattle.chars.specs.Utf8.{chars}
 use Rattle.chars.specs.declared.Decoded.the-variants as decoded
-use Rattle.items.proofs.Width.{wide}
+use Rattle.chars.proofs.Width.{wide}
 use Rattle.lexer.specs.Reading.{startFrom}
 use Rattle.lexer.proofs.Here.{char-found}
 use Rattle.lexer.proofs.Starts.{start-blank, start-solid, start-none}
