@@ -1,16 +1,34 @@
--- How two texts compare at a place: what a loop that walks both needs at each turn.
+-- What a text starts with at a place, and how two texts compare there: what a loop that walks both needs at each turn.
 use Prim.Native.Nat.{ℕ, suc, _+_, _≤_, _<_}
-use mathlib.Core.Path.{_≡_, refl, ap}
+use mathlib.Core.Path.{_≡_, refl, sym, ap, _∙_}
 use mathlib.Core.Bool.{Bool, true, false, _&&_}
 use mathlib.Core.List.{List, [], _∷_}
 use lib.ListN.{length, getD, drop, drop-of-length-le}
 use lib.Seq.{drop-cons}
-use lib.Dec.{eqb}
+use lib.Dec.{eqb, leb}
 use native.Mathlib.Omega.{arith}
 use native.Mathlib.Numerals.{add-one}
 use native.Mathlib.Nat.{suc-inj}
-use borrow.Author.Tests.{eq-eqb, ne-eqb}
-use Rattle.laws.specs.Texts.{begins, same}
+use borrow.Author.Tests.{eq-eqb, ne-eqb, leb-true, leb-false}
+use Rattle.laws.specs.Texts.{starts, begins, same}
+use Rattle.laws.proofs.Choice.{by-bool}
+use Rattle.laws.proofs.Places.{past, here}
+
+module _ (b : ℕ) (t : List ℕ) (i : ℕ) where
+  pub starts-past : length t ≤ i → false ≡ starts b (drop i t)
+  unfolding starts
+  starts-past h = rw (past t i h)
+
+  pub starts-here : i < length t → eqb (getD t i 0) b ≡ starts b (drop i t)
+  unfolding starts
+  starts-here h = rw (here t i h)
+
+  -- what stands at a place stands in the text
+  pub starts-in : true ≡ starts b (drop i t) → i < length t
+  starts-in h =
+      by-bool (leb (length t) i)
+      (λ e. let f = starts-past (leb-true _ _ e) in let z : _≡_ {A = ℕ} 0 1 = cc in omega arith)
+      (λ e. leb-false _ _ e)
 
 module _ (p s : List ℕ) (i : ℕ) where
   pub begins-short : i < length p → length s ≤ i → begins (drop i p) (drop i s) ≡ false
@@ -47,3 +65,9 @@ same-differ [] [] h = absurd (h refl)
 same-differ [] (y ∷ t) h = refl
 same-differ (x ∷ s) [] h = refl
 same-differ (x ∷ s) (y ∷ t) h = rw (same-differ s t (λ e. h (ap suc e))) (and-false (eqb x y))
+
+-- nothing is the same as w exactly if w is empty
+pub same-past : (t w : List ℕ) (i : ℕ) → length t ≤ i → eqb (length w) 0 ≡ same (drop i t) w
+unfolding same
+same-past t [] i h = rw (past t i h)
+same-past t (x ∷ w) i h = rw (past t i h) (ne-eqb (length (x ∷ w)) 0 (λ e. omega arith))
