@@ -10,6 +10,7 @@ mod chars;
 mod differences;
 mod examples;
 mod lexer;
+mod numbers;
 mod proved;
 mod tally;
 
@@ -45,6 +46,7 @@ type Part = (&'static str, fn(&Options) -> tally::Count);
 const PARTS: &[Part] = &[
     ("examples", examples::judge),
     ("chars", chars::judge),
+    ("numbers", numbers::judge),
     ("lexer", lexer::judge),
     ("differences", differences::judge),
 ];

@@ -6,6 +6,7 @@ extern "C" {
     fn mihadrena_next_at(text: *const u8, length: usize, at: usize) -> usize;
     fn mihadrena_is_blank(code: u32) -> bool;
     fn mihadrena_put_char(code: u32, text: *mut u8, length: usize) -> usize;
+    fn mihadrena_number(text: *const u8, length: usize, words: *mut u64, count: usize) -> u32;
 }
 
 /// What `code_at` answers where no character stands.
@@ -31,4 +32,17 @@ pub fn is_blank(code: u32) -> bool {
 
 pub fn put_char(code: u32, text: &mut [u8]) -> usize {
     unsafe { mihadrena_put_char(code, text.as_mut_ptr(), text.len()) }
+}
+
+/// How many words `number` writes, and what it answers: a number, none, 01's error 8, its refusals 20, 21 and 22.
+pub const NUMBER_WORDS: usize = 27;
+pub const A_NUMBER: u32 = 0;
+pub const NO_NUMBER: u32 = 1;
+pub const ZERO_DENOMINATOR: u32 = 8;
+pub const TOO_LONG: u32 = 20;
+pub const NOT_UTF8: u32 = 21;
+pub const TOO_FEW: u32 = 22;
+
+pub fn number(text: &[u8], words: &mut [u64]) -> u32 {
+    unsafe { mihadrena_number(text.as_ptr(), text.len(), words.as_mut_ptr(), words.len()) }
 }
