@@ -1,0 +1,16 @@
+pub mod Cases
+pub mod Width
+pub mod Every
+pub mod Same
+pub mod Run
+pub mod Splits
+pub mod Ready
+pub mod Deep
+pub mod Fine
+pub mod Outcomes
+pub mod Shorter
+pub mod Meanings
+pub mod Order
+pub mod Skipped
+pub mod Fit
+pub mod Few

@@ -1,0 +1,120 @@
+-- E1 to E16 of document 01 and its `lexlist` text: all words of every record, and the text memory. One table, one statement, proved by
+-- computation.
+use Prim.Native.Nat.{ℕ, _+_}
+use Prim.Native.String.{String}
+use mathlib.Core.Path.{_≡_, refl}
+use mathlib.Core.Bool.{Bool, true, false}
+use mathlib.Core.List.{List, [], _∷_, _++_, map}
+use Rattle.laws.specs.Quoted.{code, codes}
+use Rattle.items.specs.Kinds as kind
+use Rattle.laws.specs.Texts.{span, starts, begins, same}
+use Rattle.chars.specs.Encode.{isScalar, utf8, width, encode, bytesOf, spelled}
+use Rattle.chars.specs.Blank.{isBlank}
+use Rattle.chars.specs.Utf8.{within, first, rest, front}
+use Rattle.laws.specs.Quoted as quoted
+use Rattle.digits.specs.Digits.{digitOf, sign, uinteger, value, fit, signed, wholeOf, integer}
+use Rattle.digits.specs.Hex.{hexDigits, hexAfterPlus, hexValue}
+use Rattle.numbers.specs.Reals.{exponentMarker, exponent, suffix, pointOf, dotted, undotted, decimal, infnan, integralOf, rationalOf, denominator, exact, orElse, ureal, real}
+use Rattle.numbers.specs.Grammar.{justOf, complexOf, polarOf, endsI, imaginary, aloneOf, pairOf, toSign, startsE, rectangular, complex, zeroInt, zeroReal, zeroParts, judged, radixMark, prefix, parseNumber}
+use Rattle.items.specs.Classes.{startsRun, firstOf, inQuotes, afterBackslash, stopsHex, inHex, inTrim, inNest, breaksWord, inWord, staysRun, endsRun, inRun, afterHash, endsHash, inHash, inDelim}
+use Rattle.items.specs.Readers.{readLine, linedOf, scalarOf, readWord, readRun, boolKind, quoteKind, formKind, hashKind, hashBracket, hashAt, hashComma, unreturned, endsWith, hereEnds, hereBody, hereDelim, afterAngle, readHash, readComma, readItem, readNest, readQuoted, wordOn, hashOn}
+use Rattle.items.specs.Meaning.{lookup, words, wordKind, wordMeans, runMeans, escaped, stringText, linedText, hereText, charNames, hexNamed, spelledOut, characterOf, unescape}
+use Rattle.items.specs.Items.{extentItems, itemsFrom, pastLine, afterPound, items, kept, records, texts, Item}
+
+-- what the whole-text call writes for a text: its records' words, and its text memory
+record Shown : Type 0 where
+  words : List ℕ
+  memory : List ℕ
+
+abbrev shows : List (List ℕ) → List ℕ → Shown
+shows [] m = record { words = []; memory = m }
+shows (r ∷ rs) m = record { words = r ++ shows rs m .words; memory = m }
+
+abbrev shown : List Item → Shown
+shown is = record { words = records 0 is; memory = texts is }
+
+record Example : Type 0 where
+  report : Bool
+  text : List ℕ
+  wanted : Shown
+
+abbrev plainly : List ℕ → List (List ℕ) → List ℕ → Example
+plainly cs r m = record { report = false; text = cs; wanted = shows r m }
+
+abbrev plain : String → List (List ℕ) → List ℕ → Example
+plain s r m = plainly (codes s) r m
+
+abbrev reported : String → List (List ℕ) → List ℕ → Example
+reported s r m = record { report = true; text = codes s; wanted = shows r m }
+
+-- a record: kind, detail, extent, place, text source, text places
+abbrev nine : ℕ → ℕ → ℕ → ℕ → ℕ → ℕ → ℕ → ℕ → ℕ → List ℕ
+nine k d s e a b o f t = k ∷ d ∷ s ∷ e ∷ a ∷ b ∷ o ∷ f ∷ t ∷ []
+
+-- an item with no text, whose place is its extent
+abbrev bare : ℕ → ℕ → ℕ → ℕ → List ℕ
+bare k d s e = nine k d s e s e 0 0 0
+
+-- an error: its number, its detail, its extent and its place
+abbrev error : ℕ → ℕ → ℕ → ℕ → ℕ → ℕ → List ℕ
+error n d s e a b = nine (kind.firstError + n) d s e a b 0 0 0
+
+-- an item with its text in the source, and one with its text in the text memory
+abbrev sourced : ℕ → ℕ → ℕ → ℕ → ℕ → List ℕ
+sourced k s e f t = nine k 0 s e s e 1 f t
+
+abbrev decoded : ℕ → ℕ → ℕ → ℕ → ℕ → List ℕ
+decoded k s e f t = nine k 0 s e s e 2 f t
+
+table : List Example
+table =
+    -- E1
+    plain "" [] []
+    -- E2
+    ∷ plain "+foo" (sourced kind.Identifier 0 4 0 1 ∷ sourced kind.Identifier 0 4 1 4 ∷ []) []
+    -- E3
+    ∷ plain "||" (sourced kind.Identifier 0 2 1 1 ∷ []) []
+    -- E4
+    ∷ plain "#\\" (error kind.InvalidCharacter 0 0 2 0 2 ∷ []) []
+    -- E5
+    ∷ plain "1/0" (error kind.ZeroDenominator 0 0 3 0 3 ∷ []) []
+    -- E6
+    ∷ plain "1/-2" (sourced kind.Identifier 0 4 0 4 ∷ []) []
+    -- E7
+    ∷ plain "1@1/-2" (bare kind.Number 0 0 6 ∷ []) []
+    -- E8, in both modes
+    ∷ plain "14.7;gps" (sourced kind.Identifier 0 4 0 4 ∷ bare kind.Comment 0 4 8 ∷ []) []
+    ∷ reported "14.7;gps" (bare kind.Number 0 0 4 ∷ bare kind.Comment 0 4 8 ∷ []) []
+    -- E9
+    ∷ plain "|a\\|" (decoded kind.Identifier 0 4 0 2 ∷ []) (spelled "a|")
+    -- E10
+    ∷ plain "\"\\xD800;\"" (error kind.InvalidHexCodePoint 0xD800 0 8 1 8 ∷ error kind.IncompleteString 0 8 9 1 8 ∷ []) []
+    -- E11
+    ∷ plain "\"\\x+41;\"" (decoded kind.StringLiteral 0 8 0 1 ∷ []) (spelled "A")
+    -- E12
+    ∷ plain "#<<\nabc" (sourced kind.StringLiteral 0 5 4 5 ∷ sourced kind.Identifier 5 7 5 7 ∷ []) []
+    -- E13
+    ∷ plain "-|a|" (error kind.IncompleteIdentifier 0 0 4 0 4 ∷ []) []
+    -- E14
+    ∷ plain "|\\\n|" (sourced kind.Identifier 0 4 1 3 ∷ []) []
+    -- E15
+    ∷ plain "#xe+1i" (sourced kind.Identifier 0 6 0 6 ∷ []) []
+    -- E16
+    ∷ plain "12,5" (sourced kind.Identifier 0 2 0 2 ∷ bare kind.Unquote 0 2 3 ∷ bare kind.Number 0 3 4 ∷ []) []
+    -- the text of `lexlist`
+    ∷ plain "(a 14.7;gps\n" (bare kind.OpenParen kind.Round 0 1 ∷ sourced kind.Identifier 1 2 1 2 ∷ sourced kind.Identifier 3 7 3 7 ∷ bare kind.Comment 0 7 12 ∷ []) []
+    -- a first line; words with a kind; characters, and a bad one; a blank past ASCII
+    ∷ plain "#!x\nif" (bare kind.If 0 4 6 ∷ []) []
+    ∷ plain "λ ... ." (bare kind.Lambda 0 0 2 ∷ bare kind.Ellipses 0 3 6 ∷ bare kind.Dot 0 7 8 ∷ []) []
+    ∷ plain "#\\SPACE #\\λ #\\x41" (bare kind.CharacterLiteral (code " ") 0 7 ∷ bare kind.CharacterLiteral (code "λ") 8 12 ∷ bare kind.CharacterLiteral (code "A") 13 18 ∷ []) []
+    ∷ plain "#\\u{3bb} #\\xyz" (bare kind.CharacterLiteral (code "λ") 0 8 ∷ error kind.InvalidHexEscapeLiteral 2 9 14 9 14 ∷ []) []
+    ∷ plainly (code "a" ∷ 0xA0 ∷ code "b" ∷ []) (sourced kind.Identifier 0 1 0 1 ∷ sourced kind.Identifier 3 4 3 4 ∷ []) []
+    -- the text memory is filled in order; an error's range stands on
+    ∷ plain "\"\\n\" #\\ab |\\x3bb;| #\\"
+    (decoded kind.StringLiteral 0 4 0 1 ∷ error kind.InvalidCharName 0 5 9 5 9 ∷ decoded kind.Identifier 10 18 1 3 ∷ error kind.InvalidCharacter 0 19 21 5 9 ∷ [])
+    (spelled "\nλ")
+    ∷ []
+
+computed : map (λ r. shown (items (r .report) (r .text))) table ≡ map (λ r. r .wanted) table
+unfolding table span starts begins same isScalar utf8 width encode bytesOf isBlank within first rest front quoted.within digitOf sign uinteger value fit signed wholeOf integer hexDigits hexAfterPlus hexValue exponentMarker exponent suffix pointOf dotted undotted decimal infnan integralOf rationalOf denominator exact orElse ureal real justOf complexOf polarOf endsI imaginary aloneOf pairOf toSign startsE rectangular complex zeroInt zeroReal zeroParts judged radixMark prefix parseNumber startsRun firstOf inQuotes afterBackslash stopsHex inHex inTrim inNest breaksWord inWord staysRun endsRun inRun afterHash endsHash inHash inDelim readLine linedOf scalarOf readWord readRun boolKind quoteKind formKind hashKind hashBracket hashAt hashComma unreturned endsWith hereEnds hereBody hereDelim afterAngle readHash readComma readItem readNest readQuoted wordOn hashOn lookup words wordKind wordMeans runMeans escaped stringText linedText hereText charNames hexNamed spelledOut characterOf unescape extentItems itemsFrom pastLine afterPound items kept records texts
+computed = refl

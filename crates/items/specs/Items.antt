@@ -1,0 +1,156 @@
+-- The definition, part 3: the items of a text, their records and their texts. Document 01, "An item".
+use Prim.Native.Nat.{ℕ, zero, suc, _+_}
+use mathlib.Core.Bool.{Bool, true, false, _&&_}
+use mathlib.Core.List.{List, [], _∷_, _++_}
+use lib.ListN.{length}
+use lib.Dec.{eqb, leb, ltb}
+use Rattle.laws.specs.Choice.{if_then_else_}
+use Rattle.laws.specs.Quoted.{code}
+use Rattle.chars.specs.Encode.{width}
+use Rattle.chars.specs.Blank.{isBlank}
+use Rattle.items.specs.declared.Outcome.{Outcome}
+use Rattle.items.specs.declared.Outcome.the-variants.{Token, Str, HereStr, Word, Run, Lined, Keyword, Character, Error, ErrorAt}
+use Rattle.items.specs.declared.Record.{Record}
+use Rattle.items.specs.declared.CharValue.{CharValue}
+use Rattle.items.specs.declared.CharValue.the-variants.{Scalar, Wrong}
+use Rattle.items.specs.Kinds as kind
+use Rattle.items.specs.Readers.{SoFar, Read, readItem}
+use Rattle.items.specs.Meaning.{Text, none, source, decoded, Meaning, meaningOf, characterOf, charInside}
+
+-- ---- places
+
+pub record Place : Type 0 where
+  pub from : ℕ
+  pub to : ℕ
+
+abbrev pub range : ℕ → ℕ → Place
+range a b = record { from = a; to = b }
+
+-- no `error` range was set yet
+abbrev pub unset : Place
+unset = range 0 0
+
+-- a character that is none sets its extent
+abbrev pub characterSets : CharValue → Place → Place → Place
+characterSets (Scalar c) last extent = last
+characterSets (Wrong e d) last extent = extent
+
+-- The last `error` range after an item that starts at s: its own where it sets one, else the one before. Errors 1 to 4, 7 and 8 set none
+abbrev pub rangeAfter : Place → ℕ → Outcome → SoFar → Place
+rangeAfter last s (Token k d) i = last
+rangeAfter last s Str i = last
+rangeAfter last s HereStr i = last
+rangeAfter last s Word i = last
+rangeAfter last s Run i = last
+rangeAfter last s Lined i = last
+rangeAfter last s Keyword i = last
+rangeAfter last s Character i = characterSets (characterOf (charInside (i .bytes))) last (range s (i .at))
+rangeAfter last s (Error n d) i = last
+rangeAfter last s (ErrorAt n d a b) i = range a b
+
+-- 01: place equals extent except for errors; an error's "is the last `error` range set since the start of the text, or its extent if
+-- none was set". `last` is that range, the item's own counted in (E10). It is so in both modes
+abbrev pub placeOf : Bool → ℕ → Place → Place → Place
+placeOf report k last extent = if leb kind.firstError k && ltb (last .from) (last .to) then last else extent
+
+-- ---- items
+
+pub record Item : Type 0 where
+  pub kind : ℕ
+  pub detail : ℕ
+  pub start : ℕ
+  pub end : ℕ
+  pub place : Place
+  pub text : Text
+
+abbrev pub itemOf : Bool → Place → ℕ → ℕ → Meaning → Item
+itemOf report last s e m = record { kind = m .kind; detail = m .detail; start = s; end = e; place = placeOf report (m .kind) last (range s e); text = m .text }
+
+abbrev pub itemsOf : Bool → Place → ℕ → ℕ → List Meaning → List Item
+itemsOf report last s e [] = []
+itemsOf report last s e (m ∷ ms) = itemOf report last s e m ∷ itemsOf report last s e ms
+
+-- the items of one extent, which starts at s
+unfoldable pub extentItems : Bool → Place → ℕ → Outcome → SoFar → List Item
+extentItems report last s o i = itemsOf report (rangeAfter last s o i) s (i .at) (meaningOf o s (i .at) (i .bytes))
+
+-- The items of the characters from the place `at` on. A blank is passed over; else an item is read, and reading goes on after its
+-- extent. Each turn takes a character or more, so as many turns as there are characters are enough
+unfoldable pub itemsFrom : Bool → ℕ → Place → ℕ → List ℕ → List Item
+itemsFrom report zero last at cs = []
+itemsFrom report (suc turns) last at [] = []
+itemsFrom report (suc turns) last at (c ∷ cs) =
+    elim (isBlank c) [
+      | true ↦ itemsFrom report turns last (at + width c) cs
+      | false ↦
+          let r : Read = readItem report at c cs in
+          extentItems report last at (r .what) (r .item)
+          ++ itemsFrom report turns (rangeAfter last at (r .what) (r .item)) (r .item .at) (r .rest)
+    ]
+
+abbrev pub itemsAt : Bool → ℕ → List ℕ → List Item
+itemsAt report at cs = itemsFrom report (length cs) unset at cs
+
+-- a first line that starts with `#!` is passed over, up to its newline: `strip_shebang_line`
+unfoldable pub pastLine : Bool → ℕ → List ℕ → List Item
+pastLine report at [] = []
+pastLine report at (c ∷ cs) = elim (eqb c (code "\n")) [ true ↦ itemsAt report at (c ∷ cs) | false ↦ pastLine report (at + width c) cs ]
+
+unfoldable pub afterPound : Bool → List ℕ → List Item
+afterPound report [] = itemsAt report 0 (code "#" ∷ [])
+afterPound report (c ∷ cs) = elim (eqb c (code "!")) [ true ↦ pastLine report 2 cs | false ↦ itemsAt report 0 (code "#" ∷ c ∷ cs) ]
+
+-- the items of a text, comments kept
+unfoldable pub items : Bool → List ℕ → List Item
+items report [] = []
+items report (c ∷ cs) = elim (eqb c (code "#")) [ true ↦ afterPound report cs | false ↦ itemsAt report 0 (c ∷ cs) ]
+
+-- skipping comments leaves them out, and nothing else
+unfoldable pub kept : Bool → List Item → List Item
+kept skip [] = []
+kept skip (i ∷ is) = let more = kept skip is in if skip && eqb (i .kind) kind.Comment then more else i ∷ more
+
+-- ---- records. `free` is the first free byte of the text memory
+
+-- how many words a record has
+abbrev pub recordWords : ℕ
+recordWords = 9
+
+abbrev pub textWords : ℕ → Text → List ℕ
+textWords free none = 0 ∷ 0 ∷ 0 ∷ []
+textWords free (source a b) = 1 ∷ a ∷ b ∷ []
+textWords free (decoded bs) = 2 ∷ free ∷ (free + length bs) ∷ []
+
+abbrev pub recordOf : ℕ → Item → List ℕ
+recordOf free i = i .kind ∷ i .detail ∷ i .start ∷ i .end ∷ i .place .from ∷ i .place .to ∷ textWords free (i .text)
+
+-- the words of a record, as they lie in lent memory
+abbrev pub wordsOf : Record → List ℕ
+wordsOf r = r .kind ∷ r .detail ∷ r .start ∷ r .end ∷ r .from ∷ r .to ∷ r .source ∷ r .first ∷ r .past ∷ []
+
+-- the bytes of a text that go into the text memory
+abbrev pub memoryOf : Text → List ℕ
+memoryOf none = []
+memoryOf (source a b) = []
+memoryOf (decoded bs) = bs
+
+-- the words of all records, and the bytes of all decoded texts, in order
+unfoldable pub records : ℕ → List Item → List ℕ
+records free [] = []
+records free (i ∷ is) = recordOf free i ++ records (free + length (memoryOf (i .text))) is
+
+unfoldable pub texts : List Item → List ℕ
+texts [] = []
+texts (i ∷ is) = memoryOf (i .text) ++ texts is
+
+-- ---- pieces: 01, "an item is ready once a character beyond its extent has been read"
+
+-- the bytes of some characters
+abbrev pub byteCount : List ℕ → ℕ
+byteCount [] = 0
+byteCount (c ∷ cs) = width c + byteCount cs
+
+-- the items whose extents end before the place n
+unfoldable pub endsBefore : ℕ → List Item → List Item
+endsBefore n [] = []
+endsBefore n (i ∷ is) = let more = endsBefore n is in if ltb (i .end) n then i ∷ more else more

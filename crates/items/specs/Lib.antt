@@ -1,0 +1,9 @@
+pub mod Kinds
+pub mod Classes
+pub mod Readers
+pub mod Meaning
+pub mod Items
+pub mod Whole
+pub mod Machine
+pub mod Run
+pub mod Examples

@@ -1,0 +1,112 @@
+-- What is delivered, by the tests of the code; and the reader's replies.
+use Rattle.laws.specs.Lent.{written}
+use Rattle.items.specs.Items.{Item, recordWords, recordOf, wordsOf, memoryOf, records, texts}
+use Rattle.items.specs.Whole.{Call, call, served, refused, limit, deliver}
+use Rattle.items.specs.declared.Record.{Record}
+use Rattle.meaning.specs.Records.{packed}
+use Rattle.lexer.specs.Reading.{Turn, gives, ends, nextAt, foundOf}
+use Rattle.lexer.specs.Answers.{Reply, item, finished, refuses, replied, giveOf, nextOf}
+use Rattle.lexer.specs.Inner.{neededOf, bytesFor, freeAfter}
+use Rattle.lexer.specs.declared.Position.{Position}
+use Rattle.lexer.specs.declared.Needed.{Needed}
+use Rattle.lexer.specs.declared.Found.the-variants.{One, End}
+use Rattle.lexer.proofs.Moves.{Moved, Whole}
+use Rattle.lexer.proofs.Nexts.{found-gives, found-ends, next-moved}
+use Rattle.lexer.proofs.Memory.{words-packed, free-packed, bytes-packed}
+use Rattle.lexer.proofs.Writing.{record-fits}
+use Prim.Native.Nat.{ℕ, _+_, _*_, _/_, _≤_, _<_}
+use mathlib.Core.Path.{_≡_, refl, sym, ap, _∙_}
+use mathlib.Core.List.{List}
+use lib.ListN.{length}
+use native.Mathlib.Omega.{arith}
+use borrow.Author.Tests.{le-leb, lt-leb, lt-ltb, le-ltb}
+
+-- ---- the whole-text call
+
+module _ (is : List Item) (recs text : List ℕ) (n : Needed) (e : n ≡ neededOf is) where
+  counts : (n .items ≡ length is) × (n .text ≡ length (texts is))
+  counts = (ap (λ (x : Needed). x .items) e, ap (λ (x : Needed). x .text) e)
+
+  pub few-records : length recs / recordWords < n .items → call (refused 22 (n .items) (n .text)) recs text ≡ deliver is recs text
+  unfolding deliver
+  few-records h =
+      let a : length recs / recordWords < length is = omega (arith, counts) in
+      rw (counts .0, counts .1, lt-leb (length is) (length recs / recordWords) a)
+
+  module _ (h : n .items ≤ length recs / recordWords) where
+    fits : length is ≤ length recs / recordWords
+    fits = omega (arith, counts)
+
+    pub little-text : length text < n .text → call (refused 22 (n .items) (n .text)) recs text ≡ deliver is recs text
+    unfolding deliver
+    little-text k =
+        let b : length text < length (texts is) = omega (arith, counts) in
+        rw (counts .0, counts .1, le-leb (length is) (length recs / recordWords) fits, lt-leb (length (texts is)) (length text) b)
+
+    module _ (k : n .text ≤ length text) where
+      fits-text : length (texts is) ≤ length text
+      fits-text = omega (arith, counts)
+
+      pub room : (recordWords * length is ≤ length recs) × (length (texts is) ≤ length text)
+      room = let f : length is ≤ length recs / recordWords = fits in (omega arith, fits-text)
+
+      pub delivered : {r t : List ℕ} → r ≡ written (records 0 is) recs → t ≡ written (texts is) text → call (served (n .items) (n .text)) r t ≡ deliver is recs text
+      unfolding deliver
+      delivered a b =
+          rw (counts .0, counts .1, le-leb (length is) (length recs / recordWords) fits, le-leb (length (texts is)) (length text) fits-text, a, b)
+
+-- ---- the reader
+
+module _ (s : List ℕ) (p : Position) (text : List ℕ) where
+  pub reply-long : limit < length s → replied (refuses 20 limit 0) text ≡ nextOf s p text
+  unfolding nextOf
+  reply-long h = rw (lt-ltb limit (length s) h)
+
+  module _ (short : length s ≤ limit) where
+    reply-is : (t : Turn) → nextAt s p ≡ t → nextOf s p text ≡ giveOf t text
+    unfolding nextOf
+    reply-is t e = rw (le-ltb limit (length s) short) (ap (λ (x : Turn). giveOf x text) e)
+
+    pub reply-end : End ≡ foundOf 0 (nextAt s p) → replied finished text ≡ nextOf s p text
+    unfolding giveOf
+    reply-end e = sym (reply-is ends (found-ends 0 (nextAt s p) e))
+
+    module _ (r : Record) (q : Position) (e : One r q ≡ foundOf 0 (nextAt s p)) where
+      abbrev i : Item
+      i = found-gives 0 (nextAt s p) r q e .0
+
+      given : nextAt s p ≡ gives i q
+      given = found-gives 0 (nextAt s p) r q e .1 .0
+
+      is-packed : r ≡ packed 0 i
+      is-packed = found-gives 0 (nextAt s p) r q e .1 .1
+
+      whole : Whole s i
+      whole = next-moved s p q i given .whole
+
+      pub needs : freeAfter 0 r ≡ length (memoryOf (i .text))
+      needs = let z : freeAfter 0 r ≡ 0 + length (memoryOf (i .text)) = ap (freeAfter 0) is-packed ∙ free-packed 0 i in omega arith
+
+      pub reply-room : (n : ℕ) → n ≡ freeAfter 0 r → length text < n → replied (refuses 22 1 n) text ≡ nextOf s p text
+      unfolding giveOf
+      reply-room n h k =
+          let a : n ≡ length (memoryOf (i .text)) = h ∙ needs in
+          let b : length text < length (memoryOf (i .text)) = omega arith in
+          ap (λ (x : ℕ). replied (refuses 22 1 x) text) a ∙ sym (reply-is (gives i q) given ∙ rw (lt-leb (length (memoryOf (i .text))) (length text) b))
+
+      module _ (n : ℕ) (h : n ≡ freeAfter 0 r) (k : n ≤ length text) where
+        bytes : bytesFor s r ≡ memoryOf (i .text)
+        bytes = ap (bytesFor s) is-packed ∙ bytes-packed s 0 i whole
+
+        held : length (memoryOf (i .text)) ≤ length text
+        held = omega (arith, needs)
+
+        pub reply-fits : (r .start < r .end) × (r .end ≤ length s) × (length (bytesFor s r) ≤ length text)
+        reply-fits = record-fits s 0 (length text) r i is-packed whole held
+
+        pub reply-item : {t : List ℕ} → t ≡ written (bytesFor s r) text → replied (item (wordsOf r) q) t ≡ nextOf s p text
+        unfolding giveOf
+        reply-item {t} w =
+            ap (replied (item (wordsOf r) q)) (w ∙ ap (λ (l : List ℕ). written l text) bytes)
+            ∙ ap (λ (l : List ℕ). replied (item l q) (written (memoryOf (i .text)) text)) (ap wordsOf is-packed ∙ words-packed 0 i)
+            ∙ sym (reply-is (gives i q) given ∙ rw (le-leb (length (memoryOf (i .text))) (length text) held))

@@ -1,0 +1,54 @@
+-- Each return is a case of the definition: the source is too long, the end, a text that does not fit, an item.
+use mathlib.Core.Path.{_≡_, sym, _∙_}
+use Prim.Native.Nat.{ℕ}
+use native.Mathlib.Omega.{arith}
+use denote.Ref.{now}
+use Rattle.lexer.proofs.Delivered.{reply-long, reply-end, reply-room, reply-fits, reply-item}
+use borrow.Author.Needs.{needs}
+use Rattle.lexer.proofs.reader.next_at.Statement.{statement}
+use Rattle.lexer.proofs.reader.next_at.Tie as tie
+
+returns : tie.Need-returns
+returns c = reply-long (now (c .before .before .before .args .source)) (c .before .before .before .args .position) (now (c .before .before .before .args .text)) (c .if1 .taken)
+
+next-item-requires : tie.Need-next-item-requires
+next-item-requires c κs = (c .if1 .left, omega arith)
+
+enum-known-r : tie.Need-enum-known-r
+enum-known-r c = search needs
+
+free-after-requires : tie.Need-free-after-requires
+free-after-requires c κs = search needs
+
+returns-2 : tie.Need-returns-2
+returns-2 c = reply-room (now (c .before .before .before .before .before .before .before .before .before .args .source)) (c .before .before .before .before .before .before .before .before .before .args .position) (now (c .before .before .before .before .before .before .before .before .before .args .text)) (c .before .before .before .before .before .before .if1 .left) (c .before .before .before .r .given .0 .0) (c .before .before .before .r .given .0 .1 .0) (sym (c .before .before .before .r .given .1) ∙ c .before .before .before .before .before .next-item .ensures) (c .before .free-after .result) (c .before .free-after .ensures) (c .if2 .taken)
+
+put-text-requires : tie.Need-put-text-requires
+put-text-requires c κs = reply-fits (now (c .before .before .before .before .before .before .before .before .before .before .args .source)) (c .before .before .before .before .before .before .before .before .before .before .args .position) (now (c .before .before .before .before .before .before .before .before .before .before .args .text)) (c .before .before .before .before .before .before .before .if1 .left) (c .before .before .before .before .r .given .0 .0) (c .before .before .before .before .r .given .0 .1 .0) (sym (c .before .before .before .before .r .given .1) ∙ c .before .before .before .before .before .before .next-item .ensures) (c .before .before .free-after .result) (c .before .before .free-after .ensures) (c .before .if2 .left)
+
+enum-told : tie.Need-enum-told
+enum-told c = search needs
+
+same-length : tie.Need-same-length
+same-length c = search needs
+
+returns-3 : tie.Need-returns-3
+returns-3 c = reply-item (now (c .before .before .before .before .before .before .before .before .before .before .before .before .before .args .source)) (c .before .before .before .before .before .before .before .before .before .before .before .before .before .args .position) (now (c .before .before .before .before .before .before .before .before .before .before .before .before .before .args .text)) (c .before .before .before .before .before .before .before .before .before .before .if1 .left) (c .before .before .before .before .before .before .before .r .given .0 .0) (c .before .before .before .before .before .before .before .r .given .0 .1 .0) (sym (c .before .before .before .before .before .before .before .r .given .1) ∙ c .before .before .before .before .before .before .before .before .before .next-item .ensures) (c .before .before .before .before .before .free-after .result) (c .before .before .before .before .before .free-after .ensures) (c .before .before .before .before .if2 .left) (c .before .before .put-text .ensures)
+
+returns-4 : tie.Need-returns-4
+returns-4 c = reply-end (now (c .before .before .before .before .before .before .args .source)) (c .before .before .before .before .before .before .args .position) (now (c .before .before .before .before .before .before .args .text)) (c .before .before .before .if1 .left) (sym (c .enum-told .given .1) ∙ c .before .before .next-item .ensures)
+
+pub next-at-spec : {M : Type 1} → statement M
+next-at-spec =
+    tie.close
+    (tie.spec
+    returns
+    next-item-requires
+    enum-known-r
+    free-after-requires
+    returns-2
+    put-text-requires
+    enum-told
+    same-length
+    returns-3
+    returns-4)

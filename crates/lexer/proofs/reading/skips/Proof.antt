@@ -1,0 +1,17 @@
+-- Only where comments are skipped is the kind asked for.
+use borrow.Author.Needs.{needs}
+use Rattle.lexer.proofs.reading.skips.Statement.{statement}
+use Rattle.lexer.proofs.reading.skips.Tie as tie
+
+returns : tie.Need-returns
+returns c = rw (c .if1 .taken)
+
+returns-2 : tie.Need-returns-2
+returns-2 c = rw (c .if1 .left)
+
+pub skips-spec : {M : Type 1} → statement M
+skips-spec =
+    tie.close
+    (tie.spec
+    returns
+    returns-2)

@@ -1,0 +1,62 @@
+-- Where the record says text memory, the decoder writes what stands between the quotes; else nothing is written.
+use mathlib.Core.Path.{_≡_, sym, ap, _∙_}
+use mathlib.Core.List.{List, []}
+use Prim.Native.Nat.{ℕ, _≤_, _-_}
+use native.Mathlib.Omega.{arith}
+use borrow.Author.Tests.{eq-eqb, ne-eqb}
+use lib.ListN.{length, take, drop, length-take, length-drop}
+use lib.Seq.{length-take-le}
+use denote.Ref.{now}
+use Rattle.laws.specs.Lent.{written}
+use Rattle.items.specs.Meaning.{unescape}
+use Rattle.items.specs.declared.Quotes.{Quotes}
+use Rattle.lexer.specs.Inner.{bytesFor, quotesOf}
+use Rattle.lexer.proofs.Texts.{decodes, decodes-not, part-long}
+use borrow.Author.Needs.{needs}
+use Rattle.lexer.proofs.whole.put_text.Statement.{statement}
+use Rattle.lexer.proofs.whole.put_text.Tie as tie
+
+cast-start : tie.Need-cast-start
+cast-start c = search needs
+
+cast-end : tie.Need-cast-end
+cast-end c = search needs
+
+sub-decode : tie.Need-sub-decode
+sub-decode c = omega (arith, c .before .before .before .before .before .before .pre)
+
+part-decode-start : tie.Need-part-decode-start
+part-decode-start c = omega (arith, c .before .before .before .before .before .before .pre)
+
+part-decode-end : tie.Need-part-decode-end
+part-decode-end c = omega (arith, c .before .before .before .before .before .before .pre)
+
+quotes-requires : tie.Need-quotes-requires
+quotes-requires c κs = search needs
+
+decode-requires : tie.Need-decode-requires
+decode-requires c κs = (part-long (now (c .before .before .before .before .before .before .before .before .before .args .source)) (c .before .before .before .before .before .before .before .before .before .args .r .start) (c .before .before .before .before .before .before .before .before .before .args .r .end) (c .before .before .before .before .before .before .before .before .before .pre .0) (c .before .before .before .before .before .before .before .before .before .pre .1), omega (arith, c .before .before .before .before .before .before .before .before .before .pre .2, ap length (decodes (now (c .before .before .before .before .before .before .before .before .before .args .source)) (c .before .before .before .before .before .before .before .before .before .args .r) (c .before .quotes .result) (c .before .before .before .before .before .if1 .taken) (c .before .quotes .ensures))))
+
+same-length : tie.Need-same-length
+same-length c = search needs
+
+returns : tie.Need-returns
+returns c = c .before .before .decode .ensures .1 ∙ ap (λ (l : List ℕ). written l (now (c .before .before .before .before .before .before .before .before .before .before .before .before .args .free))) (sym (decodes (now (c .before .before .before .before .before .before .before .before .before .before .before .before .args .source)) (c .before .before .before .before .before .before .before .before .before .before .before .before .args .r) (c .before .before .before .before .quotes .result) (c .before .before .before .before .before .before .before .before .if1 .taken) (c .before .before .before .before .quotes .ensures)))
+
+returns-2 : tie.Need-returns-2
+returns-2 c = ap (λ (l : List ℕ). written l (now (c .before .before .before .before .args .free))) (sym (decodes-not (now (c .before .before .before .before .args .source)) (c .before .before .before .before .args .r) (c .if1 .left)))
+
+pub put-text-spec : {M : Type 1} → statement M
+put-text-spec =
+    tie.close
+    (tie.spec
+    cast-start
+    cast-end
+    sub-decode
+    part-decode-start
+    part-decode-end
+    quotes-requires
+    decode-requires
+    same-length
+    returns
+    returns-2)

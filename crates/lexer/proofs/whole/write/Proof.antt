@@ -1,0 +1,119 @@
+-- What the two memories hold is what is done, written; each turn adds one record and one text, and at the end all is done.
+use mathlib.Core.Path.{_≡_, refl, sym, _∙_}
+use Prim.Native.Nat.{ℕ, _+_, _-_, _≤_, _<_, _^_}
+use native.Mathlib.Omega.{arith}
+use lib.ListN.{length, take, drop}
+use denote.Ref.{now}
+use Rattle.laws.proofs.Lent.{length-part}
+use Rattle.lexer.specs.Reading.{nextAt, foundOf, sizeOf}
+use Rattle.lexer.specs.Inner.{bytesFor}
+use Rattle.lexer.specs.declared.Found.the-variants.{One}
+use Rattle.lexer.proofs.Writing.{Writing, writing, writing-end, writing-on, has-moved, room, text-fits, recs-length, text-length}
+use borrow.Author.Needs.{needs}
+use Rattle.lexer.proofs.whole.write.Statement.{statement}
+use Rattle.lexer.proofs.whole.write.Tie as tie
+
+abbrev Inv-loop : tie.InvT-loop
+Inv-loop source recs₀ text₀ p₀ free₀ w₀ recs text p free w = Writing source p₀ recs₀ text₀ recs text p free w
+
+abbrev μ-loop : tie.MeasureT-loop
+μ-loop source recs₀ text₀ p₀ free₀ w₀ recs text p free w = sizeOf source p
+
+one : (c : tie.After-known-told Inv-loop μ-loop) → One (c .before .r .given .0 .0) (c .before .r .given .0 .1 .0) ≡ foundOf (c .before .before .before .before .loop .free) (nextAt (now (c .before .before .before .before .before .before .before .before .args .source)) (c .before .before .before .before .loop .p))
+one c = sym (c .before .r .given .1) ∙ c .before .before .before .next-item .ensures
+
+fits : (c : tie.After-known-told Inv-loop μ-loop) → (c .before .before .before .before .loop .w + 9 ≤ length (c .before .before .before .before .loop .recs)) × (c .before .before .before .before .loop .free + length (bytesFor (now (c .before .before .before .before .before .before .before .before .args .source)) (c .before .r .given .0 .0)) ≤ length (c .before .before .before .before .loop .text))
+fits c = room (now (c .before .before .before .before .before .before .before .before .args .source)) (c .before .before .before .before .before .before .before .before .args .position) (now (c .before .before .before .before .before .before .before .before .args .recs)) (now (c .before .before .before .before .before .before .before .before .args .text)) (c .before .before .before .before .before .before .before .before .pre .1 .0) (c .before .before .before .before .before .before .before .before .pre .1 .1) (c .before .before .before .before .loop .inv) (c .before .r .given .0 .0) (c .before .r .given .0 .1 .0) (one c)
+
+same : (c : tie.After-known-told Inv-loop μ-loop) → length (c .before .before .before .before .loop .recs) ≡ length (now (c .before .before .before .before .before .before .before .before .args .recs))
+same c = recs-length (now (c .before .before .before .before .before .before .before .before .args .source)) (c .before .before .before .before .before .before .before .before .args .position) (now (c .before .before .before .before .before .before .before .before .args .recs)) (now (c .before .before .before .before .before .before .before .before .args .text)) (c .before .before .before .before .before .before .before .before .pre .1 .0) (c .before .before .before .before .before .before .before .before .pre .1 .1) (c .before .before .before .before .loop .inv)
+
+small : (c : tie.After-known-told Inv-loop μ-loop) → length (c .before .before .before .before .loop .recs) < 2 ^ 63
+small c = omega (arith, same c)
+
+loop-holds : tie.Need-loop-holds Inv-loop μ-loop
+loop-holds c = writing (now (c .before .before .before .args .source)) (c .before .before .before .args .position) (now (c .before .before .before .args .recs)) (now (c .before .before .before .args .text)) (c .before .before .before .pre .1 .0) (c .before .before .before .pre .1 .1)
+
+next-item-requires : tie.Need-next-item-requires Inv-loop μ-loop
+next-item-requires c κs = (c .before .before .before .before .pre .0, c .loop .inv .going .behind)
+
+enum-known-r : tie.Need-enum-known-r Inv-loop μ-loop
+enum-known-r c = search needs
+
+mul-put : tie.Need-mul-put Inv-loop μ-loop
+mul-put c = omega (arith, fits c, same c)
+
+sub-put : tie.Need-sub-put Inv-loop μ-loop
+sub-put c = omega (arith, fits c)
+
+part-put-start : tie.Need-part-put-start Inv-loop μ-loop
+part-put-start c = omega (arith, fits c)
+
+part-put-end : tie.Need-part-put-end Inv-loop μ-loop
+part-put-end c = omega arith
+
+put-requires : tie.Need-put-requires Inv-loop μ-loop
+put-requires c κs = let l = c .before .before .before .before .before .loop in omega (arith, fits (c .before), length-part (l .recs) (l .w))
+
+sub-put-text : tie.Need-sub-put-text Inv-loop μ-loop
+sub-put-text c = omega (arith, fits (c .before .before .before .before))
+
+part-put-text-start : tie.Need-part-put-text-start Inv-loop μ-loop
+part-put-text-start c = omega (arith, fits (c .before .before .before .before))
+
+part-put-text-end : tie.Need-part-put-text-end Inv-loop μ-loop
+part-put-text-end c = omega arith
+
+put-text-requires : tie.Need-put-text-requires Inv-loop μ-loop
+put-text-requires c κs = let l = c .before .before .before .before .before .before .before .before .before .loop in text-fits (now (c .before .before .before .before .before .before .before .before .before .before .before .before .before .args .source)) (c .before .before .before .before .before .before .before .before .before .before .before .before .before .args .position) (now (c .before .before .before .before .before .before .before .before .before .before .before .before .before .args .recs)) (now (c .before .before .before .before .before .before .before .before .before .before .before .before .before .args .text)) (c .before .before .before .before .before .before .before .before .before .before .before .before .before .pre .1 .0) (c .before .before .before .before .before .before .before .before .before .before .before .before .before .pre .1 .1) (l .inv) (c .before .before .before .before .before .before .r .given .0 .0) (c .before .before .before .before .before .before .r .given .0 .1 .0) (one (c .before .before .before .before .before)) (length (take (length (l .text) - l .free) (drop (l .free) (l .text)))) (omega (arith, fits (c .before .before .before .before .before), length-part (l .text) (l .free)))
+
+add-w : tie.Need-add-w Inv-loop μ-loop
+add-w c = omega (arith, fits (c .before .before .before .before .before .before .before .before), small (c .before .before .before .before .before .before .before .before))
+
+free-after-requires : tie.Need-free-after-requires Inv-loop μ-loop
+free-after-requires c κs = search needs
+
+loop-less : tie.Need-loop-less Inv-loop μ-loop
+loop-less c = has-moved (now (c .before .before .before .before .before .before .before .before .before .before .before .before .before .before .before .before .before .args .source)) (c .before .before .before .before .before .before .before .before .before .before .before .before .before .before .before .before .before .args .position) (now (c .before .before .before .before .before .before .before .before .before .before .before .before .before .before .before .before .before .args .recs)) (now (c .before .before .before .before .before .before .before .before .before .before .before .before .before .before .before .before .before .args .text)) (c .before .before .before .before .before .before .before .before .before .before .before .before .before .before .before .before .before .pre .1 .0) (c .before .before .before .before .before .before .before .before .before .before .before .before .before .before .before .before .before .pre .1 .1) (c .before .before .before .before .before .before .before .before .before .before .before .before .before .loop .inv) (c .before .before .before .before .before .before .before .before .before .before .r .given .0 .0) (c .before .before .before .before .before .before .before .before .before .before .r .given .0 .1 .0) (one (c .before .before .before .before .before .before .before .before .before)) .smaller
+
+loop-again : tie.Need-loop-again Inv-loop μ-loop
+loop-again c = writing-on (now (c .before .before .before .before .before .before .before .before .before .before .before .before .before .before .before .before .before .args .source)) (c .before .before .before .before .before .before .before .before .before .before .before .before .before .before .before .before .before .args .position) (now (c .before .before .before .before .before .before .before .before .before .before .before .before .before .before .before .before .before .args .recs)) (now (c .before .before .before .before .before .before .before .before .before .before .before .before .before .before .before .before .before .args .text)) (c .before .before .before .before .before .before .before .before .before .before .before .before .before .before .before .before .before .pre .1 .0) (c .before .before .before .before .before .before .before .before .before .before .before .before .before .before .before .before .before .pre .1 .1) (c .before .before .before .before .before .before .before .before .before .before .before .before .before .loop .inv) (c .before .before .before .before .before .before .before .before .before .before .r .given .0 .0) (c .before .before .before .before .before .before .before .before .before .before .r .given .0 .1 .0) (one (c .before .before .before .before .before .before .before .before .before)) (c .free-after .result) (c .free-after .ensures) (c .before .before .before .before .before .before .before .put .ensures) (c .before .before .before .put-text .ensures)
+
+enum-told : tie.Need-enum-told Inv-loop μ-loop
+enum-told c = search needs
+
+same-length : tie.Need-same-length Inv-loop μ-loop
+same-length c = recs-length (now (c .before .before .before .before .before .before .before .args .source)) (c .before .before .before .before .before .before .before .args .position) (now (c .before .before .before .before .before .before .before .args .recs)) (now (c .before .before .before .before .before .before .before .args .text)) (c .before .before .before .before .before .before .before .pre .1 .0) (c .before .before .before .before .before .before .before .pre .1 .1) (c .before .before .before .loop .inv)
+
+same-length-2 : tie.Need-same-length-2 Inv-loop μ-loop
+same-length-2 c = text-length (now (c .before .before .before .before .before .before .before .args .source)) (c .before .before .before .before .before .before .before .args .position) (now (c .before .before .before .before .before .before .before .args .recs)) (now (c .before .before .before .before .before .before .before .args .text)) (c .before .before .before .before .before .before .before .pre .1 .0) (c .before .before .before .before .before .before .before .pre .1 .1) (c .before .before .before .loop .inv)
+
+returns : tie.Need-returns Inv-loop μ-loop
+returns c = writing-end (now (c .before .before .before .before .before .before .before .args .source)) (c .before .before .before .before .before .before .before .args .position) (now (c .before .before .before .before .before .before .before .args .recs)) (now (c .before .before .before .before .before .before .before .args .text)) (c .before .before .before .before .before .before .before .pre .1 .0) (c .before .before .before .before .before .before .before .pre .1 .1) (c .before .before .before .loop .inv) (sym (c .enum-told .given .1) ∙ c .before .before .next-item .ensures)
+
+pub write-spec : {M : Type 1} → statement M
+write-spec =
+    tie.close
+    (tie.spec
+    Inv-loop
+    μ-loop
+    loop-holds
+    next-item-requires
+    enum-known-r
+    mul-put
+    sub-put
+    part-put-start
+    part-put-end
+    put-requires
+    sub-put-text
+    part-put-text-start
+    part-put-text-end
+    put-text-requires
+    add-w
+    free-after-requires
+    loop-less
+    loop-again
+    enum-told
+    same-length
+    same-length-2
+    returns)

@@ -1,0 +1,6 @@
+pub mod Reading
+pub mod Opening
+pub mod Answers
+pub mod Text
+pub mod Inner
+pub mod ReadOn

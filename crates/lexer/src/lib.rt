@@ -1,0 +1,84 @@
+// The reader of felling plans over a whole text: `read` writes the records of all items, and their decoded texts, into lent memory;
+// `text_of` hands back an item's text; `open` and `next_at` give one item a call, and so does `Reader`, which holds the source beside its
+// position. Which items a text has is document 01's "An item", defined in crate `items`; what each call answers is in specs/ of this
+// crate and in items/specs/Whole.
+use items::Record;
+use meaning::Range;
+
+pub mod opening;
+pub mod reader;
+pub mod reading;
+pub mod text;
+pub mod whole;
+
+// Where reading stands in a source.
+pub struct Position {
+    // the place of the next character
+    pub at: usize,
+    // the last error range that was set; it is empty where none was
+    pub last: Range,
+    // of the two items of the extent that starts here, the first was given: +foo
+    pub second: bool,
+    // report mode
+    pub report: bool,
+    // comments are skipped
+    pub skip: bool,
+}
+
+// The first character of an item.
+pub enum Start {
+    // the character, its place, and the place past it
+    At(u32, usize, usize),
+    // only blanks are left
+    Nothing,
+}
+
+// What reading on gives.
+pub enum Found {
+    // an item, and the position after it
+    One(Record, Position),
+    End,
+}
+
+// What the items of a text need: records, and bytes of text memory.
+pub struct Needed {
+    pub items: usize,
+    pub text: usize,
+}
+
+// What the whole-text call answers.
+pub enum ReadAnswer {
+    // how many items were written, and how many bytes of decoded text
+    Served(usize, usize),
+    // 25, with the mode
+    NoMode(u32),
+    // 20
+    TooLong,
+    // 21, with the start of the first bad sequence
+    NotUtf8(usize),
+    // 22, with the items and the text bytes needed
+    NoRoom(usize, usize),
+}
+
+// What opening answers.
+pub enum OpenAnswer {
+    Opened(Position),
+    // 25, with the mode
+    NoMode(u32),
+    // 20
+    TooLong,
+    // 21, with the start of the first bad sequence
+    NotUtf8(usize),
+}
+
+// What the reader answers.
+pub enum NextAnswer {
+    // an item, and the position after it
+    Item(Record, Position),
+    // there are no more
+    Finished,
+    // 20
+    TooLong,
+    // 22, with the text bytes needed
+    NoRoom(usize),
+}

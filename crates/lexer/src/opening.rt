@@ -1,0 +1,123 @@
+// Where reading starts.
+use crate::OpenAnswer;
+use crate::Position;
+use chars::Decoded;
+use chars::Utf8;
+use chars::decode_at;
+use chars::first_bad;
+use meaning::Range;
+ghost use mathlib.Core.Path.{_≡_};
+ghost use Prim.Native.Nat.{_≤_};
+ghost use lib.ListN.{length, drop};
+ghost use lib.Dec.{eqb};
+ghost use Rattle.chars.specs.Utf8.{chars};
+ghost use Rattle.items.specs.Whole.{inReport};
+ghost use Rattle.lexer.specs.Opening.{lineEnd, afterHash, startOf, opening, openingOf, openOf};
+
+// The longest text.
+pub const LIMIT: usize = 4294967295;
+
+// Report mode; plain is the one below.
+const REPORT: u32 = 1;
+
+const HASH: u32 = b'#' as u32;
+
+const BANG: u32 = b'!' as u32;
+
+const NEWLINE: u32 = b'\n' as u32;
+
+// No error range was set yet.
+const UNSET: u32 = 0;
+
+// The place of the first newline from a place on, or of the end.
+fn line_end(source: &[u8], from: usize) -> usize
+    ensures { λ r. ⌜ r ≡ lineEnd from (chars (drop from (now (source .entry)))) ⌝ }
+{
+    let mut at = from;
+    loop {
+        match decode_at(source, at) {
+            Decoded::Char { code, next } => {
+                if code == NEWLINE {
+                    return at;
+                }
+                at = next;
+            }
+            Decoded::Bad => {
+                return at;
+            }
+            Decoded::Cut => {
+                return at;
+            }
+            Decoded::End => {
+                return at;
+            }
+        }
+    }
+}
+
+// Where reading starts after a # that begins the text and ends here.
+fn after_hash(source: &[u8], at: usize) -> usize
+    requires { ⌜ at ≡ 1 ⌝ }
+    ensures { λ r. ⌜ r ≡ afterHash (chars (drop at (now (source .entry)))) ⌝ }
+{
+    match decode_at(source, at) {
+        Decoded::Char { code, next } => {
+            if code == BANG {
+                return line_end(source, next);
+            }
+            0
+        }
+        Decoded::Bad => 0,
+        Decoded::Cut => 0,
+        Decoded::End => 0,
+    }
+}
+
+// Where reading starts: at the end of a first line that starts with #!, else at 0.
+fn start_of(source: &[u8]) -> usize
+    ensures { λ r. ⌜ r ≡ startOf (chars (now (source .entry))) ⌝ }
+{
+    match decode_at(source, 0) {
+        Decoded::Char { code, next } => {
+            if code == HASH {
+                return after_hash(source, next);
+            }
+            0
+        }
+        Decoded::Bad => 0,
+        Decoded::Cut => 0,
+        Decoded::End => 0,
+    }
+}
+
+// The position at the start of a source.
+pub fn start(source: &[u8], mode: u32, skip: bool) -> Position
+    ensures { λ r. ⌜ r ≡ opening (now (source .entry)) (inReport mode) skip ⌝ }
+{
+    Position {
+        at: start_of(source),
+        last: Range {
+            from: UNSET,
+            to: UNSET,
+        },
+        second: false,
+        report: mode == REPORT,
+        skip: skip,
+    }
+}
+
+// Opens a source for reading one item a call: a position to read on from, or a refusal.
+pub fn open(source: &[u8], mode: u32, skip: bool) -> OpenAnswer
+    ensures { λ r. ⌜ openingOf r ≡ openOf (now (source .entry)) mode skip ⌝ }
+{
+    if REPORT < mode {
+        return OpenAnswer::NoMode(mode);
+    }
+    if LIMIT < source.len() {
+        return OpenAnswer::TooLong;
+    }
+    match first_bad(source) {
+        Utf8::Good => OpenAnswer::Opened(start(source, mode, skip)),
+        Utf8::Bad(at) => OpenAnswer::NotUtf8(at),
+    }
+}

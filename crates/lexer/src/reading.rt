@@ -1,0 +1,176 @@
+// One item a turn, from a position of the source on.
+use crate::Found;
+use crate::Position;
+use crate::Start;
+use chars::Decoded;
+use chars::decode_at;
+use chars::is_blank;
+use items::Outcome;
+use meaning::Means;
+use meaning::Meant;
+use meaning::Range;
+use meaning::meaning;
+use meaning::places::place;
+use meaning::places::range_after;
+use meaning::records::record_of;
+use steps::first_phase;
+use steps::scan;
+use words::kinds::COMMENT;
+ghost use mathlib.Core.Path.{_≡_};
+ghost use mathlib.Core.Bool.{true, false, _&&_};
+ghost use Prim.Native.Nat.{_+_, _≤_};
+ghost use lib.ListN.{length, drop};
+ghost use lib.Dec.{eqb};
+ghost use Rattle.chars.specs.Utf8.{chars};
+ghost use Rattle.items.specs.Readers.{soFar};
+ghost use Rattle.items.specs.Kinds as kinds;
+ghost use Rattle.items.specs.Items.{placeOf};
+ghost use Rattle.items.specs.Whole.{limit};
+ghost use Rattle.meaning.specs.Places.{placeIn, rangeOf};
+ghost use Rattle.meaning.specs.Records.{recordFor, TextFits};
+ghost use Rattle.lexer.specs.declared.Found.the-variants.{One};
+ghost use Rattle.lexer.specs.Reading.{moved, turnOf, turnAt, turn, nextAt, startFrom, foundOf};
+ghost use Rattle.lexer.specs.Inner.{ExtentFits, First};
+
+// The first character from a place on that is no blank.
+pub fn consume_whitespace(source: &[u8], from: usize) -> Start
+    ensures { λ r. ⌜ r ≡ startFrom from (chars (drop from (now (source .entry)))) ⌝ }
+{
+    let mut at = from;
+    loop {
+        match decode_at(source, at) {
+            Decoded::Char { code, next } => {
+                if is_blank(code) {
+                    at = next;
+                } else {
+                    return Start::At(code, at, next);
+                }
+            }
+            Decoded::Bad => {
+                return Start::Nothing;
+            }
+            Decoded::Cut => {
+                return Start::Nothing;
+            }
+            Decoded::End => {
+                return Start::Nothing;
+            }
+        }
+    }
+}
+
+// Past an extent that ends here, with the last error range then.
+fn past(p: Position, at: usize, last: Range) -> Position
+    ensures { λ r. ⌜ r ≡ moved p at (placeIn last) false ⌝ }
+{
+    Position {
+        at: at,
+        last: last,
+        second: false,
+        report: p.report,
+        skip: p.skip,
+    }
+}
+
+// At the start of an extent, the first of its two items given.
+fn halfway(p: Position, at: usize) -> Position
+    ensures { λ r. ⌜ r ≡ moved p at (placeIn (p .last)) true ⌝ }
+{
+    let last = p.last;
+    Position {
+        at: at,
+        last: last,
+        second: true,
+        report: p.report,
+        skip: p.skip,
+    }
+}
+
+// The item of a meaning, and the position after it.
+fn one(m: Means, extent: Range, last: Range, free: usize, after: Position) -> Found
+    requires { ⌜ TextFits free (m .text) ⌝ }
+    ensures { λ r. ⌜ r ≡ One (recordFor free m extent (rangeOf (placeOf false (m .kind) (placeIn last) (placeIn extent)))) after ⌝ }
+{
+    Found::One(
+        record_of(m, extent, place(m.kind, last, extent), free),
+        after,
+    )
+}
+
+// What an extent gives, by its outcome, its first place and its bytes.
+fn found(p: Position, free: usize, start: usize, what: Outcome, raw: &[u8]) -> Found
+    requires { ⌜ ExtentFits free start (now raw) what ⌝ }
+    ensures { λ r. ⌜ r ≡ foundOf free (turnOf p start what (soFar (now (raw .entry)) (start + length (now (raw .entry))))) ⌝ }
+{
+    let end = start + raw.len();
+    let extent = Range {
+        from: start as u32,
+        to: end as u32,
+    };
+    let before = p.last;
+    let last = range_after(before, what, extent, raw);
+    match meaning(what, start, raw) {
+        Meant::One(m) => one(m, extent, last, free, past(p, end, last)),
+        Meant::Two(m, n) => {
+            if p.second {
+                one(n, extent, last, free, past(p, end, last))
+            } else {
+                one(m, extent, last, free, halfway(p, start))
+            }
+        }
+    }
+}
+
+// The item that starts with a character at a place.
+fn item_at(source: &[u8], p: Position, free: usize, code: u32, at: usize, next: usize) -> Found
+    requires { ⌜ (length (now source) ≤ limit) × (free ≤ at) × First (now source) at code next ⌝ }
+    ensures { λ r. ⌜ r ≡ foundOf free (turnAt p at code (chars (drop next (now (source .entry))))) ⌝ }
+{
+    let scanned = scan(source, p.report, at, next, first_phase(code));
+    let what = scanned.what;
+    let end = scanned.end;
+    found(p, free, at, what, &source[at..end])
+}
+
+// The item at a position, comments too.
+fn turn_at(source: &[u8], p: Position, free: usize) -> Found
+    requires { ⌜ (length (now source) ≤ limit) × (free ≤ p .at) ⌝ }
+    ensures { λ r. ⌜ r ≡ foundOf free (turn (now (source .entry)) p) ⌝ }
+{
+    match consume_whitespace(source, p.at) {
+        Start::At(code, at, next) => item_at(source, p, free, code, at, next),
+        Start::Nothing => Found::End,
+    }
+}
+
+// Whether an item is passed over.
+fn skips(skip: bool, kind: u32) -> bool
+    ensures { λ r. ⌜ r ≡ (skip && eqb kind kinds.Comment) ⌝ }
+{
+    if skip {
+        return kind == COMMENT;
+    }
+    false
+}
+
+// The next item from a position on. Decoded text goes to the place `free` of the text memory.
+pub fn next_item(source: &[u8], position: Position, free: usize) -> Found
+    requires { ⌜ (length (now source) ≤ limit) × (free ≤ position .at) ⌝ }
+    ensures { λ r. ⌜ r ≡ foundOf free (nextAt (now (source .entry)) position) ⌝ }
+{
+    let mut p = position;
+    loop {
+        match turn_at(source, p, free) {
+            Found::One(record, q) => {
+                if skips(p.skip, record.kind) {
+                    p = q;
+                } else {
+                    return Found::One(record, q);
+                }
+            }
+            Found::End => {
+                return Found::End;
+            }
+        }
+    }
+}

@@ -1,0 +1,81 @@
+// The text call: the text of a record, handed back as a part of the source or of the text memory.
+use meaning::records::IN_MEMORY;
+use meaning::records::IN_SOURCE;
+ghost use mathlib.Core.Path.{_≡_};
+ghost use Rattle.lexer.specs.Text.{partOf, within, textIn, textMark};
+
+// The mark of a text that is there, and of one that is not.
+const MARK: u32 = 0;
+
+const NO_TEXT: u32 = 27;
+
+// The part of a slice between two places, or an empty part.
+fn part(s: &[u8], from: usize, to: usize) -> &[u8]
+    ensures { λ r. ⌜ now r ≡ partOf (now (s .entry)) from to ⌝ }
+{
+    if to < from {
+        return &s[..0];
+    }
+    if s.len() < to {
+        return &s[..0];
+    }
+    &s[from..to]
+}
+
+fn part_mark(s: &[u8], from: usize, to: usize) -> u32
+    ensures { λ r. ⌜ r ≡ within (now (s .entry)) from to 0 27 ⌝ }
+{
+    if to < from {
+        return NO_TEXT;
+    }
+    if s.len() < to {
+        return NO_TEXT;
+    }
+    MARK
+}
+
+// The text of a record, by its last three words: a part of one of the two slices, or an empty part where the mark is 27.
+pub fn text_of<'a>(source: &'a [u8], text: &'a [u8], place: u32, start: u32, end: u32) -> &'a [u8]
+    ensures { λ r. ⌜ now r ≡ textIn (now (source .entry)) (now (text .entry)) place start end ⌝ }
+{
+    let from = start as usize;
+    let to = end as usize;
+    if place == IN_SOURCE {
+        return part(source, from, to);
+    }
+    if place == IN_MEMORY {
+        return part(text, from, to);
+    }
+    &source[..0]
+}
+
+// The mark of the text call: 0, or 27.
+pub fn text_mark(source: &[u8], text: &[u8], place: u32, start: u32, end: u32) -> u32
+    ensures { λ r. ⌜ r ≡ textMark (now (source .entry)) (now (text .entry)) place start end ⌝ }
+{
+    let from = start as usize;
+    let to = end as usize;
+    if place == IN_SOURCE {
+        return part_mark(source, from, to);
+    }
+    if place == IN_MEMORY {
+        return part_mark(text, from, to);
+    }
+    NO_TEXT
+}
+
+// Both in one call: the text is the result, the mark is written where the caller lends a number.
+pub fn text_and_mark<'a>(
+    source: &'a [u8],
+    text: &'a [u8],
+    place: u32,
+    start: u32,
+    end: u32,
+    mark: &mut u32,
+) -> &'a [u8]
+    ensures { λ r. ⌜ now r ≡ textIn (now (source .entry)) (now (text .entry)) place start end ⌝ }
+    ensures { λ _. ⌜ now (mark .exit) ≡ textMark (now (source .entry)) (now (text .entry)) place start end ⌝ }
+{
+    *mark = text_mark(source, text, place, start, end);
+    text_of(source, text, place, start, end)
+}

@@ -1,0 +1,142 @@
+// The whole-text call: all items of a source, counted first, then written.
+use crate::Found;
+use crate::Needed;
+use crate::OpenAnswer;
+use crate::Position;
+use crate::ReadAnswer;
+use crate::opening::open;
+use crate::reading::next_item;
+use escapes::decode;
+use items::Quotes;
+use items::Record;
+use meaning::records::IN_MEMORY;
+use meaning::records::WORDS;
+use meaning::records::put;
+use words::kinds::STRING_LITERAL;
+ghost use mathlib.Core.Path.{_≡_};
+ghost use Prim.Native.Nat.{_*_, _≤_, _<_};
+ghost use lib.ListN.{length};
+ghost use Rattle.laws.specs.Lent.{written};
+ghost use Rattle.items.specs.Items.{records, recordWords, texts};
+ghost use Rattle.items.specs.Whole.{call, deliver, limit, readOf};
+ghost use Rattle.lexer.specs.Reading.{allItems};
+ghost use Rattle.lexer.specs.Answers.{answerOf};
+ghost use Rattle.lexer.specs.Inner.{neededOf, quotesOf, bytesFor, freeAfter};
+
+// How many bytes a quote is.
+const QUOTE: usize = 1;
+
+// The quotes of an item with decoded text, by its kind.
+fn quotes(kind: u32) -> Quotes
+    ensures { λ r. ⌜ r ≡ quotesOf kind ⌝ }
+{
+    if kind == STRING_LITERAL {
+        return Quotes::Double;
+    }
+    Quotes::Lines
+}
+
+// The first free byte of the text memory after an item.
+pub fn free_after(free: usize, r: Record) -> usize
+    ensures { λ n. ⌜ n ≡ freeAfter free r ⌝ }
+{
+    if r.source == IN_MEMORY {
+        return r.past as usize;
+    }
+    free
+}
+
+// The decoded text of an item, if it has one, into the text memory that is still free.
+pub fn put_text(source: &[u8], r: Record, free: &mut [u8])
+    requires { ⌜ (r .start < r .end) × (r .end ≤ length (now source)) × (length (bytesFor (now source) r) ≤ length (now free)) ⌝ }
+    ensures { λ _. ⌜ now (free .exit) ≡ written (bytesFor (now (source .entry)) r) (now (free .entry)) ⌝ }
+{
+    if r.source == IN_MEMORY {
+        let start = r.start as usize;
+        let end = r.end as usize;
+        decode(&source[start..end], QUOTE, quotes(r.kind), free);
+    }
+}
+
+// The items from a position on, and the bytes of their decoded texts.
+fn count(source: &[u8], position: Position) -> Needed
+    requires { ⌜ length (now source) ≤ limit ⌝ }
+    ensures { λ r. ⌜ r ≡ neededOf (allItems (now (source .entry)) position) ⌝ }
+{
+    let mut p = position;
+    let mut free: usize = 0;
+    let mut n: usize = 0;
+    loop {
+        match next_item(source, p, free) {
+            Found::One(r, q) => {
+                n = n + 1;
+                free = free_after(free, r);
+                p = q;
+            }
+            Found::End => {
+                return Needed {
+                    items: n,
+                    text: free,
+                };
+            }
+        }
+    }
+}
+
+// Writes the records of the items from a position on, and their decoded texts.
+fn write(source: &[u8], position: Position, recs: &mut [u32], text: &mut [u8])
+    requires { ⌜ length (now source) ≤ limit ⌝ }
+    requires { ⌜ recordWords * length (allItems (now source) position) ≤ length (now recs) ⌝ }
+    requires { ⌜ length (texts (allItems (now source) position)) ≤ length (now text) ⌝ }
+    ensures { λ _. ⌜ now (recs .exit) ≡ written (records 0 (allItems (now (source .entry)) position)) (now (recs .entry)) ⌝ }
+    ensures { λ _. ⌜ now (text .exit) ≡ written (texts (allItems (now (source .entry)) position)) (now (text .entry)) ⌝ }
+{
+    let mut p = position;
+    let mut free: usize = 0;
+    let mut w: usize = 0;
+    loop {
+        match next_item(source, p, free) {
+            Found::One(r, q) => {
+                put(&mut recs[w..], r);
+                put_text(source, r, &mut text[free..]);
+                w = w + WORDS;
+                free = free_after(free, r);
+                p = q;
+            }
+            Found::End => {
+                return;
+            }
+        }
+    }
+}
+
+// The items from a position on into lent memory, if they fit.
+fn deliver(source: &[u8], position: Position, recs: &mut [u32], text: &mut [u8]) -> ReadAnswer
+    requires { ⌜ length (now source) ≤ limit ⌝ }
+    ensures { λ r. ⌜ call (answerOf r) (now (recs .exit)) (now (text .exit)) ≡ deliver (allItems (now (source .entry)) position) (now (recs .entry)) (now (text .entry)) ⌝ }
+{
+    let needed = count(source, position);
+    let items = needed.items;
+    let bytes = needed.text;
+    if recs.len() / WORDS < items {
+        return ReadAnswer::NoRoom(items, bytes);
+    }
+    if text.len() < bytes {
+        return ReadAnswer::NoRoom(items, bytes);
+    }
+    write(source, position, recs, text);
+    ReadAnswer::Served(items, bytes)
+}
+
+// All items of a source: their records, and their decoded texts, in lent memory. Mode 0 is plain and 1 report; comments are left out
+// where `skip` is true.
+pub fn read(source: &[u8], mode: u32, skip: bool, recs: &mut [u32], text: &mut [u8]) -> ReadAnswer
+    ensures { λ r. ⌜ call (answerOf r) (now (recs .exit)) (now (text .exit)) ≡ readOf (now (source .entry)) mode skip (now (recs .entry)) (now (text .entry)) ⌝ }
+{
+    match open(source, mode, skip) {
+        OpenAnswer::Opened(position) => deliver(source, position, recs, text),
+        OpenAnswer::NoMode(m) => ReadAnswer::NoMode(m),
+        OpenAnswer::TooLong => ReadAnswer::TooLong,
+        OpenAnswer::NotUtf8(at) => ReadAnswer::NotUtf8(at),
+    }
+}
