@@ -12,9 +12,23 @@ pub struct Reader<'a> {
     pub position: Position,
 }
 
+// A reader of a source, at a position: the one that `lexer::open` gave, or that came with an item.
+pub fn hold<'a>(source: &'a [u8], position: Position) -> Reader<'a>
+    ensures { λ r. ⌜ (r .source ≡ source .entry) × (r .position ≡ position) ⌝ }
+{
+    Reader { source, position }
+}
+
 // The next item. The caller goes on from the position that comes with it; the reader itself stays where it is.
 pub fn next<'a>(r: Reader<'a>, text: &mut [u8]) -> NextAnswer
     ensures { λ t. ⌜ replied (replyOf t) (now (text .exit)) ≡ nextOf (now (r .entry .source)) (r .entry .position) (now (text .entry)) ⌝ }
 {
     next_at(r.source, r.position, text)
+}
+
+// The same for callers that hold no reader: a reader is made, and its next item is given.
+pub fn next_of(source: &[u8], position: Position, text: &mut [u8]) -> NextAnswer
+    ensures { λ t. ⌜ replied (replyOf t) (now (text .exit)) ≡ nextOf (now (source .entry)) position (now (text .entry)) ⌝ }
+{
+    next(hold(source, position), text)
 }
