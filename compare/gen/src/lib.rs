@@ -60,7 +60,7 @@ pub const FAMILIES: &[Family] = &[
     lists("hashes", "# and up to 4 of 31 characters", short::hashes),
     lists("here", "#<< and up to 7 of 8 characters", short::here),
     lists("comments", "all texts of up to 8 of 6 characters that make comments", short::comments),
-    lists("numbers", "all texts of up to 6 of 16 characters that make numbers", short::numbers),
+    lists("numbers", "all texts of up to 6 of 17 characters that make numbers", short::numbers),
     lists("bytes", "all byte sequences of up to 3 bytes", short::bytes),
     lists("long", "every kind of item, 4,090 to 4,102 bytes long", long::texts),
     draws("reals", "numbers by their grammar, some damaged", real::texts),

@@ -58,7 +58,7 @@ pub fn comments(_: &mut Random, sink: &mut Sink) {
     all("", &["#", "|", ";", "\n", "a", "\""], 8, sink);
 }
 
-const IN_NUMBERS: &[&str] = &["0", "1", "9", "+", "-", ".", "e", "E", "/", "i", "@", "#", "x", "b", "a", "é"];
+const IN_NUMBERS: &[&str] = &["0", "1", "9", "+", "-", ".", "e", "E", "/", "i", "@", "#", "x", "b", "a", "_", "é"];
 
 pub fn numbers(_: &mut Random, sink: &mut Sink) {
     all("", IN_NUMBERS, 6, sink);

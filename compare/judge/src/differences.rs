@@ -38,9 +38,6 @@ pub fn listed(text: &str, rust: &Called) -> Option<&'static str> {
 pub fn judge(options: &Options) -> Count {
     let mut count = Count::default();
     count.add(smallest());
-    for name in ["numbers", "reals"] {
-        count.add(panics(name, options));
-    }
     count.add(skipped_comments());
     if options.huge {
         count.add(wrapped_places());
@@ -75,20 +72,6 @@ fn smallest() -> Count {
         tally.same(zeros, 1, || shown(text.as_bytes()));
         tally.know("A5");
     }
-    tally.close()
-}
-
-/// The Rust's number call panics only where A2 says so.
-fn panics(name: &'static str, options: &Options) -> Count {
-    let mut tally = Tally::between(SIDES, format!("differences number call, {name}"));
-    options.each_text(name, &mut |text| {
-        let rust = rust_number(text);
-        let known = listed(text, &rust);
-        if let Some(known) = known {
-            tally.know(known);
-        }
-        tally.same(rust == Called::Panicked, known == Some("A2"), || shown(text.as_bytes()));
-    });
     tally.close()
 }
 
