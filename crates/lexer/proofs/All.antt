@@ -3,25 +3,23 @@
 use Rattle.chars.specs.Utf8.{chars}
 use Rattle.items.specs.Kinds as kind
 use Rattle.items.specs.Readers.{Read, readItem}
-use Rattle.items.specs.Items.{Place, Item, extentItems, rangeAfter, itemsFrom, kept}
-use Rattle.items.proofs.Splits.{read-forward}
+use Rattle.items.specs.Items.{Item, kept}
 use Rattle.meaning.specs.Places.{placeIn}
-use Rattle.laws.specs.Choice.{if_then_else_}
 use Rattle.laws.proofs.Choice.{by-bool}
-use Rattle.lexer.specs.Reading.{Turn, gives, ends, turnOf, turnAt, turn, startFrom, sizeOf, keep, nextFrom, nextAt, andThen, allFrom, allItems}
+use Rattle.lexer.specs.Reading.{Turn, gives, ends, turnOf, turn, startFrom, sizeOf, nextAt, andThen, allFrom, allItems}
 use Rattle.lexer.specs.declared.Position.{Position}
 use Rattle.lexer.specs.declared.Start.{Start}
 use Rattle.lexer.specs.declared.Start.the-variants.{At, Nothing}
-use Rattle.lexer.proofs.Left.{Left, left-here}
+use Rattle.lexer.proofs.Left.{left-here}
 use Rattle.lexer.proofs.Turns.{itemsOn, Started, started, none-started}
 use Rattle.lexer.proofs.Cases.{past, halfway, both, by-turn, turn-here}
 use Rattle.lexer.proofs.Moves.{Moved, turn-moved}
 use Rattle.lexer.proofs.Nexts.{next-at-skips, next-at-gives, next-at-ends}
-use Prim.Native.Nat.{ℕ, zero, suc, _+_, _-_, _*_, _≤_, _<_}
-use mathlib.Core.Path.{_≡_, refl, sym, ap, _∙_, subst}
+use Prim.Native.Nat.{ℕ, zero, suc, _+_, _-_, _<_}
+use mathlib.Core.Path.{_≡_, refl, sym, ap, _∙_}
 use mathlib.Core.Bool.{Bool, true, false, _&&_}
 use mathlib.Core.List.{List, [], _∷_, _++_}
-use lib.ListN.{length, drop}
+use lib.ListN.{drop}
 use lib.Dec.{eqb}
 use native.Mathlib.Omega.{arith}
 

@@ -2,16 +2,16 @@
 use Rattle.chars.specs.Utf8.{chars}
 use Rattle.chars.specs.Blank.{isBlank}
 use Rattle.items.specs.Readers.{SoFar}
-use Rattle.items.specs.Items.{Place, Item, rangeAfter, extentItems}
+use Rattle.items.specs.Items.{Item, rangeAfter, extentItems}
 use Rattle.items.specs.declared.Outcome.{Outcome}
 use Rattle.items.proofs.Few.{OneOrTwo, few-items}
 use Rattle.laws.proofs.Choice.{by-bool}
 use Rattle.meaning.specs.Places.{placeIn}
-use Rattle.lexer.specs.Reading.{Turn, gives, ends, moved, pick, turnOf, turnAt, turnFrom, turn}
+use Rattle.lexer.specs.Reading.{gives, moved, turnOf, turnAt, turnFrom, turn}
 use Rattle.lexer.specs.declared.Position.{Position}
 use Prim.Native.Nat.{ℕ}
-use mathlib.Core.Path.{_≡_, refl, sym, ap, _∙_}
-use mathlib.Core.Bool.{Bool, true, false}
+use mathlib.Core.Path.{_≡_, refl, ap, _∙_}
+use mathlib.Core.Bool.{true, false}
 use mathlib.Core.List.{List, [], _∷_}
 use lib.ListN.{drop}
 use native.Mathlib.Omega.{arith}

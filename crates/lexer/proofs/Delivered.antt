@@ -1,21 +1,21 @@
 -- What is delivered, by the tests of the code; and the reader's replies.
 use Rattle.laws.specs.Lent.{written}
-use Rattle.items.specs.Items.{Item, recordWords, recordOf, wordsOf, memoryOf, records, texts}
-use Rattle.items.specs.Whole.{Call, call, served, refused, limit, deliver}
+use Rattle.items.specs.Items.{Item, recordWords, wordsOf, memoryOf, records, texts}
+use Rattle.items.specs.Whole.{call, served, refused, limit, deliver}
 use Rattle.items.specs.declared.Record.{Record}
 use Rattle.meaning.specs.Records.{packed}
 use Rattle.lexer.specs.Reading.{Turn, gives, ends, nextAt, foundOf}
-use Rattle.lexer.specs.Answers.{Reply, item, finished, refuses, replied, giveOf, nextOf}
+use Rattle.lexer.specs.Answers.{item, finished, refuses, replied, giveOf, nextOf}
 use Rattle.lexer.specs.Inner.{neededOf, bytesFor, freeAfter}
 use Rattle.lexer.specs.declared.Position.{Position}
 use Rattle.lexer.specs.declared.Needed.{Needed}
 use Rattle.lexer.specs.declared.Found.the-variants.{One, End}
-use Rattle.lexer.proofs.Moves.{Moved, Whole}
+use Rattle.lexer.proofs.Moves.{Whole}
 use Rattle.lexer.proofs.Nexts.{found-gives, found-ends, next-moved}
 use Rattle.lexer.proofs.Memory.{words-packed, free-packed, bytes-packed}
 use Rattle.lexer.proofs.Writing.{record-fits}
 use Prim.Native.Nat.{ℕ, _+_, _*_, _/_, _≤_, _<_}
-use mathlib.Core.Path.{_≡_, refl, sym, ap, _∙_}
+use mathlib.Core.Path.{_≡_, sym, ap, _∙_}
 use mathlib.Core.List.{List}
 use lib.ListN.{length}
 use native.Mathlib.Omega.{arith}

@@ -1,13 +1,13 @@
 -- What the code makes of an extent is what the definition gives: its one meaning or two are the definition's, and a record built of a
 -- meaning is the record of its item.
-use Rattle.items.specs.Readers.{SoFar, soFar}
+use Rattle.items.specs.Readers.{soFar}
 use Rattle.items.specs.Meaning.{Text, none, source, decoded, Meaning, means, meaningOf}
 use Rattle.items.specs.Items.{Place, range, placeOf, Item, itemOf, itemsOf, rangeAfter, extentItems}
 use Rattle.items.specs.declared.Outcome.{Outcome}
 use Rattle.items.specs.declared.Record.{Record}
 use Rattle.meaning.specs.declared.Range.{Range}
 use Rattle.meaning.specs.declared.Means.{Means}
-use Rattle.meaning.specs.Meant.{sized, sizedAll, sizedText}
+use Rattle.meaning.specs.Meant.{sized, sizedAll}
 use Rattle.meaning.specs.Places.{placeIn, rangeOf}
 use Rattle.meaning.specs.Records.{packed, recordFor, TextFits}
 use Rattle.lexer.specs.Reading.{Turn, gives, moved, pick, turnOf, foundOf}

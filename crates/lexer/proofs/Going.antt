@@ -2,11 +2,10 @@
 use Rattle.items.specs.Items.{Item, memoryOf, texts}
 use Rattle.items.specs.declared.Record.{Record}
 use Rattle.meaning.specs.Records.{packed}
-use Rattle.lexer.specs.Reading.{Turn, gives, ends, sizeOf, nextAt, allFrom, allItems, foundOf}
+use Rattle.lexer.specs.Reading.{gives, sizeOf, nextAt, allFrom, allItems, foundOf}
 use Rattle.lexer.specs.Inner.{freeAfter, neededOf}
 use Rattle.lexer.specs.declared.Position.{Position}
 use Rattle.lexer.specs.declared.Needed.{Needed}
-use Rattle.lexer.specs.declared.Found.{Found}
 use Rattle.lexer.specs.declared.Found.the-variants.{One, End}
 use Rattle.lexer.proofs.All.{all-gives, all-ends}
 use Rattle.lexer.proofs.Moves.{Moved}

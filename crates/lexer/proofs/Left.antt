@@ -10,7 +10,7 @@ use Rattle.items.proofs.Cases.{by-next}
 use Rattle.items.proofs.Same.{item-same}
 use Rattle.lexer.proofs.Here.{Here, char-here}
 use Prim.Native.Nat.{ℕ, _+_, _-_, _≤_}
-use mathlib.Core.Path.{_≡_, refl, sym, ap, _∙_}
+use mathlib.Core.Path.{_≡_, sym, ap, _∙_}
 use mathlib.Core.Bool.{Bool}
 use mathlib.Core.List.{List, [], _∷_, _++_}
 use lib.ListN.{length, take, drop}

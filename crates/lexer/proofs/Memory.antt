@@ -2,14 +2,13 @@
 -- text is and where the text memory is free after it.
 use Rattle.items.specs.Meaning.{Text, none, source, decoded}
 use Rattle.items.specs.Items.{Item, recordOf, wordsOf, memoryOf, records, texts}
-use Rattle.items.specs.declared.Record.{Record}
 use Rattle.meaning.specs.Records.{packed}
-use Rattle.lexer.specs.Inner.{bytesFor, freeAfter, quotesOf}
+use Rattle.lexer.specs.Inner.{bytesFor, freeAfter}
 use Rattle.lexer.proofs.Left.{part}
 use Rattle.lexer.proofs.Spelled.{SpelledText}
 use Rattle.lexer.proofs.Moves.{Whole}
 use Prim.Native.Nat.{ℕ, _+_, _-_}
-use native.Mathlib.Nat.{add-assoc, add-zero}
+use native.Mathlib.Nat.{add-zero}
 use native.Mathlib.Omega.{arith}
 use mathlib.Core.Path.{_≡_, refl, sym, ap, _∙_}
 use mathlib.Core.List.{List, [], _∷_, _++_, append-assoc, append-nil}

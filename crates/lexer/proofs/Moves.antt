@@ -3,15 +3,14 @@
 use Rattle.chars.specs.Utf8.{chars}
 use Rattle.items.specs.Readers.{Read, SoFar, readItem}
 use Rattle.items.specs.Meaning.{Text, none, source, decoded, Meaning, meaningOf}
-use Rattle.items.specs.Items.{Place, Item, itemOf, itemsOf, rangeAfter, extentItems, memoryOf}
+use Rattle.items.specs.Items.{Place, Item, itemsOf, rangeAfter, extentItems, memoryOf}
 use Rattle.items.specs.declared.Outcome.{Outcome}
 use Rattle.items.proofs.Every.{Every}
 use Rattle.items.proofs.Meanings.{Inside, Meant}
 use Rattle.items.proofs.Splits.{read-forward}
 use Rattle.meaning.specs.Places.{placeIn}
-use Rattle.laws.proofs.Choice.{if-all}
 use Rattle.laws.specs.Choice.{if_then_else_}
-use Rattle.lexer.specs.Reading.{Turn, gives, ends, moved, turnOf, turnAt, turnFrom, turn, startFrom, sizeOf}
+use Rattle.lexer.specs.Reading.{gives, ends, turnOf, turn, startFrom, sizeOf}
 use Rattle.lexer.specs.declared.Position.{Position}
 use Rattle.lexer.specs.declared.Start.{Start}
 use Rattle.lexer.specs.declared.Start.the-variants.{At, Nothing}
@@ -20,9 +19,9 @@ use Rattle.lexer.proofs.Turns.{Started, started, none-started}
 use Rattle.lexer.proofs.Extents.{Any, extent-made}
 use Rattle.lexer.proofs.Cases.{past, halfway, both, by-turn}
 use Rattle.lexer.proofs.Spelled.{SpelledText, Spelled, spelled, front-bare}
-use Prim.Native.Nat.{ℕ, _+_, _-_, _*_, _≤_, _<_}
+use Prim.Native.Nat.{ℕ, _+_, _-_, _≤_, _<_}
 use mathlib.Core.Path.{_≡_, refl, sym, ap, _∙_, subst}
-use mathlib.Core.Bool.{Bool, true, false}
+use mathlib.Core.Bool.{Bool, false}
 use mathlib.Core.List.{List, [], _∷_}
 use lib.ListN.{length, drop}
 use native.Mathlib.Omega.{arith}

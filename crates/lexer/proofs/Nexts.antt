@@ -4,14 +4,13 @@ use Rattle.items.specs.Items.{Item}
 use Rattle.items.specs.declared.Record.{Record}
 use Rattle.meaning.specs.Records.{packed}
 use Rattle.laws.proofs.Choice.{by-bool}
-use Rattle.lexer.specs.Reading.{Turn, gives, ends, turn, sizeOf, keep, nextFrom, nextAt, foundOf}
+use Rattle.lexer.specs.Reading.{Turn, gives, ends, turn, sizeOf, nextFrom, nextAt, foundOf}
 use Rattle.lexer.specs.declared.Position.{Position}
-use Rattle.lexer.specs.declared.Found.{Found}
 use Rattle.lexer.specs.declared.Found.the-variants.{One, End}
 use Rattle.lexer.proofs.Moves.{Moved, turn-moved}
 use Prim.Native.Nat.{ℕ, zero, suc, _≤_, _<_}
 use mathlib.Core.Path.{_≡_, refl, sym, ap, _∙_}
-use mathlib.Core.Bool.{Bool, true, false, _&&_}
+use mathlib.Core.Bool.{true, false, _&&_}
 use mathlib.Core.List.{List}
 use lib.Dec.{eqb}
 use native.Mathlib.Omega.{arith}

@@ -2,7 +2,7 @@
 use Rattle.laws.specs.Lent.{written}
 use Rattle.chars.specs.Utf8.{chars}
 use Rattle.items.specs.Meaning.{Text, none, source, decoded}
-use Rattle.items.specs.Items.{Item, items, kept, textWords, recordOf, memoryOf, records, texts, byteCount}
+use Rattle.items.specs.Items.{Item, items, textWords, recordOf, memoryOf, records, texts, byteCount}
 use Rattle.items.specs.Whole.{inReport, itemsIn}
 use Rattle.items.proofs.Every.{Every}
 use Rattle.items.proofs.Order.{items-placed}
@@ -12,7 +12,7 @@ use Rattle.items.proofs.Skipped.{kept-every}
 use Rattle.lexer.specs.Text.{textIn, textMark}
 use Rattle.lexer.proofs.Here.{room}
 use Rattle.lexer.proofs.Memory.{texts-join, records-join}
-use Prim.Native.Nat.{ℕ, _+_, _-_, _≤_, _<_}
+use Prim.Native.Nat.{ℕ, _+_, _-_, _≤_}
 use mathlib.Core.Path.{_≡_, refl, sym, ap, _∙_, subst}
 use mathlib.Core.Bool.{Bool}
 use mathlib.Core.List.{List, [], _∷_, _++_, append-assoc}

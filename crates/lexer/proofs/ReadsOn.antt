@@ -1,20 +1,19 @@
 -- Reading all items with the reader gives the records of the whole-text call, but that every decoded text starts at 0 of the text memory.
-use Rattle.laws.specs.Choice.{if_then_else_}
 use Rattle.items.specs.Items.{Item, recordOf, memoryOf}
 use Rattle.items.specs.Whole.{limit, inReport, itemsIn}
 use Rattle.lexer.specs.Opening.{opening}
 use Rattle.lexer.specs.Reading.{Turn, gives, ends, sizeOf, nextAt, allFrom, allItems}
-use Rattle.lexer.specs.Answers.{Reply, item, finished, Replied, giveOf, nextOf}
+use Rattle.lexer.specs.Answers.{Reply, item, finished, giveOf, nextOf}
 use Rattle.lexer.specs.ReadOn.{follow, readFrom, readOn}
 use Rattle.lexer.specs.declared.Position.{Position}
 use Rattle.lexer.proofs.All.{all-gives, all-ends}
 use Rattle.lexer.proofs.Moves.{Moved}
 use Rattle.lexer.proofs.Nexts.{next-moved}
 use Rattle.lexer.proofs.Opens.{reads-all}
-use Prim.Native.Nat.{ℕ, zero, suc, _≤_, _<_}
+use Prim.Native.Nat.{ℕ, zero, suc, _≤_}
 use mathlib.Core.Path.{_≡_, refl, sym, ap, _∙_}
 use mathlib.Core.Bool.{Bool}
-use mathlib.Core.List.{List, [], _∷_, map}
+use mathlib.Core.List.{List, _∷_, map}
 use lib.ListN.{length}
 use native.Mathlib.Omega.{arith}
 use borrow.Author.Tests.{le-leb, le-ltb}

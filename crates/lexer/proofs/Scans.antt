@@ -1,6 +1,6 @@
 -- The scan of an item that starts at a place is the definition's reader there.
 use Rattle.chars.specs.Utf8.{chars}
-use Rattle.chars.specs.Encode.{width, utf8}
+use Rattle.chars.specs.Encode.{utf8}
 use Rattle.items.specs.Classes.{First, semicolon, quote, comma, hash, number, single, vertical, backslash, wordy, firstOf}
 use Rattle.items.specs.Readers.{SoFar, soFar, eat, Read, readItem}
 use Rattle.items.specs.Machine.{onFirst, scanOf, depthOf}

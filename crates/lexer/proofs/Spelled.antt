@@ -1,13 +1,13 @@
 -- A decoded text is what the decoder makes of its item's extent, by the quotes that its kind tells.
 use Rattle.items.specs.Kinds as kind
-use Rattle.items.specs.Meaning.{Text, none, source, decoded, Meaning, one, escaped, unescape, wordKind, wordMeans, runMeans, stringText, linedText, hereText, characterMeans, characterOf, charInside, meaningOf}
+use Rattle.items.specs.Meaning.{Text, none, source, decoded, Meaning, escaped, unescape, wordKind, wordMeans, runMeans, stringText, linedText, hereText, characterMeans, characterOf, charInside, meaningOf}
 use Rattle.items.specs.Readers.{SoFar, firstIs}
 use Rattle.items.specs.Items.{Place, Item, itemsOf, rangeAfter, extentItems, memoryOf}
 use Rattle.items.specs.declared.Outcome.{Outcome}
 use Rattle.items.specs.declared.Outcome.the-variants.{Token, Str, HereStr, Word, Run, Lined, Keyword, Character, Error, ErrorAt}
 use Rattle.items.specs.declared.CharValue.{CharValue}
 use Rattle.items.specs.declared.CharValue.the-variants.{Scalar, Wrong}
-use Rattle.items.specs.declared.Quotes.the-variants.{Double, Lines}
+use Rattle.items.specs.declared.Quotes.the-variants.{Lines}
 use Rattle.items.proofs.Every.{Every}
 use Rattle.numbers.specs.Grammar.{parseNumber}
 use Rattle.numbers.specs.declared.Parsed.{Parsed}

@@ -1,16 +1,14 @@
 -- The first character that is no blank, a character at a time.
 use Rattle.chars.specs.Utf8.{front, placed, chars}
-use Rattle.chars.specs.Encode.{width}
 use Rattle.chars.specs.Blank.{isBlank}
 use Rattle.chars.specs.declared.Decoded.{Decoded}
 use Rattle.chars.specs.declared.Decoded.the-variants as decoded
 use Rattle.chars.proofs.Chars.{CharAt, nothing-at}
 use Rattle.lexer.specs.Reading.{startFrom}
-use Rattle.lexer.specs.declared.Start.{Start}
 use Rattle.lexer.specs.declared.Start.the-variants.{At, Nothing}
 use Rattle.lexer.proofs.Here.{char-found}
-use Prim.Native.Nat.{ℕ, _+_}
-use mathlib.Core.Path.{_≡_, refl, sym, ap, _∙_}
+use Prim.Native.Nat.{ℕ}
+use mathlib.Core.Path.{_≡_, sym, ap, _∙_}
 use mathlib.Core.Bool.{true, false}
 use mathlib.Core.List.{List}
 use lib.ListN.{drop}

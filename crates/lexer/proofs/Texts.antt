@@ -4,7 +4,7 @@ use Rattle.items.specs.declared.Quotes.{Quotes}
 use Rattle.items.specs.declared.Record.{Record}
 use Rattle.lexer.specs.Inner.{bytesFor, quotesOf}
 use Prim.Native.Nat.{ℕ, _-_, _≤_, _<_}
-use mathlib.Core.Path.{_≡_, ap}
+use mathlib.Core.Path.{_≡_}
 use mathlib.Core.List.{List, []}
 use lib.ListN.{length, take, drop, length-drop}
 use lib.Seq.{length-take-le}

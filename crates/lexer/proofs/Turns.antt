@@ -9,12 +9,11 @@ use Rattle.items.proofs.Run.{turns-enough, read-left}
 use Rattle.laws.proofs.Choice.{by-bool}
 use Rattle.lexer.specs.Reading.{ends, turnAt, turnFrom, turn, startFrom}
 use Rattle.lexer.specs.declared.Position.{Position}
-use Rattle.lexer.specs.declared.Start.{Start}
 use Rattle.lexer.specs.declared.Start.the-variants.{At, Nothing}
 use Rattle.lexer.proofs.Here.{Here, char-here}
 use Prim.Native.Nat.{ℕ, _+_, _≤_}
 use mathlib.Core.Path.{_≡_, refl, sym, ap, _∙_}
-use mathlib.Core.Bool.{Bool, true, false}
+use mathlib.Core.Bool.{Bool, false}
 use mathlib.Core.List.{List, [], _∷_, _++_}
 use lib.ListN.{length, drop}
 use native.Mathlib.Omega.{arith}

@@ -1,7 +1,7 @@
-// The reader of felling plans over a whole text: `read` writes the records of all items, and their decoded texts, into lent memory;
-// `text_of` hands back an item's text; `open` and `next_at` give one item a call, and so does `Reader`, which holds the source beside its
-// position. Which items a text has is document 01's "An item", defined in crate `items`; what each call answers is in specs/ of this
-// crate and in items/specs/Whole.
+// The reader of felling plans over a whole text. `read` writes the records of all items, and their decoded texts, into lent memory;
+// `text_of`, `text_mark` and `text_and_mark` hand back an item's text; `open` and `next_at` give one item a call, and crate `reader` holds
+// the source beside its position. Which items a text has is document 01's "An item", defined in crate `items`; what each call answers is
+// defined in specs/ of this crate and in items/specs/Whole.
 use items::Record;
 use meaning::Range;
 

@@ -6,9 +6,8 @@ use Rattle.chars.specs.Encode.{isScalar}
 use Rattle.digits.specs.Hex.{hexValue}
 use Rattle.digits.specs.declared.Hex.{Hex}
 use Rattle.digits.specs.declared.Hex.the-variants as hex
-use Rattle.items.specs.Kinds as kind
 use Rattle.items.specs.Readers.{firstIs, lastIs, scalarOf}
-use Rattle.items.specs.Meaning.{lookup, charNames, lower, unnamed, noName, onlyOne, hexNamed, spelledOut, characterOf}
+use Rattle.items.specs.Meaning.{lookup, charNames, lower, unnamed, onlyOne, hexNamed, spelledOut, characterOf}
 use Rattle.items.specs.declared.CharValue.{CharValue}
 use Rattle.items.specs.declared.CharValue.the-variants.{Scalar, Wrong}
 use Rattle.meaning.specs.Meant.{lastError}

@@ -1,5 +1,5 @@
 -- Places as the code holds them.
-use Prim.Native.Nat.{ℕ, _≤_, _^_, _<_}
+use Prim.Native.Nat.{ℕ}
 use Rattle.items.specs.Items.{Place, range}
 use Rattle.items.specs.declared.Outcome.{Outcome}
 use Rattle.items.specs.declared.Outcome.the-variants.{Token, Str, HereStr, Word, Run, Lined, Keyword, Character, Error, ErrorAt}

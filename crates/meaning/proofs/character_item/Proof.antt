@@ -1,11 +1,8 @@
 -- Each answer of the character reader is a case of the definition; what is wrong has one of 01's numbers, so the kind fits a word.
 use Rattle.meaning.proofs.Errors.{wrong-numbered}
-use Rattle.items.specs.Meaning.{characterOf}
-use Prim.Native.Nat.{ℕ}
-use mathlib.Core.List.{List}
 use denote.Ref.{now}
 use native.Mathlib.Omega.{arith}
-use mathlib.Core.Path.{sym, _∙_, ap}
+use mathlib.Core.Path.{sym, _∙_}
 use borrow.Author.Needs.{needs}
 use Rattle.meaning.proofs.character_item.Statement.{statement}
 use Rattle.meaning.proofs.character_item.Tie as tie

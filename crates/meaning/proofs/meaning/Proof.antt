@@ -1,7 +1,7 @@
 -- Each outcome is a case of the definition; an error's number is one of 01's, so its kind fits a word.
 use Rattle.meaning.specs.Meant.{errorOf}
 use native.Mathlib.Omega.{arith}
-use mathlib.Core.Path.{sym, _∙_, ap}
+use mathlib.Core.Path.{ap}
 use borrow.Author.Needs.{needs}
 use Rattle.meaning.proofs.meaning.Statement.{statement}
 use Rattle.meaning.proofs.meaning.Tie as tie

@@ -1,8 +1,6 @@
 -- The first byte is asked for only where there is a second.
 use Rattle.meaning.proofs.Both.{and-no, and-yes}
-use mathlib.Core.Bool.{_&&_, true, false}
 use borrow.Author.Tests.{le-ltb, lt-ltb}
-use native.Mathlib.Omega.{arith}
 use borrow.Author.Needs.{needs}
 use Rattle.meaning.proofs.splits.Statement.{statement}
 use Rattle.meaning.proofs.splits.Tie as tie

@@ -1,8 +1,7 @@
 -- The tests go by the definition's order: a word of the table, a plus with more, any other word.
-use Rattle.meaning.specs.Meant.{meant}
 use Rattle.items.specs.Meaning.{wordMeans}
 use borrow.Author.Tests.{eq-eqb, ne-eqb}
-use mathlib.Core.Path.{sym, _∙_, ap}
+use mathlib.Core.Path.{sym, _∙_}
 use borrow.Author.Needs.{needs}
 use Rattle.meaning.proofs.word.Statement.{statement}
 use Rattle.meaning.proofs.word.Tie as tie

@@ -1,6 +1,5 @@
 -- Each return is a case of the definition: the source is too long, the end, a text that does not fit, an item.
-use mathlib.Core.Path.{_≡_, sym, _∙_}
-use Prim.Native.Nat.{ℕ}
+use mathlib.Core.Path.{sym, _∙_}
 use native.Mathlib.Omega.{arith}
 use denote.Ref.{now}
 use Rattle.lexer.proofs.Delivered.{reply-long, reply-end, reply-room, reply-fits, reply-item}

@@ -1,6 +1,5 @@
 -- What is left to find from each position on is what was to find from the first: a skipped comment is passed over, any other item is the answer.
 use mathlib.Core.Path.{sym, _∙_}
-use native.Mathlib.Omega.{arith}
 use denote.Ref.{now}
 use Rattle.lexer.specs.Reading.{sizeOf, turn}
 use Rattle.lexer.proofs.Nexts.{Seeking, seeking, seeks-moved, seeks-on, seeks-given, seeks-end, found-ends}

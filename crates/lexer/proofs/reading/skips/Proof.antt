@@ -1,5 +1,4 @@
 -- Only where comments are skipped is the kind asked for.
-use borrow.Author.Needs.{needs}
 use Rattle.lexer.proofs.reading.skips.Statement.{statement}
 use Rattle.lexer.proofs.reading.skips.Tie as tie
 

@@ -1,10 +1,10 @@
 -- A turn is what the first character that is no blank begins.
-use mathlib.Core.Path.{_≡_, refl, sym, ap, _∙_}
+use mathlib.Core.Path.{refl, sym, ap, _∙_}
 use lib.ListN.{drop}
 use native.Mathlib.Omega.{arith}
 use denote.Ref.{now}
 use Rattle.chars.specs.Utf8.{chars}
-use Rattle.lexer.specs.Reading.{startFrom, foundOf}
+use Rattle.lexer.specs.Reading.{foundOf}
 use Rattle.lexer.proofs.Turns.{Started, started, turn-started, turn-nothing}
 use borrow.Author.Needs.{needs}
 use Rattle.lexer.proofs.reading.turn_at.Statement.{statement}

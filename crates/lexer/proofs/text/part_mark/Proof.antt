@@ -1,6 +1,5 @@
 -- The tests are the definition's two, one after the other.
 use borrow.Author.Tests.{le-leb, lt-leb}
-use borrow.Author.Needs.{needs}
 use Rattle.lexer.proofs.text.part_mark.Statement.{statement}
 use Rattle.lexer.proofs.text.part_mark.Tie as tie
 

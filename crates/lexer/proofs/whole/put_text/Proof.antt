@@ -1,16 +1,11 @@
 -- Where the record says text memory, the decoder writes what stands between the quotes; else nothing is written.
-use mathlib.Core.Path.{_≡_, sym, ap, _∙_}
-use mathlib.Core.List.{List, []}
-use Prim.Native.Nat.{ℕ, _≤_, _-_}
+use mathlib.Core.Path.{sym, ap, _∙_}
+use mathlib.Core.List.{List}
+use Prim.Native.Nat.{ℕ, _-_}
 use native.Mathlib.Omega.{arith}
-use borrow.Author.Tests.{eq-eqb, ne-eqb}
-use lib.ListN.{length, take, drop, length-take, length-drop}
-use lib.Seq.{length-take-le}
+use lib.ListN.{length}
 use denote.Ref.{now}
 use Rattle.laws.specs.Lent.{written}
-use Rattle.items.specs.Meaning.{unescape}
-use Rattle.items.specs.declared.Quotes.{Quotes}
-use Rattle.lexer.specs.Inner.{bytesFor, quotesOf}
 use Rattle.lexer.proofs.Texts.{decodes, decodes-not, part-long}
 use borrow.Author.Needs.{needs}
 use Rattle.lexer.proofs.whole.put_text.Statement.{statement}

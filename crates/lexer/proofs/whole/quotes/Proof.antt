@@ -1,6 +1,5 @@
 -- Strings stand in double quotes, identifiers in vertical lines.
 use borrow.Author.Tests.{eq-eqb, ne-eqb}
-use borrow.Author.Needs.{needs}
 use Rattle.lexer.proofs.whole.quotes.Statement.{statement}
 use Rattle.lexer.proofs.whole.quotes.Tie as tie
 

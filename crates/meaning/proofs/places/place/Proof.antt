@@ -1,6 +1,5 @@
 -- The tests are the definition's two, one after the other.
 use borrow.Author.Tests.{lt-leb, le-leb, lt-ltb, le-ltb}
-use native.Mathlib.Omega.{arith}
 use Rattle.meaning.proofs.places.place.Statement.{statement}
 use Rattle.meaning.proofs.places.place.Tie as tie
 

@@ -1,9 +1,7 @@
 -- Each outcome is a case of the definition.
 use Rattle.meaning.specs.Places.{reach, reachFrom}
-use Rattle.items.specs.declared.Outcome.{Outcome}
 use native.Mathlib.Omega.{arith}
-use Prim.Native.Nat.{ℕ, _<_, _^_}
-use mathlib.Core.Path.{sym, _∙_, subst, ap}
+use mathlib.Core.Path.{ap}
 use borrow.Author.Needs.{needs}
 use Rattle.meaning.proofs.places.range_after.Statement.{statement}
 use Rattle.meaning.proofs.places.range_after.Tie as tie

@@ -4,8 +4,6 @@ use denote.Ref.{now}
 use borrow.Author.Needs.{needs}
 use Rattle.meaning.proofs.quoted.body_length.Statement.{statement}
 use Rattle.meaning.proofs.quoted.body_length.Tie as tie
-use Rattle.meaning.proofs.quoted.body_length.Reads as reads
-use Rattle.meaning.proofs.quoted.body_length.Lts as lts
 
 rest-requires : tie.Need-rest-requires
 rest-requires c κs = search needs

@@ -1,7 +1,6 @@
 -- Body and delimiter are parts of the extent, so both can be taken off its end.
 use Rattle.meaning.proofs.Lines.{body-within, delimiter-within}
 use Rattle.items.specs.Meaning.{hereText}
-use lib.ListN.{length, length-drop}
 use native.Mathlib.Omega.{arith}
 use borrow.Author.Needs.{needs}
 use Rattle.meaning.proofs.quoted.here_text.Statement.{statement}

@@ -2,7 +2,6 @@
 use lib.ListN.{drop-of-length-le}
 use lib.Seq.{drop-length}
 use Rattle.laws.proofs.Lent.{part-rest}
-use mathlib.Core.Path.{sym, _∙_}
 use native.Mathlib.Omega.{arith}
 use borrow.Author.Needs.{needs}
 use Rattle.meaning.proofs.quoted.rest.Statement.{statement}

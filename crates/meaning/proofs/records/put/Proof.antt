@@ -2,7 +2,6 @@
 use native.Mathlib.Omega.{arith}
 use lib.ListN.{length-set}
 use lib.Seq.{sets-eq}
-use borrow.Author.Needs.{needs}
 use Rattle.items.specs.Items.{wordsOf}
 use Rattle.meaning.proofs.records.put.Statement.{statement}
 use Rattle.meaning.proofs.records.put.Tie as tie

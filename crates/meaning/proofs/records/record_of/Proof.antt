@@ -1,7 +1,7 @@
 -- Each way a text lies is a case of the last three words.
 use Rattle.meaning.specs.Records.{TextFits}
 use native.Mathlib.Omega.{arith}
-use mathlib.Core.Path.{sym, _∙_, ap, subst}
+use mathlib.Core.Path.{subst}
 use borrow.Author.Needs.{needs}
 use Rattle.meaning.proofs.records.record_of.Statement.{statement}
 use Rattle.meaning.proofs.records.record_of.Tie as tie
