@@ -34,31 +34,32 @@ fn part_mark(s: &[u8], from: usize, to: usize) -> u32
     MARK
 }
 
-// The text of a record, by its last three words: a part of one of the two slices, or an empty part where the mark is 27.
-pub fn text_of<'a>(source: &'a [u8], text: &'a [u8], place: u32, start: u32, end: u32) -> &'a [u8]
-    ensures { λ r. ⌜ now r ≡ textIn (now (source .entry)) (now (text .entry)) place start end ⌝ }
+// The text of a record, by its last three words (origin is its text source word, 1 the source and 2 the text memory): a part of one of
+// the two slices, or an empty part where the mark is 27.
+pub fn text_of<'a>(source: &'a [u8], text: &'a [u8], origin: u32, start: u32, end: u32) -> &'a [u8]
+    ensures { λ r. ⌜ now r ≡ textIn (now (source .entry)) (now (text .entry)) origin start end ⌝ }
 {
     let from = start as usize;
     let to = end as usize;
-    if place == IN_SOURCE {
+    if origin == IN_SOURCE {
         return part(source, from, to);
     }
-    if place == IN_MEMORY {
+    if origin == IN_MEMORY {
         return part(text, from, to);
     }
     &source[..0]
 }
 
 // The mark of the text call: 0, or 27.
-pub fn text_mark(source: &[u8], text: &[u8], place: u32, start: u32, end: u32) -> u32
-    ensures { λ r. ⌜ r ≡ textMark (now (source .entry)) (now (text .entry)) place start end ⌝ }
+pub fn text_mark(source: &[u8], text: &[u8], origin: u32, start: u32, end: u32) -> u32
+    ensures { λ r. ⌜ r ≡ textMark (now (source .entry)) (now (text .entry)) origin start end ⌝ }
 {
     let from = start as usize;
     let to = end as usize;
-    if place == IN_SOURCE {
+    if origin == IN_SOURCE {
         return part_mark(source, from, to);
     }
-    if place == IN_MEMORY {
+    if origin == IN_MEMORY {
         return part_mark(text, from, to);
     }
     NO_TEXT
@@ -68,14 +69,14 @@ pub fn text_mark(source: &[u8], text: &[u8], place: u32, start: u32, end: u32) -
 pub fn text_and_mark<'a>(
     source: &'a [u8],
     text: &'a [u8],
-    place: u32,
+    origin: u32,
     start: u32,
     end: u32,
     mark: &mut u32,
 ) -> &'a [u8]
-    ensures { λ r. ⌜ now r ≡ textIn (now (source .entry)) (now (text .entry)) place start end ⌝ }
-    ensures { λ _. ⌜ now (mark .exit) ≡ textMark (now (source .entry)) (now (text .entry)) place start end ⌝ }
+    ensures { λ r. ⌜ now r ≡ textIn (now (source .entry)) (now (text .entry)) origin start end ⌝ }
+    ensures { λ _. ⌜ now (mark .exit) ≡ textMark (now (source .entry)) (now (text .entry)) origin start end ⌝ }
 {
-    *mark = text_mark(source, text, place, start, end);
-    text_of(source, text, place, start, end)
+    *mark = text_mark(source, text, origin, start, end);
+    text_of(source, text, origin, start, end)
 }
