@@ -1,4 +1,6 @@
-//! Document 01's examples E1 to E16 and its sample of `lexlist`, written down from the document and compared with the Rust.
+//! Document 01's examples E1 to E16 and its sample of `lexlist`, written down from the document and compared
+//! with the Rust and with the proved call.
+use crate::lexer::{self, Read};
 use crate::tally::{shown, Count, Tally};
 use crate::Options;
 use item::{Reading, Record};
@@ -44,19 +46,27 @@ const REPORT: Example = Example {
 const LEXLIST: (&str, &str) = ("(a 14.7;gps\n", "0 0 1\n27 1 2\n27 3 7\n25 7 12\nend 4\n");
 
 pub fn judge(_: &Options) -> Count {
-    let mut tally = Tally::between(["the Rust", "01"], "examples E1 to E16, lexlist");
+    let mut count = Count::default();
+    count.add(all("the Rust", steel::read, steel_report::read));
+    count.add(all("proved", lexer::plain, lexer::report));
+    count
+}
+
+/// A reader, in plain and in report mode, against what 01 says.
+fn all(name: &'static str, plain: Read, report: Read) -> Count {
+    let mut tally = Tally::between([name, "01"], format!("examples E1 to E16, lexlist, {name}"));
     for example in EXAMPLES {
-        same(&mut tally, example, steel::read);
+        same(&mut tally, example, plain);
     }
-    same(&mut tally, &REPORT, steel_report::read);
+    same(&mut tally, &REPORT, report);
     let (text, listed) = LEXLIST;
     let mut reading = Reading::default();
-    steel::read(text, false, &mut reading);
+    plain(text, false, &mut reading);
     tally.same(lexlist(&reading), listed.to_string(), || "lexlist".into());
     tally.close()
 }
 
-fn same(tally: &mut Tally, example: &Example, read: fn(&str, bool, &mut Reading) -> u64) {
+fn same(tally: &mut Tally, example: &Example, read: Read) {
     let mut reading = Reading::default();
     read(example.text, false, &mut reading);
     let lines = reading.lines(example.text.as_bytes()).to_string();

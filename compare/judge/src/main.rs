@@ -30,14 +30,14 @@ pub struct Options {
 impl Options {
     /// Hands the texts of a family to `take`, as many as are wanted.
     fn each(&self, family: &str, take: &mut dyn FnMut(&[u8])) {
-        let family = gen::family(family).expect("a family");
-        let count = if family.lists { self.limit } else { self.limit.min(self.count) };
-        family.each(self.seed, count, take);
+        self.first(family, u64::MAX, take);
     }
 
-    /// As `each`, of a family whose texts are all UTF-8.
-    fn each_text(&self, family: &str, take: &mut dyn FnMut(&str)) {
-        self.each(family, &mut |text| take(std::str::from_utf8(text).expect("this family makes UTF-8")));
+    /// As `each`, but no more texts than `most`.
+    fn first(&self, family: &str, most: u64, take: &mut dyn FnMut(&[u8])) {
+        let family = gen::family(family).expect("a family");
+        let count = if family.lists { self.limit } else { self.limit.min(self.count) };
+        family.each(self.seed, count.min(most), take);
     }
 }
 

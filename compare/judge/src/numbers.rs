@@ -81,6 +81,14 @@ fn proved_number(text: &[u8]) -> Said {
     }
 }
 
+/// The parts of a text that is a number; none if it is none.
+pub fn parts(text: &[u8]) -> Option<Number> {
+    match proved_number(text) {
+        Said::Called(Called::Answered(NumberAnswer::Is(number))) => Some(number),
+        _ => None,
+    }
+}
+
 /// A text and the words of the number that it is (crates/exports/src/number.rt).
 struct Layout<'a> {
     text: &'a [u8],

@@ -7,6 +7,18 @@ extern "C" {
     fn mihadrena_is_blank(code: u32) -> bool;
     fn mihadrena_put_char(code: u32, text: *mut u8, length: usize) -> usize;
     fn mihadrena_number(text: *const u8, length: usize, words: *mut u64, count: usize) -> u32;
+    fn mihadrena_read(
+        source: *const u8,
+        length: usize,
+        mode: u32,
+        skip: bool,
+        records: *mut u32,
+        words: usize,
+        text: *mut u8,
+        bytes: usize,
+        values: *mut u64,
+        count: usize,
+    ) -> u32;
 }
 
 /// What `code_at` answers where no character stands.
@@ -34,15 +46,27 @@ pub fn put_char(code: u32, text: &mut [u8]) -> usize {
     unsafe { mihadrena_put_char(code, text.as_mut_ptr(), text.len()) }
 }
 
-/// How many words `number` writes, and what it answers: a number, none, 01's error 8, its refusals 20, 21 and 22.
+/// 01's numbers of the refusals, which `number` and `read` answer.
+pub const TOO_LONG: u32 = 20;
+pub const NOT_UTF8: u32 = 21;
+pub const TOO_FEW: u32 = 22;
+pub const NO_MODE: u32 = 25;
+
+/// How many words `number` writes, and what else it answers: a number, none, 01's error 8.
 pub const NUMBER_WORDS: usize = 27;
 pub const A_NUMBER: u32 = 0;
 pub const NO_NUMBER: u32 = 1;
 pub const ZERO_DENOMINATOR: u32 = 8;
-pub const TOO_LONG: u32 = 20;
-pub const NOT_UTF8: u32 = 21;
-pub const TOO_FEW: u32 = 22;
 
 pub fn number(text: &[u8], words: &mut [u64]) -> u32 {
     unsafe { mihadrena_number(text.as_ptr(), text.len(), words.as_mut_ptr(), words.len()) }
+}
+
+/// What else `read` answers: the items were written.
+pub const SERVED: u32 = 0;
+
+pub fn read(source: &[u8], mode: u32, skip: bool, records: &mut [u32], text: &mut [u8], values: &mut [u64]) -> u32 {
+    let (words, bytes, count) = (records.len(), text.len(), values.len());
+    let (records, text, values) = (records.as_mut_ptr(), text.as_mut_ptr(), values.as_mut_ptr());
+    unsafe { mihadrena_read(source.as_ptr(), source.len(), mode, skip, records, words, text, bytes, values, count) }
 }

@@ -99,15 +99,27 @@ length-flattened noNumber = refl
 length-flattened (error n) = refl
 length-flattened (refused n v) = refl
 
+-- words are laid where there is room for all of them
+module _ (w memory : List ℕ) where
+  pub laid-none : length memory < length w → memory ≡ lay w memory
+  unfolding lay
+  laid-none h = simp (lt-ltb (length memory) (length w) h)
+
+  pub laid-all : {now : List ℕ} → length w ≤ length memory → now ≡ written w memory → now ≡ lay w memory
+  unfolding lay
+  laid-all h e = simp (le-ltb (length memory) (length w) h) e
+
 module _ (a : Answer) (memory : List ℕ) where
   pub too-few : length memory < 27 → (22 ≡ numberOr memory a) × (memory ≡ lay (flattened a) memory)
-  unfolding lay
-  too-few h = simp (length-flattened a, lt-ltb (length memory) 27 h) (refl, refl)
+  too-few h =
+      (simp (length-flattened a, lt-ltb (length memory) 27 h), laid-none (flattened a) memory (omega (arith, length-flattened a)))
 
   pub served : {b : Answer} {n : ℕ} {l now : List ℕ} → 27 ≤ length memory → b ≡ a → n ≡ answerNumber b → l ≡ flattened b → now ≡ written l memory
       → (n ≡ numberOr memory a) × (now ≡ lay (flattened a) memory)
-  unfolding lay
-  served h e f g k = rw (k, g, f, e) (simp (length-flattened a, le-ltb (length memory) 27 h) (refl, refl))
+  served h e f g k = (
+    rw (f, e) (simp (length-flattened a, le-ltb (length memory) 27 h)),
+    laid-all (flattened a) memory (omega (arith, length-flattened a)) (rw (k, g, e)),
+  )
 
 -- the words put one part after the other: the first, then the reals
 module _ (old : List ℕ) (x : ℕ) (h : 27 ≤ length old) where

@@ -1,3 +1,4 @@
 -- What the exported functions answer: the library's answers as plain numbers.
 pub mod Utf8
 pub mod Number
+pub mod Read

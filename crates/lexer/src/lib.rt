@@ -5,11 +5,18 @@
 use items::Record;
 use meaning::Range;
 
-pub mod opening;
-pub mod reader;
-pub mod reading;
-pub mod text;
-pub mod whole;
+mod opening;
+mod reader;
+mod reading;
+mod text;
+mod whole;
+
+pub use opening::open;
+pub use reader::next_at;
+pub use text::text_and_mark;
+pub use text::text_mark;
+pub use text::text_of;
+pub use whole::read;
 
 // Where reading stands in a source.
 pub struct Position {

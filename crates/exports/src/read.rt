@@ -1,0 +1,89 @@
+// The whole-text call of the crate `lexer`: its answer as a number and two values.
+use lexer::ReadAnswer;
+ghost use mathlib.Core.Path.{_≡_};
+ghost use mathlib.Core.List.{[], _∷_};
+ghost use Rattle.chars.specs.Encode.{lay};
+ghost use Rattle.items.specs.Whole.{readOf};
+ghost use Rattle.lexer.specs.Answers.{answerOf};
+ghost use Rattle.exports.specs.Read.{readNumber, readValues};
+
+// What the call answers: the items were written, or document 01's refusals 20, 21, 22 and 25.
+const SERVED: u32 = 0;
+
+const TOO_LONG: u32 = 20;
+
+const NOT_UTF8: u32 = 21;
+
+const TOO_FEW: u32 = 22;
+
+const NO_MODE: u32 = 25;
+
+// What refusal 20 comes with.
+const LONGEST: u64 = 4_294_967_295;
+
+// How many values an answer has.
+const VALUES: usize = 2;
+
+// An answer: its number and its two values.
+struct Told {
+    number: u32,
+    first: u64,
+    second: u64,
+}
+
+// An answer of a number and two values.
+fn tell(number: u32, first: u64, second: u64) -> Told
+    ensures { λ r. ⌜ (r .number ≡ number) × (r .first ∷ r .second ∷ [] ≡ first ∷ second ∷ []) ⌝ }
+{
+    Told {
+        number,
+        first,
+        second,
+    }
+}
+
+// An answer by its number and its values.
+fn answer(a: ReadAnswer) -> Told
+    ensures { λ r. ⌜ (r .number ≡ readNumber (answerOf a)) × (r .first ∷ r .second ∷ [] ≡ readValues (answerOf a)) ⌝ }
+{
+    match a {
+        ReadAnswer::Served(items, bytes) => tell(SERVED, items as u64, bytes as u64),
+        ReadAnswer::NoMode(mode) => tell(NO_MODE, mode as u64, 0),
+        ReadAnswer::TooLong => tell(TOO_LONG, LONGEST, 0),
+        ReadAnswer::NotUtf8(at) => tell(NOT_UTF8, at as u64, 0),
+        ReadAnswer::NoRoom(items, bytes) => tell(TOO_FEW, items as u64, bytes as u64),
+    }
+}
+
+// Writes two values at the front of `values`, where there is room for both.
+fn put_values(values: &mut [u64], first: u64, second: u64)
+    ensures { λ _. ⌜ now (values .exit) ≡ lay (first ∷ second ∷ []) (now (values .entry)) ⌝ }
+{
+    if values.len() < VALUES {
+        return;
+    }
+    values[0] = first;
+    values[1] = second;
+}
+
+// Reads a whole text. `mode` is 0 for plain and 1 for report; `skip` leaves comments out. The items' records, nine words each, and
+// their decoded texts are written from the front of `records` and `text` on. `values` gets how many items and how many bytes of text
+// were written, or the two values of the refusal; with fewer than VALUES words it is left as it was.
+#[no_mangle]
+pub extern "C" fn mihadrena_read(
+    source: &[u8],
+    mode: u32,
+    skip: bool,
+    records: &mut [u32],
+    text: &mut [u8],
+    values: &mut [u64],
+) -> u32
+    ensures { λ r. ⌜ r ≡ readNumber (readOf (now (source .entry)) mode skip (now (records .entry)) (now (text .entry)) .answer) ⌝ }
+    ensures { λ _. ⌜ now (values .exit) ≡ lay (readValues (readOf (now (source .entry)) mode skip (now (records .entry)) (now (text .entry)) .answer)) (now (values .entry)) ⌝ }
+    ensures { λ _. ⌜ now (records .exit) ≡ readOf (now (source .entry)) mode skip (now (records .entry)) (now (text .entry)) .records ⌝ }
+    ensures { λ _. ⌜ now (text .exit) ≡ readOf (now (source .entry)) mode skip (now (records .entry)) (now (text .entry)) .text ⌝ }
+{
+    let w = answer(lexer::read(source, mode, skip, records, text));
+    put_values(values, w.first, w.second);
+    w.number
+}
