@@ -15,5 +15,5 @@ pub extern "C" fn mihadrena_text_mark(
 ) -> u32
     ensures { λ r. ⌜ r ≡ textMark (now (source .entry)) (now (text .entry)) place start end ⌝ }
 {
-    lexer::text::text_mark(source, text, place, start, end)
+    lexer::text_mark(source, text, place, start, end)
 }
