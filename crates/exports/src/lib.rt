@@ -2,4 +2,5 @@
 // pointer and a length there. The answers are those of the crates below; an answer that is an enum there is a number here.
 mod number;
 mod read;
+mod text;
 mod utf8;

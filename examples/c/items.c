@@ -1,0 +1,162 @@
+/* Prints the items of a plan, a line each: its kind, its extent, and what more it has (a text, a number's parts, an error's place).
+ *
+ *     items FILE            in plain mode, comments kept
+ *     items --report FILE   in report mode
+ */
+#include <inttypes.h>
+#include <stdio.h>
+#include <stdlib.h>
+#include <string.h>
+
+#include "mihadrena.h"
+
+static const char *const KINDS[] = {
+    "open",   "close",  "quote-tick", "quasi-quote",  "unquote",       "unquote-splice", "quote-syntax", "quasi-quote-syntax",
+    "unquote-syntax",   "unquote-splice-syntax",      "if",            "define",         "let",          "test-let",
+    "return", "begin",  "lambda",     "quote",        "syntax-rules",  "define-syntax",  "ellipses",     "set",
+    "require",          "character",  "datum-comment", "comment",      "boolean",        "identifier",   "keyword",
+    "number", "string", "dot",
+};
+
+static const char *const ERRORS[] = {
+    "unexpected-char", "incomplete-string", "incomplete-identifier", "incomplete-comment", "invalid-whitespace",
+    "invalid-string-escape", "invalid-character", "zero-denominator", "unclosed-hex-escape", "invalid-char-name",
+    "invalid-hex-escape-literal", "invalid-hex-code-point",
+};
+
+typedef struct source {
+    uint8_t *bytes;
+    size_t length;
+} source;
+
+static void fail(const char *what)
+{
+    fprintf(stderr, "items: %s\n", what);
+    exit(EXIT_FAILURE);
+}
+
+/* Memory for `count` things, at least one: a slice's pointer must not be NULL. */
+static void *memory(size_t count, size_t size)
+{
+    void *got = calloc(count + 1, size);
+    if (got == NULL)
+        fail("no memory");
+    return got;
+}
+
+static source file_bytes(const char *path)
+{
+    FILE *file = fopen(path, "rb");
+    if (file == NULL || fseek(file, 0, SEEK_END) != 0)
+        fail("cannot open the file");
+    long size = ftell(file);
+    if (size < 0)
+        fail("cannot tell the file's size");
+    rewind(file);
+    source got = {memory((size_t)size, 1), (size_t)size};
+    if (fread(got.bytes, 1, got.length, file) != got.length)
+        fail("cannot read the file");
+    fclose(file);
+    return got;
+}
+
+/* A figure: a value, or digits at their places in the number's text. */
+static void print_figure(const uint8_t *text, const mihadrena_figure *figure)
+{
+    if (figure->minus)
+        putchar('-');
+    if (figure->has == MIHADRENA_VALUE)
+        printf("%" PRIu64, figure->first);
+    if (figure->has == MIHADRENA_PLACES)
+        fwrite(text + figure->first, 1, (size_t)(figure->second - figure->first), stdout);
+}
+
+static void print_real(const uint8_t *text, const mihadrena_real *real)
+{
+    static const char *const FORMS[] = {
+        "", "integer", "rational", "decimal", "infinity", "nan", "implied-zero", "implied-one",
+    };
+    printf(" %s ", FORMS[real->form]);
+    print_figure(text, &real->one);
+    if (real->form == MIHADRENA_RATIONAL) {
+        putchar('/');
+        print_figure(text, &real->two);
+    }
+    if (real->form == MIHADRENA_DECIMAL) {
+        putchar('.');
+        print_figure(text, &real->two);
+        printf(" exponent ");
+        print_figure(text, &real->three);
+    }
+}
+
+/* The parts of the number that a text is. */
+static void print_number(const uint8_t *text, size_t length)
+{
+    mihadrena_parts parts;
+    if (mihadrena_number(text, length, (uint64_t *)&parts, MIHADRENA_NUMBER_WORDS) != MIHADRENA_A_NUMBER)
+        fail("an item of kind number is a number");
+    print_real(text, &parts.one);
+    if (parts.form != MIHADRENA_REAL)
+        print_real(text, &parts.two);
+}
+
+static void print_item(const mihadrena_record *record, source from, const uint8_t *text, size_t text_length)
+{
+    if (record->kind > MIHADRENA_FIRST_ERROR) {
+        printf("error %s %" PRIu32 "..%" PRIu32, ERRORS[record->kind - MIHADRENA_UNEXPECTED_CHAR], record->start, record->end);
+        printf(" detail %" PRIu32 " place %" PRIu32 "..%" PRIu32 "\n", record->detail, record->place_start, record->place_end);
+        return;
+    }
+    printf("%s %" PRIu32 "..%" PRIu32, KINDS[record->kind], record->start, record->end);
+    const uint8_t *part = mihadrena_text(record, from.bytes, from.length, text, text_length);
+    if (part != NULL) {
+        printf(" text ");
+        fwrite(part, 1, record->text_end - record->text_start, stdout);
+    } else if (record->kind == MIHADRENA_NUMBER) {
+        print_number(from.bytes + record->start, record->end - record->start);
+    } else if (record->detail != 0) {
+        printf(" detail %" PRIu32, record->detail);
+    }
+    putchar('\n');
+}
+
+/* Reads the whole text: a first call without memory says how much the second one needs. */
+static void print_whole(source from, uint32_t mode)
+{
+    uint64_t needed[MIHADRENA_READ_VALUES] = {0, 0};
+    uint32_t none[1];
+    uint8_t no_text[1];
+    uint32_t answer = mihadrena_read(from.bytes, from.length, mode, false, none, 0, no_text, 0, needed, MIHADRENA_READ_VALUES);
+    if (answer != MIHADRENA_SERVED && answer != MIHADRENA_TOO_FEW) {
+        printf("refused %" PRIu32 " %" PRIu64 "\n", answer, needed[0]);
+        return;
+    }
+    size_t items = (size_t)needed[0];
+    size_t text_length = (size_t)needed[1];
+    mihadrena_record *records = memory(items, sizeof *records);
+    uint8_t *text = memory(text_length, 1);
+    uint64_t given[MIHADRENA_READ_VALUES] = {0, 0};
+    answer = mihadrena_read(from.bytes, from.length, mode, false, (uint32_t *)records, items * MIHADRENA_RECORD_WORDS, text,
+                            text_length, given, MIHADRENA_READ_VALUES);
+    if (answer != MIHADRENA_SERVED || given[0] != items)
+        fail("the memory that was asked for is enough");
+    for (size_t i = 0; i < items; i++)
+        print_item(&records[i], from, text, text_length);
+    printf("end %zu\n", items);
+    free(records);
+    free(text);
+}
+
+int main(int count, char **words)
+{
+    bool report = count == 3 && strcmp(words[1], "--report") == 0;
+    if (count != 2 && !report) {
+        fprintf(stderr, "usage: items [--report] FILE\n");
+        return EXIT_FAILURE;
+    }
+    source from = file_bytes(words[count - 1]);
+    print_whole(from, report ? MIHADRENA_REPORT : MIHADRENA_PLAIN);
+    free(from.bytes);
+    return EXIT_SUCCESS;
+}

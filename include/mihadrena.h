@@ -1,0 +1,286 @@
+/* Mihadrena: a proved reader of felling plans, for C.
+ *
+ * A text goes in as bytes of UTF-8. Out come items, one record of nine 32-bit words each, in the order of the text, and the decoded
+ * texts of those that have an escape. All memory is the caller's: the library allocates nothing, keeps nothing between two calls,
+ * and writes only to the memory that a call is lent. Every call ends.
+ *
+ * Link with libexports.a, which `rt staticlib exports` writes to target/staticlib. Nothing else is needed.
+ *
+ * A pointer and the length after it are one slice. A pointer must not be NULL, not even where the length is 0, and memory that a call
+ * writes to must overlap with no other memory that the same call is lent.
+ */
+#ifndef MIHADRENA_H
+#define MIHADRENA_H
+
+#include <stdbool.h>
+#include <stddef.h>
+#include <stdint.h>
+
+#ifdef __cplusplus
+#define MIHADRENA_ASSERT(fact, text) static_assert(fact, text)
+extern "C" {
+#else
+#define MIHADRENA_ASSERT(fact, text) _Static_assert(fact, text)
+#endif
+
+/* -- The record of an item ---------------------------------------------------------------------------------------------------- */
+
+/* How many words a record has. */
+#define MIHADRENA_RECORD_WORDS 9
+
+typedef struct mihadrena_record {
+    uint32_t kind;        /* MIHADRENA_OPEN_PAREN and so on; of an error, MIHADRENA_UNEXPECTED_CHAR and so on */
+    uint32_t detail;      /* a character's code point; 0 or 1 of a boolean; a bracket; what an error comes with; else 0 */
+    uint32_t start;       /* the extent: where the item stands in the source, in bytes */
+    uint32_t end;
+    uint32_t place_start; /* the place: what an error points at; of any other item the extent */
+    uint32_t place_end;
+    uint32_t text_source; /* MIHADRENA_NO_TEXT, MIHADRENA_IN_SOURCE or MIHADRENA_IN_MEMORY */
+    uint32_t text_start;  /* where the text lies there, in bytes */
+    uint32_t text_end;
+} mihadrena_record;
+
+MIHADRENA_ASSERT(sizeof(mihadrena_record) == 4 * MIHADRENA_RECORD_WORDS, "a record is nine words");
+
+/* Where a record's text lies. */
+#define MIHADRENA_NO_TEXT 0
+#define MIHADRENA_IN_SOURCE 1
+#define MIHADRENA_IN_MEMORY 2
+
+/* The kinds, each with a text that makes it. */
+#define MIHADRENA_OPEN_PAREN 0             /* (  [  {  #(  #u8(   the detail says which */
+#define MIHADRENA_CLOSE_PAREN 1            /* )  ]  }             the detail says which */
+#define MIHADRENA_QUOTE_TICK 2             /* ' */
+#define MIHADRENA_QUASI_QUOTE 3            /* ` */
+#define MIHADRENA_UNQUOTE 4                /* , */
+#define MIHADRENA_UNQUOTE_SPLICE 5         /* ,@ */
+#define MIHADRENA_QUOTE_SYNTAX 6           /* #' */
+#define MIHADRENA_QUASI_QUOTE_SYNTAX 7     /* #` */
+#define MIHADRENA_UNQUOTE_SYNTAX 8         /* #, */
+#define MIHADRENA_UNQUOTE_SPLICE_SYNTAX 9  /* #,@ */
+#define MIHADRENA_IF 10                    /* if */
+#define MIHADRENA_DEFINE 11                /* define  defn  #%define */
+#define MIHADRENA_LET 12                   /* let */
+#define MIHADRENA_TEST_LET 13              /* %plain-let */
+#define MIHADRENA_RETURN 14                /* return! */
+#define MIHADRENA_BEGIN 15                 /* begin */
+#define MIHADRENA_LAMBDA 16                /* lambda  fn  #%plain-lambda  and the letter itself */
+#define MIHADRENA_QUOTE 17                 /* quote */
+#define MIHADRENA_SYNTAX_RULES 18          /* syntax-rules */
+#define MIHADRENA_DEFINE_SYNTAX 19         /* define-syntax */
+#define MIHADRENA_ELLIPSES 20              /* ... */
+#define MIHADRENA_SET 21                   /* set! */
+#define MIHADRENA_REQUIRE 22               /* require */
+#define MIHADRENA_CHARACTER_LITERAL 23     /* #\a       detail: the code point */
+#define MIHADRENA_DATUM_COMMENT 24         /* #; */
+#define MIHADRENA_COMMENT 25               /* ; to the end of the line, or between #| and |# */
+#define MIHADRENA_BOOLEAN_LITERAL 26       /* #t  #false   detail: 1 or 0 */
+#define MIHADRENA_IDENTIFIER 27            /* stand  |a b|  with text */
+#define MIHADRENA_KEYWORD 28               /* #:key         with text */
+#define MIHADRENA_NUMBER 29                /* 14.7          its parts: mihadrena_number on its extent */
+#define MIHADRENA_STRING_LITERAL 30        /* "beech"       with text */
+#define MIHADRENA_DOT 31                   /* . */
+
+/* The details of a bracket. MIHADRENA_VECTOR and MIHADRENA_BYTES open with a round one. */
+#define MIHADRENA_ROUND 0  /* ( ) */
+#define MIHADRENA_SQUARE 1 /* [ ] */
+#define MIHADRENA_CURLY 2  /* { } */
+#define MIHADRENA_VECTOR 3 /* #( */
+#define MIHADRENA_BYTES 6  /* #u8( */
+
+/* An error is an item: its kind is MIHADRENA_FIRST_ERROR plus its number. Reading goes on behind its extent. */
+#define MIHADRENA_FIRST_ERROR 100
+#define MIHADRENA_UNEXPECTED_CHAR 101            /* detail: the character */
+#define MIHADRENA_INCOMPLETE_STRING 102
+#define MIHADRENA_INCOMPLETE_IDENTIFIER 103
+#define MIHADRENA_INCOMPLETE_COMMENT 104
+#define MIHADRENA_INVALID_WHITESPACE 105
+#define MIHADRENA_INVALID_STRING_ESCAPE 106      /* detail: the character */
+#define MIHADRENA_INVALID_CHARACTER 107
+#define MIHADRENA_ZERO_DENOMINATOR 108
+#define MIHADRENA_UNCLOSED_HEX_ESCAPE 109        /* detail: the closer that was expected */
+#define MIHADRENA_INVALID_CHAR_NAME 110
+#define MIHADRENA_INVALID_HEX_ESCAPE_LITERAL 111 /* detail: one of the three below */
+#define MIHADRENA_INVALID_HEX_CODE_POINT 112     /* detail: the code */
+
+/* The details of MIHADRENA_INVALID_HEX_ESCAPE_LITERAL. */
+#define MIHADRENA_HEX_EMPTY 1
+#define MIHADRENA_HEX_INVALID_DIGIT 2
+#define MIHADRENA_HEX_OVERFLOW 3
+
+/* -- Refusals ----------------------------------------------------------------------------------------------------------------- */
+
+/* What a call answers that was served. */
+#define MIHADRENA_SERVED 0
+
+/* A refused call changes nothing that it was lent but its values. With each stands what it comes with. */
+#define MIHADRENA_TOO_LONG 20  /* the text exceeds MIHADRENA_LONGEST bytes: MIHADRENA_LONGEST */
+#define MIHADRENA_NOT_UTF8 21  /* bytes aren't UTF-8: the start of the first bad sequence */
+#define MIHADRENA_TOO_FEW 22   /* records or text memory are too few: items and text bytes needed */
+#define MIHADRENA_NO_MODE 25   /* the mode is neither of the two: the mode */
+#define MIHADRENA_BAD_STATE 27 /* of mihadrena_text_mark: there is no such text */
+
+#define MIHADRENA_LONGEST 4294967295
+
+/* -- Reading a whole text ----------------------------------------------------------------------------------------------------- */
+
+/* The modes. In report mode `;` and `"` also end a number: 14.7;gps is a number and a comment, where plain mode has an identifier. */
+#define MIHADRENA_PLAIN 0
+#define MIHADRENA_REPORT 1
+
+/* How many values mihadrena_read writes. */
+#define MIHADRENA_READ_VALUES 2
+
+/* Reads a whole text: the items' records go to `records`, MIHADRENA_RECORD_WORDS words each, and their decoded texts to `text`, both
+ * from the front on. With `skip_comments` items of kind MIHADRENA_COMMENT are left out.
+ *
+ * MIHADRENA_SERVED: values[0] is how many items were written, values[1] how many bytes of text; all memory behind them stays as it was.
+ * Refusals, in this order: MIHADRENA_NO_MODE, MIHADRENA_TOO_LONG, MIHADRENA_NOT_UTF8, MIHADRENA_TOO_FEW; `records` and `text` keep every
+ * byte, and `values` gets what the refusal comes with, then 0. With fewer than MIHADRENA_READ_VALUES values none is written.
+ *
+ * A text never has more items than bytes, and never needs more text memory than it has bytes. To be told how much it needs, lend none:
+ *
+ *     const uint8_t source[] = "(corner 14.7)";
+ *     mihadrena_record records[8];
+ *     uint8_t text[16];
+ *     uint64_t values[MIHADRENA_READ_VALUES];
+ *     uint32_t answer = mihadrena_read(source, sizeof source - 1, MIHADRENA_PLAIN, false,
+ *                                      (uint32_t *)records, 8 * MIHADRENA_RECORD_WORDS, text, sizeof text,
+ *                                      values, MIHADRENA_READ_VALUES);
+ *     // answer == MIHADRENA_SERVED, values[0] == 4 (OPEN_PAREN, IDENTIFIER, NUMBER, CLOSE_PAREN), values[1] == 0
+ *     answer = mihadrena_read(source, sizeof source - 1, MIHADRENA_PLAIN, false,
+ *                             (uint32_t *)records, 0, text, 0, values, MIHADRENA_READ_VALUES);
+ *     // answer == MIHADRENA_TOO_FEW, values[0] == 4, values[1] == 0
+ */
+uint32_t mihadrena_read(const uint8_t *source, size_t source_length, uint32_t mode, bool skip_comments,
+                        uint32_t *records, size_t records_length, uint8_t *text, size_t text_length,
+                        uint64_t *values, size_t values_length);
+
+/* -- The text of an item ------------------------------------------------------------------------------------------------------ */
+
+/* Whether a record's text lies where its last three words say: MIHADRENA_SERVED if it is the part from `start` to `end` of the source
+ * (text source MIHADRENA_IN_SOURCE) or of the text memory (MIHADRENA_IN_MEMORY), else MIHADRENA_BAD_STATE. Records that mihadrena_read
+ * wrote and that have text always get MIHADRENA_SERVED with the same source and text memory.
+ *
+ *     // of the second record above, the identifier `corner` at 1..7
+ *     mihadrena_text_mark(source, sizeof source - 1, text, sizeof text, MIHADRENA_IN_SOURCE, 1, 7);   // MIHADRENA_SERVED
+ *     mihadrena_text_mark(source, sizeof source - 1, text, sizeof text, MIHADRENA_IN_SOURCE, 1, 99);  // MIHADRENA_BAD_STATE
+ */
+uint32_t mihadrena_text_mark(const uint8_t *source, size_t source_length, const uint8_t *text, size_t text_length,
+                             uint32_t text_source, uint32_t start, uint32_t end);
+
+/* The first byte of a record's text, which has text_end - text_start bytes, or NULL if there is none. */
+static inline const uint8_t *mihadrena_text(const mihadrena_record *record, const uint8_t *source, size_t source_length,
+                                            const uint8_t *text, size_t text_length)
+{
+    if (mihadrena_text_mark(source, source_length, text, text_length, record->text_source, record->text_start,
+                            record->text_end) != MIHADRENA_SERVED)
+        return NULL;
+    return (record->text_source == MIHADRENA_IN_SOURCE ? source : text) + record->text_start;
+}
+
+/* -- The parts of a number ---------------------------------------------------------------------------------------------------- */
+
+/* What mihadrena_number answers beside MIHADRENA_TOO_LONG, MIHADRENA_NOT_UTF8 and MIHADRENA_TOO_FEW. */
+#define MIHADRENA_A_NUMBER 0
+#define MIHADRENA_NO_NUMBER 1
+#define MIHADRENA_ZERO 8 /* a denominator is zero */
+
+/* How many words it writes. */
+#define MIHADRENA_NUMBER_WORDS 27
+
+/* What a figure has. */
+#define MIHADRENA_NOTHING 0 /* a sign at most */
+#define MIHADRENA_VALUE 1   /* `first` is the value without its sign */
+#define MIHADRENA_PLACES 2  /* the digits are the bytes of the text from `first` to `second` */
+
+typedef struct mihadrena_figure {
+    uint64_t has;
+    uint64_t minus; /* 1 for a minus sign */
+    uint64_t first;
+    uint64_t second;
+} mihadrena_figure;
+
+/* A real's forms, and its figures. An integer that does not fit 64 bits with its sign has its digits' places. */
+#define MIHADRENA_NO_REAL 0
+#define MIHADRENA_INTEGER 1      /* 5       one: the integer */
+#define MIHADRENA_RATIONAL 2     /* 1/2     one: the numerator; two: the denominator */
+#define MIHADRENA_DECIMAL 3      /* 1.5e2   one: the digits before the dot; two: those behind it; three: the exponent's. Places, maybe empty */
+#define MIHADRENA_INFINITY 4     /* +inf.0  one: the sign */
+#define MIHADRENA_NAN 5          /* +nan.0  one: the sign */
+#define MIHADRENA_IMPLIED_ZERO 6 /* the real part of +5i */
+#define MIHADRENA_IMPLIED_ONE 7  /* the imaginary part of +i   one: the sign */
+
+typedef struct mihadrena_real {
+    uint64_t form;
+    mihadrena_figure one;
+    mihadrena_figure two;
+    mihadrena_figure three;
+} mihadrena_real;
+
+/* A number's forms. */
+#define MIHADRENA_REAL 0    /* 5     one: the number */
+#define MIHADRENA_COMPLEX 1 /* 1+2i  one: the real part; two: the imaginary part */
+#define MIHADRENA_POLAR 2   /* 1@2   one: the magnitude; two: the angle */
+
+typedef struct mihadrena_parts {
+    uint64_t form; /* of a refusal, what it comes with */
+    mihadrena_real one;
+    mihadrena_real two;
+} mihadrena_parts;
+
+MIHADRENA_ASSERT(sizeof(mihadrena_parts) == 8 * MIHADRENA_NUMBER_WORDS, "a number is 27 words");
+
+/* What a text is as a number: its parts go to the first MIHADRENA_NUMBER_WORDS words, whatever is not there is 0. With fewer words the
+ * answer is MIHADRENA_TOO_FEW, and none is written. The text of an item of kind MIHADRENA_NUMBER is its extent in the source.
+ *
+ *     mihadrena_parts parts;
+ *     uint32_t answer = mihadrena_number((const uint8_t *)"-1/2", 4, (uint64_t *)&parts, MIHADRENA_NUMBER_WORDS);
+ *     // answer == MIHADRENA_A_NUMBER, parts.form == MIHADRENA_REAL, parts.one.form == MIHADRENA_RATIONAL,
+ *     // parts.one.one is { MIHADRENA_VALUE, 1, 1, 0 }, parts.one.two is { MIHADRENA_VALUE, 0, 2, 0 }
+ */
+uint32_t mihadrena_number(const uint8_t *text, size_t text_length, uint64_t *words, size_t words_length);
+
+/* -- Characters --------------------------------------------------------------------------------------------------------------- */
+
+/* What mihadrena_code_at answers where no character stands. */
+#define MIHADRENA_CODE_BAD 0x110000 /* the bytes there are no UTF-8 */
+#define MIHADRENA_CODE_CUT 0x110001 /* the end cuts a sequence there */
+#define MIHADRENA_CODE_END 0x110002 /* no byte is there */
+
+/* How many bytes of a text are good UTF-8: all of them, or those before its first bad sequence.
+ *
+ *     mihadrena_good_bytes((const uint8_t *)"ab\xff", 3);  // 2
+ */
+size_t mihadrena_good_bytes(const uint8_t *text, size_t text_length);
+
+/* The code point of the character at a place, or one of the three above.
+ *
+ *     mihadrena_code_at((const uint8_t *)"\xc3\xa9", 2, 0);  // 0xE9
+ */
+uint32_t mihadrena_code_at(const uint8_t *text, size_t text_length, size_t at);
+
+/* The place past the character at a place; that place itself where no character stands.
+ *
+ *     mihadrena_next_at((const uint8_t *)"\xc3\xa9", 2, 0);  // 2
+ */
+size_t mihadrena_next_at(const uint8_t *text, size_t text_length, size_t at);
+
+/* Whether a character is blank: Unicode's White_Space.
+ *
+ *     mihadrena_is_blank(0xA0);  // true
+ */
+bool mihadrena_is_blank(uint32_t code);
+
+/* Writes a character's bytes at the front of `text`; answers how many, 0 for no character or too little room.
+ *
+ *     uint8_t text[4];
+ *     mihadrena_put_char(0xE9, text, 4);  // 2, and text starts with C3 A9
+ */
+size_t mihadrena_put_char(uint32_t code, uint8_t *text, size_t text_length);
+
+#ifdef __cplusplus
+}
+#endif
+
+#endif

@@ -1,0 +1,43 @@
+//! A proved reader of felling plans: the items of a Scheme text as Steel's lexer reads them, in lent memory.
+//!
+//! The functions behind this crate are proved (crates/ of the repository): every call ends, touches only the memory that it is lent, and
+//! answers what the definitions say. This crate makes a safe interface of them: [`Items`] reads a whole text, [`number`] takes a number
+//! apart. It allocates nothing and depends on nothing but the archive that `rt staticlib exports` writes; `build.rs` looks for it in
+//! the repository's target/staticlib, or in the folder that the environment variable `MIHADRENA_ARCHIVE` names.
+//!
+//! ```
+//! use mihadrena::{number, Int, Items, Kind, Number, Options, Real, Record};
+//!
+//! let plan = "(stand 101 (volume 412.5)) ; solid cubic metres";
+//! let options = Options { skip_comments: true, ..Options::default() };
+//! let mut records = vec![Record::default(); plan.len()];
+//! let mut text = vec![0; plan.len()];
+//! for item in Items::new(plan, options, &mut records, &mut text)? {
+//!     match item.what {
+//!         Ok(Kind::Number("101")) => assert_eq!(number("101"), Ok(Number::Real(Real::Integer(Int::Small(101))))),
+//!         Ok(Kind::Identifier(name)) => assert_eq!(name, &plan[item.extent]),
+//!         Ok(_) => (),
+//!         Err(error) => panic!("{error} at {:?}", item.place),
+//!     }
+//! }
+//! # Ok::<(), mihadrena::Refusal>(())
+//! ```
+#![no_std]
+#![warn(missing_docs, clippy::pedantic)]
+#![allow(clippy::cast_possible_truncation, clippy::cast_possible_wrap)]
+
+#[cfg(not(target_pointer_width = "64"))]
+compile_error!("the archive is for x86-64");
+
+mod error;
+mod items;
+mod kind;
+mod number;
+#[allow(missing_docs, clippy::unreadable_literal)]
+pub mod raw;
+
+pub use error::{Error, HexError, Refusal};
+pub use items::{needed, Item, Items, Mode, Needed, Options};
+pub use kind::{Kind, Paren, ParenMod};
+pub use number::{number, Decimal, Int, NotNumber, Number, Real, Sign};
+pub use raw::Record;

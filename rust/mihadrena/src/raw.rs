@@ -1,0 +1,190 @@
+//! The library as `include/mihadrena.h` declares it for C: its constants, its layouts and its functions. The rest of this crate is built
+//! on it; a program that keeps records for other programs needs it too.
+//!
+//! A pointer and the length behind it are one slice: the pointer is not null, not even where the length is 0, and memory that a call
+//! writes to overlaps with no other memory of that call.
+
+/// How many words a record has.
+pub const RECORD_WORDS: usize = 9;
+
+/// One item, as document 01 writes it down.
+#[repr(C)]
+#[derive(Clone, Copy, Debug, Default, PartialEq, Eq, Hash)]
+pub struct Record {
+    /// `OPEN_PAREN` and so on; of an error, `UNEXPECTED_CHAR` and so on.
+    pub kind: u32,
+    /// A character's code point; 0 or 1 of a boolean; a bracket; what an error comes with; else 0.
+    pub detail: u32,
+    /// The extent: where the item stands in the source, in bytes.
+    pub start: u32,
+    pub end: u32,
+    /// The place: what an error points at; of any other item the extent.
+    pub place_start: u32,
+    pub place_end: u32,
+    /// `NO_TEXT`, `IN_SOURCE` or `IN_MEMORY`.
+    pub text_source: u32,
+    /// Where the text lies there, in bytes.
+    pub text_start: u32,
+    pub text_end: u32,
+}
+
+// Where a record's text lies.
+pub const NO_TEXT: u32 = 0;
+pub const IN_SOURCE: u32 = 1;
+pub const IN_MEMORY: u32 = 2;
+
+// The kinds.
+pub const OPEN_PAREN: u32 = 0;
+pub const CLOSE_PAREN: u32 = 1;
+pub const QUOTE_TICK: u32 = 2;
+pub const QUASI_QUOTE: u32 = 3;
+pub const UNQUOTE: u32 = 4;
+pub const UNQUOTE_SPLICE: u32 = 5;
+pub const QUOTE_SYNTAX: u32 = 6;
+pub const QUASI_QUOTE_SYNTAX: u32 = 7;
+pub const UNQUOTE_SYNTAX: u32 = 8;
+pub const UNQUOTE_SPLICE_SYNTAX: u32 = 9;
+pub const IF: u32 = 10;
+pub const DEFINE: u32 = 11;
+pub const LET: u32 = 12;
+pub const TEST_LET: u32 = 13;
+pub const RETURN: u32 = 14;
+pub const BEGIN: u32 = 15;
+pub const LAMBDA: u32 = 16;
+pub const QUOTE: u32 = 17;
+pub const SYNTAX_RULES: u32 = 18;
+pub const DEFINE_SYNTAX: u32 = 19;
+pub const ELLIPSES: u32 = 20;
+pub const SET: u32 = 21;
+pub const REQUIRE: u32 = 22;
+pub const CHARACTER_LITERAL: u32 = 23;
+pub const DATUM_COMMENT: u32 = 24;
+pub const COMMENT: u32 = 25;
+pub const BOOLEAN_LITERAL: u32 = 26;
+pub const IDENTIFIER: u32 = 27;
+pub const KEYWORD: u32 = 28;
+pub const NUMBER: u32 = 29;
+pub const STRING_LITERAL: u32 = 30;
+pub const DOT: u32 = 31;
+
+// The details of a bracket.
+pub const ROUND: u32 = 0;
+pub const SQUARE: u32 = 1;
+pub const CURLY: u32 = 2;
+pub const VECTOR: u32 = 3;
+pub const BYTES: u32 = 6;
+
+// The kinds of errors.
+pub const FIRST_ERROR: u32 = 100;
+pub const UNEXPECTED_CHAR: u32 = 101;
+pub const INCOMPLETE_STRING: u32 = 102;
+pub const INCOMPLETE_IDENTIFIER: u32 = 103;
+pub const INCOMPLETE_COMMENT: u32 = 104;
+pub const INVALID_WHITESPACE: u32 = 105;
+pub const INVALID_STRING_ESCAPE: u32 = 106;
+pub const INVALID_CHARACTER: u32 = 107;
+pub const ZERO_DENOMINATOR: u32 = 108;
+pub const UNCLOSED_HEX_ESCAPE: u32 = 109;
+pub const INVALID_CHAR_NAME: u32 = 110;
+pub const INVALID_HEX_ESCAPE_LITERAL: u32 = 111;
+pub const INVALID_HEX_CODE_POINT: u32 = 112;
+
+// The details of an invalid hex escape literal.
+pub const HEX_EMPTY: u32 = 1;
+pub const HEX_INVALID_DIGIT: u32 = 2;
+pub const HEX_OVERFLOW: u32 = 3;
+
+// What a call answers: served, or a refusal.
+pub const SERVED: u32 = 0;
+pub const TOO_LONG: u32 = 20;
+pub const NOT_UTF8: u32 = 21;
+pub const TOO_FEW: u32 = 22;
+pub const NO_MODE: u32 = 25;
+pub const BAD_STATE: u32 = 27;
+
+/// The longest text, in bytes.
+pub const LONGEST: u64 = 4294967295;
+
+// The modes.
+pub const PLAIN: u32 = 0;
+pub const REPORT: u32 = 1;
+
+/// How many values `mihadrena_read` writes.
+pub const READ_VALUES: usize = 2;
+
+// What `mihadrena_number` answers beside refusals.
+pub const A_NUMBER: u32 = 0;
+pub const NO_NUMBER: u32 = 1;
+pub const ZERO: u32 = 8;
+
+/// How many words `mihadrena_number` writes.
+pub const NUMBER_WORDS: usize = 27;
+
+// What a figure has.
+pub const NOTHING: u64 = 0;
+pub const VALUE: u64 = 1;
+pub const PLACES: u64 = 2;
+
+/// A value, or the places of digits in the number's text.
+#[repr(C)]
+#[derive(Clone, Copy, Debug, Default, PartialEq, Eq)]
+pub struct Figure {
+    pub has: u64,
+    pub minus: u64,
+    pub first: u64,
+    pub second: u64,
+}
+
+// A real's forms.
+pub const NO_REAL: u64 = 0;
+pub const INTEGER: u64 = 1;
+pub const RATIONAL: u64 = 2;
+pub const DECIMAL: u64 = 3;
+pub const INFINITY: u64 = 4;
+pub const NAN: u64 = 5;
+pub const IMPLIED_ZERO: u64 = 6;
+pub const IMPLIED_ONE: u64 = 7;
+
+/// A real number, or a part of a number that is none.
+#[repr(C)]
+#[derive(Clone, Copy, Debug, Default, PartialEq, Eq)]
+pub struct Real {
+    pub form: u64,
+    pub one: Figure,
+    pub two: Figure,
+    pub three: Figure,
+}
+
+// A number's forms.
+pub const REAL: u64 = 0;
+pub const COMPLEX: u64 = 1;
+pub const POLAR: u64 = 2;
+
+/// What `mihadrena_number` writes.
+#[repr(C)]
+#[derive(Clone, Copy, Debug, Default, PartialEq, Eq)]
+pub struct Parts {
+    pub form: u64,
+    pub one: Real,
+    pub two: Real,
+}
+
+// What `mihadrena_code_at` answers where no character stands.
+pub const CODE_BAD: u32 = 0x110000;
+pub const CODE_CUT: u32 = 0x110001;
+pub const CODE_END: u32 = 0x110002;
+
+const _: () = assert!(size_of::<Record>() == RECORD_WORDS * size_of::<u32>());
+const _: () = assert!(size_of::<Parts>() == NUMBER_WORDS * size_of::<u64>());
+
+#[rustfmt::skip]
+extern "C" {
+    pub fn mihadrena_read(source: *const u8, source_length: usize, mode: u32, skip_comments: bool, records: *mut u32, records_length: usize, text: *mut u8, text_length: usize, values: *mut u64, values_length: usize) -> u32;
+    pub fn mihadrena_text_mark(source: *const u8, source_length: usize, text: *const u8, text_length: usize, text_source: u32, start: u32, end: u32) -> u32;
+    pub fn mihadrena_number(text: *const u8, text_length: usize, words: *mut u64, words_length: usize) -> u32;
+    pub fn mihadrena_good_bytes(text: *const u8, text_length: usize) -> usize;
+    pub fn mihadrena_code_at(text: *const u8, text_length: usize, at: usize) -> u32;
+    pub fn mihadrena_next_at(text: *const u8, text_length: usize, at: usize) -> usize;
+    pub fn mihadrena_is_blank(code: u32) -> bool;
+    pub fn mihadrena_put_char(code: u32, text: *mut u8, text_length: usize) -> usize;
+}

@@ -1,0 +1,140 @@
+//! The declarations of `mihadrena::raw` are those of include/mihadrena.h: every constant, every struct's fields, every function.
+use std::collections::BTreeMap;
+
+const HEADER: &str = include_str!("../../../include/mihadrena.h");
+const RAW: &str = include_str!("../src/raw.rs");
+
+/// Names with what stands for each.
+type Declared = BTreeMap<String, String>;
+
+/// A number in C or Rust, decimal or hex.
+fn value(text: &str) -> u64 {
+    match text.strip_prefix("0x") {
+        Some(digits) => u64::from_str_radix(digits, 16).expect("a hex number"),
+        None => text.parse().expect("a number"),
+    }
+}
+
+/// The text without C's comments.
+fn code(text: &str) -> String {
+    let mut out = String::new();
+    let mut rest = text;
+    while let Some((before, behind)) = rest.split_once("/*") {
+        out.push_str(before);
+        rest = behind.split_once("*/").expect("a comment ends").1;
+    }
+    out + rest
+}
+
+fn header_constants() -> BTreeMap<String, u64> {
+    let code = code(HEADER);
+    let defines = code.lines().filter_map(|line| line.strip_prefix("#define MIHADRENA_"));
+    defines
+        .filter_map(|define| define.trim().split_once(' '))
+        .filter(|(name, _)| !name.contains('('))
+        .map(|(name, text)| (name.to_string(), value(text.trim())))
+        .collect()
+}
+
+fn raw_constants() -> BTreeMap<String, u64> {
+    let lines = RAW.lines().filter_map(|line| line.strip_prefix("pub const "));
+    lines
+        .map(|line| {
+            let (name, typed) = line.split_once(": ").expect("a typed constant");
+            let text = typed.split_once(" = ").expect("a value").1.trim_end_matches(';');
+            (name.to_string(), value(text))
+        })
+        .collect()
+}
+
+#[test]
+fn every_constant_is_the_headers() {
+    let constants = raw_constants();
+    assert!(constants.len() > 80, "the constants are found");
+    assert_eq!(constants, header_constants());
+}
+
+/// A type of C as Rust writes it.
+fn rust_type(c: &str) -> &str {
+    match c.trim() {
+        "uint32_t" => "u32",
+        "uint64_t" => "u64",
+        "size_t" => "usize",
+        "bool" => "bool",
+        "const uint8_t *" => "*const u8",
+        "uint8_t *" => "*mut u8",
+        "uint32_t *" => "*mut u32",
+        "uint64_t *" => "*mut u64",
+        "mihadrena_figure" => "Figure",
+        "mihadrena_real" => "Real",
+        other => panic!("a type that the header does not use: {other}"),
+    }
+}
+
+/// `const uint8_t *text` as `text: *const u8`.
+fn rust_parameter(c: &str) -> String {
+    let c = c.trim();
+    let at = c.rfind(|letter: char| letter != '_' && !letter.is_alphanumeric()).expect("a type and a name") + 1;
+    format!("{}: {}", &c[at..], rust_type(&c[..at]))
+}
+
+/// The header's functions, but for the one that is written out there.
+fn header_functions() -> Declared {
+    let code = code(HEADER);
+    let (before, inline) = code.split_once("static inline").expect("mihadrena_text is written out");
+    let behind = inline.split_once("\n}\n").expect("its end").1;
+    let declarations = [before, behind].concat();
+    let mut functions = Declared::new();
+    for declaration in declarations.split(';') {
+        let Some(paren) = declaration.find('(').filter(|_| declaration.ends_with(')')) else { continue };
+        let head = declaration[..paren].trim_start();
+        let head = head.lines().last().expect("a line");
+        let Some((result, name)) = head.rsplit_once(' ').filter(|(_, name)| name.starts_with("mihadrena_")) else {
+            continue;
+        };
+        let inside = &declaration[paren + 1..declaration.len() - 1];
+        let parameters: Vec<String> = inside.split(',').map(rust_parameter).collect();
+        functions.insert(name.to_string(), format!("({}) -> {}", parameters.join(", "), rust_type(result)));
+    }
+    functions
+}
+
+fn raw_functions() -> Declared {
+    let lines = RAW.lines().filter_map(|line| line.trim().strip_prefix("pub fn "));
+    lines
+        .map(|line| {
+            let (name, rest) = line.split_once('(').expect("parameters");
+            (name.to_string(), format!("({}", rest.trim_end_matches(';')))
+        })
+        .collect()
+}
+
+#[test]
+fn every_function_is_the_headers() {
+    let functions = raw_functions();
+    assert!(functions.len() >= 8, "the functions are found");
+    assert_eq!(functions, header_functions());
+}
+
+fn header_fields(name: &str) -> Vec<String> {
+    let code = code(HEADER);
+    let inside = code.split_once(&format!("typedef struct mihadrena_{name} {{")).expect("the struct").1;
+    let fields = inside.split_once('}').expect("its end").0;
+    fields.split(';').filter(|field| !field.trim().is_empty()).map(rust_parameter).collect()
+}
+
+fn raw_fields(name: &str) -> Vec<String> {
+    let inside = RAW.split_once(&format!("pub struct {name} {{")).expect("the struct").1;
+    let fields = inside.split_once('}').expect("its end").0;
+    let lines = fields.lines().filter_map(|line| line.trim().strip_prefix("pub "));
+    lines.map(|line| line.trim_end_matches(',').to_string()).collect()
+}
+
+#[test]
+fn every_struct_is_the_headers() {
+    for (c, rust) in [("record", "Record"), ("figure", "Figure"), ("real", "Real"), ("parts", "Parts")] {
+        assert_eq!(header_fields(c), raw_fields(rust), "{rust}");
+    }
+    assert_eq!(size_of::<mihadrena::raw::Record>(), 4 * mihadrena::raw::RECORD_WORDS);
+    assert_eq!(size_of::<mihadrena::raw::Parts>(), 8 * mihadrena::raw::NUMBER_WORDS);
+}
