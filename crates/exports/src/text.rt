@@ -3,17 +3,17 @@
 ghost use mathlib.Core.Path.{_≡_};
 ghost use Rattle.lexer.specs.Text.{textMark};
 
-// The mark of a record's text, by the record's last three words: 0 if the text is the part from `start` to `end` of the source (`place`
-// 1) or of the text memory (`place` 2), else document 01's refusal 27.
+// The mark of a record's text, by the record's last three words: 0 if the text is the part from `start` to `end` of the source (`origin`
+// 1) or of the text memory (`origin` 2), else document 01's refusal 27.
 #[no_mangle]
 pub extern "C" fn mihadrena_text_mark(
     source: &[u8],
     text: &[u8],
-    place: u32,
+    origin: u32,
     start: u32,
     end: u32,
 ) -> u32
-    ensures { λ r. ⌜ r ≡ textMark (now (source .entry)) (now (text .entry)) place start end ⌝ }
+    ensures { λ r. ⌜ r ≡ textMark (now (source .entry)) (now (text .entry)) origin start end ⌝ }
 {
-    lexer::text_mark(source, text, place, start, end)
+    lexer::text_mark(source, text, origin, start, end)
 }
