@@ -1,5 +1,6 @@
-//! `replay [FILE]` writes the list of texts and of the Rust's answers that the proved program crates/replay reads, to
-//! crates/replay/data/answers if no other file is named, and prints how many texts and items it has.
+//! `replay [FOLDER]` writes the lists of texts and of the Rust's answers that the proved program crates/replay reads, to
+//! crates/replay/data if no other folder is named: `answers`, what is told of the whole-text call, and `stops`, what is told of the
+//! piece calls alone. It prints how many answers and items they have.
 //!
 //! A text is kept if the Rust's reading of it shows something that no text before it showed (`features`). The texts tried are those of
 //! `gen`, family by family; of each at most `KEPT` are kept. `frame` says how a text is written down.
@@ -10,6 +11,7 @@ mod told;
 use std::collections::HashSet;
 use std::fs::File;
 use std::io::{self, BufWriter, Write};
+use std::path::PathBuf;
 use std::{env, thread};
 
 /// The families that texts are drawn from, and how many texts of each are looked at.
@@ -37,32 +39,36 @@ const LONG: usize = 4000;
 /// The Rust calls itself for every comment that it skips: enough stack for all of them.
 const STACK: usize = 1 << 28;
 
-const DEFAULT: &str = concat!(env!("CARGO_MANIFEST_DIR"), "/../../crates/replay/data/answers");
+const DEFAULT: &str = concat!(env!("CARGO_MANIFEST_DIR"), "/../../crates/replay/data");
 
 fn main() -> io::Result<()> {
-    let path = env::args().nth(1).unwrap_or_else(|| DEFAULT.into());
-    let mut out = BufWriter::new(File::create(path)?);
+    let folder = PathBuf::from(env::args().nth(1).unwrap_or_else(|| DEFAULT.into()));
+    let mut answers = BufWriter::new(File::create(folder.join("answers"))?);
+    let mut stops = BufWriter::new(File::create(folder.join("stops"))?);
     let worker = thread::Builder::new().stack_size(STACK).spawn(move || {
-        let mut list = List { out: &mut out, seen: HashSet::new(), count: Count::default() };
+        let mut list = List { answers: &mut answers, stops: &mut stops, seen: HashSet::new(), count: Count::default() };
         list.examples()?;
         for &(name, tried) in FAMILIES {
             list.family(name, tried)?;
         }
-        list.out.flush()?;
-        println!("{} texts, {} items", list.count.texts, list.count.items);
-        Ok(())
+        let count = list.count;
+        println!("{} answers, {} stops, {} items", count.answers, count.stops, count.items);
+        answers.flush()?;
+        stops.flush()
     });
     worker?.join().expect("no panic")
 }
 
 #[derive(Default)]
 struct Count {
-    texts: usize,
+    answers: usize,
+    stops: usize,
     items: usize,
 }
 
 struct List<'a, W: Write> {
-    out: &'a mut W,
+    answers: &'a mut W,
+    stops: &'a mut W,
     seen: HashSet<u64>,
     count: Count,
 }
@@ -103,9 +109,14 @@ impl<W: Write> List<'_, W> {
     /// Writes down what is told of a text.
     fn put(&mut self, text: &[u8]) -> io::Result<()> {
         for told in told::all(text) {
-            self.count.texts += 1;
             self.count.items += told.words.len() / item::WORDS;
-            frame::write(self.out, text, &told)?;
+            if told.of_pieces_alone() {
+                self.count.stops += 1;
+                frame::write(self.stops, text, &told)?;
+            } else {
+                self.count.answers += 1;
+                frame::write(self.answers, text, &told)?;
+            }
         }
         Ok(())
     }

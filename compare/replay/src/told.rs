@@ -38,6 +38,13 @@ pub struct Told {
     pub lent_bytes: usize,
 }
 
+impl Told {
+    /// Whether it says nothing of the whole-text call.
+    pub fn of_pieces_alone(&self) -> bool {
+        self.calls == PIECES
+    }
+}
+
 /// Everything that is told of a text: comments kept, and, where it has some, skipped.
 pub fn all(text: &[u8]) -> Vec<Told> {
     let mut all = of(text, false);
