@@ -5,7 +5,7 @@
 //! --seed     where the random texts start (0)
 //! --count    how many texts of a random family are compared (1,000,000); a family that lists is compared whole
 //! --limit    no more texts than this of any family: for a quick look
-//! --huge     shows A3 too, with a text of 4 GiB
+//! --huge     shows A3 and refusal 20 too, with a text of 4 GiB
 mod chars;
 mod differences;
 mod examples;

@@ -35,21 +35,22 @@ enum Said {
     Odd(u32, [u64; NUMBER_WORDS]),
 }
 
+/// The Rust's answer, or "no number" where it differs as listed, against ours.
 fn same(tally: &mut Tally, text: &[u8]) {
-    let proved = proved_number(text);
-    let rust = match str::from_utf8(text) {
-        Ok(text) => Said::Called(rust_number(text)),
+    let expected = match str::from_utf8(text) {
+        Ok(source) => {
+            let called = rust_number(source);
+            match listed(source, &called) {
+                Some(known) => {
+                    tally.know(known);
+                    Said::Called(Called::Answered(NumberAnswer::NoNumber))
+                }
+                None => Said::Called(called),
+            }
+        }
         Err(error) => Said::Refused(proved::NOT_UTF8, error.valid_up_to() as u64),
     };
-    if let (Said::Called(called), Ok(text)) = (&rust, str::from_utf8(text)) {
-        let no_number = Said::Called(Called::Answered(NumberAnswer::NoNumber));
-        if let Some(known) = listed(text, called) {
-            tally.know(known);
-            tally.same(no_number, proved, || shown(text.as_bytes()));
-            return;
-        }
-    }
-    tally.same(rust, proved, || shown(text));
+    tally.same(expected, proved_number(text), || shown(text));
 }
 
 /// What the memory holds before a call, and how much of it lies past the words.
@@ -98,6 +99,11 @@ struct Layout<'a> {
 const REAL_WORDS: usize = 13;
 const FIGURE_WORDS: usize = 4;
 
+/// A number's forms.
+const REAL: u64 = 0;
+const COMPLEX: u64 = 1;
+const POLAR: u64 = 2;
+
 /// A real's forms.
 const INTEGER: u64 = 1;
 const RATIONAL: u64 = 2;
@@ -117,11 +123,11 @@ impl Layout<'_> {
     fn number(&self) -> Option<Number> {
         let (first, second) = self.words[1..].split_at(REAL_WORDS);
         match self.words[0] {
-            0 if second == [0; REAL_WORDS] => Some(Number::Real(self.real(first)?)),
-            1 if self.implies_one() == (second[0] == IMPLIED_ONE) => {
+            REAL if second == [0; REAL_WORDS] => Some(Number::Real(self.real(first)?)),
+            COMPLEX if self.implies_one() == (second[0] == IMPLIED_ONE) => {
                 Some(Number::Complex(self.real(first)?, self.real(second)?))
             }
-            2 => Some(Number::Polar(self.real(first)?, self.real(second)?)),
+            POLAR => Some(Number::Polar(self.real(first)?, self.real(second)?)),
             _ => None,
         }
     }
