@@ -90,18 +90,18 @@ MIHADRENA_ASSERT(sizeof(mihadrena_record) == 4 * MIHADRENA_RECORD_WORDS, "a reco
 
 /* An error is an item: its kind is MIHADRENA_FIRST_ERROR plus its number. Reading goes on behind its extent. */
 #define MIHADRENA_FIRST_ERROR 100
-#define MIHADRENA_UNEXPECTED_CHAR 101            /* detail: the character */
-#define MIHADRENA_INCOMPLETE_STRING 102
-#define MIHADRENA_INCOMPLETE_IDENTIFIER 103
-#define MIHADRENA_INCOMPLETE_COMMENT 104
-#define MIHADRENA_INVALID_WHITESPACE 105
-#define MIHADRENA_INVALID_STRING_ESCAPE 106      /* detail: the character */
-#define MIHADRENA_INVALID_CHARACTER 107
-#define MIHADRENA_ZERO_DENOMINATOR 108
-#define MIHADRENA_UNCLOSED_HEX_ESCAPE 109        /* detail: the closer that was expected */
-#define MIHADRENA_INVALID_CHAR_NAME 110
-#define MIHADRENA_INVALID_HEX_ESCAPE_LITERAL 111 /* detail: one of the three below */
-#define MIHADRENA_INVALID_HEX_CODE_POINT 112     /* detail: the code */
+#define MIHADRENA_UNEXPECTED_CHAR 101            /* ##         detail: the character */
+#define MIHADRENA_INCOMPLETE_STRING 102          /* "a */
+#define MIHADRENA_INCOMPLETE_IDENTIFIER 103      /* |a */
+#define MIHADRENA_INCOMPLETE_COMMENT 104         /* #| */
+#define MIHADRENA_INVALID_WHITESPACE 105         /* "\ x" */
+#define MIHADRENA_INVALID_STRING_ESCAPE 106      /* "\q"       detail: the character */
+#define MIHADRENA_INVALID_CHARACTER 107          /* #\ and the end of the text */
+#define MIHADRENA_ZERO_DENOMINATOR 108           /* 1/0 */
+#define MIHADRENA_UNCLOSED_HEX_ESCAPE 109        /* "\x41"     detail: the closer that was expected */
+#define MIHADRENA_INVALID_CHAR_NAME 110          /* #\nothing */
+#define MIHADRENA_INVALID_HEX_ESCAPE_LITERAL 111 /* #\xyz      detail: one of the three below */
+#define MIHADRENA_INVALID_HEX_CODE_POINT 112     /* #\xD800    detail: the code */
 
 /* The details of MIHADRENA_INVALID_HEX_ESCAPE_LITERAL. */
 #define MIHADRENA_HEX_EMPTY 1

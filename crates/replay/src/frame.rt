@@ -1,5 +1,8 @@
 // The frames of the list: compare/replay/src/frame.rs says what the bytes of a head are.
 
+// How many bytes a head has.
+pub const HEAD: usize = 22;
+
 // What a head says.
 pub struct Frame {
     // comments are skipped
@@ -46,7 +49,7 @@ fn four(a: u8, b: u8, c: u8, d: u8) -> u32 {
 }
 
 // A head, of its bytes.
-pub fn head(b: &[u8; 22]) -> Frame {
+pub fn head(b: &[u8; HEAD]) -> Frame {
     Frame {
         skip: b[0] == 1,
         mode: wide(b[1]),

@@ -1,10 +1,14 @@
 // Replays a list of the Rust's answers: data/answers holds texts, each with the items that the unchanged Rust gives for it, or with the
 // refusal that document 01 gives, and every text is read again here by the proved call. The program prints how many answers it met, or
 // the first text whose answer differs. docs/REPLAY.md says how the list was made; compare/replay/src/frame.rs says how it is written.
+use frame::HEAD;
 use libc::STDOUT_FILENO;
 
 mod frame;
 mod judge;
+
+// The bytes or words of each memory: the longest text has some 4,000 bytes.
+const ROOM: usize = 8192;
 
 // More answers than any list has: the program ends, whatever it reads.
 const MOST: u64 = 1_000_000;
@@ -44,7 +48,7 @@ fn judged(
     records: &mut [u32],
     text: &mut [u8],
 ) -> bool {
-    let mut b = [0u8; 22];
+    let mut b = [0u8; HEAD];
     if io::read_full(fd, &mut b) == 0 {
         print_met(done);
         return false;
@@ -69,13 +73,13 @@ fn judged(
     false
 }
 
-// The same, in memory of its own: the longest text has some 4,000 bytes.
+// The same, in memory of its own.
 fn one(fd: i32, done: u64) -> bool {
-    let mut source = [0u8; 8192];
-    let mut words = [0u8; 8192];
-    let mut memory = [0u8; 8192];
-    let mut records = [0u32; 8192];
-    let mut text = [0u8; 8192];
+    let mut source = [0u8; ROOM];
+    let mut words = [0u8; ROOM];
+    let mut memory = [0u8; ROOM];
+    let mut records = [0u32; ROOM];
+    let mut text = [0u8; ROOM];
     judged(
         fd,
         done,

@@ -17,7 +17,7 @@ pub enum HexError {
 /// An item that is an error, in the order and by the names of the Rust's `TokenError`. It prints as the Rust's does.
 #[derive(Clone, Copy, Debug, PartialEq, Eq, Hash)]
 pub enum Error {
-    /// A blank in a here-string's first line: `#<<a b`
+    /// `##`, or a blank in a here-string's first line: `#<<a b`
     UnexpectedChar(char),
     /// `"a`
     IncompleteString,

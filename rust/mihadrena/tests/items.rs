@@ -118,6 +118,7 @@ fn every_kind() {
 #[test]
 fn every_error_and_its_text() {
     let errors = [
+        ("##", Error::UnexpectedChar('#'), "unexpected char '#'"),
         ("#<<a b", Error::UnexpectedChar(' '), "unexpected char ' '"),
         ("\"a", Error::IncompleteString, "incomplete string"),
         ("|a", Error::IncompleteIdentifier, "incomplete identifier"),
