@@ -1,8 +1,20 @@
+// Digits, signs and integers of the number grammar (R7RS 7.1.1), and the hexadecimal digits of escapes and `#\x` characters (document
+// 01, "Rules that bite"): specs/Digits and specs/Hex say what each function answers. A part of a text is a slice that starts where the
+// text starts, so that an index is a place of the text, and the place where the part starts. Internal: the number call is in `numbers`.
+ghost use mathlib.Core.Path.{_≡_};
+ghost use Prim.Native.Nat.{_+_, _≤_, _<_};
+ghost use lib.ListN.{drop};
+ghost use Rattle.digits.specs.Digits.{within, digitOf, digits, sign, uinteger, value, fit, signed, top, wholeOf, integer};
+
+pub mod hexadecimal;
+
+// Places of a text: from `start` to before `end`.
 pub struct Span {
     pub start: usize,
     pub end: usize,
 }
 
+// An integer. Small: its value. Big, as 9223372036854775808 is: whether it has a minus sign, and where its digits stand.
 pub enum Int {
     Small(i64),
     Big(bool, Span),
@@ -13,12 +25,167 @@ pub enum MaybeInt {
     NoInt,
 }
 
+// The value of digits without their sign, where it is at most 2^63: Large is 9223372036854775809.
 pub enum Magnitude {
     Fits(u64),
     Large,
 }
 
+// Hexadecimal digits: their value, or what is wrong with them (the detail of error 11) and at which place of their text.
 pub enum Hex {
     Value(u32),
     Wrong(u32, usize),
+}
+
+// The digit of a byte that is none, a digit of no radix.
+const NO_DIGIT: u64 = 16;
+
+const TEN: u64 = 10;
+
+// The first magnitude past signed 64 bits, and the first one after a minus sign.
+const TOP: u64 = 0x8000_0000_0000_0000;
+
+const NEGATIVE_TOP: u64 = 0x8000_0000_0000_0001;
+
+// Whether c is one of the bytes from a to b.
+fn within(a: u8, b: u8, c: u8) -> bool
+    ensures { λ r. ⌜ r ≡ within a b c ⌝ }
+{
+    if c < a {
+        return false;
+    }
+    c <= b
+}
+
+// A digit's value.
+pub fn digit(c: u8) -> u64
+    ensures { λ r. ⌜ r ≡ digitOf c ⌝ }
+{
+    if within(b'0', b'9', c) {
+        return (c - b'0') as u64;
+    }
+    if within(b'A', b'F', c) {
+        return (c - b'A') as u64 + TEN;
+    }
+    if within(b'a', b'f', c) {
+        return (c - b'a') as u64 + TEN;
+    }
+    NO_DIGIT
+}
+
+// Where the run of digits from a place on ends.
+pub fn run_end(t: &[u8], from: usize, radix: u64) -> usize
+    ensures { λ r. ⌜ r ≡ from + digits radix (drop from (now (t .entry))) ⌝ }
+{
+    let mut i = from;
+    while i < t.len() {
+        let d = digit(t[i]);
+        if radix <= d {
+            return i;
+        }
+        i += 1;
+    }
+    i
+}
+
+// Where the sign at a place ends, if one is there.
+pub fn sign_end(t: &[u8], from: usize) -> usize
+    ensures { λ r. ⌜ r ≡ from + sign (drop from (now (t .entry))) ⌝ }
+{
+    if t.len() <= from {
+        return from;
+    }
+    let c = t[from];
+    if c == b'+' {
+        return from + 1;
+    }
+    if c == b'-' {
+        return from + 1;
+    }
+    from
+}
+
+// Whether one or more digits stand from a place on, and nothing else.
+pub fn unsigned(t: &[u8], from: usize, radix: u64) -> bool
+    ensures { λ r. ⌜ r ≡ uinteger radix (drop from (now (t .entry))) ⌝ }
+{
+    if t.len() <= from {
+        return false;
+    }
+    let end = run_end(t, from, radix);
+    end == t.len()
+}
+
+// The value of the digits from a place on.
+fn magnitude_at(t: &[u8], from: usize, radix: u64) -> Magnitude
+    requires { ⌜ (1 ≤ radix) × (radix ≤ 16) ⌝ }
+    ensures { λ r. ⌜ r ≡ fit (value radix 0 (drop from (now (t .entry)))) ⌝ }
+{
+    let mut v: u64 = 0;
+    let mut i = from;
+    while i < t.len() {
+        let d = digit(t[i]);
+        if (TOP - d) / radix < v {
+            return Magnitude::Large;
+        }
+        v = v * radix + d;
+        i += 1;
+    }
+    Magnitude::Fits(v)
+}
+
+// The signed number of a magnitude.
+fn small(neg: bool, m: u64) -> i64
+    requires { ⌜ m < top neg ⌝ }
+    ensures { λ r. ⌜ r ≡ signed neg m ⌝ }
+{
+    if neg {
+        if m == 0 {
+            return 0;
+        }
+        return -1 - ((m - 1) as i64);
+    }
+    m as i64
+}
+
+// The first magnitude past signed 64 bits.
+fn top_of(neg: bool) -> u64
+    ensures { λ r. ⌜ r ≡ top neg ⌝ }
+{
+    if neg {
+        return NEGATIVE_TOP;
+    }
+    TOP
+}
+
+// The integer of the digits from a place on, after its sign.
+pub fn whole(t: &[u8], from: usize, radix: u64, neg: bool) -> MaybeInt
+    requires { ⌜ (1 ≤ radix) × (radix ≤ 16) ⌝ }
+    ensures { λ r. ⌜ r ≡ wholeOf radix neg from (drop from (now (t .entry))) ⌝ }
+{
+    if unsigned(t, from, radix) {
+        let end = t.len();
+        match magnitude_at(t, from, radix) {
+            Magnitude::Fits(m) => {
+                if m < top_of(neg) {
+                    MaybeInt::AnInt(Int::Small(small(neg, m)))
+                } else {
+                    MaybeInt::AnInt(Int::Big(neg, Span { start: from, end }))
+                }
+            }
+            Magnitude::Large => MaybeInt::AnInt(Int::Big(neg, Span { start: from, end })),
+        }
+    } else {
+        MaybeInt::NoInt
+    }
+}
+
+// The integer from a place on: an optional sign, then digits.
+pub fn integer(t: &[u8], from: usize, radix: u64) -> MaybeInt
+    requires { ⌜ (1 ≤ radix) × (radix ≤ 16) ⌝ }
+    ensures { λ r. ⌜ r ≡ integer radix from (drop from (now (t .entry))) ⌝ }
+{
+    let neg = texts::starts_at(t, from, b'-');
+    let a = sign_end(t, from);
+    whole(t, a, radix, neg)
 }

@@ -1,0 +1,4 @@
+pub mod Decimals
+pub mod RealParts
+pub mod Cuts
+pub mod Judged
