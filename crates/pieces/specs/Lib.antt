@@ -1,0 +1,4 @@
+pub mod Given
+pub mod Expected
+pub mod Bounds
+pub mod Calls
