@@ -7,12 +7,17 @@ use Rattle.items.specs.declared.HashKind.{HashKind}
 use Rattle.items.specs.declared.HashKind.the-variants.{Decided, Bracket, Undecided}
 use Rattle.items.specs.declared.CharValue.{CharValue}
 use Rattle.items.specs.declared.CharValue.the-variants.{Scalar, Wrong}
-use Rattle.items.specs.Classes.{First, semicolon, quote, comma, hash, number, single, vertical, backslash, wordy, InQuotes, ends, escapes, plain, AfterBackslash, simple, hexX, hexU, blank, newline, invalid, InHex, closes, stops, digit, InTrim, space, line, solid, InNest, bar, sharp, inside, InWord, breaks, skips, goes, InRun, stays, stopsRun, leaves, AfterHash, radix, opensNest, datum, twice, angle, value, InHash, skipsTwo, tick, commas, stopsHash, staysHash, InDelim, endsDelim, returns, blankDelim, ofDelim}
+use Rattle.items.specs.Classes.{First, semicolon, quote, comma, hash, number, single, vertical, backslash, wordy, InQuotes, ends}
+use Rattle.items.specs.Classes.{escapes, plain, AfterBackslash, simple, hexX, hexU, blank, newline, invalid, InHex, closes, stops}
+use Rattle.items.specs.Classes.{digit, InTrim, space, line, solid, InNest, bar, sharp, inside, InWord, breaks, skips, goes, InRun}
+use Rattle.items.specs.Classes.{stays, stopsRun, leaves, AfterHash, radix, opensNest, datum, twice, angle, value, InHash, skipsTwo}
+use Rattle.items.specs.Classes.{tick, commas, stopsHash, staysHash, InDelim, endsDelim, returns, blankDelim, ofDelim}
 use Prim.Native.Nat.{ℕ}
 use mathlib.Core.Path.{_≡_, refl}
 
 module _ {P : Type 0} where
-  pub by-first : (k : First) → (k ≡ semicolon → P) → (k ≡ quote → P) → (k ≡ comma → P) → (k ≡ hash → P) → (k ≡ number → P) → ((x : ℕ) (y : ℕ) → k ≡ single x y → P) → (k ≡ vertical → P) → (k ≡ backslash → P) → (k ≡ wordy → P) → P
+  pub by-first : (k : First) → (k ≡ semicolon → P) → (k ≡ quote → P) → (k ≡ comma → P) → (k ≡ hash → P) → (k ≡ number → P)
+      → ((x : ℕ) (y : ℕ) → k ≡ single x y → P) → (k ≡ vertical → P) → (k ≡ backslash → P) → (k ≡ wordy → P) → P
   by-first semicolon f g h i j l m n o = f refl
   by-first quote f g h i j l m n o = g refl
   by-first comma f g h i j l m n o = h refl
@@ -28,7 +33,8 @@ module _ {P : Type 0} where
   by-quotes escapes f g h = g refl
   by-quotes plain f g h = h refl
 
-  pub by-backslash : (k : AfterBackslash) → ((x : ℕ) → k ≡ simple x → P) → (k ≡ hexX → P) → (k ≡ hexU → P) → (k ≡ blank → P) → (k ≡ newline → P) → (k ≡ invalid → P) → P
+  pub by-backslash : (k : AfterBackslash) → ((x : ℕ) → k ≡ simple x → P) → (k ≡ hexX → P) → (k ≡ hexU → P) → (k ≡ blank → P) → (k ≡ newline → P)
+      → (k ≡ invalid → P) → P
   by-backslash (simple x) f g h i j l = f x refl
   by-backslash hexX f g h i j l = g refl
   by-backslash hexU f g h i j l = h refl

@@ -7,8 +7,13 @@ use Rattle.items.specs.declared.HashKind.{HashKind}
 use Rattle.items.specs.declared.HashKind.the-variants.{Decided, Bracket, Undecided}
 use Rattle.items.specs.declared.CharValue.{CharValue}
 use Rattle.items.specs.declared.CharValue.the-variants.{Scalar, Wrong}
-use Rattle.items.specs.Classes.{inQuotes, afterBackslash, inHex, inTrim, inNest, inWord, inRun, afterHash, inHash, inDelim, InQuotes, ends, escapes, plain, AfterBackslash, simple, hexX, hexU, blank, newline, invalid, InHex, closes, stops, digit, InTrim, space, line, solid, InNest, bar, sharp, inside, InWord, breaks, skips, goes, InRun, stays, stopsRun, leaves, AfterHash, radix, opensNest, datum, twice, angle, value, InHash, skipsTwo, tick, commas, stopsHash, staysHash, InDelim, endsDelim, returns, blankDelim, ofDelim}
-use Rattle.items.specs.Machine.{onNest, onBar, onSharp, onQuoted, onEscape, onBrace, closeHex, onHex, onTrimBefore, onTrimAfter, onWord, enterWord, onRun, hashThen, onHash, onAfterHash, onDelim, stepOf, depthOf}
+use Rattle.items.specs.Classes.{inQuotes, afterBackslash, inHex, inTrim, inNest, inWord, inRun, afterHash, inHash, inDelim, InQuotes}
+use Rattle.items.specs.Classes.{ends, escapes, plain, AfterBackslash, simple, hexX, hexU, blank, newline, invalid, InHex, closes}
+use Rattle.items.specs.Classes.{stops, digit, InTrim, space, line, solid, InNest, bar, sharp, inside, InWord, breaks, skips, goes}
+use Rattle.items.specs.Classes.{InRun, stays, stopsRun, leaves, AfterHash, radix, opensNest, datum, twice, angle, value, InHash}
+use Rattle.items.specs.Classes.{skipsTwo, tick, commas, stopsHash, staysHash, InDelim, endsDelim, returns, blankDelim, ofDelim}
+use Rattle.items.specs.Machine.{onNest, onBar, onSharp, onQuoted, onEscape, onBrace, closeHex, onHex, onTrimBefore, onTrimAfter}
+use Rattle.items.specs.Machine.{onWord, enterWord, onRun, hashThen, onHash, onAfterHash, onDelim, stepOf, depthOf}
 use Rattle.items.specs.Readers.{eat, scalarOf, hashKind, hereEnds, SoFar}
 use Rattle.laws.specs.Quoted.{code}
 use Rattle.laws.proofs.Choice.{if-all}

@@ -6,6 +6,11 @@ pub mod Run
 pub mod Splits
 pub mod Ready
 pub mod Deep
-pub mod Skipped
+pub mod Fine
 pub mod Outcomes
 pub mod Shorter
+pub mod Meanings
+pub mod Order
+pub mod Skipped
+pub mod Fit
+pub mod Few

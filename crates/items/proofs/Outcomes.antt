@@ -1,10 +1,7 @@
--- What an item turned out to be says something of its bytes: a string's stand between quotes, an error's range lies in the text, an
--- error's detail is a small number or a character of the text. What each phase has of that stands in `Holds`; a line for each class of
--- a character in each phase then shows that a step keeps it.
+-- What an item turned out to be says `Fine` of it. What each phase has of that stands in `Holds`; a line for each class of a character in
+-- each phase then shows that a step keeps it.
 use Rattle.items.specs.declared.Quotes.{Quotes}
 use Rattle.items.specs.declared.Quotes.the-variants.{Double, Lines}
-use Rattle.items.specs.declared.Outcome.{Outcome}
-use Rattle.items.specs.declared.Outcome.the-variants.{Token, Str, HereStr, Word, Run, Lined, Keyword, Character, Error, ErrorAt}
 use Rattle.items.specs.declared.Phase.{Phase}
 use Rattle.items.specs.declared.Next.{Next}
 use Rattle.items.specs.declared.Next.the-variants.{Eat, Stop}
@@ -12,71 +9,36 @@ use Rattle.items.specs.declared.HashKind.{HashKind}
 use Rattle.items.specs.declared.HashKind.the-variants.{Decided, Bracket, Undecided}
 use Rattle.items.specs.declared.CharValue.{CharValue}
 use Rattle.items.specs.declared.CharValue.the-variants.{Scalar, Wrong}
-use Rattle.items.specs.Classes.{startsRun, firstOf, delimOf, inQuotes, afterBackslash, inHex, inTrim, inNest, inWord, inRun, afterHash, inHash, inDelim, First, InQuotes, ends, escapes, plain, AfterBackslash, simple, hexX, hexU, blank, newline, invalid, InHex, closes, stops, digit, InTrim, space, line, solid, InNest, bar, sharp, inside, InWord, breaks, skips, goes, InRun, stays, stopsRun, leaves, AfterHash, radix, opensNest, datum, twice, angle, value, InHash, skipsTwo, tick, commas, stopsHash, staysHash, InDelim, endsDelim, returns, blankDelim, ofDelim}
+use Rattle.items.specs.Classes.{startsRun, firstOf, delimOf, inQuotes, afterBackslash, inHex, inTrim, inNest, inWord, inRun}
+use Rattle.items.specs.Classes.{afterHash, inHash, inDelim, First, InQuotes, ends, escapes, plain, AfterBackslash, simple, hexX, hexU}
+use Rattle.items.specs.Classes.{blank, newline, invalid, InHex, closes, stops, digit, InTrim, space, line, solid, InNest, bar, sharp}
+use Rattle.items.specs.Classes.{inside, InWord, breaks, skips, goes, InRun, stays, stopsRun, leaves, AfterHash, radix, opensNest}
+use Rattle.items.specs.Classes.{datum, twice, angle, value, InHash, skipsTwo, tick, commas, stopsHash, staysHash, InDelim, endsDelim}
+use Rattle.items.specs.Classes.{returns, blankDelim, ofDelim}
 use Rattle.items.specs.Items.{byteCount}
-use Rattle.items.specs.Machine.{onNest, onBar, onSharp, onQuoted, onEscape, onBrace, closeHex, onHex, onTrimBefore, onTrimAfter, onWord, enterWord, onRun, hashThen, hashLast, onHash, onAfterHash, onDelim, stepOf, finishOf, onFirst, scanOf}
-use Rattle.items.specs.Readers.{soFar, eat, firstIs, lastIs, linedOf, closed, unclosed, cut, scalarOf, boolKind, quoteKind, formKind, orElse, hashKind, hereEnds, readItem, SoFar}
+use Rattle.items.specs.Machine.{onNest, onBar, onSharp, onQuoted, onEscape, onBrace, closeHex, onHex, onTrimBefore, onTrimAfter}
+use Rattle.items.specs.Machine.{onWord, enterWord, onRun, hashThen, onHash, onAfterHash, onDelim, stepOf, finishOf, onFirst, scanOf}
+use Rattle.items.specs.Readers.{soFar, eat, lastIs, scalarOf, hashKind, hereEnds, readItem, SoFar}
 use Rattle.items.proofs.Cases.{by-next}
 use Rattle.items.proofs.Every.{Every}
+use Rattle.items.proofs.Fine.{Between, Fine, FineKind, FineValue, fine-scalar, fine-closed, fine-unclosed, fine-cut, fine-kind, fine-last}
 use Rattle.items.proofs.Same.{item-same}
 use Rattle.items.proofs.Width.{wide, width-utf8}
 use Rattle.laws.specs.Quoted.{code}
-use Rattle.laws.specs.Texts.{begins, same}
 use Rattle.laws.proofs.Choice.{by-bool, if-all, if-is}
-use Rattle.chars.specs.Encode.{isScalar, utf8, width, spelled}
-use Rattle.digits.specs.declared.Hex.{Hex}
-use Rattle.digits.specs.Hex.{hexValue, hexDigits, hexAfterPlus}
-use Rattle.digits.specs.Digits.{digitOf}
-use Prim.Native.Nat.{ℕ, _+_, _-_, _*_, _^_, _≤_, _<_}
+use Rattle.chars.specs.Encode.{utf8, width}
+use Rattle.digits.specs.Hex.{hexValue}
+use Prim.Native.Nat.{ℕ, _+_, _-_, _^_, _≤_, _<_}
 use mathlib.Core.Path.{_≡_, refl}
 use mathlib.Core.Bool.{Bool, true}
 use mathlib.Core.List.{List, [], _∷_, _++_}
 use lib.ListN.{length, drop, length-append}
 use lib.Seq.{getD-append-add}
-use lib.Dec.{eqb, leb, ltb}
+use lib.Dec.{eqb, leb}
 use native.Mathlib.Omega.{arith}
-use borrow.Author.Tests.{eq-eqb, ltb-true, eqb-true, leb-false}
+use borrow.Author.Tests.{eq-eqb, eqb-true}
 use Rattle.items.specs.declared.Phase.the-variants as ph
-use Rattle.digits.specs.declared.Hex.the-variants as hex
 use Rattle.items.specs.Kinds as kind
-
--- two bytes at least, the last of them b
-abbrev pub Between : ℕ → List ℕ → Type 0
-Between b raw = (2 ≤ length raw) × (lastIs b raw ≡ true)
-
--- an error's number and detail, and a range in a text of n bytes
-abbrev pub Numbered : (ℕ → Type 0) → ℕ → ℕ → Type 0
-Numbered D e d = (e ≤ kind.InvalidHexCodePoint) × D d
-
-abbrev pub Ranged : ℕ → ℕ → ℕ → Type 0
-Ranged n a b = (a ≤ b) × (b ≤ n)
-
--- an outcome, of the bytes raw in a text of n bytes; D is what is known of a detail
-abbrev pub Fine : (ℕ → Type 0) → ℕ → List ℕ → Outcome → Type 0
-Fine D n raw (Token k d) = (k < kind.firstError) × D d
-Fine D n raw Str = Between (code "\"") raw
-Fine D n raw HereStr = hereEnds raw ≡ true
-Fine D n raw Word = Unit {0}
-Fine D n raw Run = Unit {0}
-Fine D n raw Lined = Between (code "|") raw
-Fine D n raw Keyword = Unit {0}
-Fine D n raw Character = Unit {0}
-Fine D n raw (Error e d) = Numbered D e d
-Fine D n raw (ErrorAt e d a b) = Numbered D e d × Ranged n a b
-
-abbrev FineKind : (ℕ → Type 0) → ℕ → List ℕ → HashKind → Type 0
-FineKind D n raw (Decided o) = Fine D n raw o
-FineKind D n raw (Bracket d) = D d
-FineKind D n raw Undecided = Unit {0}
-
--- a character's value, and the value of hex digits
-abbrev pub FineValue : (ℕ → Type 0) → CharValue → Type 0
-FineValue D (Scalar c) = D c
-FineValue D (Wrong e d) = Numbered D e d
-
-abbrev FineHex : Hex → Type 0
-FineHex (hex.Value v) = v < 2 ^ 32
-FineHex (hex.Wrong d p) = d < 2 ^ 32
 
 -- what is known in a phase, with the item so far
 abbrev Holds : (ℕ → Type 0) → ℕ → SoFar → Phase → Type 0
@@ -111,26 +73,6 @@ abbrev Goes : (ℕ → Type 0) → ℕ → SoFar → ℕ → Next → Type 0
 Goes D n i c (Eat q) = Holds D n (eat i c) q
 Goes D n i c (Stop o) = Fine D n (i .bytes) o
 
--- ---- numbers
-
-hex-digits : (p v : ℕ) (s : List ℕ) → v < 2 ^ 32 → FineHex (hexDigits p v s)
-unfolding hexDigits
-hex-digits p v [] h = h
-hex-digits p v (c ∷ s) h =
-    if-all FineHex (ltb (digitOf c) 16)
-    (if-is FineHex (ltb (v * 16 + digitOf c) (2 ^ 32)) (λ e. hex-digits (p + 1) (v * 16 + digitOf c) s (ltb-true _ _ e)) (λ e. omega arith))
-    (omega arith)
-
-hex-plus : (s : List ℕ) → FineHex (hexAfterPlus s)
-unfolding hexAfterPlus
-hex-plus [] = omega arith
-hex-plus (c ∷ s) = hex-digits 1 0 (c ∷ s) (omega arith)
-
-hex-value : (s : List ℕ) → FineHex (hexValue s)
-unfolding hexValue
-hex-value [] = omega arith
-hex-value (c ∷ s) = if-all FineHex (eqb c (code "+")) (hex-plus s) (hex-digits 0 0 (c ∷ s) (omega arith))
-
 -- a character that closes quotes is their delimiter, and the last byte then
 ends-delim : (k : Quotes) (c : ℕ) → inQuotes k c ≡ ends → c ≡ delimOf k
 unfolding inQuotes
@@ -150,85 +92,9 @@ last-is b l =
     let e : length (l ++ (b ∷ [])) - 1 ≡ length l + 0 = omega (arith, length-append l (b ∷ [])) in
     rw e (eq-eqb _ b (getD-append-add l (b ∷ []) 0 0))
 
--- ---- D holds of numbers below 2^32
+-- ---- a step
 
 module _ (D : ℕ → Type 0) (small : (d : ℕ) → d < 2 ^ 32 → D d) (n : ℕ) where
-  fine-hex : (h : Hex) → FineHex h → FineValue D (scalarOf h)
-  unfolding scalarOf
-  fine-hex (hex.Value v) h = if-all (FineValue D) (isScalar v) (small v h) (omega arith, small v h)
-  fine-hex (hex.Wrong d p) h = (omega arith, small d h)
-
-  pub fine-scalar : (s : List ℕ) → FineValue D (scalarOf (hexValue s))
-  fine-scalar s = fine-hex (hexValue s) (hex-value s)
-
-  -- ---- what is asked of the bytes
-
-  fine-lined : (raw : List ℕ) → Fine D n raw (linedOf raw)
-  unfolding linedOf
-  fine-lined raw =
-      let P : Outcome → Type 0 = Fine D n raw in
-      let no : P (Error kind.IncompleteIdentifier 0) = (omega arith, small 0 (omega arith)) in
-      if-is P (leb (length raw) 1) (λ e. no)
-      (λ e. if-all P (firstIs (code "+") raw) tt
-      (if-all P (firstIs (code "|") raw) (if-is P (lastIs (code "|") raw) (λ f. (omega (arith, leb-false (length raw) 1 e), f)) (λ f. no)) no))
-
-  fine-closed : (k : Quotes) (raw : List ℕ) → Between (delimOf k) raw → Fine D n raw (closed k raw)
-  fine-closed Double raw h = h
-  fine-closed Lines raw h = fine-lined raw
-
-  fine-unclosed : (k : Quotes) (raw : List ℕ) → Fine D n raw (unclosed k raw)
-  fine-unclosed Double raw = (omega arith, small 0 (omega arith))
-  fine-unclosed Lines raw = fine-lined raw
-
-  fine-cut : (k : Quotes) (raw : List ℕ) → Fine D n raw (cut k)
-  fine-cut Double raw = (omega arith, small 0 (omega arith))
-  fine-cut Lines raw = (omega arith, small 0 (omega arith))
-
-  fine-bool : (raw : List ℕ) → FineKind D n raw (boolKind raw)
-  unfolding boolKind
-  fine-bool raw =
-      let P : HashKind → Type 0 = FineKind D n raw in
-      let yes : P (Decided (Token kind.BooleanLiteral 1)) = (omega arith, small 1 (omega arith)) in
-      let no : P (Decided (Token kind.BooleanLiteral 0)) = (omega arith, small 0 (omega arith)) in
-      if-all P (same raw (spelled "#true")) yes (if-all P (same raw (spelled "#t")) yes
-      (if-all P (same raw (spelled "#false")) no (if-all P (same raw (spelled "#f")) no tt)))
-
-  fine-quote : (raw : List ℕ) → FineKind D n raw (quoteKind raw)
-  unfolding quoteKind
-  fine-quote raw =
-      let P : HashKind → Type 0 = FineKind D n raw in
-      if-all P (same raw (spelled "#'")) (omega arith, small 0 (omega arith))
-      (if-all P (same raw (spelled "#`")) (omega arith, small 0 (omega arith))
-      (if-all P (same raw (spelled "#,")) (omega arith, small 0 (omega arith))
-      (if-all P (same raw (spelled "#,@")) (omega arith, small 0 (omega arith)) tt)))
-
-  fine-form : (raw : List ℕ) → FineKind D n raw (formKind raw)
-  unfolding formKind
-  fine-form raw =
-      let P : HashKind → Type 0 = FineKind D n raw in
-      if-all P (begins (spelled "#:") raw) tt
-      (if-all P (begins (spelled "#\\") raw) (if-all P (leb (length raw) 2) (omega arith, small 0 (omega arith)) tt)
-      (if-all P (same raw (spelled "#")) (small 3 (omega arith))
-      (if-all P (same raw (spelled "#u8")) (small 6 (omega arith)) tt)))
-
-  fine-else : (raw : List ℕ) (j k : HashKind) → FineKind D n raw j → FineKind D n raw k → FineKind D n raw (orElse j k)
-  fine-else raw (Decided o) k p q = p
-  fine-else raw (Bracket d) k p q = p
-  fine-else raw Undecided k p q = q
-
-  fine-kind : (raw : List ℕ) → FineKind D n raw (hashKind raw)
-  unfolding hashKind
-  fine-kind raw =
-      fine-else raw (boolKind raw) (orElse (quoteKind raw) (formKind raw)) (fine-bool raw)
-      (fine-else raw (quoteKind raw) (formKind raw) (fine-quote raw) (fine-form raw))
-
-  fine-last : (raw : List ℕ) (k : HashKind) → FineKind D n raw k → Fine D n raw (hashLast k)
-  fine-last raw (Decided o) p = p
-  fine-last raw (Bracket d) p = tt
-  fine-last raw Undecided p = tt
-
-  -- ---- a step
-
   module _ (i : SoFar) (c : ℕ) (some : 1 ≤ length (i .bytes)) (room : i .at + width c ≤ n) (detail : D c) where
     -- past the item so far, and the character's place
     from-here : i .at ≤ eat i c .at
@@ -278,7 +144,7 @@ module _ (D : ℕ → Type 0) (small : (d : ℕ) → d < 2 ^ 32 → D d) (n : �
     goes-close (Wrong e d) q from h f = (f, (omega arith, room))
 
     goes-hex : (k : InHex) (q : Quotes) (closer from m : ℕ) → from ≤ i .at → D closer → Goes D n i c (onHex k q closer from m i c)
-    goes-hex closes q closer from m h d = goes-close (scalarOf (hexValue (drop m (i .bytes)))) q from h (fine-scalar (drop m (i .bytes)))
+    goes-hex closes q closer from m h d = goes-close (scalarOf (hexValue (drop m (i .bytes)))) q from h (fine-scalar D small (drop m (i .bytes)))
     goes-hex stops q closer from m h d = ((omega arith, d), (h, omega arith))
     goes-hex digit q closer from m h d = (omega arith, d)
 
@@ -314,7 +180,7 @@ module _ (D : ℕ → Type 0) (small : (d : ℕ) → d < 2 ^ 32 → D d) (n : �
     goes-hash skipsTwo = tt
     goes-hash tick = tt
     goes-hash commas = tt
-    goes-hash stopsHash = goes-then (hashKind (i .bytes)) (fine-kind (i .bytes))
+    goes-hash stopsHash = goes-then (hashKind (i .bytes)) (fine-kind D small n (i .bytes))
     goes-hash staysHash = tt
 
     goes-after : (k : AfterHash) → Goes D n i c (onAfterHash k (i .bytes) c)
@@ -345,13 +211,13 @@ module _ (D : ℕ → Type 0) (small : (d : ℕ) → d < 2 ^ 32 → D d) (n : �
     goes-on report ph.InRun h = goes-run (inRun report c)
     goes-on report ph.InHash h = goes-hash (inHash c)
     goes-on report ph.HashEscape h = tt
-    goes-on report ph.HashTick h = goes-then (hashKind (i .bytes)) (fine-kind (i .bytes))
-    goes-on report ph.HashComma h = if-all (Goes D n i c) (eqb c (code "@")) tt (goes-then (hashKind (i .bytes)) (fine-kind (i .bytes)))
+    goes-on report ph.HashTick h = goes-then (hashKind (i .bytes)) (fine-kind D small n (i .bytes))
+    goes-on report ph.HashComma h = if-all (Goes D n i c) (eqb c (code "@")) tt (goes-then (hashKind (i .bytes)) (fine-kind D small n (i .bytes)))
     goes-on report (ph.Nest d) h = goes-nest (inNest c) d
     goes-on report (ph.NestBar d) h = goes-bar (inNest c) d
     goes-on report (ph.NestSharp d) h = goes-sharp (inNest c) d
     goes-on report (ph.Quoted k) h = goes-quoted (inQuotes k c) k (ends-delim k c)
-    goes-on report (ph.Closed k) h = fine-closed k (i .bytes) h
+    goes-on report (ph.Closed k) h = fine-closed D small n k (i .bytes) h
     goes-on report (ph.TrimBefore k) h = goes-before (inTrim c) k
     goes-on report (ph.TrimAfter k) h = goes-trim (inTrim c) k
     goes-on report (ph.Escape k from) h = goes-escape (afterBackslash c) k from h
@@ -365,7 +231,7 @@ module _ (D : ℕ → Type 0) (small : (d : ℕ) → d < 2 ^ 32 → D d) (n : �
   fine-finish : (i : SoFar) (p : Phase) → Holds D n i p → Fine D n (i .bytes) (finishOf p (i .bytes))
   fine-finish i ph.InLine h = (omega arith, small 0 (omega arith))
   fine-finish i ph.AfterComma h = (omega arith, small 0 (omega arith))
-  fine-finish i ph.AfterHash h = fine-last (i .bytes) (hashKind (i .bytes)) (fine-kind (i .bytes))
+  fine-finish i ph.AfterHash h = fine-last D small n (i .bytes) (hashKind (i .bytes)) (fine-kind D small n (i .bytes))
   fine-finish i ph.AfterAngle h = tt
   fine-finish i ph.HereDelim h = (omega arith, small 0 (omega arith))
   fine-finish i ph.HereStart h = (omega arith, small 0 (omega arith))
@@ -373,20 +239,20 @@ module _ (D : ℕ → Type 0) (small : (d : ℕ) → d < 2 ^ 32 → D d) (n : �
   fine-finish i ph.InWord h = tt
   fine-finish i ph.WordEscape h = tt
   fine-finish i ph.InRun h = tt
-  fine-finish i ph.InHash h = fine-last (i .bytes) (hashKind (i .bytes)) (fine-kind (i .bytes))
-  fine-finish i ph.HashEscape h = fine-last (i .bytes) (hashKind (i .bytes)) (fine-kind (i .bytes))
-  fine-finish i ph.HashTick h = fine-last (i .bytes) (hashKind (i .bytes)) (fine-kind (i .bytes))
-  fine-finish i ph.HashComma h = fine-last (i .bytes) (hashKind (i .bytes)) (fine-kind (i .bytes))
+  fine-finish i ph.InHash h = fine-last D small n (i .bytes) (hashKind (i .bytes)) (fine-kind D small n (i .bytes))
+  fine-finish i ph.HashEscape h = fine-last D small n (i .bytes) (hashKind (i .bytes)) (fine-kind D small n (i .bytes))
+  fine-finish i ph.HashTick h = fine-last D small n (i .bytes) (hashKind (i .bytes)) (fine-kind D small n (i .bytes))
+  fine-finish i ph.HashComma h = fine-last D small n (i .bytes) (hashKind (i .bytes)) (fine-kind D small n (i .bytes))
   fine-finish i (ph.Nest d) h = (omega arith, small 0 (omega arith))
   fine-finish i (ph.NestBar d) h = (omega arith, small 0 (omega arith))
   fine-finish i (ph.NestSharp d) h = (omega arith, small 0 (omega arith))
-  fine-finish i (ph.Quoted k) h = fine-unclosed k (i .bytes)
-  fine-finish i (ph.Closed k) h = fine-closed k (i .bytes) h
-  fine-finish i (ph.TrimBefore k) h = fine-cut k (i .bytes)
-  fine-finish i (ph.TrimAfter k) h = fine-cut k (i .bytes)
-  fine-finish i (ph.Escape k from) h = fine-cut k (i .bytes)
-  fine-finish i (ph.Brace k from) h = fine-cut k (i .bytes)
-  fine-finish i (ph.Hex k closer from m) h = fine-cut k (i .bytes)
+  fine-finish i (ph.Quoted k) h = fine-unclosed D small n k (i .bytes)
+  fine-finish i (ph.Closed k) h = fine-closed D small n k (i .bytes) h
+  fine-finish i (ph.TrimBefore k) h = fine-cut D small n k (i .bytes)
+  fine-finish i (ph.TrimAfter k) h = fine-cut D small n k (i .bytes)
+  fine-finish i (ph.Escape k from) h = fine-cut D small n k (i .bytes)
+  fine-finish i (ph.Brace k from) h = fine-cut D small n k (i .bytes)
+  fine-finish i (ph.Hex k closer from m) h = fine-cut D small n k (i .bytes)
   fine-finish i (ph.Done o) h = h
 
   scan-fine : (report : Bool) (p : Phase) (i : SoFar) (cs : List ℕ) → Holds D n i p → 1 ≤ length (i .bytes) → i .at + byteCount cs ≤ n → Every D cs

@@ -41,7 +41,8 @@ module _ (report : Bool) where
   not-ended last s e [] = refl
   not-ended last s e (x ∷ ms) = rw (le-ltb e e (le-refl e), endsBefore) (not-ended last s e ms)
 
-  extent-ended : (n : ℕ) (last : Place) (s : ℕ) (o : Outcome) (i : SoFar) → i .at < n → endsBefore n (extentItems report last s o i) ≡ extentItems report last s o i
+  extent-ended : (n : ℕ) (last : Place) (s : ℕ) (o : Outcome) (i : SoFar) → i .at < n
+      → endsBefore n (extentItems report last s o i) ≡ extentItems report last s o i
   unfolding extentItems
   extent-ended n last s o i h = ended n _ s (i .at) (meaningOf o s (i .at) (i .bytes)) h
 
@@ -70,12 +71,14 @@ module _ (report : Bool) where
       (λ o e. rw (e, advance) (place-after (beginMode at c) (at + width c) _ xs ∙ add-assoc at (width c) (byteCount xs)))
 
   -- the items of an extent that ended before c, and what follows them
-  both : (n : ℕ) (last : Place) (s : ℕ) (o : Outcome) (i : SoFar) (c : ℕ) (xs : List ℕ) {l : List Item} → i .at + byteCount (c ∷ xs) ≤ n → endsBefore n l ≡ l
+  both : (n : ℕ) (last : Place) (s : ℕ) (o : Outcome) (i : SoFar) (c : ℕ) (xs : List ℕ) {l : List Item} → i .at + byteCount (c ∷ xs) ≤ n
+      → endsBefore n l ≡ l
       → endsBefore n (extentItems report last s o i ++ l) ≡ extentItems report last s o i ++ l
   both n last s o i c xs {l} h e = before-append n (extentItems report last s o i) l ∙ rw (extent-ended n last s o i (omega (arith, wide c)), e)
 
   -- what was given ended before
-  given-ended : (n : ℕ) (m : Mode) (at : ℕ) (last : Place) (xs : List ℕ) → at + byteCount xs ≤ n → endsBefore n (advance report (state m at last) xs .out) ≡ advance report (state m at last) xs .out
+  given-ended : (n : ℕ) (m : Mode) (at : ℕ) (last : Place) (xs : List ℕ) → at + byteCount xs ≤ n
+      → endsBefore n (advance report (state m at last) xs .out) ≡ advance report (state m at last) xs .out
   unfolding advance endsBefore
   given-ended n m at last [] h = refl
   given-ended n idle at last (c ∷ xs) h = given-ended n (beginMode at c) (at + width c) last xs (omega arith)

@@ -26,7 +26,8 @@ use Rattle.items.specs.declared.Phase.the-variants as ph
 module _ (report : Bool) where
   -- ---- running on after some characters
 
-  pub advance-on : (s : State) (xs ys : List ℕ) → advance report s (xs ++ ys) .out ≡ advance report s xs .out ++ advance report (advance report s xs .after) ys .out
+  pub advance-on : (s : State) (xs ys : List ℕ)
+      → advance report s (xs ++ ys) .out ≡ advance report s xs .out ++ advance report (advance report s xs .after) ys .out
   unfolding advance
   advance-on s [] ys = refl
   advance-on s (c ∷ xs) ys =
@@ -38,7 +39,8 @@ module _ (report : Bool) where
   advance-after s (c ∷ xs) ys = advance-after (feed report s c .after) xs ys
 
   -- a text may be cut anywhere
-  pub cut : (s : State) (xs ys : List ℕ) → machineItems report s (xs ++ ys) ≡ advance report s xs .out ++ machineItems report (advance report s xs .after) ys
+  pub cut : (s : State) (xs ys : List ℕ)
+      → machineItems report s (xs ++ ys) ≡ advance report s xs .out ++ machineItems report (advance report s xs .after) ys
   cut s xs ys = rw (advance-on s xs ys, advance-after s xs ys) (append-assoc (advance report s xs .out) _ _)
 
   -- ---- an item
@@ -71,7 +73,8 @@ module _ (report : Bool) where
   -- ---- the items
 
   -- as many turns as there are characters are enough
-  idle-run : (turns : ℕ) (last : Place) (at : ℕ) (cs : List ℕ) → length cs ≤ turns → machineItems report (state idle at last) cs ≡ itemsFrom report turns last at cs
+  idle-run : (turns : ℕ) (last : Place) (at : ℕ) (cs : List ℕ) → length cs ≤ turns
+      → machineItems report (state idle at last) cs ≡ itemsFrom report turns last at cs
   unfolding advance itemsFrom
   idle-run zero last at [] h = refl
   idle-run zero last at (c ∷ cs) h = absurd (not-suc-le-zero h)
@@ -85,7 +88,8 @@ module _ (report : Bool) where
       ap (λ (l : List Item). extentItems report last at (r .what) (r .item) ++ l)
       (idle-run n (rangeAfter last at (r .what) (r .item)) (r .item .at) (r .rest) (le-trans (read-left at c cs) (le-of-suc-le-suc h))))))
 
-  pub turns-enough : (n k : ℕ) (last : Place) (at : ℕ) (cs : List ℕ) → length cs ≤ n → length cs ≤ k → itemsFrom report n last at cs ≡ itemsFrom report k last at cs
+  pub turns-enough : (n k : ℕ) (last : Place) (at : ℕ) (cs : List ℕ) → length cs ≤ n → length cs ≤ k
+      → itemsFrom report n last at cs ≡ itemsFrom report k last at cs
   turns-enough n k last at cs h g = sym (idle-run n last at cs h) ∙ idle-run k last at cs g
 
   -- ---- the first line

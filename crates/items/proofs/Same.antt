@@ -7,8 +7,12 @@ use Rattle.items.specs.declared.Next.{Next}
 use Rattle.items.specs.declared.Next.the-variants.{Eat, Stop}
 use Rattle.items.specs.Classes.{firstOf, inQuotes, afterBackslash, inHex, inTrim, inNest, inWord, inRun, afterHash, inHash, inDelim}
 use Rattle.items.specs.Machine.{enterWord, hashThen, hashLast, onFirst, scanOf}
-use Rattle.items.specs.Readers.{closed, soFar, eat, got, readLine, readNest, afterBar, afterSharp, scalarOf, readQuoted, readEscape, readBrace, readHex, readTrim, wordOn, wordSkip, readWord, readRun, hashKind, hashBracket, hashAt, hashComma, hashOn, hashSkip, hereEnds, hereBody, hereDelim, afterAngle, readHash, readComma, readItem, SoFar, Read}
-use Rattle.items.proofs.Cases.{by-first, by-quotes, by-backslash, by-hex, by-trim, by-nest, by-word, by-run, by-after, by-hash, by-delim, by-value, by-kind}
+use Rattle.items.specs.Readers.{closed, soFar, eat, got, readLine, readNest, afterBar, afterSharp, scalarOf, readQuoted, readEscape}
+use Rattle.items.specs.Readers.{readBrace, readHex, readTrim, wordOn, wordSkip, readWord, readRun, hashKind, hashBracket, hashAt}
+use Rattle.items.specs.Readers.{hashComma, hashOn, hashSkip, hereEnds, hereBody, hereDelim, afterAngle, readHash, readComma, readItem}
+use Rattle.items.specs.Readers.{SoFar, Read}
+use Rattle.items.proofs.Cases.{by-first, by-quotes, by-backslash, by-hex, by-trim, by-nest, by-word, by-run, by-after, by-hash}
+use Rattle.items.proofs.Cases.{by-delim, by-value, by-kind}
 use Rattle.laws.specs.Quoted.{code}
 use Rattle.laws.proofs.Choice.{by-bool}
 use Rattle.digits.specs.Hex.{hexValue}
