@@ -2,12 +2,12 @@
 use Prim.Native.Nat.{ℕ}
 use mathlib.Core.Path.{_≡_, refl}
 use mathlib.Core.List.{List, [], _∷_}
-use mathlib.Core.Bool.{Bool, true, false}
+use mathlib.Core.Bool.{true, false}
 use Rattle.laws.specs.Quoted.{codes}
 use Rattle.chars.specs.declared.Utf8.{Utf8}
 use Rattle.chars.specs.declared.Utf8.the-variants.{Good, Bad}
 use Rattle.chars.specs.Utf8.{within, first, rest, front, sequences, firstBad, chars}
-use Rattle.chars.specs.Encode.{isScalar, utf8, width, encode, bytesOf, spelled}
+use Rattle.chars.specs.Encode.{isScalar, utf8, encode, bytesOf, spelled}
 use Rattle.chars.specs.Blank.{isBlank}
 
 -- a text, where it is bad, and its characters up to there
@@ -45,17 +45,10 @@ pub decoding : each texts ≡ texts
 unfolding within first rest front sequences firstBad chars utf8 bytesOf
 decoding = refl
 
-pub lambda : spelled "λ" ≡ 0xCE ∷ 0xBB ∷ []
-unfolding utf8 bytesOf
-lambda = refl
-
-pub euro : encode 0x20AC ≡ 0xE2 ∷ 0x82 ∷ 0xAC ∷ []
-unfolding within isScalar utf8 encode
-euro = refl
-
-pub surrogate : encode 0xD800 ≡ []
-unfolding within isScalar encode
-surrogate = refl
+-- two bytes and three; a surrogate and what is past the last character have none
+pub encoding : (spelled "λ" ∷ encode 0x20AC ∷ encode 0xD800 ∷ encode 0x110000 ∷ []) ≡ ((0xCE ∷ 0xBB ∷ []) ∷ (0xE2 ∷ 0x82 ∷ 0xAC ∷ []) ∷ [] ∷ [] ∷ [])
+unfolding within isScalar utf8 encode bytesOf
+encoding = refl
 
 -- a no-break space is blank, a zero width space (U+200B) is not
 pub spaces : isBlank 0xA0 ∷ isBlank 0x200B ∷ [] ≡ true ∷ false ∷ []

@@ -4,7 +4,6 @@ use mathlib.Core.List.{List, [], _∷_}
 use mathlib.Core.Bool.{Bool, _&&_}
 use lib.Dec.{leb}
 use Rattle.laws.specs.Choice.{if_then_else_}
-use Rattle.chars.specs.declared.State.{State}
 use Rattle.chars.specs.declared.Step.{Step}
 use Rattle.chars.specs.declared.Step.the-variants as step
 use Rattle.chars.specs.declared.Decoded.{Decoded}
@@ -15,6 +14,10 @@ use Rattle.chars.specs.declared.Utf8.the-variants as utf8
 -- whether b is one of lo..hi
 unfoldable pub within : ℕ → ℕ → ℕ → Bool
 within lo hi b = leb lo b && leb b hi
+
+-- whether b is a character by itself, UTF8-1
+abbrev pub ascii : ℕ → Bool
+ascii b = within 0x00 0x7F b
 
 -- n bytes follow, the next of them one of lo..hi; the bytes up to here hold the bits c
 abbrev pub more : ℕ → ℕ → ℕ → ℕ → Step
@@ -29,7 +32,7 @@ more n lo hi c = step.More (record { need = n; low = lo; high = hi; code = c })
 -- Of its bits those count that section 3 writes as x: 110xxxxx, 1110xxxx, 11110xxx. No other byte starts a character.
 unfoldable pub first : ℕ → Step
 first b =
-    if within 0x00 0x7F b then step.Char b
+    if ascii b then step.Char b
     else if within 0xC2 0xDF b then more 1 0x80 0xBF (b - 0xC0)
     else if within 0xE0 0xE0 b then more 2 0xA0 0xBF (b - 0xE0)
     else if within 0xE1 0xEC b then more 2 0x80 0xBF (b - 0xE0)

@@ -37,3 +37,15 @@ pub enum Utf8 {
     Good,
     Bad(usize),
 }
+
+mod blank;
+mod decode;
+mod encode;
+
+pub use blank::is_blank;
+pub use decode::byte_step;
+pub use decode::decode_at;
+pub use decode::first_bad;
+pub use encode::char_width;
+pub use encode::is_scalar;
+pub use encode::put_char;

@@ -1,0 +1,17 @@
+pub mod Table
+pub mod SixBits
+pub mod Agree
+pub mod Sequences
+pub mod Run
+pub mod Pieces
+pub mod Scalar
+pub mod Width
+pub mod Round
+pub mod Spells
+pub mod Chars
+pub mod Good
+pub mod Sharp
+pub mod FirstBad
+pub mod Ascii
+pub mod Lay
+pub mod Blanks

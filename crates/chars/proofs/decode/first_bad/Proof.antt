@@ -1,0 +1,60 @@
+-- The loop keeps: the verdict on the text from place i on is that on the whole. A run of ASCII has no bad sequence (Ascii), and what
+-- `decode_at` answers past it says how the verdict goes on (Sequences).
+use borrow.Author.Needs.{needs}
+use native.Mathlib.Omega.{arith}
+use Prim.Native.Nat.{ℕ, _-_}
+use mathlib.Core.Path.{_≡_, refl, sym, ap, _∙_}
+use denote.Ref.{now}
+use lib.ListN.{length, drop, drop-of-length-le}
+use Rattle.chars.specs.declared.Decoded.{Decoded}
+use Rattle.chars.specs.Utf8.{sequences, verdict, firstBad}
+use Rattle.chars.proofs.Ascii.{ascii-pass}
+use Rattle.chars.proofs.Sequences.{said, turns, further}
+use Rattle.chars.proofs.decode.first_bad.Statement.{statement}
+use Rattle.chars.proofs.decode.first_bad.Tie as tie
+
+abbrev Inv-loop : tie.InvT-loop
+Inv-loop s i₀ i = verdict (sequences 0 i (drop i s)) ≡ firstBad s
+
+abbrev μ-loop : tie.MeasureT-loop
+μ-loop s i₀ i = length s - i
+
+-- what the answer says of the rest it says of the whole
+turn : (c : tie.After-decode-at Inv-loop μ-loop) {o : Decoded} → c .decode-at .result ≡ o
+    → said (now (c .before .before .before .before .before .args .s)) (c .before .ascii-end .result) o ≡ firstBad (now (c .before .before .before .before .before .args .s))
+turn c e =
+    let s = now (c .before .before .before .before .before .args .s) in
+    sym (turns s (c .before .ascii-end .result) (sym e ∙ c .decode-at .ensures))
+    ∙ ap (λ (k : ℕ). verdict (sequences 0 k (drop k s))) (c .before .ascii-end .ensures)
+    ∙ ascii-pass s (c .before .before .before .loop .i)
+    ∙ c .before .before .before .loop .inv
+
+loop-holds : tie.Need-loop-holds Inv-loop μ-loop
+unfolding firstBad
+loop-holds c = refl
+
+-- at the end nothing is bad
+returns-4 : tie.Need-returns-4 Inv-loop μ-loop
+unfolding sequences
+returns-4 c = rw (drop-of-length-le (now (c .before .before .before .args .s)) (c .loop-test .left)) at (c .before .loop .inv)
+
+pub first-bad-spec : {M : Type 1} → statement M
+first-bad-spec =
+    tie.close
+    (tie.spec
+    Inv-loop
+    μ-loop
+    loop-holds
+    (λ c κs. search needs)
+    (λ c κs. search needs)
+    (λ c. search needs)
+    (λ c. let v = c .before .next .given in
+    omega (arith, further (now (c .before .before .before .before .before .before .before .before .args .s)) (c .before .before .before .before .ascii-end .result) (v .0 .0) (v .0 .1 .0) (sym (v .1) ∙ c .before .before .before .decode-at .ensures), c .before .before .before .before .ascii-end .ensures))
+    (λ c. turn (c .before .before .before) (c .before .next .given .1))
+    (λ c. search needs)
+    (λ c. turn (c .before .before) (c .enum-told .given .1))
+    (λ c. search needs)
+    (λ c. turn (c .before .before) (c .enum-told2 .given .1))
+    (λ c. search needs)
+    (λ c. turn (c .before .before) (c .enum-told3 .given .1))
+    returns-4)

@@ -1,0 +1,207 @@
+// Characters out of bytes: RFC 3629, section 4.
+use crate::Decoded;
+use crate::State;
+use crate::Step;
+use crate::Utf8;
+ghost use mathlib.Core.Path.{_≡_};
+ghost use Prim.Native.Nat.{_+_};
+ghost use lib.Dec.{leb};
+ghost use lib.ListN.{drop};
+ghost use Rattle.laws.specs.Texts.{span};
+ghost use Rattle.chars.specs.Utf8.{ascii, first, placed, front, firstBad};
+ghost use Rattle.chars.specs.Machine.{step};
+
+// UTF8-tail, and the six bits that it holds.
+const TAIL_LOW: u8 = 0x80;
+
+const TAIL_HIGH: u8 = 0xBF;
+
+const SIX_BITS: u8 = 64;
+
+// The marks of a first byte: 110xxxxx, 1110xxxx and 11110xxx. Below ASCII_END a byte is a character.
+const ASCII_END: u8 = 0x80;
+
+const MARK_TWO: u8 = 0xC0;
+
+const MARK_THREE: u8 = 0xE0;
+
+const MARK_FOUR: u8 = 0xF0;
+
+// With six bits more, a code past this is past every character.
+const CODE_TOP: u32 = 0x7FFF;
+
+// How many bytes of ASCII are tested at once.
+const BLOCK: usize = 16;
+
+// `need` bytes are to follow, the next of them in low..high.
+fn more(need: u8, low: u8, high: u8, code: u8) -> Step
+    ensures { λ r. ⌜ r ≡ Step.More (record { need = need; low = low; high = high; code = code }) ⌝ }
+{
+    Step::More(State {
+        need,
+        low,
+        high,
+        code: code as u32,
+    })
+}
+
+// A character's first byte. The bytes written out are those of the table of section 4.
+fn first_byte(b: u8) -> Step
+    ensures { λ r. ⌜ r ≡ first b ⌝ }
+{
+    if b < ASCII_END {
+        return Step::Char(b as u32);
+    }
+    if b < 0xC2 {
+        return Step::Bad;
+    }
+    if b < 0xE0 {
+        return more(1, TAIL_LOW, TAIL_HIGH, b - MARK_TWO);
+    }
+    if b < 0xE1 {
+        return more(2, 0xA0, TAIL_HIGH, b - MARK_THREE);
+    }
+    if b < 0xED {
+        return more(2, TAIL_LOW, TAIL_HIGH, b - MARK_THREE);
+    }
+    if b < 0xEE {
+        return more(2, TAIL_LOW, 0x9F, b - MARK_THREE);
+    }
+    if b < 0xF0 {
+        return more(2, TAIL_LOW, TAIL_HIGH, b - MARK_THREE);
+    }
+    if b < 0xF1 {
+        return more(3, 0x90, TAIL_HIGH, b - MARK_FOUR);
+    }
+    if b < 0xF4 {
+        return more(3, TAIL_LOW, TAIL_HIGH, b - MARK_FOUR);
+    }
+    if b < 0xF5 {
+        return more(3, TAIL_LOW, 0x8F, b - MARK_FOUR);
+    }
+    Step::Bad
+}
+
+// One byte more of a text that comes a byte at a time. It is bad at the first byte after which no valid text can follow.
+pub fn byte_step(t: State, b: u8) -> Step
+    ensures { λ r. ⌜ r ≡ step t b ⌝ }
+{
+    if t.need == 0 {
+        return first_byte(b);
+    }
+    if b < t.low {
+        return Step::Bad;
+    }
+    if t.high < b {
+        return Step::Bad;
+    }
+    if CODE_TOP < t.code {
+        return Step::Bad;
+    }
+    let code = t.code * SIX_BITS as u32 + (b % SIX_BITS) as u32;
+    if t.need == 1 {
+        return Step::Char(code);
+    }
+    Step::More(State {
+        need: t.need - 1,
+        low: TAIL_LOW,
+        high: TAIL_HIGH,
+        code,
+    })
+}
+
+// The character at a place of a text.
+pub fn decode_at(s: &[u8], at: usize) -> Decoded
+    ensures { λ r. ⌜ r ≡ placed at (front (drop at (now (s .entry)))) ⌝ }
+{
+    if s.len() <= at {
+        return Decoded::End;
+    }
+    let mut t = State {
+        need: 0,
+        low: 0,
+        high: 0,
+        code: 0,
+    };
+    let mut i = at;
+    while i < s.len() {
+        match byte_step(t, s[i]) {
+            Step::More(u) => {
+                t = u;
+            }
+            Step::Char(c) => {
+                return Decoded::Char {
+                    code: c,
+                    next: i + 1,
+                };
+            }
+            Step::Bad => {
+                return Decoded::Bad;
+            }
+        }
+        i += 1;
+    }
+    Decoded::Cut
+}
+
+// Whether a block of ASCII stands at a place.
+fn ascii_block(s: &[u8], at: usize) -> bool
+    ensures { λ r. ⌜ r ≡ leb 16 (span ascii (drop at (now (s .entry)))) ⌝ }
+{
+    if s.len() < BLOCK {
+        return false;
+    }
+    if s.len() - BLOCK < at {
+        return false;
+    }
+    let mut or: u8 = 0;
+    let mut j: usize = 0;
+    while j < BLOCK {
+        or = or | s[at + j];
+        j += 1;
+    }
+    or < ASCII_END
+}
+
+// The place past the run of ASCII at a place.
+fn ascii_end(s: &[u8], at: usize) -> usize
+    ensures { λ r. ⌜ r ≡ at + span ascii (drop at (now (s .entry))) ⌝ }
+{
+    let mut i = at;
+    while ascii_block(s, i) {
+        i += BLOCK;
+    }
+    while i < s.len() {
+        if s[i] < ASCII_END {
+            i += 1;
+        } else {
+            return i;
+        }
+    }
+    i
+}
+
+// Whether a text is UTF-8, else where its first bad sequence starts: refusal 21 and its place.
+pub fn first_bad(s: &[u8]) -> Utf8
+    ensures { λ r. ⌜ r ≡ firstBad (now (s .entry)) ⌝ }
+{
+    let mut i = 0;
+    while i < s.len() {
+        let j = ascii_end(s, i);
+        match decode_at(s, j) {
+            Decoded::Char { code: _, next } => {
+                i = next;
+            }
+            Decoded::Bad => {
+                return Utf8::Bad(j);
+            }
+            Decoded::Cut => {
+                return Utf8::Bad(j);
+            }
+            Decoded::End => {
+                return Utf8::Good;
+            }
+        }
+    }
+    Utf8::Good
+}
