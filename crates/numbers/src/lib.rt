@@ -1,11 +1,24 @@
+// The number call: a text's number by the number grammar of R7RS 7.1.1, as document 01 and the Rust have it (specs/Reals, specs/Grammar,
+// which name the departures). It answers the number's parts, with places of the text for digits and no float; or that the text is no
+// number; or that a denominator is zero. A part of the text is a slice that starts where the text starts, so that an index is a place of
+// the text, and the place where the part starts.
+use chars::Utf8;
 use digits::Int;
 use digits::Span;
+ghost use mathlib.Core.Path.{_≡_};
+ghost use Rattle.numbers.specs.Grammar.{zeroInt, zeroReal, zeroParts, judged, radixMark, prefix, parseNumber};
+ghost use Rattle.numbers.specs.Call.{answered, given, number};
 
+mod complexes;
+mod reals;
+
+// A decimal's exponent: whether it has a minus sign, and where its digits stand.
 pub struct Exponent {
     pub negative: bool,
     pub digits: Span,
 }
 
+// A decimal: its sign, and where its digits stand. Of 1e5 the fraction, of 1.5 the exponent is the empty place after the digits.
 pub struct Point {
     pub negative: bool,
     pub whole: Span,
@@ -14,32 +27,65 @@ pub struct Point {
 }
 
 pub enum Real {
+    // 5
     Integer(Int),
+    // 1/2
     Rational(Int, Int),
+    // 1.5
     Decimal(Point),
+    // +inf.0
     PosInf,
+    // -inf.0
     NegInf,
+    // +nan.0
     PosNan,
+    // -nan.0
     NegNan,
+    // the real part of +5i
     ImpliedZero,
+    // the imaginary part of +i, and of -i (true)
     ImpliedOne(bool),
 }
 
 pub enum Parts {
+    // 5
     Just(Real),
+    // 1+2i
     Complex(Real, Real),
+    // 1@2
     Polar(Real, Real),
 }
 
-pub enum Parsed {
+// What the number call answers: specs/Call gives document 01's numbers for each case.
+pub enum NumberAnswer {
+    // 5
     Is(Parts),
+    // abc
     NoNumber,
+    // 1/0
+    ZeroDenominator,
+    // a text of 4,294,967,296 bytes
+    TooLong,
+    // the byte FF: the start of the first bad sequence
+    NotUtf8(usize),
+}
+
+// What a text is that is known to be UTF-8 and short enough.
+pub enum Parsed {
+    // 5
+    Is(Parts),
+    // abc
+    NoNumber,
+    // 1/0
     ZeroDenominator,
 }
 
+// What follows a decimal's digits.
 pub enum Suffix {
     Empty,
+    // e5
     Marked(Exponent),
+    // e
     Bad,
 }
 
@@ -51,4 +97,132 @@ pub enum MaybeReal {
 pub enum MaybeParts {
     SomeParts(Parts),
     NoParts,
+}
+
+// The longest text that is read, in bytes.
+const LONGEST: usize = 4_294_967_295;
+
+// The radix of a text that names none, and the length of a prefix that names one.
+const TEN: u64 = 10;
+
+const PREFIX: usize = 2;
+
+// What stands for the radix where none is named.
+const NO_RADIX: u64 = 0;
+
+// Whether an integer is zero.
+fn zero_int(n: Int) -> bool
+    ensures { λ r. ⌜ r ≡ zeroInt n ⌝ }
+{
+    match n {
+        Int::Small(v) => { if v == 0 { true } else { false } }
+        Int::Big(_, _) => false,
+    }
+}
+
+// Whether a real has a zero denominator.
+fn zero_real(a: Real) -> bool
+    ensures { λ r. ⌜ r ≡ zeroReal a ⌝ }
+{
+    match a {
+        Real::Rational(_, d) => zero_int(d),
+        Real::Integer(_) => false,
+        Real::Decimal(_) => false,
+        Real::PosInf => false,
+        Real::NegInf => false,
+        Real::PosNan => false,
+        Real::NegNan => false,
+        Real::ImpliedZero => false,
+        Real::ImpliedOne(_) => false,
+    }
+}
+
+// Whether a part has a zero denominator.
+fn zero_parts(p: Parts) -> bool
+    ensures { λ r. ⌜ r ≡ zeroParts p ⌝ }
+{
+    match p {
+        Parts::Just(a) => zero_real(a),
+        Parts::Complex(a, b) => { if zero_real(a) { true } else { zero_real(b) } }
+        Parts::Polar(a, b) => { if zero_real(a) { true } else { zero_real(b) } }
+    }
+}
+
+// What parts amount to.
+fn judge(m: MaybeParts) -> Parsed
+    ensures { λ r. ⌜ r ≡ judged m ⌝ }
+{
+    match m {
+        MaybeParts::SomeParts(p) => {
+            if zero_parts(p) {
+                Parsed::ZeroDenominator
+            } else {
+                Parsed::Is(p)
+            }
+        }
+        MaybeParts::NoParts => Parsed::NoNumber,
+    }
+}
+
+// The radix that a letter names.
+fn radix_mark(c: u8) -> u64
+    ensures { λ r. ⌜ r ≡ radixMark c ⌝ }
+{
+    match c {
+        b'x' | b'X' => 16,
+        b'd' | b'D' => TEN,
+        b'o' | b'O' => 8,
+        b'b' | b'B' => 2,
+        _ => NO_RADIX,
+    }
+}
+
+// The radix that a text names.
+fn prefix(t: &[u8]) -> u64
+    ensures { λ r. ⌜ r ≡ prefix (now (t .entry)) ⌝ }
+{
+    if t.len() < PREFIX {
+        return NO_RADIX;
+    }
+    if t[0] == b'#' {
+        radix_mark(t[1])
+    } else {
+        NO_RADIX
+    }
+}
+
+// What a text is as a number. Internal: for a text that is known to be UTF-8 and short enough.
+pub fn parse_number(t: &[u8]) -> Parsed
+    ensures { λ r. ⌜ r ≡ parseNumber (now (t .entry)) ⌝ }
+{
+    let radix = prefix(t);
+    if radix == NO_RADIX {
+        judge(complexes::complex_at(t, 0, TEN))
+    } else {
+        judge(complexes::complex_at(t, PREFIX, radix))
+    }
+}
+
+// The answer to a text that is not refused.
+fn serve(p: Parsed) -> NumberAnswer
+    ensures { λ r. ⌜ answered r ≡ given p ⌝ }
+{
+    match p {
+        Parsed::Is(parts) => NumberAnswer::Is(parts),
+        Parsed::NoNumber => NumberAnswer::NoNumber,
+        Parsed::ZeroDenominator => NumberAnswer::ZeroDenominator,
+    }
+}
+
+// The number call on any bytes.
+pub fn number(t: &[u8]) -> NumberAnswer
+    ensures { λ r. ⌜ answered r ≡ number (now (t .entry)) ⌝ }
+{
+    if LONGEST < t.len() {
+        return NumberAnswer::TooLong;
+    }
+    match chars::first_bad(t) {
+        Utf8::Bad(at) => NumberAnswer::NotUtf8(at),
+        Utf8::Good => serve(parse_number(t)),
+    }
 }

@@ -1,0 +1,109 @@
+-- A real from a place on: <infnan>, an integer, a rational, or a decimal.
+use Rattle.numbers.specs.declared.Real.{Real}
+use Rattle.numbers.specs.declared.Real.the-variants.{Integer, Rational, PosInf, NegInf, PosNan, NegNan}
+use Rattle.numbers.specs.declared.MaybeReal.{MaybeReal}
+use Rattle.numbers.specs.declared.MaybeReal.the-variants.{AReal, NoReal}
+use Rattle.numbers.specs.Reals.{decimal, infnan, integralOf, rationalOf, denominator, exact, orElse, ureal, real}
+use Rattle.laws.specs.Quoted.{codes, code}
+use Rattle.laws.specs.Texts.{before, starts, same}
+use Rattle.laws.proofs.Places.{cut-before, cut-at, cut-after, cut-in, cut-out}
+use Rattle.digits.specs.declared.Int.{Int}
+use Rattle.digits.specs.declared.MaybeInt.{MaybeInt}
+use Rattle.digits.specs.declared.MaybeInt.the-variants.{AnInt, NoInt}
+use Rattle.digits.specs.Digits.{sign, wholeOf, integer}
+use Prim.Native.Nat.{ℕ, _+_, _≤_, _<_}
+use mathlib.Core.Path.{_≡_}
+use mathlib.Core.Bool.{Bool, true, false}
+use mathlib.Core.List.{List}
+use lib.ListN.{length, take, drop}
+use borrow.Author.Tests.{eq-eqb, ne-eqb}
+
+module _ (s : List ℕ) where
+  pub infnan-1 : true ≡ same s (codes "+inf.0") → AReal PosInf ≡ infnan s
+  unfolding infnan
+  infnan-1 h = simp (← h)
+
+  module _ (a : false ≡ same s (codes "+inf.0")) where
+    pub infnan-2 : true ≡ same s (codes "-inf.0") → AReal NegInf ≡ infnan s
+    unfolding infnan
+    infnan-2 h = simp (← a, ← h)
+
+    module _ (b : false ≡ same s (codes "-inf.0")) where
+      pub infnan-3 : true ≡ same s (codes "+nan.0") → AReal PosNan ≡ infnan s
+      unfolding infnan
+      infnan-3 h = simp (← a, ← b, ← h)
+
+      module _ (d : false ≡ same s (codes "+nan.0")) where
+        pub infnan-4 : true ≡ same s (codes "-nan.0") → AReal NegNan ≡ infnan s
+        unfolding infnan
+        infnan-4 h = simp (← a, ← b, ← d, ← h)
+
+        pub infnan-none : false ≡ same s (codes "-nan.0") → NoReal ≡ infnan s
+        unfolding infnan
+        infnan-none h = simp (← a, ← b, ← d, ← h)
+
+-- integers to reals
+module _ (n : MaybeInt) where
+  pub integral-is : (a : Int) → n ≡ AnInt a → AReal (Integer a) ≡ integralOf n
+  unfolding integralOf
+  integral-is a e = rw e
+
+  pub integral-no : n ≡ NoInt → NoReal ≡ integralOf n
+  unfolding integralOf
+  integral-no e = rw e
+
+module _ (n d : MaybeInt) where
+  pub rational-is : (a b : Int) → n ≡ AnInt a → d ≡ AnInt b → AReal (Rational a b) ≡ rationalOf n d
+  unfolding rationalOf
+  rational-is a b e f = rw (e, f)
+
+  pub rational-no : (a : Int) → n ≡ AnInt a → d ≡ NoInt → NoReal ≡ rationalOf n d
+  unfolding rationalOf
+  rational-no a e f = rw (e, f)
+
+  pub rational-not : n ≡ NoInt → NoReal ≡ rationalOf n d
+  unfolding rationalOf
+  rational-not e = rw e
+
+pub denominator-is : (R p : ℕ) (s : List ℕ) {d : MaybeInt} → d ≡ integer R p s → d ≡ denominator R p s
+unfolding denominator
+denominator-is R p s e = e
+
+-- a rational or an integer, the first slash at k
+module _ (R : ℕ) (neg : Bool) (t : List ℕ) (p k : ℕ) (e : k ≡ p + before (code "/") (drop p t)) (r : MaybeReal) (n : MaybeInt) where
+  pub exact-ratio : (d : MaybeInt) → k < length t → n ≡ wholeOf R neg p (drop p (take k t)) → d ≡ denominator R (k + 1) (drop (k + 1) t)
+      → r ≡ rationalOf n d → r ≡ exact R neg p (drop p t)
+  unfolding exact
+  exact-ratio d h x y z =
+      simp (cut-in t p (before (code "/") (drop p t)) k e h)
+      (cc (cut-before t p (before (code "/") (drop p t)) k e, cut-after t p (before (code "/") (drop p t)) k e))
+
+  pub exact-integer : length t ≤ k → n ≡ wholeOf R neg p (drop p t) → r ≡ integralOf n → r ≡ exact R neg p (drop p t)
+  unfolding exact
+  exact-integer h x y = simp (cut-out t p (before (code "/") (drop p t)) k e h) (cc)
+
+-- a real after its sign
+module _ (R : ℕ) (neg : Bool) (p : ℕ) (s : List ℕ) where
+  pub ureal-exact : (r : MaybeReal) → (R ≡ 10 → ⊥) → r ≡ exact R neg p s → r ≡ ureal R neg p s
+  unfolding ureal orElse
+  ureal-exact r k z = simp (ne-eqb R 10 k) z
+
+  module _ (x : MaybeReal) (k : R ≡ 10) (d : x ≡ decimal neg p s) where
+    pub ureal-decimal : (v : Real) → x ≡ AReal v → x ≡ ureal R neg p s
+    unfolding ureal orElse
+    ureal-decimal v f = simp (eq-eqb R 10 k, ← d, f)
+
+    pub ureal-other : (r : MaybeReal) → x ≡ NoReal → r ≡ exact R neg p s → r ≡ ureal R neg p s
+    unfolding ureal orElse
+    ureal-other r f z = simp (eq-eqb R 10 k, ← d, f) z
+
+-- a real
+module _ (R : ℕ) (t : List ℕ) (p : ℕ) (x : MaybeReal) (i : x ≡ infnan (drop p t)) where
+  pub real-infnan : (v : Real) → x ≡ AReal v → x ≡ real R p (drop p t)
+  unfolding real orElse
+  real-infnan v e = simp (← i, e)
+
+  pub real-signed : (r : MaybeReal) (neg : Bool) (a : ℕ) → x ≡ NoReal → neg ≡ starts (code "-") (drop p t) → a ≡ p + sign (drop p t)
+      → r ≡ ureal R neg a (drop a t) → r ≡ real R p (drop p t)
+  unfolding real orElse
+  real-signed r neg a n g e z = simp (← i, n, ← g, ← e, ← cut-at t p (sign (drop p t)) a e) z

@@ -1,0 +1,57 @@
+-- The first slash cuts a rational in two; without one there is an integer.
+use Rattle.numbers.proofs.RealParts.{exact-ratio, exact-integer}
+use mathlib.Core.Path.{sym}
+use lib.Seq.{length-take-le}
+use native.Mathlib.Omega.{arith}
+use borrow.Author.Needs.{needs}
+use Rattle.numbers.proofs.reals.exact_at.Statement.{statement}
+use Rattle.numbers.proofs.reals.exact_at.Tie as tie
+
+find-requires : tie.Need-find-requires
+find-requires c κs = search needs
+
+slice-aggregate-whole : tie.Need-slice-aggregate-whole
+slice-aggregate-whole c = sym (length-take-le _ _ (omega arith))
+
+whole-requires : tie.Need-whole-requires
+whole-requires c κs = search needs
+
+add-denominator-at : tie.Need-add-denominator-at
+add-denominator-at c = search needs
+
+denominator-at-requires : tie.Need-denominator-at-requires
+denominator-at-requires c κs = search needs
+
+rational-requires : tie.Need-rational-requires
+rational-requires c κs = search needs
+
+whole-requires-2 : tie.Need-whole-requires-2
+whole-requires-2 c κs = search needs
+
+integral-requires : tie.Need-integral-requires
+integral-requires c κs = search needs
+
+returns : tie.Need-returns
+returns c =
+    exact-ratio _ _ _ _ _ (c .before .before .before .before .before .find .ensures) _ _ _ (c .before .before .before .before .if1 .taken)
+    (c .before .before .whole .ensures) (c .before .denominator-at .ensures) (c .rational .ensures)
+
+returns-2 : tie.Need-returns-2
+returns-2 c =
+    exact-integer _ _ _ _ _ (c .before .before .before .find .ensures) _ _ (c .before .before .if1 .left) (c .before .whole2 .ensures)
+    (c .integral .ensures)
+
+pub exact-at-spec : {M : Type 1} → statement M
+exact-at-spec =
+    tie.close
+    (tie.spec
+    find-requires
+    slice-aggregate-whole
+    whole-requires
+    add-denominator-at
+    denominator-at-requires
+    rational-requires
+    whole-requires-2
+    integral-requires
+    returns
+    returns-2)
