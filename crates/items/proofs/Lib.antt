@@ -13,3 +13,4 @@ pub mod Meanings
 pub mod Order
 pub mod Skipped
 pub mod Fit
+pub mod Few

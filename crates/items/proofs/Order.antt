@@ -48,20 +48,20 @@ pub record Placed (n : ℕ) (i : Item) : Type 0 where
   pub place : Ranged n (i .place .from) (i .place .to)
   -- its text lies where it does
   pub text : Inside (i .start) (i .end) (i .text)
-  -- its kind is one of 01's
+  -- its kind is not past 01's last
   pub kind : i .kind ≤ lastKind
 
 -- the items from the place `at` on in a text of n bytes; D is what is known of a detail
-record Sorted (D : ℕ → Type 0) (n at : ℕ) (is : List Item) : Type 0 where
-  placed : Every (Placed n) is
-  details : Every (λ (i : Item). D (i .detail)) is
-  onward : Every (λ (i : Item). at ≤ i .start) is
-  order : InOrder is
+pub record Sorted (D : ℕ → Type 0) (n at : ℕ) (is : List Item) : Type 0 where
+  pub placed : Every (Placed n) is
+  pub details : Every (λ (i : Item). D (i .detail)) is
+  pub onward : Every (λ (i : Item). at ≤ i .start) is
+  pub order : InOrder is
 
-record Laws (D : ℕ → Type 0) (n at : ℕ) (is : List Item) : Type 0 where
-  sorted : Sorted D n at is
-  count : at + length is ≤ n
-  memory : at + length (texts is) ≤ n
+pub record Laws (D : ℕ → Type 0) (n at : ℕ) (is : List Item) : Type 0 where
+  pub sorted : Sorted D n at is
+  pub count : at + length is ≤ n
+  pub memory : at + length (texts is) ≤ n
 
 pub texts-append : (xs ys : List Item) → length (texts (xs ++ ys)) ≡ length (texts xs) + length (texts ys)
 unfolding texts
@@ -89,7 +89,7 @@ module _ (D : ℕ → Type 0) (n : ℕ) where
 -- ---- the items of one extent, from s to e, and the items ys after them
 
 module _ (report : Bool) (s e : ℕ) (last : Place) where
-  items-length : (ms : List Meaning) → length (itemsOf report last s e ms) ≡ length ms
+  pub items-length : (ms : List Meaning) → length (itemsOf report last s e ms) ≡ length ms
   items-length [] = refl
   items-length (m ∷ ms) = ap suc (items-length ms)
 
@@ -148,18 +148,18 @@ module _ (D : ℕ → Type 0) (small : (d : ℕ) → d < 2 ^ 32 → D d) (report
   -- the item that is read at a place, and the items ys after it
   module _ (n : ℕ) (last : Place) (at c : ℕ) (cs : List ℕ) (ranged : Ranged n (last .from) (last .to)) (room : at + byteCount (c ∷ cs) ≤ n)
       (ds : Every D (c ∷ cs)) where
-    abbrev it : Read
+    abbrev pub it : Read
     it = readItem report at c cs
 
-    abbrev after : Place
+    abbrev pub after : Place
     after = rangeAfter last at (it .what) (it .item)
 
-    after-ranged : Ranged n (after .from) (after .to)
+    pub after-ranged : Ranged n (after .from) (after .to)
     after-ranged =
         range-ranged n last at (it .what) (it .item) (read-fine D small n report at c cs room ds) ranged
         (omega (arith, read-forward report at c cs), omega (arith, read-end report at c cs))
 
-    item-laws : (ys : List Item) → Laws D n (it .item .at) ys → Laws D n at (extentItems report last at (it .what) (it .item) ++ ys)
+    pub item-laws : (ys : List Item) → Laws D n (it .item .at) ys → Laws D n at (extentItems report last at (it .what) (it .item) ++ ys)
     unfolding extentItems
     item-laws ys l =
         let e : it .item .at ≡ at + length (it .item .bytes) = read-at report at c cs in
@@ -169,7 +169,7 @@ module _ (D : ℕ → Type 0) (small : (d : ℕ) → d < 2 ^ 32 → D d) (report
         (made D small at (it .item .at) (it .item .bytes) e (omega arith) n (it .what) (read-fine D small n report at c cs room ds))
         l
 
-  from-laws : (n turns : ℕ) (last : Place) (at : ℕ) (cs : List ℕ) → Ranged n (last .from) (last .to) → at + byteCount cs ≤ n → Every D cs
+  pub from-laws : (n turns : ℕ) (last : Place) (at : ℕ) (cs : List ℕ) → Ranged n (last .from) (last .to) → at + byteCount cs ≤ n → Every D cs
       → Laws D n at (itemsFrom report turns last at cs)
   unfolding itemsFrom
   from-laws n zero last at cs h room ds = no-items D n at (omega arith)
@@ -196,7 +196,7 @@ module _ (D : ℕ → Type 0) (small : (d : ℕ) → d < 2 ^ 32 → D d) (report
       (λ e. rw (e, afterPound) (earlier D n 0 2 _ (omega arith) (line-laws n 2 cs (omega (arith, wide c)) (ds .1))))
       (λ e. rw (e, afterPound) (at-laws n 0 (code "#" ∷ c ∷ cs) (omega arith) (small (code "#") (omega arith), ds)))
 
-  text-laws : (cs : List ℕ) → Every D cs → Laws D (byteCount cs) 0 (items report cs)
+  pub text-laws : (cs : List ℕ) → Every D cs → Laws D (byteCount cs) 0 (items report cs)
   unfolding items
   text-laws [] ds = no-items D 0 0 (omega arith)
   text-laws (c ∷ cs) ds = by-bool (eqb c (code "#"))

@@ -4,7 +4,7 @@ use Rattle.items.specs.declared.Quotes.{Quotes}
 use Rattle.items.specs.declared.Quotes.the-variants.{Double, Lines}
 use Rattle.items.specs.declared.CharValue.the-variants.{Scalar}
 use Rattle.items.specs.Classes.{delimOf, inQuotes, afterBackslash, stopsHex, inHex, inTrim, ends, plain, closes, stops}
-use Rattle.items.specs.Meaning.{one, unescape, unescapeNext, unescapeBrace, unescapeHex, unescapeTrim}
+use Rattle.items.specs.Meaning.{unescape, unescapeNext, unescapeBrace, unescapeHex, unescapeTrim}
 use Rattle.items.specs.Readers.{lastIs, scalarOf}
 use Rattle.items.proofs.Cases.{by-quotes, by-backslash, by-hex, by-trim, by-value}
 use Rattle.items.proofs.Fine.{Between}
@@ -34,7 +34,7 @@ digit-there [] v e = let no : _≡_ {A = ℕ} 0 1 = cc in absurd (omega arith)
 digit-there (d ∷ ds) v e = omega arith
 
 -- E is what is known of the bytes, t how much shorter than these the text is for it
-module _ (k : Quotes) (t : ℕ) (one : t ≤ 1) (E : List ℕ → Type 0) (tail : (c : ℕ) (cs : List ℕ) → E (c ∷ cs) → E cs)
+module _ (k : Quotes) (t : ℕ) (small : t ≤ 1) (E : List ℕ → Type 0) (tail : (c : ℕ) (cs : List ℕ) → E (c ∷ cs) → E cs)
     (after-plain : (c : ℕ) (cs : List ℕ) → E (c ∷ cs) → inQuotes k c ≡ plain → t ≤ length cs)
     (after-closer : (closer c : ℕ) (cs : List ℕ) → eqb (delimOf k) closer ≡ false → E (c ∷ cs) → inHex k closer c ≡ closes → t ≤ length cs)
     (brackets : (eqb (delimOf k) (code ";") ≡ false) × (eqb (delimOf k) (code "}") ≡ false)) where
