@@ -1,34 +1,17 @@
 -- One digit, a run of digits, a sign: what the definitions say at a place of a text.
-use Rattle.digits.specs.Digits.{within, noDigit, digitOf, digits, sign, uinteger}
-use Rattle.laws.specs.Quoted.{code}
-use Rattle.laws.proofs.Choice.{by-bool, if-is}
+use Rattle.digits.specs.Digits.{noDigit, digitOf, digits, sign, uinteger}
+use Rattle.laws.specs.Quoted.{code, within}
+use Rattle.laws.proofs.Choice.{by-bool, if-is, within-is}
 use Rattle.laws.proofs.Places.{past, here}
 use Rattle.laws.proofs.Runs.{span-hit, span-stop, span-end}
 use Prim.Native.Nat.{ℕ, _+_, _-_, _≤_, _<_}
-use mathlib.Core.Path.{_≡_, refl, sym, _∙_}
-use mathlib.Core.Bool.{Bool, true, false, _&&_}
+use mathlib.Core.Path.{_≡_, sym, _∙_}
+use mathlib.Core.Bool.{true, false}
 use mathlib.Core.List.{List}
 use lib.ListN.{length, getD, drop, length-drop}
 use lib.Dec.{eqb, leb, ltb}
 use native.Mathlib.Omega.{arith}
-use borrow.Author.Tests.{lt-ltb, le-ltb, le-leb, lt-leb, eq-eqb, ne-eqb, eqb-true, eqb-false, leb-true, leb-false}
-
-and-true : (x y : Bool) → (x && y) ≡ true → (x ≡ true) × (y ≡ true)
-and-true true y e = (refl, e)
-and-true false y e = absurd (let z : _≡_ {A = ℕ} 0 1 = cc in omega arith)
-
-module _ (a b c : ℕ) where
-  pub within-below : c < a → false ≡ within a b c
-  unfolding within
-  within-below h = simp (lt-leb a c h)
-
-  pub within-from : a ≤ c → leb c b ≡ within a b c
-  unfolding within
-  within-from h = simp (le-leb a c h)
-
-  pub within-is : within a b c ≡ true → (a ≤ c) × (c ≤ b)
-  unfolding within
-  within-is e = let h = and-true (leb a c) (leb c b) e in (leb-true a c (h .0), leb-true c b (h .1))
+use borrow.Author.Tests.{lt-ltb, le-ltb, eq-eqb, ne-eqb, eqb-true, eqb-false, leb-true, leb-false}
 
 -- each case of a digit
 module _ (c : ℕ) where

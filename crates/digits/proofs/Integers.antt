@@ -52,7 +52,8 @@ module _ (d x : ℕ) (e : d ≡ digitOf x) where
   pub product-fits : (R v : ℕ) → 1 ≤ R → v ≤ (2 ^ 63 - d) / R → v * R + d ≤ 2 ^ 63
   product-fits R v r h = omega (arith, le-div-iff-mul-le r .0 h, digit-fits)
 
-pub product-over : (R : ℕ) (t : List ℕ) (v i d : ℕ) → 1 ≤ R → i < length t → d ≡ digitOf (getD t i 0) → (2 ^ 63 - d) / R < v → 2 ^ 63 < value R v (drop i t)
+pub product-over : (R : ℕ) (t : List ℕ) (v i d : ℕ) → 1 ≤ R → i < length t → d ≡ digitOf (getD t i 0) → (2 ^ 63 - d) / R < v
+    → 2 ^ 63 < value R v (drop i t)
 product-over R t v i d r l e h =
     let k : 2 ^ 63 < v * R + d = omega (arith, div-lt-iff-lt-mul r .0 h, digit-fits d _ e) in
     rw (value-more R t v i d l e) (le-trans k (value-ge R r (v * R + d) (drop (i + 1) t)))
@@ -115,7 +116,8 @@ module _ (R : ℕ) (neg : Bool) (p : ℕ) (t : List ℕ) where
 
   module _ (u : true ≡ uinteger R (drop p t)) where
     -- z is kept as its 64 bits
-    pub whole-small : (m : ℕ) (z : ℤ) → Fits m ≡ fit (value R 0 (drop p t)) → m < top neg → z ≡ signed neg m → AnInt (Small (toZ w64 (ofZ w64 z))) ≡ wholeOf R neg p (drop p t)
+    pub whole-small : (m : ℕ) (z : ℤ) → Fits m ≡ fit (value R 0 (drop p t)) → m < top neg → z ≡ signed neg m
+        → AnInt (Small (toZ w64 (ofZ w64 z))) ≡ wholeOf R neg p (drop p t)
     unfolding wholeOf
     whole-small m z f l k = rw (k, toZ-ofZ (signed-fits neg m l)) (let e = fit-is _ m f in simp (← u, ← e, lt-ltb m (top neg) l))
 
@@ -123,7 +125,8 @@ module _ (R : ℕ) (neg : Bool) (p : ℕ) (t : List ℕ) where
     unfolding wholeOf
     big l = simp (← u, le-ltb (value R 0 (drop p t)) (top neg) l, uinteger-in R t p u)
 
-    pub whole-big : (m : ℕ) → Fits m ≡ fit (value R 0 (drop p t)) → top neg ≤ m → AnInt (Big neg (record { start = p; end = length t })) ≡ wholeOf R neg p (drop p t)
+    pub whole-big : (m : ℕ) → Fits m ≡ fit (value R 0 (drop p t)) → top neg ≤ m
+        → AnInt (Big neg (record { start = p; end = length t })) ≡ wholeOf R neg p (drop p t)
     whole-big m f l = big (rw (fit-is _ m f) at l)
 
     pub whole-large : Large ≡ fit (value R 0 (drop p t)) → AnInt (Big neg (record { start = p; end = length t })) ≡ wholeOf R neg p (drop p t)

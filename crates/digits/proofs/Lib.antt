@@ -1,3 +1,5 @@
 pub mod Digits
 pub mod Integers
 pub mod HexDigits
+pub mod Zeros
+pub mod SmallBig

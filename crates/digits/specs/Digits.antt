@@ -7,7 +7,7 @@ use lib.ListN.{length, drop}
 use lib.Dec.{ltb, leb, eqb}
 use lib.IntN.{ℤ, pos, negℤ}
 use Rattle.laws.specs.Choice.{if_then_else_}
-use Rattle.laws.specs.Quoted.{code}
+use Rattle.laws.specs.Quoted.{code, within}
 use Rattle.laws.specs.Texts.{span, starts}
 use Rattle.digits.specs.declared.Span.{Span}
 use Rattle.digits.specs.declared.Int.the-variants.{Small, Big}
@@ -15,10 +15,6 @@ use Rattle.digits.specs.declared.MaybeInt.{MaybeInt}
 use Rattle.digits.specs.declared.MaybeInt.the-variants.{AnInt, NoInt}
 use Rattle.digits.specs.declared.Magnitude.{Magnitude}
 use Rattle.digits.specs.declared.Magnitude.the-variants.{Fits, Large}
-
--- whether c is one of the characters from a to b
-unfoldable pub within : ℕ → ℕ → ℕ → Bool
-within a b c = leb a c && leb c b
 
 -- what stands for the digit of a character that is none: a digit of no radix
 abbrev pub noDigit : ℕ
@@ -80,3 +76,8 @@ wholeOf R neg p s =
 -- <sign> <uinteger R>: "an optional sign, then one or more digits of the radix" (01, Integer)
 unfoldable pub integer : ℕ → ℕ → List ℕ → MaybeInt
 integer R p s = wholeOf R (negative s) (p + sign s) (drop (sign s) s)
+
+-- whether all of s are zeros: "zero denominator means all digits zero" (01)
+unfoldable pub zeros : List ℕ → Bool
+zeros [] = true
+zeros (c ∷ s) = eqb c (code "0") && zeros s

@@ -3,10 +3,10 @@ use Prim.Native.Nat.{ℕ}
 use Prim.Native.String.{String}
 use mathlib.Core.Path.{_≡_, refl}
 use mathlib.Core.List.{List, [], _∷_, map}
-use Rattle.laws.specs.Quoted.{codes}
+use Rattle.laws.specs.Quoted.{codes, within}
 use Rattle.digits.specs.declared.Hex.{Hex}
 use Rattle.digits.specs.declared.Hex.the-variants.{Value, Wrong}
-use Rattle.digits.specs.Digits.{within, digitOf}
+use Rattle.digits.specs.Digits.{digitOf}
 use Rattle.digits.specs.Hex.{empty, badDigit, overflow, hexDigits, hexAfterPlus, hexValue}
 
 record Row : Type 0 where

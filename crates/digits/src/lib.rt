@@ -4,9 +4,12 @@
 ghost use mathlib.Core.Path.{_≡_};
 ghost use Prim.Native.Nat.{_+_, _≤_, _<_};
 ghost use lib.ListN.{drop};
-ghost use Rattle.digits.specs.Digits.{within, digitOf, digits, sign, uinteger, value, fit, signed, top, wholeOf, integer};
+ghost use Rattle.laws.specs.Quoted.{within};
+ghost use Rattle.digits.specs.Digits.{digitOf, digits, sign, uinteger, value, fit, signed, top, wholeOf, integer};
 
 pub mod hexadecimal;
+
+pub use hexadecimal::hex_value;
 
 // Places of a text: from `start` to before `end`.
 pub struct Span {
@@ -26,7 +29,7 @@ pub enum MaybeInt {
 }
 
 // The value of digits without their sign, where it is at most 2^63: Large is 9223372036854775809.
-pub enum Magnitude {
+enum Magnitude {
     Fits(u64),
     Large,
 }

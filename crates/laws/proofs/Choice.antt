@@ -1,7 +1,12 @@
 -- Reasoning by a test.
+use Prim.Native.Nat.{ℕ, _≤_, _<_}
 use mathlib.Core.Path.{_≡_, refl}
-use mathlib.Core.Bool.{Bool, true, false}
+use mathlib.Core.Bool.{Bool, true, false, _&&_}
+use native.Mathlib.Omega.{arith}
+use lib.Dec.{leb}
+use borrow.Author.Tests.{le-leb, lt-leb, leb-true}
 use Rattle.laws.specs.Choice.{if_then_else_}
+use Rattle.laws.specs.Quoted.{within}
 
 module _ {P : Type 0} where
   -- a case for each way a test goes, with the equation that says which it is
@@ -26,3 +31,20 @@ module _ {A : Type 0} where
 
   pub if-no : (b : Bool) (x y : A) {z : A} → b ≡ false → z ≡ y → z ≡ (if b then x else y)
   if-no b x y h e = rw h e
+
+pub and-true : (x y : Bool) → (x && y) ≡ true → (x ≡ true) × (y ≡ true)
+and-true true y e = (refl, e)
+and-true false y e = absurd (let z : _≡_ {A = ℕ} 0 1 = cc in omega arith)
+
+module _ (a b c : ℕ) where
+  pub within-below : c < a → false ≡ within a b c
+  unfolding within
+  within-below h = simp (lt-leb a c h)
+
+  pub within-from : a ≤ c → leb c b ≡ within a b c
+  unfolding within
+  within-from h = simp (le-leb a c h)
+
+  pub within-is : within a b c ≡ true → (a ≤ c) × (c ≤ b)
+  unfolding within
+  within-is e = let h = and-true (leb a c) (leb c b) e in (leb-true a c (h .0), leb-true c b (h .1))

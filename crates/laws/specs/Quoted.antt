@@ -2,10 +2,10 @@
 use Prim.Native.Nat.{ℕ}
 use Prim.Native.Char as char
 use Prim.Native.String.{String}
-use mathlib.Core.Bool.{Bool, false, _||_}
+use mathlib.Core.Bool.{Bool, false, _&&_, _||_}
 use mathlib.Core.List.{List, [], _∷_}
 use mathlib.Core.Path.{_≡_, refl}
-use lib.Dec.{eqb}
+use lib.Dec.{leb, eqb}
 
 abbrev pub codes : String → List ℕ
 codes String.[] = []
@@ -20,6 +20,10 @@ code (String._∷_ c s) = char.code c
 abbrev pub oneOf : List ℕ → ℕ → Bool
 oneOf [] c = false
 oneOf (k ∷ ks) c = eqb c k || oneOf ks c
+
+-- whether c is one of the characters from a to b
+unfoldable pub within : ℕ → ℕ → ℕ → Bool
+within a b c = leb a c && leb c b
 
 -- they compute
 example : code ";" ∷ codes "#tλ" ≡ 0x3B ∷ 0x23 ∷ 0x74 ∷ 0x3BB ∷ []

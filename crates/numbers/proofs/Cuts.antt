@@ -112,7 +112,8 @@ module _ (R : ℕ) (t : List ℕ) (p : ℕ) where
     unfolding aloneOf
     alone-none k = simp (← h, eq-eqb (sign (drop p t)) 0 (omega arith))
 
-    pub alone-imaginary : (r : MaybeParts) (x : MaybeReal) → (a ≡ p → ⊥) → x ≡ imaginary R p (drop p (take (length t - 1) t)) → r ≡ complexOf (AReal ImpliedZero) x → r ≡ aloneOf R p (drop p t)
+    pub alone-imaginary : (r : MaybeParts) (x : MaybeReal) → (a ≡ p → ⊥) → x ≡ imaginary R p (drop p (take (length t - 1) t))
+        → r ≡ complexOf (AReal ImpliedZero) x → r ≡ aloneOf R p (drop p t)
     unfolding aloneOf
     alone-imaginary r x k e z = simp (← h, ne-eqb (sign (drop p t)) 0 (λ q. k (omega arith)), ← init-is t p (ends-in t p h), ← e) z
 
@@ -125,7 +126,8 @@ module _ (R : ℕ) (t : List ℕ) (p k : ℕ) (l : p ≤ k) where
   unfolding pairOf
   pair-no h = simp (← cut-at t p (k - p) k there, ← h)
 
-  pub pair-is : (r : MaybeParts) (x y : MaybeReal) → true ≡ endsI (drop k t) → x ≡ real R p (drop p (take k t)) → y ≡ imaginary R k (drop k (take (length t - 1) t)) → r ≡ complexOf x y → r ≡ pairOf R p (k - p) (drop p t)
+  pub pair-is : (r : MaybeParts) (x y : MaybeReal) → true ≡ endsI (drop k t) → x ≡ real R p (drop p (take k t))
+      → y ≡ imaginary R k (drop k (take (length t - 1) t)) → r ≡ complexOf x y → r ≡ pairOf R p (k - p) (drop p t)
   unfolding pairOf
   pair-is r x y h e f z =
       simp (← cut-before t p (k - p) k there, ← cut-at t p (k - p) k there, ← h, ← there, ← init-is t k (ends-in t k h), ← e, ← f) z
@@ -148,7 +150,8 @@ module _ (t : List ℕ) (i : ℕ) where
       sign-found (inl e) = simp (f, here t i h, e) (omega arith)
       sign-found (inr e) = simp (f, here t i h, e) (omega arith)
 
-      pub sign-not : (g : Bool) → (getD t i 0 ≡ code "+" → ⊥) → (getD t i 0 ≡ code "-" → ⊥) → g ≡ exponentMarker (getD t i 0) → i + toSign skip (drop i t) ≡ i + 1 + toSign g (drop (i + 1) t)
+      pub sign-not : (g : Bool) → (getD t i 0 ≡ code "+" → ⊥) → (getD t i 0 ≡ code "-" → ⊥) → g ≡ exponentMarker (getD t i 0)
+          → i + toSign skip (drop i t) ≡ i + 1 + toSign g (drop (i + 1) t)
       unfolding toSign
       sign-not g n m e = simp (f, e, here t i h, ne-eqb (getD t i 0) (code "+") n, ne-eqb (getD t i 0) (code "-") m) (omega arith)
 
@@ -174,7 +177,10 @@ module _ (R : ℕ) (t : List ℕ) (p : ℕ) where
       pub rectangular-many : n < length t → NoParts ≡ rectangular R p (drop p t)
       unfolding rectangular
       rectangular-many o =
-          simp (cut-in t p (cut (drop p t)) k first i, cut-in t p (cut (drop p t) + 1 + toSign false (drop (cut (drop p t) + 1) (drop p t))) n second o)
+          simp (
+            cut-in t p (cut (drop p t)) k first i,
+            cut-in t p (cut (drop p t) + 1 + toSign false (drop (cut (drop p t) + 1) (drop p t))) n second o,
+          )
 
       pub rectangular-pair : (r : MaybeParts) → length t ≤ n → r ≡ pairOf R p (k - p) (drop p t) → r ≡ rectangular R p (drop p t)
       unfolding rectangular
@@ -188,7 +194,8 @@ module _ (R : ℕ) (t : List ℕ) (p : ℕ) where
 
 -- the first @ at k
 module _ (R : ℕ) (t : List ℕ) (p k : ℕ) (e : k ≡ p + before (code "@") (drop p t)) (r : MaybeParts) where
-  pub complex-polar : (x y : MaybeReal) → k < length t → x ≡ real R p (drop p (take k t)) → y ≡ real R (k + 1) (drop (k + 1) t) → r ≡ polarOf x y → r ≡ complex R p (drop p t)
+  pub complex-polar : (x y : MaybeReal) → k < length t → x ≡ real R p (drop p (take k t)) → y ≡ real R (k + 1) (drop (k + 1) t) → r ≡ polarOf x y
+      → r ≡ complex R p (drop p t)
   unfolding complex
   complex-polar x y h f g z =
       simp (cut-in t p (before (code "@") (drop p t)) k e h)

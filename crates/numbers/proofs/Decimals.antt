@@ -33,7 +33,8 @@ module _ (c : ℕ) where
 
 -- the exponent after its marker
 module _ (t : List ℕ) (p : ℕ) (neg : Bool) (a : ℕ) (n : neg ≡ starts (code "-") (drop p t)) (e : a ≡ p + sign (drop p t)) where
-  pub exponent-yes : true ≡ uinteger 10 (drop a t) → Marked (record { negative = neg; digits = record { start = a; end = length t } }) ≡ exponent p (drop p t)
+  pub exponent-yes : true ≡ uinteger 10 (drop a t)
+      → Marked (record { negative = neg; digits = record { start = a; end = length t } }) ≡ exponent p (drop p t)
   unfolding exponent
   exponent-yes u =
       simp (← cut-at t p (sign (drop p t)) a e, ← u, ← e, ← n)
@@ -48,7 +49,8 @@ module _ (t : List ℕ) (p : ℕ) where
   unfolding suffix
   suffix-past h = simp (past t p h)
 
-  pub suffix-marked : (x : Suffix) → p < length t → true ≡ exponentMarker (getD t p 0) → x ≡ exponent (p + 1) (drop (p + 1) t) → x ≡ suffix p (drop p t)
+  pub suffix-marked : (x : Suffix) → p < length t → true ≡ exponentMarker (getD t p 0) → x ≡ exponent (p + 1) (drop (p + 1) t)
+      → x ≡ suffix p (drop p t)
   unfolding suffix
   suffix-marked x h m e = simp (here t p h, ← m) e
 
@@ -59,11 +61,18 @@ module _ (t : List ℕ) (p : ℕ) where
 -- a decimal of its parts
 module _ (neg : Bool) (w f : Span) (x : Suffix) where
   pub point-empty : x ≡ Empty
-      → AReal (Decimal (record { negative = neg; whole = w; fraction = f; exponent = record { negative = false; digits = record { start = f .end; end = f .end } } })) ≡ pointOf neg w f x
+      → AReal (Decimal (record {
+        negative =
+            neg;
+        whole = w;
+        fraction = f;
+        exponent = record { negative = false; digits = record { start = f .end; end = f .end } };
+      })) ≡ pointOf neg w f x
   unfolding pointOf
   point-empty e = rw e
 
-  pub point-marked : (d : Exponent) → x ≡ Marked d → AReal (Decimal (record { negative = neg; whole = w; fraction = f; exponent = d })) ≡ pointOf neg w f x
+  pub point-marked : (d : Exponent) → x ≡ Marked d
+      → AReal (Decimal (record { negative = neg; whole = w; fraction = f; exponent = d })) ≡ pointOf neg w f x
   unfolding pointOf
   point-marked d e = rw e
 
@@ -89,7 +98,8 @@ module _ (neg : Bool) (a b : ℕ) (x : Suffix) where
     unfolding undotted
     undotted-none h = simp (e, eq-eqb (b - a) 0 (omega arith))
 
-    pub undotted-some : (r : MaybeReal) → (a ≡ b → ⊥) → a ≤ b → r ≡ pointOf neg (record { start = a; end = b }) (record { start = b; end = b }) x → r ≡ undotted neg a (b - a) x
+    pub undotted-some : (r : MaybeReal) → (a ≡ b → ⊥) → a ≤ b → r ≡ pointOf neg (record { start = a; end = b }) (record { start = b; end = b }) x
+        → r ≡ undotted neg a (b - a) x
     unfolding undotted
     undotted-some r k h z = simp (e, ne-eqb (b - a) 0 (λ q. k (omega arith)), upto a b h) (rw e at z)
 
@@ -99,7 +109,11 @@ module _ (neg : Bool) (t : List ℕ) (a b q e : ℕ) (l : a ≤ b) (h : e ≡ q 
   unfolding dotted
   dotted-none f g = simp (eq-eqb (b - a + digits 10 (drop q t)) 0 (omega arith))
 
-  module _ (r : MaybeReal) (x : Suffix) (i : x ≡ suffix e (drop e t)) (z : r ≡ pointOf neg (record { start = a; end = b }) (record { start = q; end = e }) x) where
+  module _ (r : MaybeReal) (x : Suffix) (i : x ≡ suffix e (drop e t)) (z : r ≡ pointOf neg (record {
+    start =
+        a;
+    end = b;
+  }) (record { start = q; end = e }) x) where
     dotted-some : (b - a + digits 10 (drop q t) ≡ 0 → ⊥) → r ≡ dotted neg a (b - a) q (drop q t)
     unfolding dotted
     dotted-some n = simp (ne-eqb (b - a + digits 10 (drop q t)) 0 n, upto a b l, ← h, ← cut-at t q (digits 10 (drop q t)) e h, ← i) z
@@ -117,7 +131,8 @@ module _ (neg : Bool) (t : List ℕ) (p a : ℕ) (e : a ≡ p + digits 10 (drop 
       let w : a - p ≡ digits 10 (drop p t) = omega arith in
       simp (← cut-at t p (digits 10 (drop p t)) a e, ← u) (cc (cut-after t p (digits 10 (drop p t)) a e))
 
-  pub decimal-no : (x : Suffix) → false ≡ starts (code ".") (drop a t) → x ≡ suffix a (drop a t) → r ≡ undotted neg p (a - p) x → r ≡ decimal neg p (drop p t)
+  pub decimal-no : (x : Suffix) → false ≡ starts (code ".") (drop a t) → x ≡ suffix a (drop a t) → r ≡ undotted neg p (a - p) x
+      → r ≡ decimal neg p (drop p t)
   unfolding decimal
   decimal-no x u i z =
       let w : a - p ≡ digits 10 (drop p t) = omega arith in

@@ -100,7 +100,8 @@ module _ (c : ℕ) where
   mark-2 (inl e) = rw e
   mark-2 (inr e) = rw e
 
-  pub mark-none : ((c ≡ code "X") ⊎ (c ≡ code "x") → ⊥) → ((c ≡ code "D") ⊎ (c ≡ code "d") → ⊥) → ((c ≡ code "O") ⊎ (c ≡ code "o") → ⊥) → ((c ≡ code "B") ⊎ (c ≡ code "b") → ⊥) → 0 ≡ radixMark c
+  pub mark-none : ((c ≡ code "X") ⊎ (c ≡ code "x") → ⊥) → ((c ≡ code "D") ⊎ (c ≡ code "d") → ⊥) → ((c ≡ code "O") ⊎ (c ≡ code "o") → ⊥)
+      → ((c ≡ code "B") ⊎ (c ≡ code "b") → ⊥) → 0 ≡ radixMark c
   unfolding radixMark
   mark-none x d o b =
       simp (

@@ -71,7 +71,8 @@ denominator-is R p s e = e
 
 -- a rational or an integer, the first slash at k
 module _ (R : ℕ) (neg : Bool) (t : List ℕ) (p k : ℕ) (e : k ≡ p + before (code "/") (drop p t)) (r : MaybeReal) (n : MaybeInt) where
-  pub exact-ratio : (d : MaybeInt) → k < length t → n ≡ wholeOf R neg p (drop p (take k t)) → d ≡ denominator R (k + 1) (drop (k + 1) t) → r ≡ rationalOf n d → r ≡ exact R neg p (drop p t)
+  pub exact-ratio : (d : MaybeInt) → k < length t → n ≡ wholeOf R neg p (drop p (take k t)) → d ≡ denominator R (k + 1) (drop (k + 1) t)
+      → r ≡ rationalOf n d → r ≡ exact R neg p (drop p t)
   unfolding exact
   exact-ratio d h x y z =
       simp (cut-in t p (before (code "/") (drop p t)) k e h)

@@ -1,2 +1,5 @@
 pub mod Reals
 pub mod Grammar
+pub mod Inside
+pub mod Call
+pub mod Examples

@@ -41,7 +41,13 @@ suffix p (c ∷ s) = if exponentMarker c then exponent (p + 1) s else Bad
 -- a decimal's parts: its sign, the places w of the digits before a dot and f of those after it, and its suffix
 unfoldable pub pointOf : Bool → Span → Span → Suffix → MaybeReal
 pointOf neg w f Empty =
-    AReal (Decimal (record { negative = neg; whole = w; fraction = f; exponent = record { negative = false; digits = record { start = f .end; end = f .end } } }))
+    AReal (Decimal (record {
+      negative =
+          neg;
+      whole = w;
+      fraction = f;
+      exponent = record { negative = false; digits = record { start = f .end; end = f .end } };
+    }))
 pointOf neg w f (Marked e) = AReal (Decimal (record { negative = neg; whole = w; fraction = f; exponent = e }))
 pointOf neg w f Bad = NoReal
 

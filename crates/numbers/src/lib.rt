@@ -2,10 +2,12 @@
 // which name the departures). It answers the number's parts, with places of the text for digits and no float; or that the text is no
 // number; or that a denominator is zero. A part of the text is a slice that starts where the text starts, so that an index is a place of
 // the text, and the place where the part starts.
+use chars::Utf8;
 use digits::Int;
 use digits::Span;
 ghost use mathlib.Core.Path.{_≡_};
 ghost use Rattle.numbers.specs.Grammar.{zeroInt, zeroReal, zeroParts, judged, radixMark, prefix, parseNumber};
+ghost use Rattle.numbers.specs.Call.{answered, given, number};
 
 mod complexes;
 mod reals;
@@ -54,7 +56,21 @@ pub enum Parts {
     Polar(Real, Real),
 }
 
-// What a text is that the caller knows to be UTF-8 and short enough.
+// What the number call answers: specs/Call gives document 01's numbers for each case.
+pub enum NumberAnswer {
+    // 5
+    Is(Parts),
+    // abc
+    NoNumber,
+    // 1/0
+    ZeroDenominator,
+    // a text of 4,294,967,296 bytes
+    TooLong,
+    // the byte FF: the start of the first bad sequence
+    NotUtf8(usize),
+}
+
+// What a text is that is known to be UTF-8 and short enough.
 pub enum Parsed {
     // 5
     Is(Parts),
@@ -82,6 +98,9 @@ pub enum MaybeParts {
     SomeParts(Parts),
     NoParts,
 }
+
+// The longest text that is read, in bytes.
+const LONGEST: usize = 4_294_967_295;
 
 // The radix of a text that names none, and the length of a prefix that names one.
 const TEN: u64 = 10;
@@ -181,5 +200,29 @@ pub fn parse_number(t: &[u8]) -> Parsed
         judge(complexes::complex_at(t, 0, TEN))
     } else {
         judge(complexes::complex_at(t, PREFIX, radix))
+    }
+}
+
+// The answer to a text that is not refused.
+fn serve(p: Parsed) -> NumberAnswer
+    ensures { λ r. ⌜ answered r ≡ given p ⌝ }
+{
+    match p {
+        Parsed::Is(parts) => NumberAnswer::Is(parts),
+        Parsed::NoNumber => NumberAnswer::NoNumber,
+        Parsed::ZeroDenominator => NumberAnswer::ZeroDenominator,
+    }
+}
+
+// The number call on any bytes.
+pub fn number(t: &[u8]) -> NumberAnswer
+    ensures { λ r. ⌜ answered r ≡ number (now (t .entry)) ⌝ }
+{
+    if LONGEST < t.len() {
+        return NumberAnswer::TooLong;
+    }
+    match chars::first_bad(t) {
+        Utf8::Bad(at) => NumberAnswer::NotUtf8(at),
+        Utf8::Good => serve(parse_number(t)),
     }
 }

@@ -1,5 +1,6 @@
 -- Each return is the case of `digitOf` that the tests before it left.
-use Rattle.digits.proofs.Digits.{within-is, digit-decimal, digit-upper, digit-lower, digit-none}
+use Rattle.digits.proofs.Digits.{digit-decimal, digit-upper, digit-lower, digit-none}
+use Rattle.laws.proofs.Choice.{within-is}
 use mathlib.Core.Path.{sym, _∙_}
 use borrow.Author.Needs.{needs}
 use Rattle.digits.proofs.digit.Statement.{statement}
@@ -30,7 +31,9 @@ add-result : tie.Need-add-result
 add-result c = search needs
 
 returns-2 : tie.Need-returns-2
-returns-2 c = digit-upper _ (sym (c .before .before .if1 .left) ∙ c .before .before .before .within .ensures) (sym (c .if2 .taken) ∙ c .before .within2 .ensures)
+returns-2 c =
+    digit-upper _ (sym (c .before .before .if1 .left) ∙ c .before .before .before .within .ensures)
+    (sym (c .if2 .taken) ∙ c .before .within2 .ensures)
 
 within-requires-3 : tie.Need-within-requires-3
 within-requires-3 c κs = search needs
@@ -45,10 +48,14 @@ add-result-2 : tie.Need-add-result-2
 add-result-2 c = search needs
 
 returns-3 : tie.Need-returns-3
-returns-3 c = digit-lower _ (sym (c .before .before .before .before .if1 .left) ∙ c .before .before .before .before .before .within .ensures) (sym (c .before .before .if2 .left) ∙ c .before .before .before .within2 .ensures) (sym (c .if3 .taken) ∙ c .before .within3 .ensures)
+returns-3 c =
+    digit-lower _ (sym (c .before .before .before .before .if1 .left) ∙ c .before .before .before .before .before .within .ensures)
+    (sym (c .before .before .if2 .left) ∙ c .before .before .before .within2 .ensures) (sym (c .if3 .taken) ∙ c .before .within3 .ensures)
 
 returns-4 : tie.Need-returns-4
-returns-4 c = digit-none _ (sym (c .before .before .before .before .if1 .left) ∙ c .before .before .before .before .before .within .ensures) (sym (c .before .before .if2 .left) ∙ c .before .before .before .within2 .ensures) (sym (c .if3 .left) ∙ c .before .within3 .ensures)
+returns-4 c =
+    digit-none _ (sym (c .before .before .before .before .if1 .left) ∙ c .before .before .before .before .before .within .ensures)
+    (sym (c .before .before .if2 .left) ∙ c .before .before .before .within2 .ensures) (sym (c .if3 .left) ∙ c .before .within3 .ensures)
 
 pub digit-spec : {M : Type 1} → statement M
 digit-spec =

@@ -32,7 +32,9 @@ div-if1 : tie.Need-div-if1 Inv-loop μ-loop
 div-if1 c = omega arith
 
 returns : tie.Need-returns Inv-loop μ-loop
-returns c = fit-large _ (rw (c .before .before .before .before .loop .inv .0) (product-over _ _ _ _ _ (c .before .before .before .before .before .before .pre .0) (c .before .before .before .loop-test .taken) (c .before .digit .ensures) (c .if1 .taken)))
+returns c =
+    fit-large _
+    (rw (c .before .before .before .before .loop .inv .0) (product-over _ _ _ _ _ (c .before .before .before .before .before .before .pre .0) (c .before .before .before .loop-test .taken) (c .before .digit .ensures) (c .if1 .taken)))
 
 mul-v : tie.Need-mul-v Inv-loop μ-loop
 mul-v c = omega (arith, product-fits _ _ (c .before .digit .ensures) _ _ (c .before .before .before .before .before .before .pre .0) (c .if1 .left))
@@ -47,7 +49,10 @@ loop-less : tie.Need-loop-less Inv-loop μ-loop
 loop-less c = omega arith
 
 loop-again : tie.Need-loop-again Inv-loop μ-loop
-loop-again c = (c .before .before .before .before .loop .inv .0 ∙ value-more _ _ _ _ _ (c .before .before .before .loop-test .taken) (c .before .digit .ensures), product-fits _ _ (c .before .digit .ensures) _ _ (c .before .before .before .before .before .before .pre .0) (c .if1 .left))
+loop-again c = (
+  c .before .before .before .before .loop .inv .0 ∙ value-more _ _ _ _ _ (c .before .before .before .loop-test .taken) (c .before .digit .ensures),
+  product-fits _ _ (c .before .digit .ensures) _ _ (c .before .before .before .before .before .before .pre .0) (c .if1 .left),
+)
 
 returns-2 : tie.Need-returns-2 Inv-loop μ-loop
 returns-2 c = rw (c .before .loop .inv .0 ∙ value-end _ _ _ _ (c .loop-test .left)) (fit-fits _ (c .before .loop .inv .1))

@@ -25,7 +25,9 @@ digit-requires : tie.Need-digit-requires Inv-loop μ-loop
 digit-requires c κs = search needs
 
 returns : tie.Need-returns Inv-loop μ-loop
-returns c = sym (c .before .before .before .before .loop .inv ∙ run-stop _ _ _ _ (c .before .before .before .loop-test .taken) (c .before .digit .ensures) (c .if1 .taken))
+returns c =
+    sym
+    (c .before .before .before .before .loop .inv ∙ run-stop _ _ _ _ (c .before .before .before .loop-test .taken) (c .before .digit .ensures) (c .if1 .taken))
 
 add-i : tie.Need-add-i Inv-loop μ-loop
 add-i c = omega arith
@@ -34,7 +36,9 @@ loop-less : tie.Need-loop-less Inv-loop μ-loop
 loop-less c = omega arith
 
 loop-again : tie.Need-loop-again Inv-loop μ-loop
-loop-again c = c .before .before .before .before .loop .inv ∙ run-hit _ _ _ _ (c .before .before .before .loop-test .taken) (c .before .digit .ensures) (c .if1 .left)
+loop-again c =
+    c .before .before .before .before .loop .inv
+    ∙ run-hit _ _ _ _ (c .before .before .before .loop-test .taken) (c .before .digit .ensures) (c .if1 .left)
 
 returns-2 : tie.Need-returns-2 Inv-loop μ-loop
 returns-2 c = sym (c .before .loop .inv ∙ run-end _ _ _ (c .loop-test .left))

@@ -1,4 +1,4 @@
--- A negative number is -1 less than its magnitude less 1, which reaches -2^63 without leaving 64 bits.
+-- A negative number is -1 minus its magnitude less 1, so that -2^63 is reached without leaving 64 bits.
 use Rattle.digits.proofs.Integers.{signed-zero, signed-pos, signed-neg, signed-fits}
 use mathlib.Core.Path.{_∙_}
 use mir.Facts.{toZ-ofZ}
@@ -19,7 +19,9 @@ sub-result-2 : tie.Need-sub-result-2
 sub-result-2 c = rw (signed-neg _ _ (c .before .if1 .taken) (c .if2 .left) (c .before .before .pre) .1) (signed-fits _ _ (c .before .before .pre))
 
 returns-2 : tie.Need-returns-2
-returns-2 c = toZ-ofZ (rw (signed-neg _ _ (c .before .if1 .taken) (c .if2 .left) (c .before .before .pre) .1) (signed-fits _ _ (c .before .before .pre))) ∙ (signed-neg _ _ (c .before .if1 .taken) (c .if2 .left) (c .before .before .pre) .1)
+returns-2 c =
+    let e = signed-neg _ _ (c .before .if1 .taken) (c .if2 .left) (c .before .before .pre) .1 in
+    toZ-ofZ (rw e (signed-fits _ _ (c .before .before .pre))) ∙ e
 
 cast-result-2 : tie.Need-cast-result-2
 cast-result-2 c = sfits-of (signed-pos _ _ (c .if1 .left) (c .before .pre) .0)

@@ -24,13 +24,23 @@ enum-told : tie.Need-enum-told
 enum-told c = search needs
 
 returns : tie.Need-returns
-returns c = whole-small _ _ _ _ (sym (c .before .before .before .before .before .before .before .if1 .taken) ∙ c .before .before .before .before .before .before .before .before .unsigned .ensures) _ _ (sym (c .before .before .before .before .m .given .1) ∙ c .before .before .before .before .before .before .magnitude-at .ensures) (rw (c .before .before .top-of .ensures) at (c .before .if2 .taken)) (c .small .ensures)
+returns c =
+    whole-small _ _ _ _
+    (sym (c .before .before .before .before .before .before .before .if1 .taken) ∙ c .before .before .before .before .before .before .before .before .unsigned .ensures)
+    _ _ (sym (c .before .before .before .before .m .given .1) ∙ c .before .before .before .before .before .before .magnitude-at .ensures)
+    (rw (c .before .before .top-of .ensures) at (c .before .if2 .taken)) (c .small .ensures)
 
 returns-2 : tie.Need-returns-2
-returns-2 c = whole-big _ _ _ _ (sym (c .before .before .before .before .before .before .if1 .taken) ∙ c .before .before .before .before .before .before .before .unsigned .ensures) _ (sym (c .before .before .before .m .given .1) ∙ c .before .before .before .before .before .magnitude-at .ensures) (rw (c .before .top-of .ensures) at (c .if2 .left))
+returns-2 c =
+    whole-big _ _ _ _
+    (sym (c .before .before .before .before .before .before .if1 .taken) ∙ c .before .before .before .before .before .before .before .unsigned .ensures)
+    _ (sym (c .before .before .before .m .given .1) ∙ c .before .before .before .before .before .magnitude-at .ensures)
+    (rw (c .before .top-of .ensures) at (c .if2 .left))
 
 returns-3 : tie.Need-returns-3
-returns-3 c = whole-large _ _ _ _ (sym (c .before .before .before .if1 .taken) ∙ c .before .before .before .before .unsigned .ensures) (sym (c .enum-told .given .1) ∙ c .before .before .magnitude-at .ensures)
+returns-3 c =
+    whole-large _ _ _ _ (sym (c .before .before .before .if1 .taken) ∙ c .before .before .before .before .unsigned .ensures)
+    (sym (c .enum-told .given .1) ∙ c .before .before .magnitude-at .ensures)
 
 returns-4 : tie.Need-returns-4
 returns-4 c = whole-no _ _ _ _ (sym (c .if1 .left) ∙ c .before .unsigned .ensures)

@@ -1,5 +1,5 @@
 -- A byte below a is not within; from a on, b decides.
-use Rattle.digits.proofs.Digits.{within-below, within-from}
+use Rattle.laws.proofs.Choice.{within-below, within-from}
 use Rattle.digits.proofs.within.Statement.{statement}
 use Rattle.digits.proofs.within.Tie as tie
 

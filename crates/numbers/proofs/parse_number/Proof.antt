@@ -22,10 +22,14 @@ judge-requires-2 : tie.Need-judge-requires-2
 judge-requires-2 c κs = search needs
 
 returns : tie.Need-returns
-returns c = parse-ten _ _ _ _ (c .before .before .before .prefix .ensures) (c .before .before .if1 .taken) (c .before .complex-at .ensures) (c .judge .ensures)
+returns c =
+    parse-ten _ _ _ _ (c .before .before .before .prefix .ensures) (c .before .before .if1 .taken) (c .before .complex-at .ensures)
+    (c .judge .ensures)
 
 returns-2 : tie.Need-returns-2
-returns-2 c = parse-radix _ _ _ _ (c .before .before .before .prefix .ensures) (c .before .before .if1 .left) (c .before .complex-at2 .ensures) (c .judge2 .ensures)
+returns-2 c =
+    parse-radix _ _ _ _ (c .before .before .before .prefix .ensures) (c .before .before .if1 .left) (c .before .complex-at2 .ensures)
+    (c .judge2 .ensures)
 
 pub parse-number-spec : {M : Type 1} → statement M
 parse-number-spec =

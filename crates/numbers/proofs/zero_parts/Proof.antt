@@ -37,13 +37,17 @@ returns-2 : tie.Need-returns-2
 returns-2 c = zero-first _ _ _ (inl (c .before .before .before .p2 .given .1)) (sym (c .if1 .taken) ∙ c .before .zero-real2 .ensures)
 
 returns-3 : tie.Need-returns-3
-returns-3 c = zero-second _ _ _ (inl (c .before .before .before .before .p2 .given .1)) _ (sym (c .before .if1 .left) ∙ c .before .before .zero-real2 .ensures) (c .zero-real3 .ensures)
+returns-3 c =
+    zero-second _ _ _ (inl (c .before .before .before .before .p2 .given .1)) _ (sym (c .before .if1 .left) ∙ c .before .before .zero-real2 .ensures)
+    (c .zero-real3 .ensures)
 
 returns-4 : tie.Need-returns-4
 returns-4 c = zero-first _ _ _ (inr (c .before .before .before .p3 .given .1)) (sym (c .if2 .taken) ∙ c .before .zero-real4 .ensures)
 
 returns-5 : tie.Need-returns-5
-returns-5 c = zero-second _ _ _ (inr (c .before .before .before .before .p3 .given .1)) _ (sym (c .before .if2 .left) ∙ c .before .before .zero-real4 .ensures) (c .zero-real5 .ensures)
+returns-5 c =
+    zero-second _ _ _ (inr (c .before .before .before .before .p3 .given .1)) _ (sym (c .before .if2 .left) ∙ c .before .before .zero-real4 .ensures)
+    (c .zero-real5 .ensures)
 
 pub zero-parts-spec : {M : Type 1} → statement M
 zero-parts-spec =

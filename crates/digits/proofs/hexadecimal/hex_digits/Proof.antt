@@ -26,7 +26,9 @@ digit-requires : tie.Need-digit-requires Inv-loop μ-loop
 digit-requires c κs = search needs
 
 returns : tie.Need-returns Inv-loop μ-loop
-returns c = hex-bad _ _ _ _ (c .before .before .before .loop-test .taken) (c .before .digit .ensures) (c .if1 .taken) ∙ sym (c .before .before .before .before .loop .inv .0)
+returns c =
+    hex-bad _ _ _ _ (c .before .before .before .loop-test .taken) (c .before .digit .ensures) (c .if1 .taken)
+    ∙ sym (c .before .before .before .before .loop .inv .0)
 
 mul-next : tie.Need-mul-next Inv-loop μ-loop
 mul-next c = omega arith
@@ -35,7 +37,9 @@ add-next : tie.Need-add-next Inv-loop μ-loop
 add-next c = omega arith
 
 returns-2 : tie.Need-returns-2 Inv-loop μ-loop
-returns-2 c = hex-over _ _ _ _ (c .before .before .before .before .loop-test .taken) (c .before .before .digit .ensures) (c .before .if1 .left) (c .if2 .taken) ∙ sym (c .before .before .before .before .before .loop .inv .0)
+returns-2 c =
+    hex-over _ _ _ _ (c .before .before .before .before .loop-test .taken) (c .before .before .digit .ensures) (c .before .if1 .left) (c .if2 .taken)
+    ∙ sym (c .before .before .before .before .before .loop .inv .0)
 
 add-i : tie.Need-add-i Inv-loop μ-loop
 add-i c = omega arith
@@ -44,7 +48,12 @@ loop-less : tie.Need-loop-less Inv-loop μ-loop
 loop-less c = omega arith
 
 loop-again : tie.Need-loop-again Inv-loop μ-loop
-loop-again c = (c .before .before .before .before .before .loop .inv .0 ∙ hex-more _ _ _ _ (c .before .before .before .before .loop-test .taken) (c .before .before .digit .ensures) (c .before .if1 .left) (c .if2 .left), c .if2 .left)
+loop-again c = (
+  c .before .before .before .before .before .loop .inv .0
+      ∙ hex-more _ _ _ _ (c .before .before .before .before .loop-test .taken)
+      (c .before .before .digit .ensures) (c .before .if1 .left) (c .if2 .left),
+  c .if2 .left,
+)
 
 cast-t12 : tie.Need-cast-t12 Inv-loop μ-loop
 cast-t12 c = omega arith

@@ -18,7 +18,9 @@ hex-digits-requires : tie.Need-hex-digits-requires
 hex-digits-requires c κs = search needs
 
 returns-3 : tie.Need-returns-3
-returns-3 c = c .hex-digits .ensures ∙ hex-plus _ (c .before .before .before .before .if1 .left) (c .before .before .if2 .taken) (c .before .if3 .left)
+returns-3 c =
+    c .hex-digits .ensures
+    ∙ hex-plus _ (c .before .before .before .before .if1 .left) (c .before .before .if2 .taken) (c .before .if3 .left)
 
 hex-digits-requires-2 : tie.Need-hex-digits-requires-2
 hex-digits-requires-2 c κs = search needs

@@ -14,7 +14,10 @@ sign-end-requires : tie.Need-sign-end-requires
 sign-end-requires c κs = search needs
 
 sub-last : tie.Need-sub-last
-sub-last c = let h = ends-in (c .before .before .before .before .before .args .t .now) (c .before .before .before .before .before .args .from) (sym (c .before .before .if1 .taken) ∙ c .before .before .before .ends-i .ensures) in omega arith
+sub-last c =
+    let h = ends-in (c .before .before .before .before .before .args .t .now) (c .before .before .before .before .before .args .from)
+    (sym (c .before .before .if1 .taken) ∙ c .before .before .before .ends-i .ensures) in
+    omega arith
 
 slice-aggregate-imaginary-at : tie.Need-slice-aggregate-imaginary-at
 slice-aggregate-imaginary-at c = sym (length-take-le _ _ (omega arith))
@@ -32,13 +35,21 @@ just-requires : tie.Need-just-requires
 just-requires c κs = search needs
 
 returns : tie.Need-returns
-returns c = alone-none _ _ _ (sym (c .before .before .if1 .taken) ∙ c .before .before .before .ends-i .ensures) _ (c .before .sign-end .ensures) (c .if2 .taken)
+returns c =
+    alone-none _ _ _ (sym (c .before .before .if1 .taken) ∙ c .before .before .before .ends-i .ensures) _ (c .before .sign-end .ensures)
+    (c .if2 .taken)
 
 returns-2 : tie.Need-returns-2
-returns-2 c = alone-imaginary _ _ _ (sym (c .before .before .before .before .before .if1 .taken) ∙ c .before .before .before .before .before .before .ends-i .ensures) _ (c .before .before .before .before .sign-end .ensures) _ _ (c .before .before .before .if2 .left) (c .before .imaginary-at .ensures) (c .complex .ensures)
+returns-2 c =
+    alone-imaginary _ _ _
+    (sym (c .before .before .before .before .before .if1 .taken) ∙ c .before .before .before .before .before .before .ends-i .ensures) _
+    (c .before .before .before .before .sign-end .ensures) _ _ (c .before .before .before .if2 .left) (c .before .imaginary-at .ensures)
+    (c .complex .ensures)
 
 returns-3 : tie.Need-returns-3
-returns-3 c = alone-real _ _ _ _ _ (sym (c .before .before .if1 .left) ∙ c .before .before .before .ends-i .ensures) (c .before .real-at .ensures) (c .just .ensures)
+returns-3 c =
+    alone-real _ _ _ _ _ (sym (c .before .before .if1 .left) ∙ c .before .before .before .ends-i .ensures) (c .before .real-at .ensures)
+    (c .just .ensures)
 
 pub alone-spec : {M : Type 1} → statement M
 alone-spec =

@@ -29,7 +29,9 @@ rectangular-at-requires : tie.Need-rectangular-at-requires
 rectangular-at-requires c κs = search needs
 
 returns : tie.Need-returns
-returns c = complex-polar _ _ _ _ (c .before .before .before .before .before .find .ensures) _ _ _ (c .before .before .before .before .if1 .taken) (c .before .before .real-at .ensures) (c .before .real-at2 .ensures) (c .polar .ensures)
+returns c =
+    complex-polar _ _ _ _ (c .before .before .before .before .before .find .ensures) _ _ _ (c .before .before .before .before .if1 .taken)
+    (c .before .before .real-at .ensures) (c .before .real-at2 .ensures) (c .polar .ensures)
 
 returns-2 : tie.Need-returns-2
 returns-2 c = complex-rectangular _ _ _ _ (c .before .before .find .ensures) _ (c .before .if1 .left) (c .rectangular-at .ensures)

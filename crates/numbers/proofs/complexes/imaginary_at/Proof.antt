@@ -21,13 +21,17 @@ equal-from-requires-2 : tie.Need-equal-from-requires-2
 equal-from-requires-2 c κs = search needs
 
 returns-2 : tie.Need-returns-2
-returns-2 c = imaginary-minus _ _ _ (sym (c .before .before .before .if1 .left) ∙ c .before .before .before .before .equal-from .ensures) (sym (c .if2 .taken) ∙ c .before .equal-from2 .ensures)
+returns-2 c =
+    imaginary-minus _ _ _ (sym (c .before .before .before .if1 .left) ∙ c .before .before .before .before .equal-from .ensures)
+    (sym (c .if2 .taken) ∙ c .before .equal-from2 .ensures)
 
 real-at-requires : tie.Need-real-at-requires
 real-at-requires c κs = search needs
 
 returns-3 : tie.Need-returns-3
-returns-3 c = imaginary-real _ _ _ (sym (c .before .before .before .before .if1 .left) ∙ c .before .before .before .before .before .equal-from .ensures) _ (sym (c .before .if2 .left) ∙ c .before .before .equal-from2 .ensures) (c .real-at .ensures)
+returns-3 c =
+    imaginary-real _ _ _ (sym (c .before .before .before .before .if1 .left) ∙ c .before .before .before .before .before .equal-from .ensures) _
+    (sym (c .before .if2 .left) ∙ c .before .before .equal-from2 .ensures) (c .real-at .ensures)
 
 pub imaginary-at-spec : {M : Type 1} → statement M
 imaginary-at-spec =

@@ -11,7 +11,10 @@ ends-i-requires : tie.Need-ends-i-requires
 ends-i-requires c κs = search needs
 
 sub-last : tie.Need-sub-last
-sub-last c = let h = ends-in (c .before .before .before .args .t .now) (c .before .before .before .args .k) (sym (c .if1 .taken) ∙ c .before .ends-i .ensures) in omega arith
+sub-last c =
+    let h = ends-in (c .before .before .before .args .t .now) (c .before .before .before .args .k) (sym (c .if1 .taken) ∙ c .before .ends-i .ensures)
+    in
+    omega arith
 
 slice-aggregate-real-at : tie.Need-slice-aggregate-real-at
 slice-aggregate-real-at c = sym (length-take-le _ _ (omega arith))
@@ -29,7 +32,10 @@ complex-requires : tie.Need-complex-requires
 complex-requires c κs = search needs
 
 returns : tie.Need-returns
-returns c = pair-is _ _ _ _ (c .before .before .before .before .before .before .before .before .pre .2) _ _ _ (sym (c .before .before .before .before .before .if1 .taken) ∙ c .before .before .before .before .before .before .ends-i .ensures) (c .before .before .before .real-at .ensures) (c .before .imaginary-at .ensures) (c .complex .ensures)
+returns c =
+    pair-is _ _ _ _ (c .before .before .before .before .before .before .before .before .pre .2) _ _ _
+    (sym (c .before .before .before .before .before .if1 .taken) ∙ c .before .before .before .before .before .before .ends-i .ensures)
+    (c .before .before .before .real-at .ensures) (c .before .imaginary-at .ensures) (c .complex .ensures)
 
 returns-2 : tie.Need-returns-2
 returns-2 c = pair-no _ _ _ _ (c .before .before .before .pre .2) (sym (c .if1 .left) ∙ c .before .ends-i .ensures)

@@ -35,13 +35,20 @@ alone-requires-2 : tie.Need-alone-requires-2
 alone-requires-2 c κs = search needs
 
 returns-2 : tie.Need-returns-2
-returns-2 c = rectangular-many _ _ _ (c .before .before .before .before .before .before .if1 .left) _ (c .before .before .before .before .is-marker .ensures) _ (c .before .before .before .to-sign .ensures) (c .before .before .if2 .taken) _ (c .before .to-sign2 .ensures) (c .if3 .taken)
+returns-2 c =
+    rectangular-many _ _ _ (c .before .before .before .before .before .before .if1 .left) _ (c .before .before .before .before .is-marker .ensures) _
+    (c .before .before .before .to-sign .ensures) (c .before .before .if2 .taken) _ (c .before .to-sign2 .ensures) (c .if3 .taken)
 
 returns-3 : tie.Need-returns-3
-returns-3 c = rectangular-pair _ _ _ (c .before .before .before .before .before .before .before .if1 .left) _ (c .before .before .before .before .before .is-marker .ensures) _ (c .before .before .before .before .to-sign .ensures) (c .before .before .before .if2 .taken) _ (c .before .before .to-sign2 .ensures) _ (c .before .if3 .left) (c .pair .ensures)
+returns-3 c =
+    rectangular-pair _ _ _ (c .before .before .before .before .before .before .before .if1 .left) _
+    (c .before .before .before .before .before .is-marker .ensures) _ (c .before .before .before .before .to-sign .ensures)
+    (c .before .before .before .if2 .taken) _ (c .before .before .to-sign2 .ensures) _ (c .before .if3 .left) (c .pair .ensures)
 
 returns-4 : tie.Need-returns-4
-returns-4 c = rectangular-alone _ _ _ (c .before .before .before .before .before .if1 .left) _ (c .before .before .before .is-marker .ensures) _ (c .before .before .to-sign .ensures) _ (c .before .if2 .left) (c .alone2 .ensures)
+returns-4 c =
+    rectangular-alone _ _ _ (c .before .before .before .before .before .if1 .left) _ (c .before .before .before .is-marker .ensures) _
+    (c .before .before .to-sign .ensures) _ (c .before .if2 .left) (c .alone2 .ensures)
 
 pub rectangular-at-spec : {M : Type 1} → statement M
 rectangular-at-spec =

@@ -33,10 +33,14 @@ loop-again : tie.Need-loop-again Inv-loop μ-loop
 loop-again c = c .before .before .before .loop .inv ∙ sign-passed _ _ _ (c .before .before .loop-test .taken) (c .if1 .taken)
 
 returns : tie.Need-returns Inv-loop μ-loop
-returns c = sym (c .before .before .before .before .loop .inv ∙ sign-found _ _ _ (c .before .before .before .loop-test .taken) (c .before .if1 .left) (inl (c .if2 .taken)))
+returns c =
+    sym
+    (c .before .before .before .before .loop .inv ∙ sign-found _ _ _ (c .before .before .before .loop-test .taken) (c .before .if1 .left) (inl (c .if2 .taken)))
 
 returns-2 : tie.Need-returns-2 Inv-loop μ-loop
-returns-2 c = sym (c .before .before .before .before .before .loop .inv ∙ sign-found _ _ _ (c .before .before .before .before .loop-test .taken) (c .before .before .if1 .left) (inr (c .if3 .taken)))
+returns-2 c =
+    sym
+    (c .before .before .before .before .before .loop .inv ∙ sign-found _ _ _ (c .before .before .before .before .loop-test .taken) (c .before .before .if1 .left) (inr (c .if3 .taken)))
 
 is-marker-requires : tie.Need-is-marker-requires Inv-loop μ-loop
 is-marker-requires c κs = search needs
@@ -48,7 +52,10 @@ loop-less-2 : tie.Need-loop-less-2 Inv-loop μ-loop
 loop-less-2 c = omega arith
 
 loop-again-2 : tie.Need-loop-again-2 Inv-loop μ-loop
-loop-again-2 c = c .before .before .before .before .before .before .loop .inv ∙ sign-not _ _ _ (c .before .before .before .before .before .loop-test .taken) (c .before .before .before .if1 .left) _ (c .before .before .if2 .left) (c .before .if3 .left) (c .is-marker .ensures)
+loop-again-2 c =
+    c .before .before .before .before .before .before .loop .inv
+    ∙ sign-not _ _ _ (c .before .before .before .before .before .loop-test .taken) (c .before .before .before .if1 .left) _
+    (c .before .before .if2 .left) (c .before .if3 .left) (c .is-marker .ensures)
 
 returns-3 : tie.Need-returns-3 Inv-loop μ-loop
 returns-3 c = sym (c .before .loop .inv ∙ sign-nowhere _ _ _ (c .loop-test .left))

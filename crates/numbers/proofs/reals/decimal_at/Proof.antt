@@ -15,7 +15,10 @@ starts-at-requires : tie.Need-starts-at-requires
 starts-at-requires c κs = search needs
 
 add-dotted : tie.Need-add-dotted
-add-dotted c = let h = starts-in (code ".") (c .before .before .before .before .args .t .now) (c .before .before .run-end .result) (sym (c .if1 .taken) ∙ c .before .starts-at .ensures) in omega arith
+add-dotted c =
+    let h = starts-in (code ".") (c .before .before .before .before .args .t .now) (c .before .before .run-end .result)
+    (sym (c .if1 .taken) ∙ c .before .starts-at .ensures) in
+    omega arith
 
 dotted-requires : tie.Need-dotted-requires
 dotted-requires c κs = search needs
@@ -27,10 +30,14 @@ undotted-requires : tie.Need-undotted-requires
 undotted-requires c κs = search needs
 
 returns : tie.Need-returns
-returns c = decimal-dot _ _ _ _ (c .before .before .before .run-end .ensures) _ (sym (c .before .if1 .taken) ∙ c .before .before .starts-at .ensures) (c .dotted .ensures)
+returns c =
+    decimal-dot _ _ _ _ (c .before .before .before .run-end .ensures) _ (sym (c .before .if1 .taken) ∙ c .before .before .starts-at .ensures)
+    (c .dotted .ensures)
 
 returns-2 : tie.Need-returns-2
-returns-2 c = decimal-no _ _ _ _ (c .before .before .before .before .run-end .ensures) _ _ (sym (c .before .before .if1 .left) ∙ c .before .before .before .starts-at .ensures) (c .before .suffix-at .ensures) (c .undotted .ensures)
+returns-2 c =
+    decimal-no _ _ _ _ (c .before .before .before .before .run-end .ensures) _ _
+    (sym (c .before .before .if1 .left) ∙ c .before .before .before .starts-at .ensures) (c .before .suffix-at .ensures) (c .undotted .ensures)
 
 pub decimal-at-spec : {M : Type 1} → statement M
 decimal-at-spec =

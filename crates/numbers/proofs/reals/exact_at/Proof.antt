@@ -32,10 +32,14 @@ integral-requires : tie.Need-integral-requires
 integral-requires c κs = search needs
 
 returns : tie.Need-returns
-returns c = exact-ratio _ _ _ _ _ (c .before .before .before .before .before .find .ensures) _ _ _ (c .before .before .before .before .if1 .taken) (c .before .before .whole .ensures) (c .before .denominator-at .ensures) (c .rational .ensures)
+returns c =
+    exact-ratio _ _ _ _ _ (c .before .before .before .before .before .find .ensures) _ _ _ (c .before .before .before .before .if1 .taken)
+    (c .before .before .whole .ensures) (c .before .denominator-at .ensures) (c .rational .ensures)
 
 returns-2 : tie.Need-returns-2
-returns-2 c = exact-integer _ _ _ _ _ (c .before .before .before .find .ensures) _ _ (c .before .before .if1 .left) (c .before .whole2 .ensures) (c .integral .ensures)
+returns-2 c =
+    exact-integer _ _ _ _ _ (c .before .before .before .find .ensures) _ _ (c .before .before .if1 .left) (c .before .whole2 .ensures)
+    (c .integral .ensures)
 
 pub exact-at-spec : {M : Type 1} → statement M
 exact-at-spec =

@@ -15,10 +15,14 @@ unsigned-requires : tie.Need-unsigned-requires
 unsigned-requires c κs = search needs
 
 returns : tie.Need-returns
-returns c = exponent-yes _ _ _ _ (c .before .before .before .starts-at .ensures) (c .before .before .sign-end .ensures) (sym (c .if1 .taken) ∙ c .before .unsigned .ensures)
+returns c =
+    exponent-yes _ _ _ _ (c .before .before .before .starts-at .ensures) (c .before .before .sign-end .ensures)
+    (sym (c .if1 .taken) ∙ c .before .unsigned .ensures)
 
 returns-2 : tie.Need-returns-2
-returns-2 c = exponent-no _ _ _ _ (c .before .before .before .starts-at .ensures) (c .before .before .sign-end .ensures) (sym (c .if1 .left) ∙ c .before .unsigned .ensures)
+returns-2 c =
+    exponent-no _ _ _ _ (c .before .before .before .starts-at .ensures) (c .before .before .sign-end .ensures)
+    (sym (c .if1 .left) ∙ c .before .unsigned .ensures)
 
 pub exponent-at-spec : {M : Type 1} → statement M
 exponent-at-spec =

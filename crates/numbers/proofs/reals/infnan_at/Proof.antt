@@ -21,7 +21,9 @@ equal-from-requires-2 : tie.Need-equal-from-requires-2
 equal-from-requires-2 c κs = search needs
 
 returns-2 : tie.Need-returns-2
-returns-2 c = infnan-2 _ (sym (c .before .before .before .if1 .left) ∙ c .before .before .before .before .equal-from .ensures) (sym (c .if2 .taken) ∙ c .before .equal-from2 .ensures)
+returns-2 c =
+    infnan-2 _ (sym (c .before .before .before .if1 .left) ∙ c .before .before .before .before .equal-from .ensures)
+    (sym (c .if2 .taken) ∙ c .before .equal-from2 .ensures)
 
 slice-aggregate-equal-from-3 : tie.Need-slice-aggregate-equal-from-3
 slice-aggregate-equal-from-3 c = search needs
@@ -30,7 +32,11 @@ equal-from-requires-3 : tie.Need-equal-from-requires-3
 equal-from-requires-3 c κs = search needs
 
 returns-3 : tie.Need-returns-3
-returns-3 c = infnan-3 _ (sym (c .before .before .before .before .before .before .if1 .left) ∙ c .before .before .before .before .before .before .before .equal-from .ensures) (sym (c .before .before .before .if2 .left) ∙ c .before .before .before .before .equal-from2 .ensures) (sym (c .if3 .taken) ∙ c .before .equal-from3 .ensures)
+returns-3 c =
+    infnan-3 _
+    (sym (c .before .before .before .before .before .before .if1 .left) ∙ c .before .before .before .before .before .before .before .equal-from .ensures)
+    (sym (c .before .before .before .if2 .left) ∙ c .before .before .before .before .equal-from2 .ensures)
+    (sym (c .if3 .taken) ∙ c .before .equal-from3 .ensures)
 
 slice-aggregate-equal-from-4 : tie.Need-slice-aggregate-equal-from-4
 slice-aggregate-equal-from-4 c = search needs
@@ -39,10 +45,20 @@ equal-from-requires-4 : tie.Need-equal-from-requires-4
 equal-from-requires-4 c κs = search needs
 
 returns-4 : tie.Need-returns-4
-returns-4 c = infnan-4 _ (sym (c .before .before .before .before .before .before .before .before .before .if1 .left) ∙ c .before .before .before .before .before .before .before .before .before .before .equal-from .ensures) (sym (c .before .before .before .before .before .before .if2 .left) ∙ c .before .before .before .before .before .before .before .equal-from2 .ensures) (sym (c .before .before .before .if3 .left) ∙ c .before .before .before .before .equal-from3 .ensures) (sym (c .if4 .taken) ∙ c .before .equal-from4 .ensures)
+returns-4 c =
+    infnan-4 _
+    (sym (c .before .before .before .before .before .before .before .before .before .if1 .left) ∙ c .before .before .before .before .before .before .before .before .before .before .equal-from .ensures)
+    (sym (c .before .before .before .before .before .before .if2 .left) ∙ c .before .before .before .before .before .before .before .equal-from2 .ensures)
+    (sym (c .before .before .before .if3 .left) ∙ c .before .before .before .before .equal-from3 .ensures)
+    (sym (c .if4 .taken) ∙ c .before .equal-from4 .ensures)
 
 returns-5 : tie.Need-returns-5
-returns-5 c = infnan-none _ (sym (c .before .before .before .before .before .before .before .before .before .if1 .left) ∙ c .before .before .before .before .before .before .before .before .before .before .equal-from .ensures) (sym (c .before .before .before .before .before .before .if2 .left) ∙ c .before .before .before .before .before .before .before .equal-from2 .ensures) (sym (c .before .before .before .if3 .left) ∙ c .before .before .before .before .equal-from3 .ensures) (sym (c .if4 .left) ∙ c .before .equal-from4 .ensures)
+returns-5 c =
+    infnan-none _
+    (sym (c .before .before .before .before .before .before .before .before .before .if1 .left) ∙ c .before .before .before .before .before .before .before .before .before .before .equal-from .ensures)
+    (sym (c .before .before .before .before .before .before .if2 .left) ∙ c .before .before .before .before .before .before .before .equal-from2 .ensures)
+    (sym (c .before .before .before .if3 .left) ∙ c .before .before .before .before .equal-from3 .ensures)
+    (sym (c .if4 .left) ∙ c .before .equal-from4 .ensures)
 
 pub infnan-at-spec : {M : Type 1} → statement M
 infnan-at-spec =

@@ -26,7 +26,9 @@ returns : tie.Need-returns
 returns c = real-infnan _ _ _ _ (c .before .before .infnan-at .ensures) _ (c .enum-told .given .1)
 
 returns-2 : tie.Need-returns-2
-returns-2 c = real-signed _ _ _ _ (c .before .before .before .before .before .infnan-at .ensures) _ _ _ (c .before .before .before .enum-told2 .given .1) (c .before .before .starts-at .ensures) (c .before .sign-end .ensures) (c .ureal-at .ensures)
+returns-2 c =
+    real-signed _ _ _ _ (c .before .before .before .before .before .infnan-at .ensures) _ _ _ (c .before .before .before .enum-told2 .given .1)
+    (c .before .before .starts-at .ensures) (c .before .sign-end .ensures) (c .ureal-at .ensures)
 
 pub real-at-spec : {M : Type 1} → statement M
 real-at-spec =

@@ -21,7 +21,9 @@ exponent-at-requires : tie.Need-exponent-at-requires
 exponent-at-requires c κs = search needs
 
 returns-2 : tie.Need-returns-2
-returns-2 c = suffix-marked _ _ _ (c .before .before .before .before .if1 .left) (sym (c .before .if2 .taken) ∙ c .before .before .is-marker .ensures) (c .exponent-at .ensures)
+returns-2 c =
+    suffix-marked _ _ _ (c .before .before .before .before .if1 .left) (sym (c .before .if2 .taken) ∙ c .before .before .is-marker .ensures)
+    (c .exponent-at .ensures)
 
 returns-3 : tie.Need-returns-3
 returns-3 c = suffix-bad _ _ (c .before .before .before .if1 .left) (sym (c .if2 .left) ∙ c .before .is-marker .ensures)

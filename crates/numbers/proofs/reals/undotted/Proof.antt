@@ -23,7 +23,9 @@ returns-2 : tie.Need-returns-2
 returns-2 c = undotted-none _ _ _ _ _ (c .before .enum-told2 .given .1) (c .if1 .taken)
 
 returns-3 : tie.Need-returns-3
-returns-3 c = undotted-some _ _ _ _ _ (c .before .before .enum-told2 .given .1) _ (c .before .if1 .left) (c .before .before .before .before .pre) (c .point-of .ensures)
+returns-3 c =
+    undotted-some _ _ _ _ _ (c .before .before .enum-told2 .given .1) _ (c .before .if1 .left) (c .before .before .before .before .pre)
+    (c .point-of .ensures)
 
 returns-4 : tie.Need-returns-4
 returns-4 c = undotted-bad _ _ _ _ (c .enum-told3 .given .1)

@@ -23,7 +23,9 @@ returns : tie.Need-returns
 returns c = ureal-decimal _ _ _ _ _ (c .before .before .before .if1 .taken) (c .before .before .decimal-at .ensures) _ (c .enum-told .given .1)
 
 returns-2 : tie.Need-returns-2
-returns-2 c = ureal-other _ _ _ _ _ (c .before .before .before .before .if1 .taken) (c .before .before .before .decimal-at .ensures) _ (c .before .enum-told2 .given .1) (c .exact-at .ensures)
+returns-2 c =
+    ureal-other _ _ _ _ _ (c .before .before .before .before .if1 .taken) (c .before .before .before .decimal-at .ensures) _
+    (c .before .enum-told2 .given .1) (c .exact-at .ensures)
 
 returns-3 : tie.Need-returns-3
 returns-3 c = ureal-exact _ _ _ _ _ (c .before .if1 .left) (c .exact-at2 .ensures)

@@ -1,0 +1,17 @@
+-- One test, as the machine has it.
+use borrow.Author.Tests.{eq-eqb, ne-eqb}
+use Rattle.steps.proofs.machine.after_comma.Statement.{statement}
+use Rattle.steps.proofs.machine.after_comma.Tie as tie
+
+returns : tie.Need-returns
+returns c = simp (eq-eqb _ _ (c .if1 .taken))
+
+returns-2 : tie.Need-returns-2
+returns-2 c = simp (ne-eqb _ _ (c .if1 .left))
+
+pub after-comma-spec : {M : Type 1} → statement M
+after-comma-spec =
+    tie.close
+    (tie.spec
+    returns
+    returns-2)

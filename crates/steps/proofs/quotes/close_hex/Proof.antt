@@ -1,0 +1,25 @@
+-- An arm for each case of `closeHex`.
+use borrow.Author.Needs.{needs}
+use Rattle.steps.proofs.quotes.close_hex.Statement.{statement}
+use Rattle.steps.proofs.quotes.close_hex.Tie as tie
+
+enum-told : tie.Need-enum-told
+enum-told c = search needs
+
+enum-known-v : tie.Need-enum-known-v
+enum-known-v c = search needs
+
+returns : tie.Need-returns
+returns c = rw (c .enum-told .given .1)
+
+returns-2 : tie.Need-returns-2
+returns-2 c = rw (c .before .v .given .1)
+
+pub close-hex-spec : {M : Type 1} → statement M
+close-hex-spec =
+    tie.close
+    (tie.spec
+    enum-told
+    enum-known-v
+    returns
+    returns-2)

@@ -1,0 +1,52 @@
+-- A brace, the closer, what breaks the digits off, a digit: the tests of the machine in its order.
+use mathlib.Core.Path.{sym, _∙_}
+use native.Mathlib.Omega.{arith}
+use borrow.Author.Tests.{eq-eqb, ne-eqb}
+use borrow.Author.Needs.{needs}
+use denote.Ref.{now}
+use Rattle.items.specs.Classes.{inHex}
+use Rattle.steps.proofs.Characters.{hex-breaks, hex-goes, with-length}
+use Rattle.steps.proofs.quotes.open_brace.Statement.{statement}
+use Rattle.steps.proofs.quotes.open_brace.Tie as tie
+
+char-width-requires : tie.Need-char-width-requires
+char-width-requires c κs = search needs
+
+add-t9 : tie.Need-add-t9
+add-t9 c = omega (arith, c .char-width .ensures)
+
+returns : tie.Need-returns
+returns c = rw (with-length (now (c .before .before .before .args .raw)) (c .before .before .before .args .c) _ (c .char-width .ensures)) (simp (eq-eqb _ _ (c .before .if1 .taken)))
+
+char-width-requires-2 : tie.Need-char-width-requires-2
+char-width-requires-2 c κs = search needs
+
+add-t12 : tie.Need-add-t12
+add-t12 c = omega (arith, c .char-width2 .ensures)
+
+returns-2 : tie.Need-returns-2
+unfolding inHex
+returns-2 c = simp (ne-eqb _ _ (c .before .before .if1 .left), eq-eqb _ _ (c .before .if2 .taken), c .char-width2 .ensures)
+
+breaks-hex-requires : tie.Need-breaks-hex-requires
+breaks-hex-requires c κs = search needs
+
+returns-3 : tie.Need-returns-3
+returns-3 c = simp (ne-eqb _ _ (c .before .before .before .if1 .left), hex-breaks (c .before .before .before .before .before .args .k) _ (c .before .before .before .before .before .args .c) (ne-eqb _ _ (c .before .before .if2 .left)) (sym (c .before .breaks-hex .ensures) ∙ c .if3 .taken))
+
+returns-4 : tie.Need-returns-4
+returns-4 c = simp (ne-eqb _ _ (c .before .before .before .if1 .left), hex-goes (c .before .before .before .before .before .args .k) _ (c .before .before .before .before .before .args .c) (ne-eqb _ _ (c .before .before .if2 .left)) (sym (c .before .breaks-hex .ensures) ∙ c .if3 .left))
+
+pub open-brace-spec : {M : Type 1} → statement M
+open-brace-spec =
+    tie.close
+    (tie.spec
+    char-width-requires
+    add-t9
+    returns
+    char-width-requires-2
+    add-t12
+    returns-2
+    breaks-hex-requires
+    returns-3
+    returns-4)
