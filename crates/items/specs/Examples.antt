@@ -11,7 +11,7 @@ use Rattle.laws.specs.Texts.{span, starts, begins, same}
 use Rattle.chars.specs.Encode.{isScalar, utf8, width, encode, bytesOf, spelled}
 use Rattle.chars.specs.Blank.{isBlank}
 use Rattle.chars.specs.Utf8.{within, first, rest, front}
-use Rattle.digits.specs.Digits as digits
+use Rattle.laws.specs.Quoted as quoted
 use Rattle.digits.specs.Digits.{digitOf, sign, uinteger, value, fit, signed, wholeOf, integer}
 use Rattle.digits.specs.Hex.{hexDigits, hexAfterPlus, hexValue}
 use Rattle.numbers.specs.Reals.{exponentMarker, exponent, suffix, pointOf, dotted, undotted, decimal, infnan, integralOf, rationalOf, denominator, exact, orElse, ureal, real}
@@ -116,5 +116,5 @@ table =
     ∷ []
 
 computed : map (λ r. shown (items (r .report) (r .text))) table ≡ map (λ r. r .wanted) table
-unfolding table span starts begins same isScalar utf8 width encode bytesOf isBlank within first rest front digits.within digitOf sign uinteger value fit signed wholeOf integer hexDigits hexAfterPlus hexValue exponentMarker exponent suffix pointOf dotted undotted decimal infnan integralOf rationalOf denominator exact orElse ureal real justOf complexOf polarOf endsI imaginary aloneOf pairOf toSign startsE rectangular complex zeroInt zeroReal zeroParts judged radixMark prefix parseNumber startsRun firstOf inQuotes afterBackslash stopsHex inHex inTrim inNest breaksWord inWord staysRun endsRun inRun afterHash endsHash inHash inDelim readLine linedOf scalarOf readWord readRun boolKind quoteKind formKind hashKind hashBracket hashAt hashComma unreturned endsWith hereEnds hereBody hereDelim afterAngle readHash readComma readItem readNest readQuoted wordOn hashOn lookup words wordKind wordMeans runMeans escaped stringText linedText hereText charNames hexNamed spelledOut characterOf unescape extentItems itemsFrom pastLine afterPound items kept records texts
+unfolding table span starts begins same isScalar utf8 width encode bytesOf isBlank within first rest front quoted.within digitOf sign uinteger value fit signed wholeOf integer hexDigits hexAfterPlus hexValue exponentMarker exponent suffix pointOf dotted undotted decimal infnan integralOf rationalOf denominator exact orElse ureal real justOf complexOf polarOf endsI imaginary aloneOf pairOf toSign startsE rectangular complex zeroInt zeroReal zeroParts judged radixMark prefix parseNumber startsRun firstOf inQuotes afterBackslash stopsHex inHex inTrim inNest breaksWord inWord staysRun endsRun inRun afterHash endsHash inHash inDelim readLine linedOf scalarOf readWord readRun boolKind quoteKind formKind hashKind hashBracket hashAt hashComma unreturned endsWith hereEnds hereBody hereDelim afterAngle readHash readComma readItem readNest readQuoted wordOn hashOn lookup words wordKind wordMeans runMeans escaped stringText linedText hereText charNames hexNamed spelledOut characterOf unescape extentItems itemsFrom pastLine afterPound items kept records texts
 computed = refl

@@ -9,7 +9,7 @@ use lib.Dec.{eqb, leb}
 use native.Mathlib.Omega.{arith}
 use native.Mathlib.Numerals.{add-one}
 use native.Mathlib.Nat.{suc-inj}
-use borrow.Author.Tests.{eq-eqb, ne-eqb, leb-true, leb-false}
+use borrow.Author.Tests.{eq-eqb, ne-eqb, eqb-true, leb-true, leb-false}
 use Rattle.laws.specs.Texts.{starts, begins, same}
 use Rattle.laws.proofs.Choice.{by-bool}
 use Rattle.laws.proofs.Places.{past, here}
@@ -71,3 +71,14 @@ pub same-past : (t w : List ℕ) (i : ℕ) → length t ≤ i → eqb (length w)
 unfolding same
 same-past t [] i h = rw (past t i h)
 same-past t (x ∷ w) i h = rw (past t i h) (ne-eqb (length (x ∷ w)) 0 (λ e. omega arith))
+
+-- texts that compare as the same are one text
+pub same-is : (s t : List ℕ) → same s t ≡ true → s ≡ t
+unfolding same
+same-is [] [] h = refl
+same-is [] (y ∷ t) h = let z : _≡_ {A = ℕ} 0 1 = cc in absurd (omega arith)
+same-is (x ∷ s) [] h = let z : _≡_ {A = ℕ} 0 1 = cc in absurd (omega arith)
+same-is (x ∷ s) (y ∷ t) h =
+    by-bool (eqb x y)
+    (λ e. let k = rw e at h in rw (eqb-true x y e, same-is s t k))
+    (λ e. let k = rw e at h in let z : _≡_ {A = ℕ} 0 1 = cc in absurd (omega arith))
