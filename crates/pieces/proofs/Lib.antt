@@ -1,1 +1,2 @@
 pub mod Phases
+pub mod Parts
