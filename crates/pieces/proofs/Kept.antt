@@ -195,7 +195,7 @@ kept-bounded {q} {g} {s} k =
 
 -- ---- how a state becomes another
 
-none-begun : Begun [] whole
+pub none-begun : Begun [] whole
 none-begun = record { count = refl; reached = λ s. refl; wants = refl }
 
 module _ {q g : List ℕ} {s : State} (k : Kept q g s) where
