@@ -1,0 +1,5 @@
+pub mod Phases
+pub mod Parts
+pub mod Kept
+pub mod Pairs
+pub mod Turns
