@@ -1,15 +1,14 @@
 -- The rule of the table of names: its nine rows are the definition's names, padded, and each name is its row up to the padding. Each
 -- statement is one equation over the whole table that computes; `at` turns it into the fact at a row.
-use Prim.Native.Nat.{ℕ, zero, suc, _+_, _-_, _≤_, _<_}
+use Prim.Native.Nat.{ℕ, zero, suc, _+_, _≤_, _<_}
 use mathlib.Core.Path.{_≡_, refl, sym, ap, _∙_}
 use mathlib.Core.Bool.{true, false}
-use mathlib.Core.List.{List, [], _∷_, _++_, map}
+use mathlib.Core.List.{List, [], _∷_, map}
 use native.Mathlib.Nat.{le-of-suc-le-suc, not-suc-le-zero}
 use native.Mathlib.Numerals.{add-one}
 use native.Mathlib.Omega.{arith}
 use lib.ListN.{length, getD, take, drop, List·getD-map, drop-of-length-le}
 use lib.Seq.{drop-cons}
-use Rattle.laws.specs.Choice.{if_then_else_}
 use Rattle.laws.specs.Quoted.{codes}
 use Rattle.laws.specs.Texts.{span, before, same}
 use Rattle.chars.specs.Encode.{bytesOf, utf8}

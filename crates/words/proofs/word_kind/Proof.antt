@@ -125,26 +125,44 @@ row-requires-19 c κs = search needs
 returns : tie.Need-returns
 unfolding words bytesOf utf8
 returns c =
-    let raw = c .before .before .before .before .before .before .before .before .before .before .before .before .before .before .before .before .before .before .before .before .before .before .before .before .before .before .before .before .before .before .before .before .before .before .before .before .before .before .before .args .raw .now in
+    let at18 = c .before .before in
+    let at17 = at18 .before .before in
+    let at16 = at17 .before .before in
+    let at15 = at16 .before .before in
+    let at14 = at15 .before .before in
+    let at13 = at14 .before .before in
+    let at12 = at13 .before .before in
+    let at11 = at12 .before .before in
+    let at10 = at11 .before .before in
+    let at9 = at10 .before .before in
+    let at8 = at9 .before .before in
+    let at7 = at8 .before .before in
+    let at6 = at7 .before .before in
+    let at5 = at6 .before .before in
+    let at4 = at5 .before .before in
+    let at3 = at4 .before .before in
+    let at2 = at3 .before .before in
+    let at1 = at2 .before .before in
+    let raw = at1 .before .before .before .args .raw .now in
     (tried raw _ _ _ (c .row19 .ensures)
-    (tried raw _ _ _ (c .before .before .row18 .ensures)
-    (tried raw _ _ _ (c .before .before .before .before .row17 .ensures)
-    (tried raw _ _ _ (c .before .before .before .before .before .before .row16 .ensures)
-    (tried raw _ _ _ (c .before .before .before .before .before .before .before .before .row15 .ensures)
-    (tried raw _ _ _ (c .before .before .before .before .before .before .before .before .before .before .row14 .ensures)
-    (tried raw _ _ _ (c .before .before .before .before .before .before .before .before .before .before .before .before .row13 .ensures)
-    (tried raw _ _ _ (c .before .before .before .before .before .before .before .before .before .before .before .before .before .before .row12 .ensures)
-    (tried raw _ _ _ (c .before .before .before .before .before .before .before .before .before .before .before .before .before .before .before .before .row11 .ensures)
-    (tried raw _ _ _ (c .before .before .before .before .before .before .before .before .before .before .before .before .before .before .before .before .before .before .row10 .ensures)
-    (tried raw _ _ _ (c .before .before .before .before .before .before .before .before .before .before .before .before .before .before .before .before .before .before .before .before .row9 .ensures)
-    (tried raw _ _ _ (c .before .before .before .before .before .before .before .before .before .before .before .before .before .before .before .before .before .before .before .before .before .before .row8 .ensures)
-    (tried raw _ _ _ (c .before .before .before .before .before .before .before .before .before .before .before .before .before .before .before .before .before .before .before .before .before .before .before .before .row7 .ensures)
-    (tried raw _ _ _ (c .before .before .before .before .before .before .before .before .before .before .before .before .before .before .before .before .before .before .before .before .before .before .before .before .before .before .row6 .ensures)
-    (tried raw _ _ _ (c .before .before .before .before .before .before .before .before .before .before .before .before .before .before .before .before .before .before .before .before .before .before .before .before .before .before .before .before .row5 .ensures)
-    (tried raw _ _ _ (c .before .before .before .before .before .before .before .before .before .before .before .before .before .before .before .before .before .before .before .before .before .before .before .before .before .before .before .before .before .before .row4 .ensures)
-    (tried raw _ _ _ (c .before .before .before .before .before .before .before .before .before .before .before .before .before .before .before .before .before .before .before .before .before .before .before .before .before .before .before .before .before .before .before .before .row3 .ensures)
-    (tried raw _ _ _ (c .before .before .before .before .before .before .before .before .before .before .before .before .before .before .before .before .before .before .before .before .before .before .before .before .before .before .before .before .before .before .before .before .before .before .row2 .ensures)
-    (tried raw _ _ _ (c .before .before .before .before .before .before .before .before .before .before .before .before .before .before .before .before .before .before .before .before .before .before .before .before .before .before .before .before .before .before .before .before .before .before .before .before .row .ensures)
+    (tried raw _ _ _ (at18 .row18 .ensures)
+    (tried raw _ _ _ (at17 .row17 .ensures)
+    (tried raw _ _ _ (at16 .row16 .ensures)
+    (tried raw _ _ _ (at15 .row15 .ensures)
+    (tried raw _ _ _ (at14 .row14 .ensures)
+    (tried raw _ _ _ (at13 .row13 .ensures)
+    (tried raw _ _ _ (at12 .row12 .ensures)
+    (tried raw _ _ _ (at11 .row11 .ensures)
+    (tried raw _ _ _ (at10 .row10 .ensures)
+    (tried raw _ _ _ (at9 .row9 .ensures)
+    (tried raw _ _ _ (at8 .row8 .ensures)
+    (tried raw _ _ _ (at7 .row7 .ensures)
+    (tried raw _ _ _ (at6 .row6 .ensures)
+    (tried raw _ _ _ (at5 .row5 .ensures)
+    (tried raw _ _ _ (at4 .row4 .ensures)
+    (tried raw _ _ _ (at3 .row3 .ensures)
+    (tried raw _ _ _ (at2 .row2 .ensures)
+    (tried raw _ _ _ (at1 .row .ensures)
     (none-tried raw _))))))))))))))))))))
     ∙ last-first raw
 

@@ -1,0 +1,4 @@
+pub mod Cases
+pub mod Lines
+pub mod Hex
+pub mod Laying

@@ -1,0 +1,13 @@
+-- `is_space` asks the definition's two tests.
+use borrow.Author.Tests.{eq-eqb, ne-eqb}
+use Rattle.escapes.proofs.elements.is_space.Statement.{statement}
+use Rattle.escapes.proofs.elements.is_space.Tie as tie
+
+returns : tie.Need-returns
+returns c = simp (eq-eqb _ _ (c .if1 .taken))
+
+returns-2 : tie.Need-returns-2
+returns-2 c = simp (ne-eqb _ _ (c .if1 .left))
+
+pub is-space-spec : {M : Type 1} → statement M
+is-space-spec = tie.close (tie.spec returns returns-2)

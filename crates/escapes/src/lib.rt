@@ -1,0 +1,102 @@
+// The text of a string or of an identifier in vertical lines, its escapes decoded (document 01, "Rules that bite"; R7RS 7.1.1, <string
+// element> and <symbol element>). Reads the bytes of an item whose extent is known, and writes the text into lent memory or counts its
+// bytes: what `unescape` of items/specs/Meaning says. Where an escape is wrong the item is an error and has no text. Internal: used by the
+// lexer and the pieces.
+ghost use mathlib.Core.Path.{_≡_};
+ghost use mathlib.Core.Bool.{true};
+ghost use Prim.Native.Nat.{_≤_};
+ghost use lib.ListN.{length, drop};
+ghost use Rattle.laws.specs.Lent.{written};
+ghost use Rattle.items.specs.Meaning.{escaped, unescape};
+ghost use Rattle.escapes.specs.Elements.{bytesGiven, sound};
+
+mod elements;
+
+use crate::elements::read_element;
+use chars::char_width;
+use chars::put_char;
+use items::Quotes;
+use texts::find;
+
+// What an element of a text gives.
+pub enum Given {
+    // nothing: a line that goes on
+    Nothing,
+    // a byte: a, or `\n`
+    Byte(u8),
+    // a character: `\x3bb;`
+    Code(u32),
+}
+
+// What an element gives, and the place past it. At the end of the text, and where an escape is wrong, that is nothing and the end of all.
+pub struct Element {
+    pub given: Given,
+    pub next: usize,
+}
+
+// Whether there is an escape.
+pub fn has_escape(raw: &[u8]) -> bool
+    ensures { λ r. ⌜ r ≡ escaped (now (raw .entry)) ⌝ }
+{
+    find(raw, 0, b'\\') < raw.len()
+}
+
+// What an element gave, at the start of the free text memory, and how many bytes that is.
+fn put_given(given: Given, free: &mut [u8]) -> usize
+    requires { ⌜ length (bytesGiven given) ≤ length (now free) ⌝ }
+    ensures { λ r. ⌜ (r ≡ length (bytesGiven given)) × (now (free .exit) ≡ written (bytesGiven given) (now (free .entry))) ⌝ }
+{
+    match given {
+        Given::Nothing => 0,
+        Given::Byte(b) => {
+            free[0] = b;
+            1
+        }
+        Given::Code(c) => put_char(c, free),
+    }
+}
+
+// How many bytes an element gave.
+fn given_length(given: Given) -> usize
+    requires { ⌜ sound given ≡ true ⌝ }
+    ensures { λ r. ⌜ r ≡ length (bytesGiven given) ⌝ }
+{
+    match given {
+        Given::Nothing => 0,
+        Given::Byte(_) => 1,
+        Given::Code(c) => char_width(c),
+    }
+}
+
+// Internal. The text of the quoted item `raw` from a place after its opening quote on, written at the start of the free text memory, and
+// how many bytes it has.
+pub fn decode(raw: &[u8], from: usize, k: Quotes, free: &mut [u8]) -> usize
+    requires { ⌜ (from ≤ length (now raw)) × (length (unescape k (drop from (now raw))) ≤ length (now free)) ⌝ }
+    ensures { λ r. ⌜ (r ≡ length (unescape k (drop from (now (raw .entry))))) × (now (free .exit) ≡ written (unescape k (drop from (now (raw .entry)))) (now (free .entry))) ⌝ }
+{
+    let mut n = 0;
+    let mut i = from;
+    while i < raw.len() {
+        let e = read_element(raw, i, k);
+        let given = e.given;
+        i = e.next;
+        n = n + put_given(given, &mut free[n..]);
+    }
+    n
+}
+
+// Internal. How many bytes that text has.
+pub fn decoded_length(raw: &[u8], from: usize, k: Quotes) -> usize
+    requires { ⌜ from ≤ length (now raw) ⌝ }
+    ensures { λ r. ⌜ r ≡ length (unescape k (drop from (now (raw .entry)))) ⌝ }
+{
+    let mut n = 0;
+    let mut i = from;
+    while i < raw.len() {
+        let e = read_element(raw, i, k);
+        let given = e.given;
+        i = e.next;
+        n = n + given_length(given);
+    }
+    n
+}
