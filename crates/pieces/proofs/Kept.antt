@@ -57,8 +57,13 @@ module _ (n : ℕ) (w buf : List ℕ) where
 
   laid-long : n + length w ≤ length buf → length (laidAt n w buf) ≡ length buf
   laid-long h =
-      omega (arith, length-append (take n buf) (written w (drop n buf)), length-take-le n buf (omega arith), length-drop n buf,
-      length-written w (drop n buf) (omega (arith, length-drop n buf)))
+      omega (
+        arith,
+        length-append (take n buf) (written w (drop n buf)),
+        length-take-le n buf (omega arith),
+        length-drop n buf,
+        length-written w (drop n buf) (omega (arith, length-drop n buf)),
+      )
 
 -- ---- characters, one more
 
@@ -177,21 +182,21 @@ beyond-bounded (Char c) at h = both (h .0) (le-leb _ _ (h .1))
 stop-bounded : (n : ℕ) → Stops n → (if eqb n 20 then true else if eqb n 21 then true else eqb n 23) ≡ true
 stop-bounded n h = ⊎-elim (λ e. rw e) (λ k. ⊎-elim (λ e. rw e) (λ e. rw e) k) h
 
-stage-bounded : (q : List ℕ) (s : State) (g : Stage) → Staged q s g → stageBounds g (s .marks) ≡ true
-stage-bounded q s Opening h = refl
-stage-bounded q s Pound h = both (eq-eqb _ _ (h .1 .0)) (eq-eqb (s .marks .at) 1 (omega (arith, h .0 .ends)))
-stage-bounded q s FirstLine h = refl
-stage-bounded q s Idle h = refl
-stage-bounded q s (Busy st p) h = both (eq-eqb _ _ (h .0 .ends)) (phase-bounded (s .marks .len) p (h .1))
-stage-bounded q s (Waiting st b) h =
+stage-bounded : (q : List ℕ) (s : State) (g : Stage) → s .marks .at ≡ byteCount q → Staged q s g → stageBounds g (s .marks) ≡ true
+stage-bounded q s Opening e h = eq-eqb _ _ (e ∙ ap byteCount h)
+stage-bounded q s Pound e h = both (eq-eqb _ _ (h .1 .0)) (eq-eqb (s .marks .at) 1 (omega (arith, h .0 .ends)))
+stage-bounded q s FirstLine e h = refl
+stage-bounded q s Idle e h = refl
+stage-bounded q s (Busy st p) e h = both (both (eq-eqb _ _ (h .0 .ends)) (le-leb _ _ (h .0 .some))) (phase-bounded (s .marks .len) p (h .1))
+stage-bounded q s (Waiting st b) e h =
     both (both (both (eq-eqb _ _ (h .0 .ends)) (le-leb _ _ (h .1 .0))) (eq-eqb _ _ (h .1 .1 .0))) (beyond-bounded b (s .marks .at) (h .1 .1 .1))
-stage-bounded q s (Stopped n p) h = both (stop-bounded n (h .0)) (le-leb _ _ (h .1))
+stage-bounded q s (Stopped n p) e h = both (stop-bounded n (h .0)) (le-leb _ _ (h .1))
 
 pub kept-bounded : {q g : List ℕ} {s : State} → Kept q g s → inBounds s ≡ true
 unfolding inBounds
 kept-bounded {q} {g} {s} k =
     both (both (both (both (both (both (lt-ltb _ _ (k .mode)) (le-leb _ _ (k .far))) (le-leb _ _ (k .small))) (le-leb _ _ (k .last .0))) (le-leb _ _ (k .last .1)))
-    (part-bounded (s .marks .part) (k .begun .wants))) (stage-bounded q s (s .marks .stage) (k .staged))
+    (part-bounded (s .marks .part) (k .begun .wants))) (stage-bounded q s (s .marks .stage) (k .place) (k .staged))
 
 -- ---- how a state becomes another
 
@@ -208,8 +213,15 @@ module _ {q g : List ℕ} {s : State} (k : Kept q g s) where
     pub kept-pass : (b : Stage) (last : Place) → Within last → Staged (q ++ (c ∷ [])) (becomes s (s .buf) b (s .marks .at + width c) 0 last) b
         → Kept (q ++ (c ∷ [])) [] (becomes s (s .buf) b (s .marks .at + width c) 0 last)
     kept-pass b last w h = record {
-      mode = k .mode; full = k .full; small = omega arith; place = next-place; far = omega arith; last = w;
-      scalars = scalars-snoc q c (k .scalars) scalar; begun = none-begun; staged = h;
+      mode = k .mode;
+      full = k .full;
+      small = omega arith;
+      place = next-place;
+      far = omega arith;
+      last = w;
+      scalars = scalars-snoc q c (k .scalars) scalar;
+      begun = none-begun;
+      staged = h;
     }
 
     -- it is laid behind the n bytes of the item that starts at st, which then are m
@@ -230,8 +242,15 @@ module _ {q g : List ℕ} {s : State} (k : Kept q g s) where
         → Staged (q ++ (c ∷ [])) (becomes s (laidAt n (utf8 c) (s .buf)) b (s .marks .at + width c) m last) b
         → Kept (q ++ (c ∷ [])) [] (becomes s (laidAt n (utf8 c) (s .buf)) b (s .marks .at + width c) m last)
     kept-laid b n m last w grown fits h = record {
-      mode = k .mode; full = laid-long n (utf8 c) (s .buf) (omega (arith, width-utf8 c, k .full)) ∙ k .full; small = fits; place = next-place;
-      far = omega arith; last = w; scalars = scalars-snoc q c (k .scalars) scalar; begun = none-begun; staged = h;
+      mode = k .mode;
+      full = laid-long n (utf8 c) (s .buf) (omega (arith, width-utf8 c, k .full)) ∙ k .full;
+      small = fits;
+      place = next-place;
+      far = omega arith;
+      last = w;
+      scalars = scalars-snoc q c (k .scalars) scalar;
+      begun = none-begun;
+      staged = h;
     }
 
     -- it is the first of an item
@@ -254,22 +273,43 @@ module _ {q g : List ℕ} {s : State} (k : Kept q g s) where
   -- a stop
   pub kept-stopped : (n p : ℕ) → Stops n → p ≤ limit → Kept q [] (becomes s (s .buf) (Stopped n p) (s .marks .at) 0 (lastOf s))
   kept-stopped n p h l = record {
-    mode = k .mode; full = k .full; small = omega arith; place = k .place; far = omega arith; last = k .last; scalars = k .scalars;
-    begun = none-begun; staged = (h, l);
+    mode = k .mode;
+    full = k .full;
+    small = omega arith;
+    place = k .place;
+    far = omega arith;
+    last = k .last;
+    scalars = k .scalars;
+    begun = none-begun;
+    staged = (h, l);
   }
 
   -- the end
   pub kept-end : (last : Place) → Within last → Kept q [] (becomes s (s .buf) Idle (s .marks .at) 0 last)
   kept-end last w = record {
-    mode = k .mode; full = k .full; small = omega arith; place = k .place; far = omega arith; last = w; scalars = k .scalars;
-    begun = none-begun; staged = tt;
+    mode = k .mode;
+    full = k .full;
+    small = omega arith;
+    place = k .place;
+    far = omega arith;
+    last = w;
+    scalars = k .scalars;
+    begun = none-begun;
+    staged = tt;
   }
 
   -- a character goes on
   pub kept-partly : (g′ : List ℕ) (p : Part) → Begun g′ p → s .marks .at + p .count ≤ limit → Calm (s .marks .stage) → Kept q g′ (partly s p)
   kept-partly g′ p h far calm = record {
-    mode = k .mode; full = k .full; small = k .small; place = k .place; far = far; last = k .last; scalars = k .scalars;
-    begun = h; staged = on (s .marks .stage) calm (k .staged);
+    mode = k .mode;
+    full = k .full;
+    small = k .small;
+    place = k .place;
+    far = far;
+    last = k .last;
+    scalars = k .scalars;
+    begun = h;
+    staged = on (s .marks .stage) calm (k .staged);
   }
     where
       on : (b : Stage) → Calm b → Staged q s b → Staged q (partly s p) b
@@ -284,8 +324,15 @@ module _ {q g : List ℕ} {s : State} (k : Kept q g s) where
   -- the end is declared
   pub kept-declared : Kept q g (declared s)
   kept-declared = record {
-    mode = k .mode; full = k .full; small = k .small; place = k .place; far = k .far; last = k .last; scalars = k .scalars;
-    begun = k .begun; staged = on (s .marks .stage) (k .staged);
+    mode = k .mode;
+    full = k .full;
+    small = k .small;
+    place = k .place;
+    far = k .far;
+    last = k .last;
+    scalars = k .scalars;
+    begun = k .begun;
+    staged = on (s .marks .stage) (k .staged);
   }
     where
       on : (b : Stage) → Staged q s b → Staged q (declared s) b
@@ -301,8 +348,15 @@ module _ {q g : List ℕ} {s : State} (k : Kept q g s) where
   pub kept-waiting : (st : ℕ) (b : Beyond) (last : Place) → Within last → Held q s st → 2 ≤ s .marks .len → Beyonds b (s .marks .at)
       → Kept q [] (becomes s (s .buf) (Waiting st b) (s .marks .at) (s .marks .len) last)
   kept-waiting st b last w h two ok = record {
-    mode = k .mode; full = k .full; small = k .small; place = k .place; far = omega arith; last = w; scalars = k .scalars;
-    begun = none-begun; staged = (h, (two, (refl, ok)));
+    mode = k .mode;
+    full = k .full;
+    small = k .small;
+    place = k .place;
+    far = omega arith;
+    last = w;
+    scalars = k .scalars;
+    begun = none-begun;
+    staged = (h, (two, (refl, ok)));
   }
 
   -- the last range after an item that starts at st

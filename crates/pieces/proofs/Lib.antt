@@ -3,3 +3,5 @@ pub mod Parts
 pub mod Kept
 pub mod Pairs
 pub mod Turns
+pub mod Laid
+pub mod Bounded

@@ -79,18 +79,25 @@ abbrev pub beyondBounds : Beyond → ℕ → Bool
 beyondBounds End at = true
 beyondBounds (Char c) at = isScalar c && isPlace (at + width c)
 
--- the item's bytes lie right before the place
+-- an item that starts at st: its bytes, at least so many, lie right before the place
+abbrev pub heldBounds : ℕ → Marks → ℕ → Bool
+heldBounds st m least = eqb (st + m .len) (m .at) && leb least (m .len)
+
+abbrev pub stopBounds : ℕ → ℕ → Bool
+stopBounds n p = (if eqb n 20 then true else if eqb n 21 then true else eqb n 23) && isPlace p
+
 abbrev pub stageBounds : Stage → Marks → Bool
-stageBounds Opening m = true
+stageBounds Opening m = eqb (m .at) 0
 stageBounds Pound m = eqb (m .len) 1 && eqb (m .at) 1
 stageBounds FirstLine m = true
 stageBounds Idle m = true
-stageBounds (Busy st p) m = eqb (st + m .len) (m .at) && phaseBounds p (m .len)
-stageBounds (Waiting st b) m = eqb (st + m .len) (m .at) && leb 2 (m .len) && eqb (m .part .count) 0 && beyondBounds b (m .at)
-stageBounds (Stopped n p) m = (if eqb n 20 then true else if eqb n 21 then true else eqb n 23) && isPlace p
+stageBounds (Busy st p) m = heldBounds st m 1 && phaseBounds p (m .len)
+stageBounds (Waiting st b) m = heldBounds st m 2 && eqb (m .part .count) 0 && beyondBounds b (m .at)
+stageBounds (Stopped n p) m = stopBounds n p
+
+-- the mode, the place with the character begun, the item and the last range
+abbrev pub numberBounds : Marks → Bool
+numberBounds m = isMode (m .mode) && isPlace (m .at + m .part .count) && leb (m .len) longest && isPlace (m .from) && isPlace (m .to)
 
 unfoldable pub inBounds : State → Bool
-inBounds s =
-    let m : Marks = s .marks in
-    isMode (m .mode) && isPlace (m .at + m .part .count) && leb (m .len) longest && isPlace (m .from) && isPlace (m .to)
-    && partBounds (m .part) && stageBounds (m .stage) m
+inBounds s = numberBounds (s .marks) && partBounds (s .marks .part) && stageBounds (s .marks .stage) (s .marks)

@@ -4,3 +4,5 @@ pub mod Bounds
 pub mod Calls
 pub mod Drive
 pub mod Produced
+pub mod Answers
+pub mod Copied

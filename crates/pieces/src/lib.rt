@@ -7,6 +7,12 @@ use chars::State as Begun;
 use items::Phase;
 use items::Record;
 
+mod bounds;
+mod give;
+mod limits;
+mod opening;
+mod turn;
+
 // What stands beyond a pair such as `+foo` whose second item waits.
 pub enum Beyond {
     // the end of the text
@@ -69,4 +75,37 @@ pub enum Got {
     Finished,
     // a refusal's number and place
     Refused(u32, usize),
+}
+
+// Whether a piece state was opened.
+pub enum Start {
+    Ready,
+    // a refusal's number, and the mode
+    Refused(u32, u32),
+}
+
+// A fresh state; a plain one where opening was refused.
+pub struct Opened {
+    pub state: State,
+    pub start: Start,
+}
+
+// What a call answers: the state after it, how many bytes of the piece were taken, and what is given.
+pub struct Answer {
+    pub state: State,
+    pub taken: usize,
+    pub got: Got,
+}
+
+// The same inside, where the buffer is lent.
+pub struct Pieced {
+    pub marks: Marks,
+    pub taken: usize,
+    pub got: Got,
+}
+
+// What one byte did: `More` where nothing is given yet.
+pub struct Turned {
+    pub marks: Marks,
+    pub got: Got,
 }
