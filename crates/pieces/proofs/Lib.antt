@@ -5,3 +5,4 @@ pub mod Pairs
 pub mod Turns
 pub mod Laid
 pub mod Bounded
+pub mod Gives
