@@ -3,3 +3,4 @@ pub mod Parts
 pub mod Kept
 pub mod Pairs
 pub mod Turns
+pub mod Cuts
