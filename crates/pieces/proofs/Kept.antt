@@ -50,7 +50,7 @@ use borrow.Author.Tests.{lt-ltb, le-leb, eq-eqb}
 -- ---- a buffer with some bytes laid into it
 
 module _ (n : ℕ) (w buf : List ℕ) where
-  laid-held : n ≤ length buf → take (n + length w) (laidAt n w buf) ≡ take n buf ++ w
+  pub laid-held : n ≤ length buf → take (n + length w) (laidAt n w buf) ≡ take n buf ++ w
   laid-held h =
       ap (take (n + length w)) (sym (append-assoc (take n buf) w (drop (length w) (drop n buf))))
       ∙ take-at (take n buf ++ w) _ (n + length w) (length-append (take n buf) w ∙ ap (λ (k : ℕ). k + length w) (length-take-le n buf h))

@@ -4,3 +4,4 @@ pub mod Kept
 pub mod Pairs
 pub mod Turns
 pub mod Cuts
+pub mod Unfinished

@@ -84,7 +84,7 @@ pub held-length : {q g : List ℕ} {s : State} → Kept q g s → length (take (
 held-length {q} {g} {s} k = length-take-le (s .marks .len) (s .buf) (omega (arith, k .full, k .small))
 
 module _ {q g : List ℕ} {s : State} (k : Kept q g s) where
-  going-begin : (c : ℕ) → isScalar c ≡ true → s .marks .at + width c ≤ limit → (last : Place) → Within last → Going (s .marks .ended) (begin s last c)
+  pub going-begin : (c : ℕ) → isScalar c ≡ true → s .marks .at + width c ≤ limit → (last : Place) → Within last → Going (s .marks .ended) (begin s last c)
   going-begin c scalar room last w =
       let b : Stage = Busy (s .marks .at) (onFirst (firstOf c)) in
       if-all (Going (s .marks .ended)) (isBlank c)
@@ -131,7 +131,7 @@ module _ {q g : List ℕ} {s : State} (k : Kept q g s) where
         })
     turned-next st h (Stop o) z = turned-ends st h (Char c) (scalar, room) o z
 
-    step-goes : (st : ℕ) → Held q s st → (p : Phase) → Sized (s .marks .len) p → Goes (itemSoFar s) c (stepOf (report s) p (itemSoFar s) c)
+    pub step-goes : (st : ℕ) → Held q s st → (p : Phase) → Sized (s .marks .len) p → Goes (itemSoFar s) c (stepOf (report s) p (itemSoFar s) c)
     step-goes st h p z =
         goes-on (itemSoFar s) c (omega (arith, held-length k, h .some)) room (report s) p (rw (← held-length k) at z)
 
@@ -139,7 +139,7 @@ module _ {q g : List ℕ} {s : State} (k : Kept q g s) where
     staged e = subst (Staged q s) e (k .staged)
 
     -- a pound sign at the start of the text
-    going-pound : q ≡ [] → c ≡ code "#" → Going (s .marks .ended) (becomes s (laidAt 0 (utf8 c) (s .buf)) Pound (s .marks .at + width c) (width c) (lastOf s))
+    pub going-pound : q ≡ [] → c ≡ code "#" → Going (s .marks .ended) (becomes s (laidAt 0 (utf8 c) (s .buf)) Pound (s .marks .at + width c) (width c) (lastOf s))
     unfolding bytesOf utf8 width
     going-pound e f =
         let none : s .marks .at ≡ 0 = k .place ∙ ap byteCount e in
