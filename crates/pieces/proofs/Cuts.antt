@@ -83,7 +83,7 @@ scan s (b ∷ bs) = afterTurn (turnOf s b) (λ t. scan t bs)
 abbrev pub Live : State → Type 0
 Live s = Going false s ⊎ Waits false s
 
-settled-going : {e : Bool} {s : State} → Going e s → (go : State → Expected) → settled s go ≡ go s
+pub settled-going : {e : Bool} {s : State} → Going e s → (go : State → Expected) → settled s go ≡ go s
 settled-going {e} {s} h go = at (s .marks .stage) (h .calm)
   where
     at : (b : Stage) → Calm b → settledAt s b go ≡ go s

@@ -5,3 +5,4 @@ pub mod Pairs
 pub mod Turns
 pub mod Cuts
 pub mod Unfinished
+pub mod Agree

@@ -139,22 +139,21 @@ module _ {q g : List ℕ} {s : State} (k : Kept q g s) where
     staged e = subst (Staged q s) e (k .staged)
 
     -- a pound sign at the start of the text
-    pub going-pound : q ≡ [] → c ≡ code "#" → Going (s .marks .ended) (becomes s (laidAt 0 (utf8 c) (s .buf)) Pound (s .marks .at + width c) (width c) (lastOf s))
+    pub kept-pound : q ≡ [] → c ≡ code "#" → Kept (q ++ (c ∷ [])) [] (becomes s (laidAt 0 (utf8 c) (s .buf)) Pound (s .marks .at + width c) (width c) (lastOf s))
     unfolding bytesOf utf8 width
-    going-pound e f =
+    kept-pound e f =
         let none : s .marks .at ≡ 0 = k .place ∙ ap byteCount e in
         let one : width c ≡ 1 = ap width f in
         let h : HeldIn (q ++ (c ∷ [])) (laidAt 0 (utf8 c) (s .buf)) (width c) (s .marks .at + width c) 0
             = subst (HeldIn (q ++ (c ∷ [])) (laidAt 0 (utf8 c) (s .buf)) (width c) (s .marks .at + width c)) none (first-in k c scalar room Pound (lastOf s)) in
         let bytes : bytesOf (q ++ (c ∷ [])) ≡ code "#" ∷ [] = rw (e, f) in
-        record {
-          read = q ++ (c ∷ []); begun = []; calm = tt; ended = refl;
-          kept = kept-first k c scalar room Pound (lastOf s) (k .last) (h, (one, sym (h .bytes) ∙ bytes));
-        }
+        kept-first k c scalar room Pound (lastOf s) (k .last) (h, (one, sym (h .bytes) ∙ bytes))
 
     turned-stage : (b : Stage) → s .marks .stage ≡ b → Calm b → Turned (s .marks .ended) (onStage s b c)
     turned-stage Opening e z =
-        if-is (Going (s .marks .ended)) (eqb c (code "#")) (λ f. going-pound (staged e) (eqb-true c (code "#") f)) (λ _. going-begin c scalar room (lastOf s) (k .last))
+        if-is (Going (s .marks .ended)) (eqb c (code "#")) 
+        (λ f. record { read = q ++ (c ∷ []); begun = []; kept = kept-pound (staged e) (eqb-true c (code "#") f); calm = tt; ended = refl })
+        (λ _. going-begin c scalar room (lastOf s) (k .last))
     turned-stage Pound e z =
         if-all (Turned (s .marks .ended)) (eqb c (code "!"))
         (record { read = q ++ (c ∷ []); begun = []; kept = kept-pass k c scalar room FirstLine (lastOf s) (k .last) tt; calm = tt; ended = refl })
