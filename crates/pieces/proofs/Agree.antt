@@ -62,7 +62,7 @@ use borrow.Author.Tests.{ltb-true, ltb-false, leb-true, leb-false, eqb-true, lt-
 
 -- ---- the machine's state
 
-abbrev modeOf : Stage → List ℕ → M.Mode
+abbrev pub modeOf : Stage → List ℕ → M.Mode
 modeOf Opening raw = M.opening
 modeOf Pound raw = M.pound
 modeOf FirstLine raw = M.skipping
@@ -71,20 +71,20 @@ modeOf (Busy st p) raw = M.busy st p raw
 modeOf (Waiting st b) raw = M.idle
 modeOf (Stopped n p) raw = M.idle
 
-abbrev view : State → M.State
+abbrev pub view : State → M.State
 view s = M.state (modeOf (s .marks .stage) (take (s .marks .len) (s .buf))) (s .marks .at) (lastOf s)
 
 -- the state t after s: the characters q were read, and the machine stands at m
-record Arrives (s : State) (q : List ℕ) (m : M.State) (t : State) : Type 0 where
-  kept : Kept q [] t
-  calm : Calm (t .marks .stage)
-  same : view t ≡ m
-  mode : report t ≡ report s
-  skip : t .marks .skip ≡ s .marks .skip
-  part : t .marks .part ≡ whole
+pub record Arrives (s : State) (q : List ℕ) (m : M.State) (t : State) : Type 0 where
+  pub kept : Kept q [] t
+  pub calm : Calm (t .marks .stage)
+  pub same : view t ≡ m
+  pub mode : report t ≡ report s
+  pub skip : t .marks .skip ≡ s .marks .skip
+  pub part : t .marks .part ≡ whole
 
 -- items before others
-abbrev prepend : List Given → Expected → Expected
+abbrev pub prepend : List Given → Expected → Expected
 prepend gs e = record { items = gs ++ e .items; last = e .last }
 
 -- a word that is a pair is no comment
@@ -96,7 +96,7 @@ pair-kept false r set s e = refl
 
 module _ (bytes : List ℕ) where
   -- what a turn gives for the character c
-  data Does (s : State) (q : List ℕ) (c : ℕ) (f : M.Fed) (t : Turn) : Type 0 where
+  pub data Does (s : State) (q : List ℕ) (c : ℕ) (f : M.Fed) (t : Turn) : Type 0 where
     goes : (u : State) → Arrives s (q ++ (c ∷ [])) (f .after) u
         → ((go : State → Expected) → afterTurn t go ≡ prepend (givenAll bytes (kept (s .marks .skip) (f .out))) (go u)) → Does s q c f t
     tooLong : (st : ℕ) (p : Phase) (raw : List ℕ) → t ≡ stopped s 23 st → f .after ≡ M.state (M.busy st p raw) (s .marks .at + width c) (lastOf s)
@@ -118,7 +118,7 @@ module _ (bytes : List ℕ) where
           ∙ ap (λ (l : List ℕ). take (s .marks .at - st) (l ++ after)) (h .bytes)
           ∙ take-at (take (s .marks .len) (s .buf)) after (s .marks .at - st) (omega (arith, held-length k, h .ends))
 
-      gives-all : (b : Beyond) (last : Place) (ms : List Meaning) → Shape st (s .marks .at) (take (s .marks .len) (s .buf)) ms → (go : State → Expected)
+      pub gives-all : (b : Beyond) (last : Place) (ms : List Meaning) → Shape st (s .marks .at) (take (s .marks .len) (s .buf)) ms → (go : State → Expected)
           → settled (beyond s last b) go ≡ go (beyond s last b)
           → afterTurn (gives s st last b (itemsOf (report s) last st (s .marks .at) ms)) go
           ≡ prepend (givenAll bytes (kept (s .marks .skip) (itemsOf (report s) last st (s .marks .at) ms))) (go (beyond s last b))
@@ -207,7 +207,7 @@ module _ (bytes : List ℕ) where
         quiet-pound e f =
             goes _ (record { kept = kept-pound k c scalar room e f; calm = tt; same = refl; mode = refl; skip = refl; part = refl }) (λ go. refl)
 
-        stage-does : (b : Stage) → s .marks .stage ≡ b → Calm b
+        pub stage-does : (b : Stage) → s .marks .stage ≡ b → Calm b
             → Does s q c (M.feedMode (report s) (modeOf b (take (s .marks .len) (s .buf))) (s .marks .at) (lastOf s) c) (onStage s b c)
         stage-does Opening e z = by-bool (eqb c (code "#")) (λ f. rw f (quiet-pound (staged e) (eqb-true c (code "#") f))) (λ f. rw f quiet-begin)
         stage-does Pound e z =

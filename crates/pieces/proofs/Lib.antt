@@ -6,3 +6,4 @@ pub mod Turns
 pub mod Cuts
 pub mod Unfinished
 pub mod Agree
+pub mod Demand

@@ -306,14 +306,14 @@ safe-end {s} (goes e h) = let r : Reply = endUnlessStopped s (s .marks .stage) i
 safe-end {s} (waits e w) = let r : Reply = endUnlessStopped s (s .marks .stage) in left-safe true (r .what) (r .state) (end-waits w)
 safe-end {s} (halted n p h) = subst (λ (b : Stage). SafeReply (endUnlessStopped s b)) (sym (h .stage)) (halted n p h)
 
-pub going-fresh : (mode : ℕ) (skip : Bool) → mode < 2 → Going false (fresh mode skip)
-going-fresh mode skip h = record {
-  read = []; begun = []; calm = tt; ended = refl;
-  kept = record {
-    mode = h; full = length-replicate {A = ℕ} longest 0; small = omega arith; place = refl; far = omega arith; last = (omega arith, omega arith);
-    scalars = tt; begun = none-begun; staged = refl;
-  };
+pub fresh-kept : (mode : ℕ) (skip : Bool) → mode < 2 → Kept [] [] (fresh mode skip)
+fresh-kept mode skip h = record {
+  mode = h; full = length-replicate {A = ℕ} longest 0; small = omega arith; place = refl; far = omega arith; last = (omega arith, omega arith);
+  scalars = tt; begun = none-begun; staged = refl;
 }
+
+pub going-fresh : (mode : ℕ) (skip : Bool) → mode < 2 → Going false (fresh mode skip)
+going-fresh mode skip h = record { read = []; begun = []; kept = fresh-kept mode skip h; calm = tt; ended = refl }
 
 safe : {s : State} → Produced s → Safe s
 unfolding openOf pieceOf endOf
