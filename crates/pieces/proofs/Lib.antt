@@ -7,3 +7,4 @@ pub mod Cuts
 pub mod Unfinished
 pub mod Agree
 pub mod Demand
+pub mod Fewest
