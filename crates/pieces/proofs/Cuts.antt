@@ -105,7 +105,7 @@ module _ (room : ℕ) (wide : longest ≤ room) where
   abbrev follow : ℕ → Reply → Expected
   follow n r = heed (r .what) (endCalls room n (r .state))
 
-  end-works : (s : State) → inBounds s ≡ true → endOf s room ≡ endUnlessStopped s (s .marks .stage)
+  pub end-works : (s : State) → inBounds s ≡ true → endOf s room ≡ endUnlessStopped s (s .marks .stage)
   unfolding endOf
   end-works s e = rw (e, le-ltb room longest wide)
 
@@ -206,7 +206,7 @@ module _ (room : ℕ) (wide : longest ≤ room) where
 
   -- ---- pieces
 
-  piece-works : (s : State) (bs : List ℕ) → inBounds s ≡ true → pieceOf s bs room ≡ pieceStage s (s .marks .stage) bs
+  pub piece-works : (s : State) (bs : List ℕ) → inBounds s ≡ true → pieceOf s bs room ≡ pieceStage s (s .marks .stage) bs
   unfolding pieceOf
   piece-works s bs e = rw (e, le-ltb room longest wide)
 

@@ -8,3 +8,4 @@ pub mod Unfinished
 pub mod Agree
 pub mod Demand
 pub mod Fewest
+pub mod Stands

@@ -264,7 +264,7 @@ end-waits {e} {s} w = subst (λ (b : Stage). Leaves true (endUnlessStopped s b))
 
 -- ---- 01: "Number 27 never meets a state that the opening call and later calls produced."
 
-data Safe (s : State) : Type 0 where
+pub data Safe (s : State) : Type 0 where
   goes : (e : Bool) → Going e s → Safe s
   waits : (e : Bool) → Waits e s → Safe s
   halted : (n p : ℕ) → Halted n p s → Safe s
@@ -315,7 +315,7 @@ fresh-kept mode skip h = record {
 pub going-fresh : (mode : ℕ) (skip : Bool) → mode < 2 → Going false (fresh mode skip)
 going-fresh mode skip h = record { read = []; begun = []; kept = fresh-kept mode skip h; calm = tt; ended = refl }
 
-safe : {s : State} → Produced s → Safe s
+pub safe : {s : State} → Produced s → Safe s
 unfolding openOf pieceOf endOf
 safe (opened mode skip) =
     if-is SafeReply (isMode mode) (λ e. goes false (going-fresh mode skip (ltb-true mode 2 e))) (λ _. goes false (going-fresh 0 skip (omega arith)))
