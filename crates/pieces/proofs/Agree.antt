@@ -155,7 +155,9 @@ module _ (bytes : List ℕ) where
             kept = kept-first k c scalar room b last w (first-in k c scalar room b last, first-sized (width c) c);
             calm = tt;
             same = ap (λ (l : List ℕ). M.state (M.busy (s .marks .at) (onFirst (firstOf c)) l) (s .marks .at + width c) last) first-held;
-            mode = refl; skip = refl; part = refl;
+            mode = refl;
+            skip = refl;
+            part = refl;
           }))
 
       module _ (after : List ℕ) (text : bytesOf q ++ after ≡ bytes) where
@@ -173,7 +175,9 @@ module _ (bytes : List ℕ) where
                   (laid-in k c scalar room (Busy st p) st (s .marks .len) n (lastOf s) refl (ltb-false longest n e) (h .ends) (h .bytes), rw (held-length k) at z);
               calm = tt;
               same = ap (λ (l : List ℕ). M.state (M.busy st p l) (s .marks .at + width c) (lastOf s)) next-held;
-              mode = refl; skip = refl; part = refl;
+              mode = refl;
+              skip = refl;
+              part = refl;
             })
             (λ go. refl))
           where

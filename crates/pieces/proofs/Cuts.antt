@@ -279,7 +279,7 @@ module _ (room : ℕ) (wide : longest ≤ room) where
   called zero rest next nexts s bs (inr h) = absurd (omega arith)
   called (suc f) rest next nexts s bs (inl h) =
       let again : (t : State) (cs : List ℕ) → Live t → 2 * length cs + 2 ≤ f → pieceCalls room f t cs next ≡ settled t (λ u. scan u (cs ++ rest))
-          = λ t cs z l. called f rest next nexts t cs (enough f t (length cs) z l) in
+      = λ t cs z l. called f rest next nexts t cs (enough f t (length cs) z l) in
       ap (heeded f bs rest next nexts again) (piece-going (h .0) bs)
       ∙ fed-all f bs rest next nexts again bs 0 (h .0) refl (omega arith)
       ∙ sym (settled-going (h .0) (λ u. scan u (bs ++ rest)))

@@ -192,10 +192,10 @@ module _ (bytes : List ℕ) where
         let skip : Bool = s .marks .skip in
         let has : chars bytes ≡ q = ap chars (sym text ∙ append-nil (bytesOf q)) ∙ chars-encoded q (k .scalars) in
         let split : givenAll bytes (kept skip (items (report s) (chars bytes))) ≡ givenAll bytes (kept skip out) ++ givenAll bytes (kept skip end)
-            = ap (λ (l : List ℕ). givenAll bytes (kept skip (items (report s) l))) has
-            ∙ ap (λ (l : List Item). givenAll bytes (kept skip l)) all-items
-            ∙ ap (givenAll bytes) (kept-append skip out end)
-            ∙ given-append bytes (kept skip out) (kept skip end) in
+        = ap (λ (l : List ℕ). givenAll bytes (kept skip (items (report s) l))) has
+        ∙ ap (λ (l : List Item). givenAll bytes (kept skip l)) all-items
+        ∙ ap (givenAll bytes) (kept-append skip out end)
+        ∙ given-append bytes (kept skip out) (kept skip end) in
         ap (prepend (gave (report s) skip q)) (last-given text (s .marks .stage) refl calm)
         ∙ ap (λ (l : List Given). record { items = gave (report s) skip q ++ l; last = word.finished }) (append-nil (givenAll bytes (kept skip end)))
         ∙ ap (λ (l : List Given). record { items = l; last = word.finished }) (sym split)

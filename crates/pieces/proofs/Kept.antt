@@ -57,8 +57,13 @@ module _ (n : ℕ) (w buf : List ℕ) where
 
   laid-long : n + length w ≤ length buf → length (laidAt n w buf) ≡ length buf
   laid-long h =
-      omega (arith, length-append (take n buf) (written w (drop n buf)), length-take-le n buf (omega arith), length-drop n buf,
-      length-written w (drop n buf) (omega (arith, length-drop n buf)))
+      omega (
+        arith,
+        length-append (take n buf) (written w (drop n buf)),
+        length-take-le n buf (omega arith),
+        length-drop n buf,
+        length-written w (drop n buf) (omega (arith, length-drop n buf)),
+      )
 
 -- ---- characters, one more
 
@@ -208,8 +213,15 @@ module _ {q g : List ℕ} {s : State} (k : Kept q g s) where
     pub kept-pass : (b : Stage) (last : Place) → Within last → Staged (q ++ (c ∷ [])) (becomes s (s .buf) b (s .marks .at + width c) 0 last) b
         → Kept (q ++ (c ∷ [])) [] (becomes s (s .buf) b (s .marks .at + width c) 0 last)
     kept-pass b last w h = record {
-      mode = k .mode; full = k .full; small = omega arith; place = next-place; far = omega arith; last = w;
-      scalars = scalars-snoc q c (k .scalars) scalar; begun = none-begun; staged = h;
+      mode = k .mode;
+      full = k .full;
+      small = omega arith;
+      place = next-place;
+      far = omega arith;
+      last = w;
+      scalars = scalars-snoc q c (k .scalars) scalar;
+      begun = none-begun;
+      staged = h;
     }
 
     -- it is laid behind the n bytes of the item that starts at st, which then are m
@@ -230,8 +242,15 @@ module _ {q g : List ℕ} {s : State} (k : Kept q g s) where
         → Staged (q ++ (c ∷ [])) (becomes s (laidAt n (utf8 c) (s .buf)) b (s .marks .at + width c) m last) b
         → Kept (q ++ (c ∷ [])) [] (becomes s (laidAt n (utf8 c) (s .buf)) b (s .marks .at + width c) m last)
     kept-laid b n m last w grown fits h = record {
-      mode = k .mode; full = laid-long n (utf8 c) (s .buf) (omega (arith, width-utf8 c, k .full)) ∙ k .full; small = fits; place = next-place;
-      far = omega arith; last = w; scalars = scalars-snoc q c (k .scalars) scalar; begun = none-begun; staged = h;
+      mode = k .mode;
+      full = laid-long n (utf8 c) (s .buf) (omega (arith, width-utf8 c, k .full)) ∙ k .full;
+      small = fits;
+      place = next-place;
+      far = omega arith;
+      last = w;
+      scalars = scalars-snoc q c (k .scalars) scalar;
+      begun = none-begun;
+      staged = h;
     }
 
     -- it is the first of an item
@@ -254,22 +273,43 @@ module _ {q g : List ℕ} {s : State} (k : Kept q g s) where
   -- a stop
   pub kept-stopped : (n p : ℕ) → Stops n → p ≤ limit → Kept q [] (becomes s (s .buf) (Stopped n p) (s .marks .at) 0 (lastOf s))
   kept-stopped n p h l = record {
-    mode = k .mode; full = k .full; small = omega arith; place = k .place; far = omega arith; last = k .last; scalars = k .scalars;
-    begun = none-begun; staged = (h, l);
+    mode = k .mode;
+    full = k .full;
+    small = omega arith;
+    place = k .place;
+    far = omega arith;
+    last = k .last;
+    scalars = k .scalars;
+    begun = none-begun;
+    staged = (h, l);
   }
 
   -- the end
   pub kept-end : (last : Place) → Within last → Kept q [] (becomes s (s .buf) Idle (s .marks .at) 0 last)
   kept-end last w = record {
-    mode = k .mode; full = k .full; small = omega arith; place = k .place; far = omega arith; last = w; scalars = k .scalars;
-    begun = none-begun; staged = tt;
+    mode = k .mode;
+    full = k .full;
+    small = omega arith;
+    place = k .place;
+    far = omega arith;
+    last = w;
+    scalars = k .scalars;
+    begun = none-begun;
+    staged = tt;
   }
 
   -- a character goes on
   pub kept-partly : (g′ : List ℕ) (p : Part) → Begun g′ p → s .marks .at + p .count ≤ limit → Calm (s .marks .stage) → Kept q g′ (partly s p)
   kept-partly g′ p h far calm = record {
-    mode = k .mode; full = k .full; small = k .small; place = k .place; far = far; last = k .last; scalars = k .scalars;
-    begun = h; staged = on (s .marks .stage) calm (k .staged);
+    mode = k .mode;
+    full = k .full;
+    small = k .small;
+    place = k .place;
+    far = far;
+    last = k .last;
+    scalars = k .scalars;
+    begun = h;
+    staged = on (s .marks .stage) calm (k .staged);
   }
     where
       on : (b : Stage) → Calm b → Staged q s b → Staged q (partly s p) b
@@ -284,8 +324,15 @@ module _ {q g : List ℕ} {s : State} (k : Kept q g s) where
   -- the end is declared
   pub kept-declared : Kept q g (declared s)
   kept-declared = record {
-    mode = k .mode; full = k .full; small = k .small; place = k .place; far = k .far; last = k .last; scalars = k .scalars;
-    begun = k .begun; staged = on (s .marks .stage) (k .staged);
+    mode = k .mode;
+    full = k .full;
+    small = k .small;
+    place = k .place;
+    far = k .far;
+    last = k .last;
+    scalars = k .scalars;
+    begun = k .begun;
+    staged = on (s .marks .stage) (k .staged);
   }
     where
       on : (b : Stage) → Staged q s b → Staged q (declared s) b
@@ -301,8 +348,15 @@ module _ {q g : List ℕ} {s : State} (k : Kept q g s) where
   pub kept-waiting : (st : ℕ) (b : Beyond) (last : Place) → Within last → Held q s st → 2 ≤ s .marks .len → Beyonds b (s .marks .at)
       → Kept q [] (becomes s (s .buf) (Waiting st b) (s .marks .at) (s .marks .len) last)
   kept-waiting st b last w h two ok = record {
-    mode = k .mode; full = k .full; small = k .small; place = k .place; far = omega arith; last = w; scalars = k .scalars;
-    begun = none-begun; staged = (h, (two, (refl, ok)));
+    mode = k .mode;
+    full = k .full;
+    small = k .small;
+    place = k .place;
+    far = omega arith;
+    last = w;
+    scalars = k .scalars;
+    begun = none-begun;
+    staged = (h, (two, (refl, ok)));
   }
 
   -- the last range after an item that starts at st

@@ -90,7 +90,10 @@ module _ {q g : List ℕ} {s : State} (k : Kept q g s) where
       if-all (Going (s .marks .ended)) (isBlank c)
       (record { read = q ++ (c ∷ []); begun = []; kept = kept-pass k c scalar room Idle last w tt; calm = tt; ended = refl })
       (record {
-        read = q ++ (c ∷ []); begun = []; calm = tt; ended = refl;
+        read = q ++ (c ∷ []);
+        begun = [];
+        calm = tt;
+        ended = refl;
         kept = kept-first k c scalar room b last w (first-in k c scalar room b last, first-sized (width c) c);
       })
 
@@ -124,10 +127,14 @@ module _ {q g : List ℕ} {s : State} (k : Kept q g s) where
         if-is (Turned (s .marks .ended)) (ltb longest (s .marks .len + width c))
         (λ _. halts 23 st (inr (inr refl)) (omega (arith, h .ends, k .far)))
         (λ e. record {
-          read = q ++ (c ∷ []); begun = []; calm = tt; ended = refl;
-          kept = kept-laid k c scalar room (Busy st p) (s .marks .len) (s .marks .len + width c) (lastOf s) (k .last) refl (ltb-false _ _ e)
-              (laid-in k c scalar room (Busy st p) st (s .marks .len) (s .marks .len + width c) (lastOf s) refl (ltb-false _ _ e) (h .ends) (h .bytes),
-              rw (held-length k) at z);
+          read = q ++ (c ∷ []);
+          begun = [];
+          calm = tt;
+          ended = refl;
+          kept = kept-laid k c scalar room (Busy st p) (s .marks .len) (s .marks .len + width c) (lastOf s) (k .last) refl (ltb-false _ _ e) (
+            laid-in k c scalar room (Busy st p) st (s .marks .len) (s .marks .len + width c) (lastOf s) refl (ltb-false _ _ e) (h .ends) (h .bytes),
+            rw (held-length k) at z,
+          );
         })
     turned-next st h (Stop o) z = turned-ends st h (Char c) (scalar, room) o z
 
@@ -145,13 +152,13 @@ module _ {q g : List ℕ} {s : State} (k : Kept q g s) where
         let none : s .marks .at ≡ 0 = k .place ∙ ap byteCount e in
         let one : width c ≡ 1 = ap width f in
         let h : HeldIn (q ++ (c ∷ [])) (laidAt 0 (utf8 c) (s .buf)) (width c) (s .marks .at + width c) 0
-            = subst (HeldIn (q ++ (c ∷ [])) (laidAt 0 (utf8 c) (s .buf)) (width c) (s .marks .at + width c)) none (first-in k c scalar room Pound (lastOf s)) in
+        = subst (HeldIn (q ++ (c ∷ [])) (laidAt 0 (utf8 c) (s .buf)) (width c) (s .marks .at + width c)) none (first-in k c scalar room Pound (lastOf s)) in
         let bytes : bytesOf (q ++ (c ∷ [])) ≡ code "#" ∷ [] = rw (e, f) in
         kept-first k c scalar room Pound (lastOf s) (k .last) (h, (one, sym (h .bytes) ∙ bytes))
 
     turned-stage : (b : Stage) → s .marks .stage ≡ b → Calm b → Turned (s .marks .ended) (onStage s b c)
     turned-stage Opening e z =
-        if-is (Going (s .marks .ended)) (eqb c (code "#")) 
+        if-is (Going (s .marks .ended)) (eqb c (code "#"))
         (λ f. record { read = q ++ (c ∷ []); begun = []; kept = kept-pound (staged e) (eqb-true c (code "#") f); calm = tt; ended = refl })
         (λ _. going-begin c scalar room (lastOf s) (k .last))
     turned-stage Pound e z =
@@ -182,7 +189,11 @@ turned {e} {s} h b =
     go : s .marks .at + s .marks .part .count < limit → (o : Step) → Stepped (h .begun) (s .marks .part) b o
         → Turned e (told o (λ u. on (partly s (record { count = s .marks .part .count + 1; state = u }))) (λ c. onStage s (s .marks .stage) c) (stopped s 21 (s .marks .at)))
     go far (steps.More u) z = record {
-      read = h .read; begun = h .begun ++ (b ∷ []); kept = kept-partly k (h .begun ++ (b ∷ [])) _ z (omega arith) (h .calm); calm = h .calm; ended = h .ended;
+      read = h .read;
+      begun = h .begun ++ (b ∷ []);
+      kept = kept-partly k (h .begun ++ (b ∷ [])) _ z (omega arith) (h .calm);
+      calm = h .calm;
+      ended = h .ended;
     }
     go far (steps.Char c) z =
         let room : s .marks .at + width c ≤ limit = omega (arith, z .count, length-append (h .begun) (b ∷ []), k .begun .count) in
@@ -308,8 +319,15 @@ safe-end {s} (halted n p h) = subst (λ (b : Stage). SafeReply (endUnlessStopped
 
 pub fresh-kept : (mode : ℕ) (skip : Bool) → mode < 2 → Kept [] [] (fresh mode skip)
 fresh-kept mode skip h = record {
-  mode = h; full = length-replicate {A = ℕ} longest 0; small = omega arith; place = refl; far = omega arith; last = (omega arith, omega arith);
-  scalars = tt; begun = none-begun; staged = refl;
+  mode = h;
+  full = length-replicate {A = ℕ} longest 0;
+  small = omega arith;
+  place = refl;
+  far = omega arith;
+  last = (omega arith, omega arith);
+  scalars = tt;
+  begun = none-begun;
+  staged = refl;
 }
 
 pub going-fresh : (mode : ℕ) (skip : Bool) → mode < 2 → Going false (fresh mode skip)

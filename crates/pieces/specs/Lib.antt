@@ -4,3 +4,4 @@ pub mod Bounds
 pub mod Calls
 pub mod Drive
 pub mod Produced
+pub mod Examples
