@@ -22,32 +22,36 @@ use Rattle.pieces.specs.Bounds.{inBounds}
 use Rattle.pieces.specs.Calls.{What, item, more, finished, refused, Reply, reply, lastOf, itemSoFar, beyond, Turn, on, off, stopped, gives, report, onNext, onStage}
 use Rattle.pieces.specs.Calls.{partly, turnOf, after, feedOf, second, pieceStage, pieceOf}
 use Rattle.pieces.specs.Expected.{longest}
-use Rattle.pieces.specs.Given.{Given}
-use Prim.Native.Nat.{ℕ, zero, suc, _+_, _<_}
-use mathlib.Core.Path.{_≡_, refl, sym, ap, _∙_}
+use Prim.Native.Nat.{ℕ, zero, suc, _+_, _≤_, _<_}
+use mathlib.Core.Path.{_≡_, refl, sym, ap, subst, _∙_}
 use mathlib.Core.Bool.{Bool, true, false, _&&_}
 use mathlib.Core.List.{List, [], _∷_, _++_}
 use lib.ListN.{length, take}
+use lib.Seq.{take-nil}
 use lib.Dec.{eqb, leb, ltb}
-use native.Mathlib.Nat.{add-zero, zero-add}
+use native.Mathlib.Nat.{add-zero, zero-add, le-refl}
 use native.Mathlib.Omega.{arith}
 
 -- ---- what holds of all calls with a piece, by cases: one that is refused, one that gives what waits, and one that reads
 
-not-item : (g : Given) → item g ≡ more → ⊥
-not-item g e = let z : _≡_ {A = ℕ} 0 1 = cc in omega arith
+-- an item or a refusal
+abbrev pub Gives : What → Type 0
+Gives (item g) = Unit {0}
+Gives more = ⊥
+Gives finished = ⊥
+Gives (refused n p) = Unit {0}
 
-not-refused : (n p : ℕ) → refused n p ≡ more → ⊥
-not-refused n p e = let z : _≡_ {A = ℕ} 0 1 = cc in omega arith
+not-more : (w : What) → Gives w → w ≡ more → ⊥
+not-more w h e = subst Gives e h
 
 -- P says something of a call with bs and a call with cs
-module _ (P : Reply → Reply → Type 0) (s : State) (bs cs : List ℕ) (none : (r : Reply) → r .taken ≡ 0 → (r .what ≡ more → ⊥) → P r r) (reads : P (feedOf s bs 0) (feedOf s cs 0)) where
+module _ (P : Reply → Reply → Type 0) (s : State) (bs cs : List ℕ) (none : (r : Reply) → r .taken ≡ 0 → Gives (r .what) → P r r) (reads : P (feedOf s bs 0) (feedOf s cs 0)) where
   either : (b : Bool) {x y x′ y′ : Reply} → P x x′ → P y y′ → P (if b then x else y) (if b then x′ else y′)
   either true p q = p
   either false p q = q
 
   open-stage : P (if s .marks .ended then reply 0 (refused 26 0) s else feedOf s bs 0) (if s .marks .ended then reply 0 (refused 26 0) s else feedOf s cs 0)
-  open-stage = either (s .marks .ended) (none (reply 0 (refused 26 0) s) refl (not-refused 26 0)) reads
+  open-stage = either (s .marks .ended) (none (reply 0 (refused 26 0) s) refl tt) reads
 
   all-stages : (b : Stage) → P (pieceStage s b bs) (pieceStage s b cs)
   all-stages Opening = open-stage
@@ -56,15 +60,15 @@ module _ (P : Reply → Reply → Type 0) (s : State) (bs cs : List ℕ) (none :
   all-stages Idle = open-stage
   all-stages (Busy st p) = open-stage
   all-stages (Waiting st b) =
-      either (s .marks .ended) (none (reply 0 (refused 26 0) s) refl (not-refused 26 0)) (none (reply 0 (item (second s st)) (beyond s (lastOf s) b)) refl (not-item (second s st)))
-  all-stages (Stopped n p) = none (reply 0 (refused n p) s) refl (not-refused n p)
+      either (s .marks .ended) (none (reply 0 (refused 26 0) s) refl tt) (none (reply 0 (item (second s st)) (beyond s (lastOf s) b)) refl tt)
+  all-stages (Stopped n p) = none (reply 0 (refused n p) s) refl tt
 
   all-pieces : (room : ℕ) → P (pieceOf s bs room) (pieceOf s cs room)
   unfolding pieceOf
   all-pieces room =
       either (inBounds s)
-      (either (ltb room longest) (none (reply 0 (refused 24 0) s) refl (not-refused 24 0)) (all-stages (s .marks .stage)))
-      (none (reply 0 (refused 27 0) s) refl (not-refused 27 0))
+      (either (ltb room longest) (none (reply 0 (refused 24 0) s) refl tt) (all-stages (s .marks .stage)))
+      (none (reply 0 (refused 27 0) s) refl tt)
 
 -- ---- fewer bytes
 
@@ -101,10 +105,7 @@ Took n r = r .what ≡ more → r .taken ≡ n
 -- a turn ends a call with an item or a refusal
 abbrev Says : Turn → Type 0
 Says (on s) = Unit {0}
-Says (off s (item g)) = Unit {0}
-Says (off s more) = ⊥
-Says (off s finished) = ⊥
-Says (off s (refused n p)) = Unit {0}
+Says (off s w) = Gives w
 
 says-gives : (s : State) (st : ℕ) (last : Place) (b : Beyond) (is : List Item) → Says (gives s st last b is)
 says-gives s st last b [] = tt
@@ -144,14 +145,11 @@ feed-whole (b ∷ bs) s n e = go (turnOf s b) (says-turn s b) (λ u f. feed-whol
 
     go : (t : Turn) → Says t → ((u : State) → Took (n + suc (length bs)) (feedOf u bs (n + 1))) → Took (n + suc (length bs)) (after t (λ u. feedOf u bs (n + 1)) (n + 1))
     go (on u) z ih e = ih u e
-    go (off u (item g)) z ih e = absurd (not-item g e)
-    go (off u more) z ih e = absurd z
-    go (off u finished) z ih e = absurd z
-    go (off u (refused m p)) z ih e = absurd (not-refused m p e)
+    go (off u w) z ih e = absurd (not-more w z e)
 
 -- a call that asks for more took the whole piece
 pub whole-piece : (s : State) (bs : List ℕ) (room : ℕ) → pieceOf s bs room .what ≡ more → pieceOf s bs room .taken ≡ length bs
-whole-piece s bs room = all-pieces (λ r _. Took (length bs) r) s bs bs (λ r e f h. absurd (f h)) (λ e. feed-whole bs s 0 e ∙ zero-add (length bs)) room
+whole-piece s bs room = all-pieces (λ r _. Took (length bs) r) s bs bs (λ r e f h. absurd (not-more (r .what) f h)) (λ e. feed-whole bs s 0 e ∙ zero-add (length bs)) room
 
 -- ---- more bytes
 
@@ -172,3 +170,56 @@ feed-stays (b ∷ bs) cs s n h = go (turnOf s b) (λ u. feed-stays bs cs u (n + 
 -- what a call gives does not hang on the bytes behind
 pub unmoved : (s : State) (bs cs : List ℕ) (room : ℕ) → (pieceOf s bs room .what ≡ more → ⊥) → pieceOf s (bs ++ cs) room ≡ pieceOf s bs room
 unmoved s bs cs room = all-pieces Stays s bs (bs ++ cs) (λ r e f h. refl) (feed-stays bs cs s 0) room
+
+-- ---- just the bytes that are taken
+
+-- the first call takes m bytes: the second, which has just these, is the same
+abbrev Same : ℕ → Reply → Reply → Type 0
+Same m r just = r .taken ≡ m → just ≡ r
+
+feed-least : (bs : List ℕ) (s : State) (n : ℕ) → n ≤ feedOf s bs n .taken
+unfolding feedOf
+feed-least [] s n = le-refl n
+feed-least (b ∷ bs) s n = go (turnOf s b) (λ u. feed-least bs u (n + 1))
+  where
+    go : (t : Turn) → ((u : State) → n + 1 ≤ feedOf u bs (n + 1) .taken) → n ≤ after t (λ u. feedOf u bs (n + 1)) (n + 1) .taken
+    go (on u) ih = let h = ih u in omega arith
+    go (off u w) ih = omega arith
+
+feed-just : (bs : List ℕ) (s : State) (m n : ℕ) → Same (n + m) (feedOf s bs n) (feedOf s (take m bs) n)
+unfolding feedOf
+feed-just [] s m n h = ap (λ (l : List ℕ). feedOf s l n) (take-nil m)
+feed-just (b ∷ bs) s zero n h = absurd (go (turnOf s b) (λ u. feed-least bs u (n + 1)) h)
+  where
+    go : (t : Turn) → ((u : State) → n + 1 ≤ feedOf u bs (n + 1) .taken) → after t (λ u. feedOf u bs (n + 1)) (n + 1) .taken ≡ n + 0 → ⊥
+    go (on u) ih e = let h = ih u in omega arith
+    go (off u w) ih e = omega arith
+feed-just (b ∷ bs) s (suc m) n h = go (turnOf s b) (λ u. feed-just bs u m (n + 1)) h
+  where
+    go : (t : Turn) → ((u : State) → Same (n + 1 + m) (feedOf u bs (n + 1)) (feedOf u (take m bs) (n + 1)))
+        → Same (n + suc m) (after t (λ u. feedOf u bs (n + 1)) (n + 1)) (after t (λ u. feedOf u (take m bs) (n + 1)) (n + 1))
+    go (on u) ih e = ih u (e ∙ one-more)
+      where
+        one-more : n + suc m ≡ n + 1 + m
+        one-more = omega arith
+    go (off u w) ih e = refl
+
+-- the bytes that a call takes are enough for it
+pub enough : (s : State) (bs : List ℕ) (room : ℕ) → pieceOf s (take (pieceOf s bs room .taken) bs) room ≡ pieceOf s bs room
+enough s bs room = at (pieceOf s bs room .taken) refl
+  where
+    at : (m : ℕ) → Same m (pieceOf s bs room) (pieceOf s (take m bs) room)
+    at m = all-pieces (Same m) s bs (take m bs) (λ r e f h. refl) (λ h. feed-just bs s m 0 (h ∙ sym (zero-add m))) room
+
+feed-unfinished : (bs : List ℕ) (s : State) (n : ℕ) → feedOf s bs n .what ≡ finished → ⊥
+unfolding feedOf
+feed-unfinished [] s n e = let z : _≡_ {A = ℕ} 0 1 = cc in omega arith
+feed-unfinished (b ∷ bs) s n e = go (turnOf s b) (says-turn s b) (λ u f. feed-unfinished bs u (n + 1) f) e
+  where
+    go : (t : Turn) → Says t → ((u : State) → feedOf u bs (n + 1) .what ≡ finished → ⊥) → after t (λ u. feedOf u bs (n + 1)) (n + 1) .what ≡ finished → ⊥
+    go (on u) z ih e = ih u e
+    go (off u w) z ih e = subst Gives e z
+
+-- no piece is answered by "finished"
+pub unfinished : (s : State) (bs : List ℕ) (room : ℕ) → pieceOf s bs room .what ≡ finished → ⊥
+unfinished s bs room = all-pieces (λ r _. r .what ≡ finished → ⊥) s bs bs (λ r e f h. subst Gives h f) (feed-unfinished bs s 0) room
