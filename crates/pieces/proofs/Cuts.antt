@@ -210,7 +210,7 @@ module _ (room : ℕ) (wide : longest ≤ room) where
   unfolding pieceOf
   piece-works s bs e = rw (e, le-ltb room longest wide)
 
-  piece-going : {s : State} → Going false s → (bs : List ℕ) → pieceOf s bs room ≡ feedOf s bs 0
+  pub piece-going : {s : State} → Going false s → (bs : List ℕ) → pieceOf s bs room ≡ feedOf s bs 0
   piece-going {s} h bs = piece-works s bs (kept-bounded (h .kept)) ∙ go (s .marks .stage) (h .calm)
     where
       reads : (if s .marks .ended then reply 0 (refused 26 0) s else feedOf s bs 0) ≡ feedOf s bs 0
@@ -225,7 +225,7 @@ module _ (room : ℕ) (wide : longest ≤ room) where
       go (Waiting st b) z = absurd z
       go (Stopped n p) z = absurd z
 
-  piece-waits : {s : State} (w : Waits false s) (bs : List ℕ) → pieceOf s bs room ≡ reply 0 (item (second s (w .start))) (beyond s (lastOf s) (w .beyond))
+  pub piece-waits : {s : State} (w : Waits false s) (bs : List ℕ) → pieceOf s bs room ≡ reply 0 (item (second s (w .start))) (beyond s (lastOf s) (w .beyond))
   piece-waits {s} w bs =
       piece-works s bs (kept-bounded (w .kept))
       ∙ ap (λ (b : Stage). pieceStage s b bs) (w .stage)

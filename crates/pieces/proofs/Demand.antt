@@ -357,7 +357,7 @@ module _ (bytes : List ℕ) where
   agrees (b ∷ bs) q g s k calm same text = byte-agrees k calm same b bs text (agrees bs)
 
 -- the turns give what is expected of the text
-fresh-agrees : (mode : ℕ) (skip : Bool) → mode < 2 → (bytes : List ℕ) → scan (fresh mode skip) bytes ≡ expected (inReport mode) skip bytes
+pub fresh-agrees : (mode : ℕ) (skip : Bool) → mode < 2 → (bytes : List ℕ) → scan (fresh mode skip) bytes ≡ expected (inReport mode) skip bytes
 unfolding expected M.advance kept givenAll bytesOf
 fresh-agrees mode skip h bytes =
     agrees bytes bytes [] [] (fresh mode skip) (fresh-kept mode skip h) tt refl refl

@@ -9,3 +9,4 @@ pub mod Agree
 pub mod Demand
 pub mod Fewest
 pub mod Stands
+pub mod Resume

@@ -100,7 +100,7 @@ halts-ended {s} p room = if-all Halts (inBounds s) (if-all Halts (ltb room longe
 abbrev pub Repeats : ℕ → ℕ → State → Type 0
 Repeats n p t = (bs : List ℕ) (room : ℕ) → longest ≤ room → (pieceOf t bs room ≡ reply 0 (refused n p) t) × (endOf t room ≡ reply 0 (refused n p) t)
 
-repeats : {n p : ℕ} {t : State} → Halted n p t → Repeats n p t
+pub repeats : {n p : ℕ} {t : State} → Halted n p t → Repeats n p t
 repeats {n} {p} {t} h bs room wide = (
   piece-works room wide t bs (kept-bounded (h .kept)) ∙ ap (λ (b : Stage). pieceStage t b bs) (h .stage),
   end-works room wide t (kept-bounded (h .kept)) ∙ ap (endUnlessStopped t) (h .stage),
