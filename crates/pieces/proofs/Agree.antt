@@ -37,7 +37,7 @@ use Rattle.pieces.specs.declared.Stage.{Stage}
 use Rattle.pieces.specs.declared.Stage.the-variants.{Opening, Pound, FirstLine, Idle, Busy, Waiting, Stopped}
 use Rattle.pieces.specs.declared.State.{State}
 use Rattle.pieces.specs.Calls.{item, whole, becomes, lastOf, itemSoFar, laidAt, Turn, on, off, stopped, begin, beyond, gives, report, ends, onNext, onStage, partly, turnOf}
-use Rattle.pieces.specs.Drive.{heed}
+use Rattle.pieces.specs.Drive.{heed, prepend}
 use Rattle.pieces.specs.Expected.{Expected, longest, Unfinished, nothing, from, unfinished, Ending, clean, stop, grown, endingOf, expectedBy, expected}
 use Rattle.pieces.specs.Expected as word
 use Rattle.pieces.specs.Given.{Given, given, givenAll}
@@ -82,10 +82,6 @@ pub record Arrives (s : State) (q : List ℕ) (m : M.State) (t : State) : Type 0
   pub mode : report t ≡ report s
   pub skip : t .marks .skip ≡ s .marks .skip
   pub part : t .marks .part ≡ whole
-
--- items before others
-abbrev pub prepend : List Given → Expected → Expected
-prepend gs e = record { items = gs ++ e .items; last = e .last }
 
 -- a word that is a pair is no comment
 pair-kept : (skip r : Bool) (set : Place) (s e : ℕ) → let i : Item = itemOf r set s e (means kind.Identifier 0 (source s (s + 1))) in

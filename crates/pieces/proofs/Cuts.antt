@@ -95,7 +95,7 @@ settled-going {e} {s} h go = at (s .marks .stage) (h .calm)
     at (Waiting st b) z = absurd z
     at (Stopped n p) z = absurd z
 
-settled-waits : {e : Bool} {s : State} (w : Waits e s) (go : State → Expected)
+pub settled-waits : {e : Bool} {s : State} (w : Waits e s) (go : State → Expected)
     → settled s go ≡ heed (item (second s (w .start))) (go (beyond s (lastOf s) (w .beyond)))
 settled-waits {e} {s} w go = ap (λ (b : Stage). settledAt s b go) (w .stage)
 

@@ -28,11 +28,11 @@ use Rattle.pieces.specs.declared.Stage.{Stage}
 use Rattle.pieces.specs.declared.Stage.the-variants.{Opening, Pound, FirstLine, Idle, Busy, Waiting, Stopped}
 use Rattle.pieces.specs.declared.State.{State}
 use Rattle.pieces.specs.Calls.{whole, lastOf, itemSoFar, Turn, on, stopped, ends, report, onStage, partly, turnOf, fresh, openOf, Reply, reply, more, refused}
-use Rattle.pieces.specs.Drive.{handOver, drive, joined}
+use Rattle.pieces.specs.Drive.{prepend, handOver, drive, joined}
 use Rattle.pieces.specs.Expected.{Expected, longest, Unfinished, nothing, from, unfinished, Ending, clean, stop, grown, endingOf, expectedBy, expected}
 use Rattle.pieces.specs.Expected as word
 use Rattle.pieces.specs.Given.{Given, given, givenAll}
-use Rattle.pieces.proofs.Agree.{modeOf, view, Arrives, prepend, Does, goes, tooLong, gives-all, stage-does}
+use Rattle.pieces.proofs.Agree.{modeOf, view, Arrives, Does, goes, tooLong, gives-all, stage-does}
 use Rattle.pieces.proofs.Cuts.{afterTurn, done, lastTurn, final, scan, cut}
 use Rattle.pieces.proofs.Kept.{Kept, Held, Staged, Calm, bytes-snoc, count-snoc, kept-partly}
 use Rattle.pieces.proofs.Pairs.{shape}

@@ -201,7 +201,7 @@ kept-bounded {q} {g} {s} k =
 -- ---- how a state becomes another
 
 pub none-begun : Begun [] whole
-none-begun = record { count = refl; reached = λ s. refl; wants = refl }
+none-begun = record { count = refl; reached = λ s. refl; wants = refl; high = omega arith }
 
 module _ {q g : List ℕ} {s : State} (k : Kept q g s) where
   -- with the next character, which is c

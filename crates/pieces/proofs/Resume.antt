@@ -1,19 +1,22 @@
 -- Whatever calls with pieces were made, what the driver is given from then on completes what is expected of the text: no call gives an
 -- item too early or too late. A call with just the bytes that it takes is the driver's own first call, so it follows from demand 3.
-use Rattle.items.specs.Whole.{inReport}
+use Rattle.items.specs.Whole.{limit, inReport}
+use Rattle.laws.proofs.Choice.{by-bool}
+use Rattle.pieces.specs.declared.Stage.{Stage}
+use Rattle.pieces.specs.declared.Stage.the-variants.{Opening, Pound, FirstLine, Idle, Busy, Waiting, Stopped}
 use Rattle.pieces.specs.declared.State.{State}
 use Rattle.pieces.specs.Bounds.{inBounds}
-use Rattle.pieces.specs.Calls.{What, item, more, finished, refused, Reply, reply, pieceOf, endOf, fresh}
-use Rattle.pieces.specs.Drive.{heed, unlessTaken, pieceCalls, endCalls, handOver, joined}
+use Rattle.pieces.specs.Calls.{What, item, more, finished, refused, Reply, reply, pieceOf, endOf, second, turnOf, fresh}
+use Rattle.pieces.specs.Drive.{heed, prepend, unlessTaken, pieceCalls, endCalls, handOver, joined}
 use Rattle.pieces.specs.Expected.{Expected, longest, expected}
 use Rattle.pieces.specs.Expected as word
 use Rattle.pieces.specs.Given.{Given}
-use Rattle.pieces.specs.Produced.{givenBy, Reading, begins, reads}
-use Rattle.pieces.proofs.Agree.{prepend}
-use Rattle.pieces.proofs.Cuts.{Live, cut, piece-works, piece-going, piece-waits}
+use Rattle.pieces.specs.Produced.{givenBy, waitingAt, waiting, Reading, begins, reads}
+use Rattle.pieces.proofs.Cuts.{Live, scan, settled-going, settled-waits, cut, piece-works, piece-going, piece-waits}
 use Rattle.pieces.proofs.Demand.{fresh-agrees}
 use Rattle.pieces.proofs.Fewest.{enough, unfinished}
-use Rattle.pieces.proofs.Kept.{kept-bounded}
+use Rattle.pieces.proofs.Kept.{Calm, kept-bounded}
+use Rattle.pieces.proofs.Parts.{never-ff}
 use Rattle.pieces.proofs.Stands.{Repeats, repeats}
 use Rattle.pieces.proofs.Turns.{Going, Waits, Halted, Left, Leaves, fed, going-on, going-fresh}
 use Prim.Native.Nat.{ℕ, suc, _+_, _*_, _≤_, _<_}
@@ -22,6 +25,7 @@ use mathlib.Core.Bool.{Bool, true, false}
 use mathlib.Core.List.{List, [], _∷_, _++_, append-assoc, append-nil}
 use mathlib.Core.Logic.{_⊎_, inl, inr}
 use lib.ListN.{length, take, drop, length-take, drop-of-length-le}
+use lib.Dec.{leb}
 use native.Mathlib.Nat.{le-refl, min-le-left}
 use native.Mathlib.Omega.{arith}
 
@@ -108,3 +112,48 @@ module _ (mode : ℕ) (skip : Bool) (is : mode < 2) where
         ∙ ap (prepend gs) (sym (first-call s bs ps))
         ∙ resumes h (take (r .taken) bs ∷ ps)
         ∙ ap (expected (inReport mode) skip) (sym (append-assoc taken (take (r .taken) bs) (joined ps))))
+
+-- ---- an item is given exactly when it is ready
+
+-- after FF there is nothing but a stop
+bad-byte : {e : Bool} {s : State} → Going e s → scan s (0xFF ∷ []) .items ≡ []
+unfolding scan turnOf
+bad-byte {e} {s} h = by-bool (leb limit (s .marks .at + s .marks .part .count))
+    (λ f. rw f)
+    (λ f. rw (f, never-ff (h .begun) (s .marks .part) (h .kept .begun)))
+
+calm-waits : {e : Bool} {s : State} → Going e s → waiting s ≡ []
+calm-waits {e} {s} h = at (s .marks .stage) (h .calm)
+  where
+    at : (b : Stage) → Calm b → waitingAt s b ≡ []
+    at Opening z = refl
+    at Pound z = refl
+    at FirstLine z = refl
+    at Idle z = refl
+    at (Busy st p) z = refl
+    at (Waiting st b) z = absurd z
+    at (Stopped n p) z = absurd z
+
+waits-next : {s : State} → Live s → handOver longest s ((0xFF ∷ []) ∷ []) .items ≡ waiting s
+unfolding joined
+waits-next {s} (inl h) =
+    ap (λ (x : Expected). x .items) (cut longest (le-refl longest) ((0xFF ∷ []) ∷ []) s (inl h) ∙ settled-going h (λ u. scan u (0xFF ∷ [])))
+    ∙ bad-byte h ∙ sym (calm-waits h)
+waits-next {s} (inr w) =
+    ap (λ (x : Expected). x .items) (cut longest (le-refl longest) ((0xFF ∷ []) ∷ []) s (inr w) ∙ settled-waits w (λ u. scan u (0xFF ∷ [])))
+    ∙ ap (λ (l : List Given). second s (w .start) ∷ l) (bad-byte (going-on w))
+    ∙ sym (ap (waitingAt s) (w .stage))
+
+-- Whatever calls were made and no stop stands: the items that were given, and the one that waits, are those that `expected` has before a
+-- stop at the next byte, "of the text made of the whole characters before that byte's character, those whose extents end before that
+-- text does". So an item is given when a character beyond its extent has been read, not earlier and not later.
+pub given-when-ready : (mode : ℕ) (skip : Bool) → mode < 2 → {taken : List ℕ} {gs : List Given} {s : State} → Reading mode skip taken gs s
+    → ((n p : ℕ) → s .marks .stage ≡ Stopped n p → ⊥) → gs ++ waiting s ≡ expected (inReport mode) skip (taken ++ (0xFF ∷ [])) .items
+unfolding joined
+given-when-ready mode skip is {taken} {gs} {s} h going =
+    ap (λ (l : List Given). gs ++ l) (sym (waits-next (live (on-the-way mode skip is h))))
+    ∙ ap (λ (x : Expected). x .items) (resumes mode skip is longest (le-refl longest) h ((0xFF ∷ []) ∷ []))
+  where
+    live : Live s ⊎ Stuck s → Live s
+    live (inl h) = h
+    live (inr h) = absurd (going (h .number) (h .place) (h .stuck .stage))
