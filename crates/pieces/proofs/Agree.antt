@@ -1,64 +1,47 @@
 -- Over the bytes of a text the turns give what the definition of items says, up to the end or the stop. The machine of items stands
 -- between: a turn does what the machine does with the character that became whole, and the machine gives the definition's items.
-use Rattle.chars.specs.declared.State.{State as Begins}
-use Rattle.chars.specs.declared.Step.{Step}
-use Rattle.chars.specs.declared.Step.the-variants as steps
 use Rattle.chars.specs.Blank.{isBlank}
 use Rattle.chars.specs.Encode.{isScalar, utf8, width, bytesOf}
-use Rattle.chars.specs.Machine.{step, start, told, run}
-use Rattle.chars.specs.Utf8.{Sequence, read, broken, short, sequences, chars}
-use Rattle.chars.proofs.Good.{chars-encoded}
-use Rattle.chars.proofs.Run.{run-sequences}
 use Rattle.items.specs.declared.Next.{Next}
 use Rattle.items.specs.declared.Next.the-variants.{Eat, Stop}
-use Rattle.items.specs.declared.Outcome.{Outcome}
 use Rattle.items.specs.declared.Phase.{Phase}
 use Rattle.items.specs.declared.Phase.the-variants.{AfterHash}
 use Rattle.items.specs.Classes.{firstOf}
-use Rattle.items.specs.Items.{Place, Item, itemOf, itemsOf, rangeAfter, extentItems, items, kept, byteCount, endsBefore}
+use Rattle.items.specs.Items.{Place, Item, itemOf, itemsOf, rangeAfter, extentItems, kept}
 use Rattle.items.specs.Kinds as kind
-use Rattle.items.specs.Machine.{stepOf, finishOf, onFirst}
+use Rattle.items.specs.Machine.{stepOf, onFirst}
 use Rattle.items.specs.Meaning.{Meaning, means, source, meaningOf}
 use Rattle.items.specs.Readers.{soFar}
 use Rattle.items.specs.Run as M
 use Rattle.items.specs.Whole.{limit}
-use Rattle.items.proofs.Ready.{ready}
-use Rattle.items.proofs.Run.{advance-on, advance-after, run-items}
-use Rattle.items.proofs.Skipped.{kept-append}
 use Rattle.items.proofs.Splits.{length-bytes}
-use Rattle.items.proofs.Width.{width-le, width-utf8}
-use Rattle.laws.specs.Choice.{if_then_else_}
+use Rattle.items.proofs.Width.{width-utf8}
 use Rattle.laws.specs.Quoted.{code}
 use Rattle.laws.proofs.Choice.{by-bool, if-is}
 use Rattle.pieces.specs.declared.Beyond.{Beyond}
 use Rattle.pieces.specs.declared.Beyond.the-variants.{End, Char}
-use Rattle.pieces.specs.declared.Part.{Part}
 use Rattle.pieces.specs.declared.Stage.{Stage}
 use Rattle.pieces.specs.declared.Stage.the-variants.{Opening, Pound, FirstLine, Idle, Busy, Waiting, Stopped}
 use Rattle.pieces.specs.declared.State.{State}
-use Rattle.pieces.specs.Calls.{item, whole, becomes, lastOf, itemSoFar, laidAt, Turn, on, off, stopped, begin, beyond, gives, report, ends, onNext, onStage, partly, turnOf}
+use Rattle.pieces.specs.Calls.{item, whole, becomes, lastOf, itemSoFar, laidAt, Turn, on, stopped, begin, beyond, gives, report, ends, onNext, onStage}
 use Rattle.pieces.specs.Drive.{heed, prepend}
-use Rattle.pieces.specs.Expected.{Expected, longest, Unfinished, nothing, from, unfinished, Ending, clean, stop, grown, endingOf, expectedBy, expected}
-use Rattle.pieces.specs.Expected as word
-use Rattle.pieces.specs.Given.{Given, given, givenAll}
-use Rattle.pieces.proofs.Cuts.{settled, afterTurn, done, lastTurn, final, scan, settled-going}
-use Rattle.pieces.proofs.Kept.{Kept, Held, Staged, Beyonds, Calm, Within, bytes-snoc, count-snoc, laid-held, kept-pass, laid-in, kept-laid, first-in, kept-first}
-use Rattle.pieces.proofs.Kept.{kept-partly, kept-range}
+use Rattle.pieces.specs.Expected.{Expected, longest}
+use Rattle.pieces.specs.Given.{given, givenAll}
+use Rattle.pieces.proofs.Cuts.{settled, afterTurn, settled-going}
+use Rattle.pieces.proofs.Kept.{Kept, Held, Staged, Calm, Within, laid-held, kept-pass, laid-in, kept-laid, first-in, kept-first}
+use Rattle.pieces.proofs.Kept.{kept-range}
 use Rattle.pieces.proofs.Pairs.{Shape, alone, pair, shape}
-use Rattle.pieces.proofs.Parts.{Begun, Whole, Stepped, stepped, same-test}
-use Rattle.pieces.proofs.Phases.{Ranges, Sized, Goes, first-sized}
-use Rattle.pieces.proofs.Turns.{Going, held-length, going-begin, step-goes, kept-pound}
-use Rattle.pieces.proofs.Unfinished.{startOf, breaks-off}
-use Prim.Native.Nat.{ℕ, zero, suc, _+_, _-_, _≤_, _<_}
+use Rattle.pieces.proofs.Phases.{Goes, first-sized}
+use Rattle.pieces.proofs.Turns.{held-length, going-begin, step-goes, kept-pound}
+use Prim.Native.Nat.{ℕ, _+_, _-_, _≤_, _<_}
 use mathlib.Core.Path.{_≡_, refl, sym, ap, subst, _∙_}
 use mathlib.Core.Bool.{Bool, true, false, _&&_}
-use mathlib.Core.List.{List, [], _∷_, _++_, append-assoc, append-nil}
-use lib.ListN.{length, take, drop, length-append}
+use mathlib.Core.List.{List, [], _∷_, _++_}
+use lib.ListN.{length, take, drop}
 use lib.Seq.{take-at, drop-append-le}
-use lib.Dec.{eqb, leb, ltb}
-use native.Mathlib.Nat.{add-assoc, add-zero}
+use lib.Dec.{eqb, ltb}
 use native.Mathlib.Omega.{arith}
-use borrow.Author.Tests.{ltb-true, ltb-false, leb-true, leb-false, eqb-true, lt-ltb, le-ltb, le-leb}
+use borrow.Author.Tests.{ltb-true, ltb-false, eqb-true}
 
 -- ---- the machine's state
 

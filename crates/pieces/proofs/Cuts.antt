@@ -1,13 +1,12 @@
 -- Where a text is cut does not matter: the driver gives what the turns give over all bytes of all pieces, and then the end.
 use Rattle.items.specs.declared.Outcome.{Outcome}
-use Rattle.items.specs.declared.Phase.{Phase}
 use Rattle.items.specs.declared.Phase.the-variants.{AfterHash}
 use Rattle.items.specs.Items.{Place, itemOf, itemsOf, rangeAfter, extentItems}
 use Rattle.items.specs.Kinds as kind
 use Rattle.items.specs.Machine.{finishOf}
 use Rattle.items.specs.Meaning.{Meaning, means, source, meaningOf}
 use Rattle.laws.specs.Choice.{if_then_else_}
-use Rattle.laws.proofs.Choice.{by-bool, if-all}
+use Rattle.laws.proofs.Choice.{by-bool}
 use Rattle.chars.specs.Blank.{isBlank}
 use Rattle.pieces.specs.declared.Beyond.{Beyond}
 use Rattle.pieces.specs.declared.Beyond.the-variants.{End, Char}
@@ -17,7 +16,7 @@ use Rattle.pieces.specs.declared.State.{State}
 use Rattle.pieces.specs.Bounds.{inBounds}
 use Rattle.pieces.specs.Calls.{What, item, more, finished, refused, Reply, reply, lastOf, itemSoFar, becomes, Turn, on, off, beyond}
 use Rattle.pieces.specs.Calls.{gives, report, ends, stopped, turnOf, after, feedOf, second, pieceStage, pieceOf, declared, replied, unlessCut}
-use Rattle.pieces.specs.Calls.{endStage, endUnlessStopped, endOf}
+use Rattle.pieces.specs.Calls.{endUnlessStopped, endOf}
 use Rattle.pieces.specs.Drive.{heed, unlessTaken, pieceCalls, endCalls, handOver, joined}
 use Rattle.pieces.specs.Expected.{Expected, longest}
 use Rattle.pieces.specs.Expected as word
@@ -25,15 +24,15 @@ use Rattle.pieces.specs.Given.{given}
 use Rattle.pieces.proofs.Kept.{Kept, Held, Staged, Calm, Within, kept-bounded, kept-end, kept-declared, kept-waiting, kept-range}
 use Rattle.pieces.proofs.Pairs.{Shape, alone, pair, shape}
 use Rattle.pieces.proofs.Phases.{Ranges, finish-ranges}
-use Rattle.pieces.proofs.Turns.{Going, Waits, Left, held-length, Turned, turned, going-on, going-declared, waits-declared, end-going}
-use Prim.Native.Nat.{ℕ, zero, suc, _+_, _*_, _≤_, _<_}
+use Rattle.pieces.proofs.Turns.{Going, Waits, Left, held-length, Turned, turned, going-on}
+use Prim.Native.Nat.{ℕ, zero, suc, _+_, _*_, _≤_}
 use mathlib.Core.Path.{_≡_, refl, sym, ap, subst, _∙_}
 use mathlib.Core.Bool.{Bool, true, false, _&&_}
-use mathlib.Core.List.{List, [], _∷_, _++_, append-nil}
-use mathlib.Core.Logic.{_⊎_, inl, inr, ⊎-elim}
-use lib.ListN.{length, take, drop}
+use mathlib.Core.List.{List, [], _∷_, _++_}
+use mathlib.Core.Logic.{_⊎_, inl, inr}
+use lib.ListN.{length, drop}
 use lib.Seq.{drop-drop}
-use lib.Dec.{eqb, ltb}
+use lib.Dec.{eqb}
 use native.Mathlib.Nat.{le-refl}
 use native.Mathlib.Omega.{arith}
 use borrow.Author.Tests.{le-ltb}

@@ -3,19 +3,18 @@
 use Rattle.chars.specs.declared.State.{State as Begins}
 use Rattle.chars.specs.declared.Step.{Step}
 use Rattle.chars.specs.declared.Step.the-variants as steps
-use Rattle.chars.specs.Encode.{utf8, width, bytesOf}
+use Rattle.chars.specs.Encode.{width, bytesOf}
 use Rattle.chars.specs.Machine.{step, start, told, run}
-use Rattle.chars.specs.Utf8.{Sequence, read, broken, short, sequences, chars}
+use Rattle.chars.specs.Utf8.{Sequence, read, broken, short, chars}
 use Rattle.chars.proofs.Good.{chars-encoded}
 use Rattle.chars.proofs.Run.{run-sequences}
-use Rattle.items.specs.declared.Phase.{Phase}
 use Rattle.items.specs.declared.Phase.the-variants.{AfterHash}
 use Rattle.items.specs.Items.{Place, Item, rangeAfter, extentItems, items, kept, byteCount}
 use Rattle.items.specs.Machine.{finishOf}
 use Rattle.items.specs.Meaning.{meaningOf}
 use Rattle.items.specs.Readers.{soFar}
 use Rattle.items.specs.Run as M
-use Rattle.items.specs.Whole.{limit, isMode, inReport}
+use Rattle.items.specs.Whole.{limit, inReport}
 use Rattle.items.proofs.Ready.{ready}
 use Rattle.items.proofs.Run.{advance-on, advance-after, run-items}
 use Rattle.items.proofs.Skipped.{kept-append}
@@ -27,13 +26,13 @@ use Rattle.pieces.specs.declared.Part.{Part}
 use Rattle.pieces.specs.declared.Stage.{Stage}
 use Rattle.pieces.specs.declared.Stage.the-variants.{Opening, Pound, FirstLine, Idle, Busy, Waiting, Stopped}
 use Rattle.pieces.specs.declared.State.{State}
-use Rattle.pieces.specs.Calls.{whole, lastOf, itemSoFar, Turn, on, stopped, ends, report, onStage, partly, turnOf, fresh, openOf, Reply, reply, more, refused}
+use Rattle.pieces.specs.Calls.{lastOf, itemSoFar, Turn, on, stopped, ends, report, onStage, partly, turnOf, fresh, openOf, reply, more, refused}
 use Rattle.pieces.specs.Drive.{prepend, handOver, drive, joined}
-use Rattle.pieces.specs.Expected.{Expected, longest, Unfinished, nothing, from, unfinished, Ending, clean, stop, grown, endingOf, expectedBy, expected}
+use Rattle.pieces.specs.Expected.{Expected, longest, Unfinished, from, unfinished, Ending, clean, stop, grown, endingOf, expectedBy, expected}
 use Rattle.pieces.specs.Expected as word
 use Rattle.pieces.specs.Given.{Given, given, givenAll}
 use Rattle.pieces.proofs.Agree.{modeOf, view, Arrives, Does, goes, tooLong, gives-all, stage-does}
-use Rattle.pieces.proofs.Cuts.{afterTurn, done, lastTurn, final, scan, cut}
+use Rattle.pieces.proofs.Cuts.{afterTurn, done, lastTurn, scan, cut}
 use Rattle.pieces.proofs.Kept.{Kept, Held, Staged, Calm, bytes-snoc, count-snoc, kept-partly}
 use Rattle.pieces.proofs.Pairs.{shape}
 use Rattle.pieces.proofs.Parts.{Begun, Whole, Stepped, stepped, same-test}
@@ -45,7 +44,7 @@ use mathlib.Core.Bool.{Bool, true, false}
 use mathlib.Core.List.{List, [], _∷_, _++_, append-assoc, append-nil}
 use mathlib.Core.Logic.{inl}
 use lib.ListN.{length, take, drop, length-append}
-use lib.Dec.{eqb, leb, ltb}
+use lib.Dec.{eqb, leb}
 use native.Mathlib.Nat.{add-assoc, add-zero}
 use native.Mathlib.Omega.{arith}
 use borrow.Author.Tests.{leb-true, leb-false, eqb-true, lt-ltb, le-ltb, ne-eqb}

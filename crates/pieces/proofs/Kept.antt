@@ -15,7 +15,7 @@ use Rattle.items.specs.Items.{Place, range, characterSets, rangeAfter, byteCoun
 use Rattle.items.specs.Machine.{onFirst}
 use Rattle.items.specs.Meaning.{characterOf, charInside}
 use Rattle.items.specs.Readers.{SoFar}
-use Rattle.items.specs.Whole.{limit, isMode}
+use Rattle.items.specs.Whole.{limit}
 use Rattle.items.proofs.Splits.{length-bytes}
 use Rattle.items.proofs.Width.{wide, width-le, width-utf8}
 use Rattle.laws.specs.Choice.{if_then_else_}
@@ -25,7 +25,6 @@ use Rattle.laws.proofs.Choice.{if-all}
 use Rattle.laws.proofs.Lent.{length-written}
 use Rattle.pieces.specs.declared.Beyond.{Beyond}
 use Rattle.pieces.specs.declared.Beyond.the-variants.{End, Char}
-use Rattle.pieces.specs.declared.Marks.{Marks}
 use Rattle.pieces.specs.declared.Part.{Part}
 use Rattle.pieces.specs.declared.Stage.{Stage}
 use Rattle.pieces.specs.declared.Stage.the-variants.{Opening, Pound, FirstLine, Idle, Busy, Waiting, Stopped}
@@ -37,14 +36,13 @@ use Rattle.pieces.proofs.Parts.{Begun, part-bounded}
 use Rattle.pieces.proofs.Phases.{Ranges, Settled, Sized, first-sized}
 use Prim.Native.Nat.{ℕ, _+_, _≤_, _<_}
 use mathlib.Core.Path.{_≡_, refl, sym, ap, _∙_}
-use mathlib.Core.Bool.{Bool, true, false, _&&_}
+use mathlib.Core.Bool.{Bool, true, _&&_}
 use mathlib.Core.List.{List, [], _∷_, _++_, append-assoc, append-nil}
-use mathlib.Core.Logic.{_⊎_, inl, inr, ⊎-elim}
+use mathlib.Core.Logic.{_⊎_, ⊎-elim}
 use lib.ListN.{length, take, drop, length-append, length-drop, drop-of-length-le}
-use lib.Seq.{take-at, drop-at, drop-append-le, length-take-le}
+use lib.Seq.{take-at, drop-append-le, length-take-le}
 use lib.Dec.{eqb}
 use native.Mathlib.Omega.{arith}
-use native.Mathlib.Nat.{add-zero}
 use borrow.Author.Tests.{lt-ltb, le-leb, eq-eqb}
 
 -- ---- a buffer with some bytes laid into it

@@ -3,9 +3,8 @@
 use Rattle.chars.specs.declared.State.{State}
 use Rattle.chars.specs.declared.Step.{Step}
 use Rattle.chars.specs.declared.Step.the-variants as steps
-use Rattle.chars.specs.declared.Decoded.{Decoded}
 use Rattle.chars.specs.declared.Decoded.the-variants as decoded
-use Rattle.chars.specs.Utf8.{within, ascii, first, front, placed}
+use Rattle.chars.specs.Utf8.{within, ascii, first}
 use Rattle.chars.specs.Encode.{isScalar, utf8, width}
 use Rattle.chars.specs.Machine.{step, start, told, reads}
 use Rattle.chars.proofs.Agree.{reads-front}
@@ -17,13 +16,13 @@ use Rattle.pieces.specs.declared.Part.{Part}
 use Rattle.pieces.specs.Bounds.{partBounds}
 use Prim.Native.Nat.{ℕ, zero, suc, _+_, _-_, _*_, _^_, _%_, _≤_, _<_}
 use mathlib.Core.Path.{_≡_, refl, sym, ap, _∙_}
-use mathlib.Core.Bool.{Bool, true, false, _&&_}
+use mathlib.Core.Bool.{true, _&&_}
 use mathlib.Core.List.{List, [], _∷_, _++_, append-assoc, append-nil}
-use lib.ListN.{length, take, length-append}
+use lib.ListN.{length, length-append}
 use lib.Seq.{take-all}
 use lib.Dec.{eqb, leb, ltb}
 use native.Mathlib.Omega.{arith}
-use borrow.Author.Tests.{eqb-true, eqb-false, eq-eqb, ne-eqb, le-leb, lt-ltb, leb-true}
+use borrow.Author.Tests.{eqb-true, eqb-false, eq-eqb, ne-eqb, lt-ltb}
 
 -- the numbers of a character of which so many bytes were taken
 abbrev pub Wants : ℕ → ℕ → ℕ → Type 0

@@ -6,7 +6,7 @@ use Rattle.pieces.specs.declared.Stage.{Stage}
 use Rattle.pieces.specs.declared.Stage.the-variants.{Opening, Pound, FirstLine, Idle, Busy, Waiting, Stopped}
 use Rattle.pieces.specs.declared.State.{State}
 use Rattle.pieces.specs.Bounds.{inBounds}
-use Rattle.pieces.specs.Calls.{What, item, more, finished, refused, Reply, reply, pieceOf, endOf, second, turnOf, fresh}
+use Rattle.pieces.specs.Calls.{What, item, more, finished, refused, Reply, pieceOf, second, turnOf, fresh}
 use Rattle.pieces.specs.Drive.{heed, prepend, unlessTaken, pieceCalls, endCalls, handOver, joined}
 use Rattle.pieces.specs.Expected.{Expected, longest, expected}
 use Rattle.pieces.specs.Expected as word
@@ -17,8 +17,8 @@ use Rattle.pieces.proofs.Demand.{fresh-agrees}
 use Rattle.pieces.proofs.Fewest.{enough, unfinished}
 use Rattle.pieces.proofs.Kept.{Calm, kept-bounded}
 use Rattle.pieces.proofs.Parts.{never-ff}
-use Rattle.pieces.proofs.Stands.{Repeats, repeats}
-use Rattle.pieces.proofs.Turns.{Going, Waits, Halted, Left, Leaves, fed, going-on, going-fresh}
+use Rattle.pieces.proofs.Stands.{repeats}
+use Rattle.pieces.proofs.Turns.{Going, Halted, Left, Leaves, fed, going-on, going-fresh}
 use Prim.Native.Nat.{ℕ, suc, _+_, _*_, _≤_, _<_}
 use mathlib.Core.Path.{_≡_, refl, sym, ap, subst, _∙_}
 use mathlib.Core.Bool.{Bool, true, false}

@@ -13,20 +13,19 @@ use Rattle.pieces.specs.declared.Stage.{Stage}
 use Rattle.pieces.specs.declared.Stage.the-variants.{Opening, Pound, FirstLine, Idle, Busy, Waiting, Stopped}
 use Rattle.pieces.specs.declared.State.{State}
 use Rattle.pieces.specs.Bounds.{inBounds}
-use Rattle.pieces.specs.Calls.{What, item, more, finished, refused, Reply, reply, textAfter, stopped, lastOf, itemSoFar, gives, report, ends, beyond, second, feedOf}
+use Rattle.pieces.specs.Calls.{What, item, more, finished, refused, Reply, reply, textAfter, stopped, lastOf, itemSoFar, gives, report, ends, feedOf}
 use Rattle.pieces.specs.Calls.{pieceStage, pieceOf, declared, replied, unlessCut, endStage, endUnlessStopped, endOf}
 use Rattle.pieces.specs.Expected.{longest}
-use Rattle.pieces.specs.Given.{Given}
-use Rattle.pieces.specs.Produced.{Produced, opened, pieced, ended}
+use Rattle.pieces.specs.Produced.{Produced, ended}
 use Rattle.pieces.proofs.Cuts.{piece-works, end-works}
 use Rattle.pieces.proofs.Kept.{Stops, Calm, kept-bounded}
 use Rattle.pieces.proofs.Pairs.{Shape, alone, pair, shape}
-use Rattle.pieces.proofs.Turns.{Going, Waits, Halted, Left, Leaves, Safe, goes, waits, halted, safe, fed, end-going, end-waits, never-27}
+use Rattle.pieces.proofs.Turns.{Halted, Left, Safe, goes, waits, halted, safe, fed, end-going, end-waits, never-27}
 use Prim.Native.Nat.{ℕ, _≤_}
 use mathlib.Core.Path.{_≡_, refl, sym, ap, subst, _∙_}
-use mathlib.Core.Bool.{Bool, true, false, _&&_}
-use mathlib.Core.List.{List, [], _∷_, _++_}
-use mathlib.Core.Logic.{_⊎_, inl, inr, ⊎-elim}
+use mathlib.Core.Bool.{Bool, true, _&&_}
+use mathlib.Core.List.{List, []}
+use mathlib.Core.Logic.{⊎-elim}
 use lib.ListN.{length, take, drop}
 use lib.Seq.{take-at, drop-at}
 use lib.Dec.{eqb, ltb}

@@ -11,14 +11,14 @@ use Rattle.items.specs.declared.Outcome.{Outcome}
 use Rattle.items.specs.declared.Phase.{Phase}
 use Rattle.items.specs.declared.Phase.the-variants.{AfterHash}
 use Rattle.items.specs.Classes.{firstOf}
-use Rattle.items.specs.Items.{Place, itemOf, itemsOf, rangeAfter, extentItems, byteCount}
+use Rattle.items.specs.Items.{Place, itemsOf, rangeAfter, extentItems, byteCount}
 use Rattle.items.specs.Kinds as kind
 use Rattle.items.specs.Machine.{stepOf, finishOf, onFirst}
 use Rattle.items.specs.Meaning.{Meaning, meaningOf}
 use Rattle.items.specs.Whole.{limit, isMode}
 use Rattle.laws.specs.Choice.{if_then_else_}
 use Rattle.laws.specs.Quoted.{code}
-use Rattle.laws.proofs.Choice.{by-bool, if-all, if-is}
+use Rattle.laws.proofs.Choice.{if-all, if-is}
 use Rattle.pieces.specs.declared.Beyond.{Beyond}
 use Rattle.pieces.specs.declared.Beyond.the-variants.{End, Char}
 use Rattle.pieces.specs.declared.Stage.{Stage}
@@ -30,21 +30,21 @@ use Rattle.pieces.specs.Calls.{gives, report, ends, onNext, onStage, par
 use Rattle.pieces.specs.Calls.{endStage, endUnlessStopped, endOf, fresh, openOf}
 use Rattle.pieces.specs.Expected.{longest}
 use Rattle.pieces.specs.Produced.{Produced, opened, pieced, ended}
-use Rattle.pieces.proofs.Kept.{Kept, HeldIn, Held, Staged, Beyonds, Calm, Within, kept-bounded, kept-pass, laid-in, kept-laid, first-in, kept-first, kept-begin}
+use Rattle.pieces.proofs.Kept.{Kept, HeldIn, Held, Staged, Beyonds, Calm, Within, kept-bounded, kept-pass, laid-in, kept-laid, first-in, kept-first}
 use Rattle.pieces.proofs.Kept.{kept-stopped, kept-end, kept-partly, kept-declared, kept-waiting, kept-range, none-begun}
 use Rattle.pieces.proofs.Pairs.{Shape, alone, pair, shape}
-use Rattle.pieces.proofs.Parts.{Begun, Stepped, stepped}
+use Rattle.pieces.proofs.Parts.{Stepped, stepped}
 use Rattle.pieces.proofs.Phases.{Ranges, Sized, Goes, goes-on, first-sized, finish-ranges}
 use Prim.Native.Nat.{ℕ, _+_, _≤_, _<_}
 use mathlib.Core.Path.{_≡_, refl, sym, ap, subst, _∙_}
 use mathlib.Core.Bool.{Bool, true, false, _&&_}
 use mathlib.Core.List.{List, [], _∷_, _++_}
 use mathlib.Core.Logic.{_⊎_, inl, inr, ⊎-elim}
-use lib.ListN.{length, take, drop, length-append, length-replicate}
+use lib.ListN.{length, take, length-append, length-replicate}
 use lib.Seq.{length-take-le}
 use lib.Dec.{eqb, leb, ltb}
 use native.Mathlib.Omega.{arith}
-use borrow.Author.Tests.{ltb-true, ltb-false, leb-true, leb-false, eqb-true}
+use borrow.Author.Tests.{ltb-true, ltb-false, leb-false, eqb-true}
 
 -- ---- what a turn leaves. e says whether the end was declared
 
