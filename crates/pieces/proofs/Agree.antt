@@ -79,7 +79,7 @@ module _ (bytes : List ℕ) where
     goes : (u : State) → Arrives s (q ++ (c ∷ [])) (f .after) u
         → ((go : State → Expected) → afterTurn t go ≡ prepend (givenAll bytes (kept (s .marks .skip) (f .out))) (go u)) → Does s q c f t
     tooLong : (st : ℕ) (p : Phase) (raw : List ℕ) → t ≡ stopped s 23 st → f .after ≡ M.state (M.busy st p raw) (s .marks .at + width c) (lastOf s)
-        → longest < s .marks .at + width c - st → st ≤ limit → Does s q c f t
+        → longest < s .marks .at + width c - st → Does s q c f t
 
   module _ {q g : List ℕ} {s : State} (k : Kept q g s) where
     -- ---- the items of an extent
@@ -147,7 +147,7 @@ module _ (bytes : List ℕ) where
             let n : ℕ = s .marks .len + width c in
             let f : M.Fed = M.onNext (report s) (Eat p) (lastOf s) st (itemSoFar s) c in
             if-is (Does s q c f) (ltb longest n)
-            (λ e. tooLong st p (take (s .marks .len) (s .buf) ++ utf8 c) refl refl (omega (arith, ltb-true longest n e, h .ends)) (omega (arith, h .ends, k .far)))
+            (λ e. tooLong st p (take (s .marks .len) (s .buf) ++ utf8 c) refl refl (omega (arith, ltb-true longest n e, h .ends)))
             (λ e. goes _
             (record {
               kept = kept-laid k c scalar room (Busy st p) (s .marks .len) n (lastOf s) (k .last) refl (ltb-false longest n e)

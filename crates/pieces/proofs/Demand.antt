@@ -305,7 +305,7 @@ module _ (bytes : List ℕ) where
           ∙ next-agrees u a
           ∙ sym (ap (expectedBy (report s) (s .marks .skip) bytes)
           (ends-on (machine-grown (view u .mode) (u .marks .at) (lastOf u) later later (sym (a .same)) (a .kept .place ∙ sym past-is) (not-grown (a .kept) (a .calm) q later))))
-      char-agrees t (tooLong st p raw e f long far) =
+      char-agrees t (tooLong st p raw e f long) =
           let later : Ending = endingOf (report s) (length bytes) (q ++ (c ∷ [])) rest in
           ap (λ (t : Turn). prepend (gave (report s) (s .marks .skip) q) (afterTurn t (λ v. scan v bs))) e
           ∙ stops (report s) (s .marks .skip) q 23 st

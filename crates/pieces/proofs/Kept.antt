@@ -2,7 +2,6 @@
 -- buffer holds the item's bytes, which lie right before the place, and every number is within its bounds. One law for each way in which
 -- a state becomes another.
 use Rattle.chars.specs.Encode.{isScalar, utf8, width, bytesOf}
-use Rattle.chars.specs.Blank.{isBlank}
 use Rattle.chars.proofs.Good.{Scalars}
 use Rattle.items.specs.declared.CharValue.{CharValue}
 use Rattle.items.specs.declared.CharValue.the-variants.{Scalar, Wrong}
@@ -10,9 +9,7 @@ use Rattle.items.specs.declared.Outcome.{Outcome}
 use Rattle.items.specs.declared.Outcome.the-variants.{Token, Str, HereStr, Word, Run, Lined, Keyword, Character, Error, ErrorAt}
 use Rattle.items.specs.declared.Phase.{Phase}
 use Rattle.items.specs.declared.Phase.the-variants as ph
-use Rattle.items.specs.Classes.{firstOf}
 use Rattle.items.specs.Items.{Place, range, characterSets, rangeAfter, byteCount}
-use Rattle.items.specs.Machine.{onFirst}
 use Rattle.items.specs.Meaning.{characterOf, charInside}
 use Rattle.items.specs.Readers.{SoFar}
 use Rattle.items.specs.Whole.{limit}
@@ -21,7 +18,6 @@ use Rattle.items.proofs.Width.{wide, width-le, width-utf8}
 use Rattle.laws.specs.Choice.{if_then_else_}
 use Rattle.laws.specs.Quoted.{code}
 use Rattle.laws.specs.Lent.{written}
-use Rattle.laws.proofs.Choice.{if-all}
 use Rattle.laws.proofs.Lent.{length-written}
 use Rattle.pieces.specs.declared.Beyond.{Beyond}
 use Rattle.pieces.specs.declared.Beyond.the-variants.{End, Char}
@@ -30,10 +26,10 @@ use Rattle.pieces.specs.declared.Stage.{Stage}
 use Rattle.pieces.specs.declared.Stage.the-variants.{Opening, Pound, FirstLine, Idle, Busy, Waiting, Stopped}
 use Rattle.pieces.specs.declared.State.{State}
 use Rattle.pieces.specs.Bounds.{doneBounds, phaseBounds, beyondBounds, stageBounds, inBounds}
-use Rattle.pieces.specs.Calls.{whole, becomes, lastOf, laidAt, begin, partly, declared}
+use Rattle.pieces.specs.Calls.{whole, becomes, lastOf, laidAt, partly, declared}
 use Rattle.pieces.specs.Expected.{longest}
 use Rattle.pieces.proofs.Parts.{Begun, part-bounded}
-use Rattle.pieces.proofs.Phases.{Ranges, Settled, Sized, first-sized}
+use Rattle.pieces.proofs.Phases.{Ranges, Settled, Sized}
 use Prim.Native.Nat.{ℕ, _+_, _≤_, _<_}
 use mathlib.Core.Path.{_≡_, refl, sym, ap, _∙_}
 use mathlib.Core.Bool.{Bool, true, _&&_}
@@ -262,11 +258,6 @@ module _ {q g : List ℕ} {s : State} (k : Kept q g s) where
         → Staged (q ++ (c ∷ [])) (becomes s (laidAt 0 (utf8 c) (s .buf)) b (s .marks .at + width c) (width c) last) b
         → Kept (q ++ (c ∷ [])) [] (becomes s (laidAt 0 (utf8 c) (s .buf)) b (s .marks .at + width c) (width c) last)
     kept-first b last w h = kept-laid b 0 (width c) last w (omega arith) (omega (arith, width-le c)) h
-
-    pub kept-begin : (last : Place) → Within last → Kept (q ++ (c ∷ [])) [] (begin s last c)
-    kept-begin last w =
-        let b : Stage = Busy (s .marks .at) (onFirst (firstOf c)) in
-        if-all (Kept (q ++ (c ∷ [])) []) (isBlank c) (kept-pass Idle last w tt) (kept-first b last w (first-in b last, first-sized (width c) c))
 
   -- a stop
   pub kept-stopped : (n p : ℕ) → Stops n → p ≤ limit → Kept q [] (becomes s (s .buf) (Stopped n p) (s .marks .at) 0 (lastOf s))

@@ -61,14 +61,7 @@ part-bounded p h = go (p .count) (p .state .need) (p .state .code) h
     go (suc (suc (suc zero))) (suc (suc n)) code h = absurd (omega arith)
     go (suc (suc (suc (suc n)))) need code h = absurd h
 
--- at most three bytes are held back; a byte is awaited exactly within a character
-pub part-small : (k need code : ℕ) → Wants k need code → k ≤ 3
-part-small zero need code h = omega arith
-part-small (suc zero) need code h = omega arith
-part-small (suc (suc zero)) need code h = omega arith
-part-small (suc (suc (suc zero))) need code h = omega arith
-part-small (suc (suc (suc (suc n)))) need code h = absurd h
-
+-- a byte is awaited exactly within a character
 pub same-test : (k need code : ℕ) → Wants k need code → eqb need 0 ≡ eqb k 0
 same-test zero need code h = eq-eqb need 0 h
 same-test (suc zero) need code h = ne-eqb need 0 (λ e. omega arith)
