@@ -2,7 +2,6 @@
 -- buffer holds the item's bytes, which lie right before the place, and every number is within its bounds. One law for each way in which
 -- a state becomes another.
 use Rattle.chars.specs.Encode.{isScalar, utf8, width, bytesOf}
-use Rattle.chars.specs.Blank.{isBlank}
 use Rattle.chars.proofs.Good.{Scalars}
 use Rattle.items.specs.declared.CharValue.{CharValue}
 use Rattle.items.specs.declared.CharValue.the-variants.{Scalar, Wrong}
@@ -10,47 +9,42 @@ use Rattle.items.specs.declared.Outcome.{Outcome}
 use Rattle.items.specs.declared.Outcome.the-variants.{Token, Str, HereStr, Word, Run, Lined, Keyword, Character, Error, ErrorAt}
 use Rattle.items.specs.declared.Phase.{Phase}
 use Rattle.items.specs.declared.Phase.the-variants as ph
-use Rattle.items.specs.Classes.{firstOf}
 use Rattle.items.specs.Items.{Place, range, characterSets, rangeAfter, byteCount}
-use Rattle.items.specs.Machine.{onFirst}
 use Rattle.items.specs.Meaning.{characterOf, charInside}
 use Rattle.items.specs.Readers.{SoFar}
-use Rattle.items.specs.Whole.{limit, isMode}
+use Rattle.items.specs.Whole.{limit}
 use Rattle.items.proofs.Splits.{length-bytes}
 use Rattle.items.proofs.Width.{wide, width-le, width-utf8}
 use Rattle.laws.specs.Choice.{if_then_else_}
 use Rattle.laws.specs.Quoted.{code}
 use Rattle.laws.specs.Lent.{written}
-use Rattle.laws.proofs.Choice.{if-all}
 use Rattle.laws.proofs.Lent.{length-written}
 use Rattle.pieces.specs.declared.Beyond.{Beyond}
 use Rattle.pieces.specs.declared.Beyond.the-variants.{End, Char}
-use Rattle.pieces.specs.declared.Marks.{Marks}
 use Rattle.pieces.specs.declared.Part.{Part}
 use Rattle.pieces.specs.declared.Stage.{Stage}
 use Rattle.pieces.specs.declared.Stage.the-variants.{Opening, Pound, FirstLine, Idle, Busy, Waiting, Stopped}
 use Rattle.pieces.specs.declared.State.{State}
 use Rattle.pieces.specs.Bounds.{doneBounds, phaseBounds, beyondBounds, stageBounds, inBounds}
-use Rattle.pieces.specs.Calls.{whole, becomes, lastOf, laidAt, begin, partly, declared}
+use Rattle.pieces.specs.Calls.{whole, becomes, lastOf, laidAt, partly, declared}
 use Rattle.pieces.specs.Expected.{longest}
 use Rattle.pieces.proofs.Parts.{Begun, part-bounded}
-use Rattle.pieces.proofs.Phases.{Ranges, Settled, Sized, first-sized}
+use Rattle.pieces.proofs.Phases.{Ranges, Settled, Sized}
 use Prim.Native.Nat.{ℕ, _+_, _≤_, _<_}
 use mathlib.Core.Path.{_≡_, refl, sym, ap, _∙_}
-use mathlib.Core.Bool.{Bool, true, false, _&&_}
+use mathlib.Core.Bool.{Bool, true, _&&_}
 use mathlib.Core.List.{List, [], _∷_, _++_, append-assoc, append-nil}
-use mathlib.Core.Logic.{_⊎_, inl, inr, ⊎-elim}
+use mathlib.Core.Logic.{_⊎_, ⊎-elim}
 use lib.ListN.{length, take, drop, length-append, length-drop, drop-of-length-le}
-use lib.Seq.{take-at, drop-at, drop-append-le, length-take-le}
+use lib.Seq.{take-at, drop-append-le, length-take-le}
 use lib.Dec.{eqb}
 use native.Mathlib.Omega.{arith}
-use native.Mathlib.Nat.{add-zero}
 use borrow.Author.Tests.{lt-ltb, le-leb, eq-eqb}
 
 -- ---- a buffer with some bytes laid into it
 
 module _ (n : ℕ) (w buf : List ℕ) where
-  laid-held : n ≤ length buf → take (n + length w) (laidAt n w buf) ≡ take n buf ++ w
+  pub laid-held : n ≤ length buf → take (n + length w) (laidAt n w buf) ≡ take n buf ++ w
   laid-held h =
       ap (take (n + length w)) (sym (append-assoc (take n buf) w (drop (length w) (drop n buf))))
       ∙ take-at (take n buf ++ w) _ (n + length w) (length-append (take n buf) w ∙ ap (λ (k : ℕ). k + length w) (length-take-le n buf h))
@@ -133,7 +127,7 @@ pub record Kept (q g : List ℕ) (s : State) : Type 0 where
 
 -- ---- a state that is kept is in bounds
 
-both : {a b : Bool} → a ≡ true → b ≡ true → (a && b) ≡ true
+pub both : {a b : Bool} → a ≡ true → b ≡ true → (a && b) ≡ true
 both e f = rw (e, f)
 
 done-bounded : (o : Outcome) → Settled o → doneBounds o ≡ true
@@ -148,7 +142,7 @@ done-bounded Character h = absurd h
 done-bounded (Error n d) h = le-leb _ _ h
 done-bounded (ErrorAt n d a b) h = both (both (le-leb _ _ (h .0)) (le-leb _ _ (h .1 .0))) (le-leb _ _ (h .1 .1))
 
-phase-bounded : (n : ℕ) (p : Phase) → Sized n p → phaseBounds p n ≡ true
+pub phase-bounded : (n : ℕ) (p : Phase) → Sized n p → phaseBounds p n ≡ true
 phase-bounded n ph.InLine h = refl
 phase-bounded n ph.AfterComma h = refl
 phase-bounded n ph.AfterHash h = refl
@@ -201,7 +195,7 @@ kept-bounded {q} {g} {s} k =
 -- ---- how a state becomes another
 
 pub none-begun : Begun [] whole
-none-begun = record { count = refl; reached = λ s. refl; wants = refl }
+none-begun = record { count = refl; reached = λ s. refl; wants = refl; high = omega arith }
 
 module _ {q g : List ℕ} {s : State} (k : Kept q g s) where
   -- with the next character, which is c
@@ -264,11 +258,6 @@ module _ {q g : List ℕ} {s : State} (k : Kept q g s) where
         → Staged (q ++ (c ∷ [])) (becomes s (laidAt 0 (utf8 c) (s .buf)) b (s .marks .at + width c) (width c) last) b
         → Kept (q ++ (c ∷ [])) [] (becomes s (laidAt 0 (utf8 c) (s .buf)) b (s .marks .at + width c) (width c) last)
     kept-first b last w h = kept-laid b 0 (width c) last w (omega arith) (omega (arith, width-le c)) h
-
-    pub kept-begin : (last : Place) → Within last → Kept (q ++ (c ∷ [])) [] (begin s last c)
-    kept-begin last w =
-        let b : Stage = Busy (s .marks .at) (onFirst (firstOf c)) in
-        if-all (Kept (q ++ (c ∷ [])) []) (isBlank c) (kept-pass Idle last w tt) (kept-first b last w (first-in b last, first-sized (width c) c))
 
   -- a stop
   pub kept-stopped : (n p : ℕ) → Stops n → p ≤ limit → Kept q [] (becomes s (s .buf) (Stopped n p) (s .marks .at) 0 (lastOf s))
@@ -374,4 +363,4 @@ module _ {q g : List ℕ} {s : State} (k : Kept q g s) where
       sets (Scalar c) = k .last
       sets (Wrong e d) = (l, r)
   kept-range st (Error n d) i h l r = k .last
-  kept-range st (ErrorAt n d a b) i h l r = h
+  kept-range st (ErrorAt n d a b) i h l r = h .1

@@ -6,3 +6,14 @@ pub mod Turns
 pub mod Laid
 pub mod Bounded
 pub mod Gives
+pub mod Cuts
+pub mod Unfinished
+pub mod Agree
+pub mod Demand
+pub mod Fewest
+pub mod Stands
+pub mod Resume
+pub mod Shown
+pub mod Sounds
+pub mod Steps
+pub mod Replies

@@ -4,15 +4,15 @@ use Rattle.items.specs.declared.CharValue.the-variants.{Scalar, Wrong}
 use Rattle.items.specs.declared.Outcome.{Outcome}
 use Rattle.items.specs.declared.Outcome.the-variants.{Token, Str, HereStr, Word, Run, Lined, Keyword, Character, Error, ErrorAt}
 use Rattle.items.specs.Kinds as kind
-use Rattle.items.specs.Meaning.{Meaning, means, source, wordKind, wordMeans, runMeans, stringText, hereText, linedText, characterOf, charInside, characterMeans, meaningOf}
+use Rattle.items.specs.Meaning.{Meaning, means, source, wordKind, wordMeans, runMeans, characterOf, charInside, characterMeans, meaningOf}
 use Rattle.items.specs.Readers.{firstIs}
 use Rattle.numbers.specs.declared.Parsed.{Parsed}
 use Rattle.numbers.specs.declared.Parsed.the-variants as parsed
 use Rattle.numbers.specs.Grammar.{parseNumber}
 use Rattle.laws.specs.Quoted.{code}
 use Rattle.laws.proofs.Choice.{if-all, if-is}
-use Prim.Native.Nat.{ℕ, _+_, _≤_, _<_}
-use mathlib.Core.Path.{_≡_, refl}
+use Prim.Native.Nat.{ℕ, _+_, _<_}
+use mathlib.Core.Path.{_≡_}
 use mathlib.Core.Bool.{Bool, true, false, _&&_}
 use mathlib.Core.List.{List, [], _∷_}
 use lib.ListN.{length}

@@ -3,27 +3,26 @@
 use Rattle.chars.specs.declared.State.{State}
 use Rattle.chars.specs.declared.Step.{Step}
 use Rattle.chars.specs.declared.Step.the-variants as steps
-use Rattle.chars.specs.declared.Decoded.{Decoded}
 use Rattle.chars.specs.declared.Decoded.the-variants as decoded
-use Rattle.chars.specs.Utf8.{within, ascii, first, front, placed}
+use Rattle.chars.specs.Utf8.{within, ascii, first}
 use Rattle.chars.specs.Encode.{isScalar, utf8, width}
 use Rattle.chars.specs.Machine.{step, start, told, reads}
 use Rattle.chars.proofs.Agree.{reads-front}
 use Rattle.chars.proofs.Chars.{CharAt, char-at}
-use Rattle.chars.proofs.Table.{within-true}
+use Rattle.chars.proofs.Table.{within-true, within-above}
 use Rattle.laws.specs.Choice.{if_then_else_}
-use Rattle.laws.proofs.Choice.{if-is}
+use Rattle.laws.proofs.Choice.{by-bool, if-is}
 use Rattle.pieces.specs.declared.Part.{Part}
 use Rattle.pieces.specs.Bounds.{partBounds}
 use Prim.Native.Nat.{ℕ, zero, suc, _+_, _-_, _*_, _^_, _%_, _≤_, _<_}
 use mathlib.Core.Path.{_≡_, refl, sym, ap, _∙_}
-use mathlib.Core.Bool.{Bool, true, false, _&&_}
+use mathlib.Core.Bool.{true, _&&_}
 use mathlib.Core.List.{List, [], _∷_, _++_, append-assoc, append-nil}
-use lib.ListN.{length, take, length-append}
+use lib.ListN.{length, length-append}
 use lib.Seq.{take-all}
 use lib.Dec.{eqb, leb, ltb}
 use native.Mathlib.Omega.{arith}
-use borrow.Author.Tests.{eqb-true, eqb-false, eq-eqb, ne-eqb, le-leb, lt-ltb, leb-true}
+use borrow.Author.Tests.{eqb-true, eqb-false, eq-eqb, ne-eqb, lt-ltb}
 
 -- the numbers of a character of which so many bytes were taken
 abbrev pub Wants : ℕ → ℕ → ℕ → Type 0
@@ -38,6 +37,7 @@ pub record Begun (g : List ℕ) (p : Part) : Type 0 where
   pub count : p .count ≡ length g
   pub reached : (s : List ℕ) → reads start 0 (g ++ s) ≡ reads (p .state) (length g) s
   pub wants : Wants (p .count) (p .state .need) (p .state .code)
+  pub high : p .state .high ≤ 0xBF
 
 -- ---- the bounds
 
@@ -61,14 +61,7 @@ part-bounded p h = go (p .count) (p .state .need) (p .state .code) h
     go (suc (suc (suc zero))) (suc (suc n)) code h = absurd (omega arith)
     go (suc (suc (suc (suc n)))) need code h = absurd h
 
--- at most three bytes are held back; a byte is awaited exactly within a character
-pub part-small : (k need code : ℕ) → Wants k need code → k ≤ 3
-part-small zero need code h = omega arith
-part-small (suc zero) need code h = omega arith
-part-small (suc (suc zero)) need code h = omega arith
-part-small (suc (suc (suc zero))) need code h = omega arith
-part-small (suc (suc (suc (suc n)))) need code h = absurd h
-
+-- a byte is awaited exactly within a character
 pub same-test : (k need code : ℕ) → Wants k need code → eqb need 0 ≡ eqb k 0
 same-test zero need code h = eq-eqb need 0 h
 same-test (suc zero) need code h = ne-eqb need 0 (λ e. omega arith)
@@ -86,8 +79,8 @@ grows (suc (suc (suc zero))) c x l u h r = omega arith
 grows (suc (suc (suc (suc n)))) c x l u h r = absurd (omega arith)
 
 -- what a byte does to a character of which k bytes were taken
-abbrev Wanted : ℕ → Step → Type 0
-Wanted k (steps.More u) = Wants (k + 1) (u .need) (u .code)
+abbrev pub Wanted : ℕ → Step → Type 0
+Wanted k (steps.More u) = Wants (k + 1) (u .need) (u .code) × (u .high ≤ 0xBF)
 Wanted k (steps.Char c) = Unit {0}
 Wanted k steps.Bad = Unit {0}
 
@@ -96,14 +89,14 @@ unfolding first
 first-wants b =
     let P : Step → Type 0 = Wanted 0 in
     if-is P (ascii b) (λ _. tt) (λ _.
-    if-is P (within 0xC2 0xDF b) (λ e. let h = within-true 0xC2 0xDF b e in (omega arith, (omega arith, omega arith))) (λ _.
-    if-is P (within 0xE0 0xE0 b) (λ e. let h = within-true 0xE0 0xE0 b e in (omega arith, (omega arith, omega arith))) (λ _.
-    if-is P (within 0xE1 0xEC b) (λ e. let h = within-true 0xE1 0xEC b e in (omega arith, (omega arith, omega arith))) (λ _.
-    if-is P (within 0xED 0xED b) (λ e. let h = within-true 0xED 0xED b e in (omega arith, (omega arith, omega arith))) (λ _.
-    if-is P (within 0xEE 0xEF b) (λ e. let h = within-true 0xEE 0xEF b e in (omega arith, (omega arith, omega arith))) (λ _.
-    if-is P (within 0xF0 0xF0 b) (λ e. let h = within-true 0xF0 0xF0 b e in (omega arith, (omega arith, omega arith))) (λ _.
-    if-is P (within 0xF1 0xF3 b) (λ e. let h = within-true 0xF1 0xF3 b e in (omega arith, (omega arith, omega arith))) (λ _.
-    if-is P (within 0xF4 0xF4 b) (λ e. let h = within-true 0xF4 0xF4 b e in (omega arith, (omega arith, omega arith))) (λ _. tt)))))))))
+    if-is P (within 0xC2 0xDF b) (λ e. let h = within-true 0xC2 0xDF b e in ((omega arith, (omega arith, omega arith)), omega arith)) (λ _.
+    if-is P (within 0xE0 0xE0 b) (λ e. let h = within-true 0xE0 0xE0 b e in ((omega arith, (omega arith, omega arith)), omega arith)) (λ _.
+    if-is P (within 0xE1 0xEC b) (λ e. let h = within-true 0xE1 0xEC b e in ((omega arith, (omega arith, omega arith)), omega arith)) (λ _.
+    if-is P (within 0xED 0xED b) (λ e. let h = within-true 0xED 0xED b e in ((omega arith, (omega arith, omega arith)), omega arith)) (λ _.
+    if-is P (within 0xEE 0xEF b) (λ e. let h = within-true 0xEE 0xEF b e in ((omega arith, (omega arith, omega arith)), omega arith)) (λ _.
+    if-is P (within 0xF0 0xF0 b) (λ e. let h = within-true 0xF0 0xF0 b e in ((omega arith, (omega arith, omega arith)), omega arith)) (λ _.
+    if-is P (within 0xF1 0xF3 b) (λ e. let h = within-true 0xF1 0xF3 b e in ((omega arith, (omega arith, omega arith)), omega arith)) (λ _.
+    if-is P (within 0xF4 0xF4 b) (λ e. let h = within-true 0xF4 0xF4 b e in ((omega arith, (omega arith, omega arith)), omega arith)) (λ _. tt)))))))))
 
 -- within a character: the arm that a state with bytes to come takes
 within-wants : (k : ℕ) (t : State) (b : ℕ) → (t .need ≡ 0 → ⊥)
@@ -113,10 +106,10 @@ within-wants k t b some on =
     let P : Step → Type 0 = Wanted k in
     if-is P (eqb (t .need) 0) (λ e. absurd (some (eqb-true (t .need) 0 e))) (λ _.
     if-is P (within (t .low) (t .high) b && leb (t .code) 0x7FFF)
-    (λ _. if-is P (eqb (t .need) 1) (λ _. tt) (λ e. on (eqb-false (t .need) 1 e)))
+    (λ _. if-is P (eqb (t .need) 1) (λ _. tt) (λ e. (on (eqb-false (t .need) 1 e), omega arith)))
     (λ _. tt))
 
-wants-on : (k : ℕ) (t : State) (b : ℕ) → Wants k (t .need) (t .code) → Wanted k (step t b)
+pub wants-on : (k : ℕ) (t : State) (b : ℕ) → Wants k (t .need) (t .code) → Wanted k (step t b)
 unfolding step
 wants-on zero t b h = rw h (first-wants b)
 wants-on (suc zero) t b h =
@@ -165,8 +158,13 @@ stepped g p b h = go (step (p .state) b) refl (wants-on (p .count) (p .state) b 
     tells s e = rw e
 
     go : (o : Step) → step (p .state) b ≡ o → Wanted (p .count) o → Stepped g p b o
-    go (steps.More u) e w = record { count = omega (arith, h .count, long); reached = λ s. on s ∙ tells s e ∙ ap (λ (k : ℕ). reads u k s) (sym long); wants = w }
+    go (steps.More u) e w = record { count = omega (arith, h .count, long); reached = λ s. on s ∙ tells s e ∙ ap (λ (k : ℕ). reads u k s) (sym long); wants = w .0; high = w .1 }
     go (steps.Char c) e w =
         read-whole (g ++ (b ∷ [])) c (omega (arith, long))
         (sym (ap (reads start 0) (append-nil (g ++ (b ∷ [])))) ∙ on [] ∙ tells [] e ∙ ap (decoded.Char c) (sym long))
     go steps.Bad e w = tt
+
+-- no character has the byte FF
+pub never-ff : (g : List ℕ) (p : Part) → Begun g p → step (p .state) 0xFF ≡ steps.Bad
+unfolding step first within
+never-ff g p h = by-bool (eqb (p .state .need) 0) (λ e. rw e) (λ e. rw (e, within-above (p .state .low) (p .state .high) 0xFF (omega (arith, h .high))))

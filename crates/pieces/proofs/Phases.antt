@@ -34,7 +34,7 @@ use lib.ListN.{length, drop, length-append}
 use lib.Dec.{eqb, leb}
 use native.Mathlib.Omega.{arith}
 
--- an outcome sets no range past the limit
+-- an outcome has one of 01's error numbers, and sets no range past the limit
 abbrev pub Ranges : Outcome → Type 0
 Ranges (Token k d) = Unit {0}
 Ranges Str = Unit {0}
@@ -44,8 +44,8 @@ Ranges Run = Unit {0}
 Ranges Lined = Unit {0}
 Ranges Keyword = Unit {0}
 Ranges Character = Unit {0}
-Ranges (Error n d) = Unit {0}
-Ranges (ErrorAt n d a b) = (a ≤ limit) × (b ≤ limit)
+Ranges (Error n d) = n ≤ kind.InvalidHexCodePoint
+Ranges (ErrorAt n d a b) = (n ≤ kind.InvalidHexCodePoint) × ((a ≤ limit) × (b ≤ limit))
 
 -- an outcome of an item that is whole
 abbrev pub Settled : Outcome → Type 0
@@ -97,8 +97,8 @@ settled-ranges Run h = tt
 settled-ranges Lined h = tt
 settled-ranges Keyword h = tt
 settled-ranges Character h = tt
-settled-ranges (Error n d) h = tt
-settled-ranges (ErrorAt n d a b) h = h .1
+settled-ranges (Error n d) h = h
+settled-ranges (ErrorAt n d a b) h = h
 
 -- ---- what is asked of the bytes
 
@@ -114,8 +114,8 @@ fine-ranges raw Run h = tt
 fine-ranges raw Lined h = tt
 fine-ranges raw Keyword h = tt
 fine-ranges raw Character h = tt
-fine-ranges raw (Error n d) h = tt
-fine-ranges raw (ErrorAt n d a b) h = (omega arith, omega arith)
+fine-ranges raw (Error n d) h = h .0
+fine-ranges raw (ErrorAt n d a b) h = (h .0 .0, (omega arith, omega arith))
 
 abbrev RangesKind : HashKind → Type 0
 RangesKind (Decided o) = Ranges o
@@ -133,9 +133,9 @@ hash-ranges raw = fine-kinds raw (hashKind raw) (fine-kind Any (λ d h. tt) limi
 lined-ranges : (raw : List ℕ) → Ranges (linedOf raw)
 unfolding linedOf
 lined-ranges raw =
-    if-all Ranges (leb (length raw) 1) tt
+    if-all Ranges (leb (length raw) 1) (omega arith)
     (if-all Ranges (firstIs (code "+") raw) tt
-    (if-all Ranges (firstIs (code "|") raw) (if-all Ranges (lastIs (code "|") raw) tt tt) tt))
+    (if-all Ranges (firstIs (code "|") raw) (if-all Ranges (lastIs (code "|") raw) tt (omega arith)) (omega arith)))
 
 closed-ranges : (k : Quotes) (raw : List ℕ) → Ranges (closed k raw)
 closed-ranges Double raw = tt
@@ -181,7 +181,7 @@ module _ (i : SoFar) (c : ℕ) (some : 1 ≤ length (i .bytes)) (room : i .at + 
   goes-escape hexU q from h = h
   goes-escape blank q from h = tt
   goes-escape newline q from h = tt
-  goes-escape invalid q from h = (h, room)
+  goes-escape invalid q from h = (omega arith, (h, room))
 
   goes-brace : (k : InHex) (q : Quotes) (from : ℕ) → from ≤ limit → G (onBrace k q from i c)
   goes-brace closes q from h = (omega arith, (h, room))
@@ -201,7 +201,7 @@ module _ (i : SoFar) (c : ℕ) (some : 1 ≤ length (i .bytes)) (room : i .at + 
   goes-before : (k : InTrim) (q : Quotes) → G (onTrimBefore k q i c)
   goes-before space q = tt
   goes-before line q = tt
-  goes-before solid q = (omega arith, room)
+  goes-before solid q = (omega arith, (omega arith, room))
 
   goes-trim : (k : InTrim) (q : Quotes) → G (onTrimAfter k q i c)
   goes-trim space q = tt
@@ -286,11 +286,11 @@ first-sized n c =
     (if-all P (startsRun c) tt (if-all P (eqb c (code "|")) tt (if-all P (eqb c (code "\\")) tt tt))))))))))))))
 
 cut-ranges : (k : Quotes) → Ranges (cut k)
-cut-ranges Double = tt
-cut-ranges Lines = tt
+cut-ranges Double = omega arith
+cut-ranges Lines = omega arith
 
 unclosed-ranges : (k : Quotes) (raw : List ℕ) → Ranges (unclosed k raw)
-unclosed-ranges Double raw = tt
+unclosed-ranges Double raw = omega arith
 unclosed-ranges Lines raw = lined-ranges raw
 
 last-ranges : (k : HashKind) → RangesKind k → Ranges (hashLast k)
@@ -303,9 +303,9 @@ finish-ranges n ph.InLine raw h = tt
 finish-ranges n ph.AfterComma raw h = tt
 finish-ranges n ph.AfterHash raw h = last-ranges (hashKind raw) (hash-ranges raw)
 finish-ranges n ph.AfterAngle raw h = tt
-finish-ranges n ph.HereDelim raw h = tt
-finish-ranges n ph.HereStart raw h = tt
-finish-ranges n ph.HereBody raw h = if-all Ranges (hereEnds raw) tt tt
+finish-ranges n ph.HereDelim raw h = omega arith
+finish-ranges n ph.HereStart raw h = omega arith
+finish-ranges n ph.HereBody raw h = if-all Ranges (hereEnds raw) tt (omega arith)
 finish-ranges n ph.InWord raw h = tt
 finish-ranges n ph.WordEscape raw h = tt
 finish-ranges n ph.InRun raw h = tt
@@ -313,9 +313,9 @@ finish-ranges n ph.InHash raw h = last-ranges (hashKind raw) (hash-ranges raw)
 finish-ranges n ph.HashEscape raw h = last-ranges (hashKind raw) (hash-ranges raw)
 finish-ranges n ph.HashTick raw h = last-ranges (hashKind raw) (hash-ranges raw)
 finish-ranges n ph.HashComma raw h = last-ranges (hashKind raw) (hash-ranges raw)
-finish-ranges n (ph.Nest d) raw h = tt
-finish-ranges n (ph.NestBar d) raw h = tt
-finish-ranges n (ph.NestSharp d) raw h = tt
+finish-ranges n (ph.Nest d) raw h = omega arith
+finish-ranges n (ph.NestBar d) raw h = omega arith
+finish-ranges n (ph.NestSharp d) raw h = omega arith
 finish-ranges n (ph.Quoted k) raw h = unclosed-ranges k raw
 finish-ranges n (ph.Closed k) raw h = closed-ranges k raw
 finish-ranges n (ph.TrimBefore k) raw h = cut-ranges k

@@ -11,14 +11,14 @@ use Rattle.items.specs.declared.Outcome.{Outcome}
 use Rattle.items.specs.declared.Phase.{Phase}
 use Rattle.items.specs.declared.Phase.the-variants.{AfterHash}
 use Rattle.items.specs.Classes.{firstOf}
-use Rattle.items.specs.Items.{Place, itemOf, itemsOf, rangeAfter, extentItems, byteCount}
+use Rattle.items.specs.Items.{Place, itemsOf, rangeAfter, extentItems, byteCount}
 use Rattle.items.specs.Kinds as kind
 use Rattle.items.specs.Machine.{stepOf, finishOf, onFirst}
 use Rattle.items.specs.Meaning.{Meaning, meaningOf}
 use Rattle.items.specs.Whole.{limit, isMode}
 use Rattle.laws.specs.Choice.{if_then_else_}
 use Rattle.laws.specs.Quoted.{code}
-use Rattle.laws.proofs.Choice.{by-bool, if-all, if-is}
+use Rattle.laws.proofs.Choice.{if-all, if-is}
 use Rattle.pieces.specs.declared.Beyond.{Beyond}
 use Rattle.pieces.specs.declared.Beyond.the-variants.{End, Char}
 use Rattle.pieces.specs.declared.Stage.{Stage}
@@ -30,21 +30,21 @@ use Rattle.pieces.specs.Calls.{gives, report, ends, onNext, onStage, par
 use Rattle.pieces.specs.Calls.{endStage, endUnlessStopped, endOf, fresh, openOf}
 use Rattle.pieces.specs.Expected.{longest}
 use Rattle.pieces.specs.Produced.{Produced, opened, pieced, ended}
-use Rattle.pieces.proofs.Kept.{Kept, HeldIn, Held, Staged, Beyonds, Calm, Within, kept-bounded, kept-pass, laid-in, kept-laid, first-in, kept-first, kept-begin}
+use Rattle.pieces.proofs.Kept.{Kept, HeldIn, Held, Staged, Beyonds, Calm, Within, kept-bounded, kept-pass, laid-in, kept-laid, first-in, kept-first}
 use Rattle.pieces.proofs.Kept.{kept-stopped, kept-end, kept-partly, kept-declared, kept-waiting, kept-range, none-begun}
 use Rattle.pieces.proofs.Pairs.{Shape, alone, pair, shape}
-use Rattle.pieces.proofs.Parts.{Begun, Stepped, stepped}
+use Rattle.pieces.proofs.Parts.{Stepped, stepped}
 use Rattle.pieces.proofs.Phases.{Ranges, Sized, Goes, goes-on, first-sized, finish-ranges}
 use Prim.Native.Nat.{ℕ, _+_, _≤_, _<_}
 use mathlib.Core.Path.{_≡_, refl, sym, ap, subst, _∙_}
 use mathlib.Core.Bool.{Bool, true, false, _&&_}
 use mathlib.Core.List.{List, [], _∷_, _++_}
 use mathlib.Core.Logic.{_⊎_, inl, inr, ⊎-elim}
-use lib.ListN.{length, take, drop, length-append, length-replicate}
+use lib.ListN.{length, take, length-append, length-replicate}
 use lib.Seq.{length-take-le}
 use lib.Dec.{eqb, leb, ltb}
 use native.Mathlib.Omega.{arith}
-use borrow.Author.Tests.{ltb-true, ltb-false, leb-true, leb-false, eqb-true}
+use borrow.Author.Tests.{ltb-true, ltb-false, leb-false, eqb-true}
 
 -- ---- what a turn leaves. e says whether the end was declared
 
@@ -84,7 +84,7 @@ pub held-length : {q g : List ℕ} {s : State} → Kept q g s → length (take (
 held-length {q} {g} {s} k = length-take-le (s .marks .len) (s .buf) (omega (arith, k .full, k .small))
 
 module _ {q g : List ℕ} {s : State} (k : Kept q g s) where
-  going-begin : (c : ℕ) → isScalar c ≡ true → s .marks .at + width c ≤ limit → (last : Place) → Within last → Going (s .marks .ended) (begin s last c)
+  pub going-begin : (c : ℕ) → isScalar c ≡ true → s .marks .at + width c ≤ limit → (last : Place) → Within last → Going (s .marks .ended) (begin s last c)
   going-begin c scalar room last w =
       let b : Stage = Busy (s .marks .at) (onFirst (firstOf c)) in
       if-all (Going (s .marks .ended)) (isBlank c)
@@ -138,7 +138,7 @@ module _ {q g : List ℕ} {s : State} (k : Kept q g s) where
         })
     turned-next st h (Stop o) z = turned-ends st h (Char c) (scalar, room) o z
 
-    step-goes : (st : ℕ) → Held q s st → (p : Phase) → Sized (s .marks .len) p → Goes (itemSoFar s) c (stepOf (report s) p (itemSoFar s) c)
+    pub step-goes : (st : ℕ) → Held q s st → (p : Phase) → Sized (s .marks .len) p → Goes (itemSoFar s) c (stepOf (report s) p (itemSoFar s) c)
     step-goes st h p z =
         goes-on (itemSoFar s) c (omega (arith, held-length k, h .some)) room (report s) p (rw (← held-length k) at z)
 
@@ -146,25 +146,21 @@ module _ {q g : List ℕ} {s : State} (k : Kept q g s) where
     staged e = subst (Staged q s) e (k .staged)
 
     -- a pound sign at the start of the text
-    going-pound : q ≡ [] → c ≡ code "#" → Going (s .marks .ended) (becomes s (laidAt 0 (utf8 c) (s .buf)) Pound (s .marks .at + width c) (width c) (lastOf s))
+    pub kept-pound : q ≡ [] → c ≡ code "#" → Kept (q ++ (c ∷ [])) [] (becomes s (laidAt 0 (utf8 c) (s .buf)) Pound (s .marks .at + width c) (width c) (lastOf s))
     unfolding bytesOf utf8 width
-    going-pound e f =
+    kept-pound e f =
         let none : s .marks .at ≡ 0 = k .place ∙ ap byteCount e in
         let one : width c ≡ 1 = ap width f in
         let h : HeldIn (q ++ (c ∷ [])) (laidAt 0 (utf8 c) (s .buf)) (width c) (s .marks .at + width c) 0
         = subst (HeldIn (q ++ (c ∷ [])) (laidAt 0 (utf8 c) (s .buf)) (width c) (s .marks .at + width c)) none (first-in k c scalar room Pound (lastOf s)) in
         let bytes : bytesOf (q ++ (c ∷ [])) ≡ code "#" ∷ [] = rw (e, f) in
-        record {
-          read = q ++ (c ∷ []);
-          begun = [];
-          calm = tt;
-          ended = refl;
-          kept = kept-first k c scalar room Pound (lastOf s) (k .last) (h, (one, sym (h .bytes) ∙ bytes));
-        }
+        kept-first k c scalar room Pound (lastOf s) (k .last) (h, (one, sym (h .bytes) ∙ bytes))
 
     turned-stage : (b : Stage) → s .marks .stage ≡ b → Calm b → Turned (s .marks .ended) (onStage s b c)
     turned-stage Opening e z =
-        if-is (Going (s .marks .ended)) (eqb c (code "#")) (λ f. going-pound (staged e) (eqb-true c (code "#") f)) (λ _. going-begin c scalar room (lastOf s) (k .last))
+        if-is (Going (s .marks .ended)) (eqb c (code "#"))
+        (λ f. record { read = q ++ (c ∷ []); begun = []; kept = kept-pound (staged e) (eqb-true c (code "#") f); calm = tt; ended = refl })
+        (λ _. going-begin c scalar room (lastOf s) (k .last))
     turned-stage Pound e z =
         if-all (Turned (s .marks .ended)) (eqb c (code "!"))
         (record { read = q ++ (c ∷ []); begun = []; kept = kept-pass k c scalar room FirstLine (lastOf s) (k .last) tt; calm = tt; ended = refl })
@@ -279,7 +275,7 @@ end-waits {e} {s} w = subst (λ (b : Stage). Leaves true (endUnlessStopped s b))
 
 -- ---- 01: "Number 27 never meets a state that the opening call and later calls produced."
 
-data Safe (s : State) : Type 0 where
+pub data Safe (s : State) : Type 0 where
   goes : (e : Bool) → Going e s → Safe s
   waits : (e : Bool) → Waits e s → Safe s
   halted : (n p : ℕ) → Halted n p s → Safe s
@@ -321,26 +317,23 @@ safe-end {s} (goes e h) = let r : Reply = endUnlessStopped s (s .marks .stage) i
 safe-end {s} (waits e w) = let r : Reply = endUnlessStopped s (s .marks .stage) in left-safe true (r .what) (r .state) (end-waits w)
 safe-end {s} (halted n p h) = subst (λ (b : Stage). SafeReply (endUnlessStopped s b)) (sym (h .stage)) (halted n p h)
 
-pub going-fresh : (mode : ℕ) (skip : Bool) → mode < 2 → Going false (fresh mode skip)
-going-fresh mode skip h = record {
-  read = [];
-  begun = [];
-  calm = tt;
-  ended = refl;
-  kept = record {
-    mode = h;
-    full = length-replicate {A = ℕ} longest 0;
-    small = omega arith;
-    place = refl;
-    far = omega arith;
-    last = (omega arith, omega arith);
-    scalars = tt;
-    begun = none-begun;
-    staged = refl;
-  };
+pub fresh-kept : (mode : ℕ) (skip : Bool) → mode < 2 → Kept [] [] (fresh mode skip)
+fresh-kept mode skip h = record {
+  mode = h;
+  full = length-replicate {A = ℕ} longest 0;
+  small = omega arith;
+  place = refl;
+  far = omega arith;
+  last = (omega arith, omega arith);
+  scalars = tt;
+  begun = none-begun;
+  staged = refl;
 }
 
-safe : {s : State} → Produced s → Safe s
+pub going-fresh : (mode : ℕ) (skip : Bool) → mode < 2 → Going false (fresh mode skip)
+going-fresh mode skip h = record { read = []; begun = []; kept = fresh-kept mode skip h; calm = tt; ended = refl }
+
+pub safe : {s : State} → Produced s → Safe s
 unfolding openOf pieceOf endOf
 safe (opened mode skip) =
     if-is SafeReply (isMode mode) (λ e. goes false (going-fresh mode skip (ltb-true mode 2 e))) (λ _. goes false (going-fresh 0 skip (omega arith)))

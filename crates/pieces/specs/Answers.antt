@@ -1,8 +1,10 @@
 -- What the code's answers say: document 01's numbers and values for each case of an enum, and the state, whose buffer is lent to the
 -- inner calls.
 use Prim.Native.Nat.{ℕ}
-use mathlib.Core.List.{List}
+use mathlib.Core.Bool.{Bool, true, false}
+use mathlib.Core.List.{List, []}
 use lib.ListN.{take}
+use Rattle.laws.specs.Choice.{if_then_else_}
 use Rattle.items.specs.Items.{Place, range, wordsOf}
 use Rattle.pieces.specs.declared.Stage.{Stage}
 use Rattle.pieces.specs.declared.Stage.the-variants.{Stopped}
@@ -15,8 +17,9 @@ use Rattle.pieces.specs.declared.Start.{Start}
 use Rattle.pieces.specs.declared.Start.the-variants as start
 use Rattle.pieces.specs.declared.Opened.{Opened}
 use Rattle.pieces.specs.declared.Answer.{Answer}
+use Rattle.pieces.specs.declared.Pieced.{Pieced}
 use Rattle.pieces.specs.declared.Turned.{Turned}
-use Rattle.pieces.specs.Calls.{What, item, more, finished, refused, Reply, reply, Turn, on, off, marks, textAfter}
+use Rattle.pieces.specs.Calls.{What, item, more, finished, refused, Reply, reply, Turn, on, off, marks, textAfter, declared}
 
 -- an item's text is what the text memory holds from 0 to the place that the record's last word says; `text` is the text memory after
 -- the call
@@ -71,3 +74,23 @@ stops m n p = record { marks = marks m (Stopped n p) (m .at) 0 (lastIn m); got =
 abbrev pub begun : Marks → Part → Marks
 begun m p =
     record { mode = m .mode; skip = m .skip; ended = m .ended; stage = m .stage; at = m .at; part = p; from = m .from; to = m .to; len = m .len }
+
+-- nothing was given yet
+abbrev pub isMore : Got → Bool
+isMore (Item r) = false
+isMore More = true
+isMore Finished = false
+isMore (Refused n p) = false
+
+abbrev pub pieced : Pieced → List ℕ → List ℕ → Reply
+pieced p buf text = reply (p .taken) (whatOf (p .got) text) (stateOf (p .marks) buf)
+
+abbrev pub refuses : Marks → ℕ → ℕ → Pieced
+refuses m n p = record { marks = m; taken = 0; got = Refused n p }
+
+-- at the end nothing more means that all is given
+abbrev pub endsWith : Turned → Pieced
+endsWith t = record { marks = t .marks; taken = 0; got = if isMore (t .got) then Finished else t .got }
+
+abbrev pub endDeclared : Marks → Marks
+endDeclared m = declared (stateOf m []) .marks

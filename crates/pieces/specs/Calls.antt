@@ -3,7 +3,7 @@
 use Prim.Native.Nat.{ℕ, _+_}
 use mathlib.Core.Bool.{Bool, true, false, _&&_}
 use mathlib.Core.List.{List, [], _∷_, _++_}
-use lib.ListN.{length, take, drop, replicate}
+use lib.ListN.{take, drop, replicate}
 use lib.Dec.{eqb, leb, ltb}
 use Rattle.laws.specs.Choice.{if_then_else_}
 use Rattle.laws.specs.Quoted.{code}
@@ -12,12 +12,10 @@ use Rattle.chars.specs.Encode.{width, utf8}
 use Rattle.chars.specs.Blank.{isBlank}
 use Rattle.chars.specs.Machine.{step, start, told}
 use Rattle.items.specs.Kinds as kind
-use Rattle.items.specs.declared.Phase.{Phase}
 use Rattle.items.specs.declared.Phase.the-variants.{AfterHash}
 use Rattle.items.specs.declared.Outcome.{Outcome}
 use Rattle.items.specs.declared.Next.{Next}
 use Rattle.items.specs.declared.Next.the-variants.{Eat, Stop}
-use Rattle.items.specs.declared.Record.{Record}
 use Rattle.items.specs.Classes.{firstOf}
 use Rattle.items.specs.Readers.{SoFar, soFar}
 use Rattle.items.specs.Meaning.{source}

@@ -1,7 +1,7 @@
 -- An item as it is given, by what the code knows of it: its text by its kind and its places, or between which quotes it is decoded.
 -- proofs/ShownBy shows that this is what specs/Given says of the item.
 use Prim.Native.Nat.{ℕ, _-_}
-use mathlib.Core.Bool.{Bool, true, false}
+use mathlib.Core.Bool.{Bool, true, false, _&&_}
 use mathlib.Core.List.{List, [], _∷_, _++_}
 use lib.ListN.{length, take, drop}
 use lib.Dec.{eqb}
@@ -14,7 +14,11 @@ use Rattle.items.specs.Items.{Place, range, placeOf}
 use Rattle.meaning.specs.declared.Text.{Text}
 use Rattle.meaning.specs.declared.Text.the-variants.{Nowhere, Source, Decoded}
 use Rattle.meaning.specs.declared.Means.{Means}
+use Rattle.pieces.specs.declared.Beyond.{Beyond}
+use Rattle.pieces.specs.declared.Stage.the-variants.{Waiting}
+use Rattle.pieces.specs.declared.State.{State}
 use Rattle.pieces.specs.Given.{Given}
+use Rattle.pieces.specs.Calls.{item, Turn, on, off, beyond, becomes, itemSoFar}
 
 -- a string's text stood between double quotes, an identifier's between vertical lines
 abbrev pub quotesOf : ℕ → Quotes
@@ -40,3 +44,15 @@ givenBy m last s e raw =
           ∷ (if hasText (m .kind) (m .text) then 2 ∷ 0 ∷ length text ∷ [] else 0 ∷ 0 ∷ 0 ∷ []);
       text = text;
     }
+
+-- ---- the items of an extent that starts at st, by the first of them
+
+abbrev pub oneGiven : State → ℕ → Place → Beyond → Means → Turn
+oneGiven s st last b m =
+    if s .marks .skip && eqb (m .kind) kind.Comment
+    then on (beyond s last b)
+    else off (beyond s last b) (item (givenBy m last st (s .marks .at) (itemSoFar s .bytes)))
+
+abbrev pub pairGiven : State → ℕ → Place → Beyond → Means → Turn
+pairGiven s st last b m =
+    off (becomes s (s .buf) (Waiting st b) (s .marks .at) (s .marks .len) last) (item (givenBy m last st (s .marks .at) (itemSoFar s .bytes)))

@@ -8,6 +8,7 @@ use Rattle.pieces.specs.declared.State.{State}
 use Rattle.pieces.specs.Expected.{Expected}
 use Rattle.pieces.specs.Expected as word
 use Rattle.pieces.specs.Calls.{What, item, more, finished, refused, Reply, pieceOf, endOf, openOf}
+use Rattle.pieces.specs.Given.{Given}
 
 -- what a call gave, before what the later calls give; "finished" and a refusal are the last word
 abbrev pub heed : What → Expected → Expected
@@ -15,6 +16,10 @@ heed (item g) later = record { items = g ∷ later .items; last = later .last }
 heed more later = later
 heed finished later = record { items = []; last = word.finished }
 heed (refused n p) later = record { items = []; last = word.refused n p }
+
+-- items that were given earlier, before what the later calls give
+abbrev pub prepend : List Given → Expected → Expected
+prepend gs later = record { items = gs ++ later .items; last = later .last }
 
 -- what is left of a piece is handed over again; where nothing is left, the piece is done
 abbrev pub unlessTaken : List ℕ → Expected → (List ℕ → Expected) → Expected

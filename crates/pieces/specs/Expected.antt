@@ -1,7 +1,7 @@
 -- What the calls give for a text that comes in pieces, on the definition of items alone: the same items however the text is cut, up to
 -- its end or to the stop. Document 01, "Piecewise". `report` is the mode, `bytes` are all bytes of all pieces.
 use Prim.Native.Nat.{ℕ, _-_}
-use mathlib.Core.Bool.{Bool, true, false, _&&_}
+use mathlib.Core.Bool.{Bool}
 use mathlib.Core.List.{List, [], _∷_, _++_}
 use lib.ListN.{length}
 use lib.Dec.{eqb, ltb}

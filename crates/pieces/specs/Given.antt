@@ -1,13 +1,13 @@
 -- An item as a piece call gives it. Document 01: "Text is always copied here (text source 2, starting at 0), a number's whole extent
 -- included".
 use Prim.Native.Nat.{ℕ, _-_}
-use mathlib.Core.List.{List, [], _∷_, _++_}
+use mathlib.Core.List.{List, [], _∷_}
 use lib.ListN.{length, take, drop}
 use lib.Dec.{eqb}
 use Rattle.laws.specs.Choice.{if_then_else_}
 use Rattle.items.specs.Kinds as kind
 use Rattle.items.specs.Meaning.{Text, none, source, decoded}
-use Rattle.items.specs.Items.{Item, Place}
+use Rattle.items.specs.Items.{Item}
 
 pub record Given : Type 0 where
   pub words : List ℕ

@@ -6,3 +6,5 @@ pub mod Drive
 pub mod Produced
 pub mod Answers
 pub mod Copied
+pub mod Examples
+pub mod Inner

@@ -8,9 +8,12 @@ use items::Phase;
 use items::Record;
 
 mod bounds;
+pub mod calls;
+mod ends;
 mod give;
+mod lay;
 mod limits;
-mod opening;
+pub mod opening;
 mod turn;
 
 // What stands beyond a pair such as `+foo` whose second item waits.
