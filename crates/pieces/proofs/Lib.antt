@@ -10,3 +10,4 @@ pub mod Demand
 pub mod Fewest
 pub mod Stands
 pub mod Resume
+pub mod Fits
