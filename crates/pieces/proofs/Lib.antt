@@ -11,3 +11,4 @@ pub mod Fewest
 pub mod Stands
 pub mod Resume
 pub mod Fits
+pub mod Ready
