@@ -1,5 +1,5 @@
--- Texts in pieces: what the driver is given, each under two cuttings, and its last word at the edges of 23. Two tables under one
--- statement, proved by computation.
+-- Texts in pieces: what the driver is given, each under two cuttings, its last word at the edges of 23, and refused calls. Three tables
+-- under one statement, proved by computation.
 use Prim.Native.Nat.{ℕ, _+_}
 use Prim.Native.String.{String}
 use mathlib.Core.Path.{_≡_, refl}
@@ -23,7 +23,8 @@ use Rattle.items.specs.Meaning.{lookup, words, wordKind, wordMeans, runMeans, e
 use Rattle.items.specs.Items.{extentItems}
 use Rattle.items.specs.Kinds as kind
 use Rattle.pieces.specs.Bounds.{inBounds}
-use Rattle.pieces.specs.Calls.{turnOf, feedOf, pieceOf, endOf, openOf}
+use Rattle.pieces.specs.Calls as call
+use Rattle.pieces.specs.Calls.{What, fresh, turnOf, feedOf, pieceOf, endOf, openOf}
 use Rattle.pieces.specs.Drive.{pieceCalls, endCalls, handOver, drive}
 use Rattle.pieces.specs.Expected.{Expected, LastWord, finished, refused, longest}
 use Rattle.pieces.specs.Given.{Given}
@@ -119,9 +120,21 @@ edges =
     ∷ edge false (spelled "#!") (times 4097 "a") finished
     ∷ []
 
--- ---- both tables
+-- ---- refused calls: 25; 24; 27 before 24; 26; a standing stop before 26
+
+refusals : List What
+refusals =
+    openOf 2 false .what
+    ∷ pieceOf (fresh 0 false) (spelled "a") 4095 .what
+    ∷ pieceOf (fresh 2 false) (spelled "a") 4095 .what
+    ∷ pieceOf (endOf (fresh 0 false) longest .state) (spelled "a") longest .what
+    ∷ pieceOf (endOf (pieceOf (fresh 0 false) (0xFF ∷ []) longest .state) longest .state) (spelled "a") longest .what
+    ∷ []
+
+-- ---- all tables
 
 computed : (map (λ r. map (λ ps. drive (r .mode) (r .skip) longest ps) (r .cuttings)) table ≡ map (λ r. map (λ ps. r .wanted) (r .cuttings)) table)
-    × (map (λ e. drive 0 (e .skip) longest (e .pieces) .last) edges ≡ map (λ e. e .wanted) edges)
-unfolding table edges span starts begins same isScalar utf8 width encode bytesOf isBlank step within first rest front digits.within digitOf sign uinteger value fit signed wholeOf integer hexDigits hexAfterPlus hexValue exponentMarker exponent suffix pointOf dotted undotted decimal infnan integralOf rationalOf denominator exact orElse ureal real justOf complexOf polarOf endsI imaginary aloneOf pairOf toSign startsE rectangular complex zeroInt zeroReal zeroParts judged radixMark prefix parseNumber startsRun firstOf inQuotes afterBackslash stopsHex inHex inTrim inNest breaksWord inWord staysRun endsRun inRun afterHash endsHash inHash inDelim linedOf scalarOf boolKind quoteKind formKind hashKind unreturned endsWith hereEnds lookup words wordKind wordMeans runMeans escaped stringText linedText hereText charNames hexNamed spelledOut characterOf unescape extentItems inBounds turnOf feedOf pieceOf endOf openOf pieceCalls endCalls handOver drive
-computed = (refl, refl)
+    × ((map (λ e. drive 0 (e .skip) longest (e .pieces) .last) edges ≡ map (λ e. e .wanted) edges)
+    × (refusals ≡ call.refused 25 2 ∷ call.refused 24 0 ∷ call.refused 27 0 ∷ call.refused 26 0 ∷ call.refused 21 0 ∷ []))
+unfolding table edges refusals span starts begins same isScalar utf8 width encode bytesOf isBlank step within first rest front digits.within digitOf sign uinteger value fit signed wholeOf integer hexDigits hexAfterPlus hexValue exponentMarker exponent suffix pointOf dotted undotted decimal infnan integralOf rationalOf denominator exact orElse ureal real justOf complexOf polarOf endsI imaginary aloneOf pairOf toSign startsE rectangular complex zeroInt zeroReal zeroParts judged radixMark prefix parseNumber startsRun firstOf inQuotes afterBackslash stopsHex inHex inTrim inNest breaksWord inWord staysRun endsRun inRun afterHash endsHash inHash inDelim linedOf scalarOf boolKind quoteKind formKind hashKind unreturned endsWith hereEnds lookup words wordKind wordMeans runMeans escaped stringText linedText hereText charNames hexNamed spelledOut characterOf unescape extentItems inBounds turnOf feedOf pieceOf endOf openOf pieceCalls endCalls handOver drive
+computed = (refl, (refl, refl))
