@@ -40,7 +40,7 @@ use borrow.Author.Tests.{le-ltb}
 -- ---- what is given over all bytes, in one piece
 
 -- a second item that waits is given first
-abbrev settledAt : State → Stage → (State → Expected) → Expected
+abbrev pub settledAt : State → Stage → (State → Expected) → Expected
 settledAt s Opening go = go s
 settledAt s Pound go = go s
 settledAt s FirstLine go = go s

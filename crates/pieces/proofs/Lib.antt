@@ -17,3 +17,5 @@ pub mod Shown
 pub mod Sounds
 pub mod Steps
 pub mod Replies
+pub mod Fits
+pub mod Ready

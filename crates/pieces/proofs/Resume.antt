@@ -144,16 +144,20 @@ waits-next {s} (inr w) =
     ∙ ap (λ (l : List Given). second s (w .start) ∷ l) (bad-byte (going-on w))
     ∙ sym (ap (waitingAt s) (w .stage))
 
--- Whatever calls were made and no stop stands: the items that were given, and the one that waits, are those that `expected` has before a
--- stop at the next byte, "of the text made of the whole characters before that byte's character, those whose extents end before that
--- text does". So an item is given when a character beyond its extent has been read, not earlier and not later.
+-- no stop stands
+pub live : (mode : ℕ) (skip : Bool) → mode < 2 → {taken : List ℕ} {gs : List Given} {s : State} → Reading mode skip taken gs s
+    → ((n p : ℕ) → s .marks .stage ≡ Stopped n p → ⊥) → Live s
+live mode skip is {taken} {gs} {s} h going = go (on-the-way mode skip is h)
+  where
+    go : Live s ⊎ Stuck s → Live s
+    go (inl z) = z
+    go (inr z) = absurd (going (z .number) (z .place) (z .stuck .stage))
+
+-- Whatever calls were made, if no stop stands: the items that were given, and the one that waits, are those that a text has which the
+-- next byte stops. proofs/Ready says which these are.
 pub given-when-ready : (mode : ℕ) (skip : Bool) → mode < 2 → {taken : List ℕ} {gs : List Given} {s : State} → Reading mode skip taken gs s
     → ((n p : ℕ) → s .marks .stage ≡ Stopped n p → ⊥) → gs ++ waiting s ≡ expected (inReport mode) skip (taken ++ (0xFF ∷ [])) .items
 unfolding joined
 given-when-ready mode skip is {taken} {gs} {s} h going =
-    ap (λ (l : List Given). gs ++ l) (sym (waits-next (live (on-the-way mode skip is h))))
+    ap (λ (l : List Given). gs ++ l) (sym (waits-next (live mode skip is h going)))
     ∙ ap (λ (x : Expected). x .items) (resumes mode skip is longest (le-refl longest) h ((0xFF ∷ []) ∷ []))
-  where
-    live : Live s ⊎ Stuck s → Live s
-    live (inl h) = h
-    live (inr h) = absurd (going (h .number) (h .place) (h .stuck .stage))

@@ -1,10 +1,11 @@
--- Texts in pieces, each under two cuttings: what the driver is given, and its last word. One table, one statement, proved by computation.
+-- Texts in pieces: what the driver is given, each under two cuttings, its last word at the edges of 23, and refused calls. Three tables
+-- under one statement, proved by computation.
 use Prim.Native.Nat.{ℕ, _+_}
 use Prim.Native.String.{String}
 use mathlib.Core.Path.{_≡_, refl}
 use mathlib.Core.Bool.{Bool, true, false}
 use mathlib.Core.List.{List, [], _∷_, _++_, map}
-use lib.ListN.{length}
+use lib.ListN.{length, replicate}
 use Rattle.laws.specs.Quoted.{code}
 use Rattle.laws.specs.Texts.{span, starts, begins, same}
 use Rattle.chars.specs.Encode.{isScalar, utf8, width, encode, bytesOf, spelled}
@@ -22,7 +23,8 @@ use Rattle.items.specs.Meaning.{lookup, words, wordKind, wordMeans, runMeans, e
 use Rattle.items.specs.Items.{extentItems}
 use Rattle.items.specs.Kinds as kind
 use Rattle.pieces.specs.Bounds.{inBounds}
-use Rattle.pieces.specs.Calls.{turnOf, feedOf, pieceOf, endOf, openOf}
+use Rattle.pieces.specs.Calls as call
+use Rattle.pieces.specs.Calls.{What, fresh, turnOf, feedOf, pieceOf, endOf, openOf}
 use Rattle.pieces.specs.Drive.{pieceCalls, endCalls, handOver, drive}
 use Rattle.pieces.specs.Expected.{Expected, LastWord, finished, refused, longest}
 use Rattle.pieces.specs.Given.{Given}
@@ -94,6 +96,45 @@ table =
     ∷ example 0 false (bothWays (spelled "a " ++ (0xCE ∷ []))) (texted kind.Identifier 0 1 "a" ∷ []) (refused 21 2)
     ∷ []
 
-computed : map (λ r. map (λ ps. drive (r .mode) (r .skip) longest ps) (r .cuttings)) table ≡ map (λ r. map (λ ps. r .wanted) (r .cuttings)) table
-unfolding table span starts begins same isScalar utf8 width encode bytesOf isBlank step within first rest front quoted.within digitOf sign uinteger value fit signed wholeOf integer hexDigits hexAfterPlus hexValue exponentMarker exponent suffix pointOf dotted undotted decimal infnan integralOf rationalOf denominator exact orElse ureal real justOf complexOf polarOf endsI imaginary aloneOf pairOf toSign startsE rectangular complex zeroInt zeroReal zeroParts judged radixMark prefix parseNumber startsRun firstOf inQuotes afterBackslash stopsHex inHex inTrim inNest breaksWord inWord staysRun endsRun inRun afterHash endsHash inHash inDelim linedOf scalarOf boolKind quoteKind formKind hashKind unreturned endsWith hereEnds lookup words wordKind wordMeans runMeans escaped stringText linedText hereText charNames hexNamed spelledOut characterOf unescape extentItems inBounds turnOf feedOf pieceOf endOf openOf pieceCalls endCalls handOver drive
-computed = refl
+-- ---- 23: "an item, a skipped comment too, grows past 4,096 bytes", with its start; blanks and a first line may be longer
+
+record Edge : Type 0 where
+  skip : Bool
+  pieces : List (List ℕ)
+  wanted : LastWord
+
+abbrev edge : Bool → List ℕ → List ℕ → LastWord → Edge
+edge s before more w = record { skip = s; pieces = before ∷ more ∷ []; wanted = w }
+
+-- so many times the character of a quoted text
+abbrev times : ℕ → String → List ℕ
+times n t = replicate n (code t)
+
+edges : List Edge
+edges =
+    edge false [] (times 4096 "a") finished
+    ∷ edge false [] (times 4097 "a") (refused 23 0)
+    ∷ edge false (spelled " ;") (times 4095 "a") finished
+    ∷ edge true (spelled " ;") (times 4096 "a") (refused 23 1)
+    ∷ edge false [] (times 4097 " ") finished
+    ∷ edge false (spelled "#!") (times 4097 "a") finished
+    ∷ []
+
+-- ---- refused calls: 25; 24; 27 before 24; 26; a standing stop before 26
+
+refusals : List What
+refusals =
+    openOf 2 false .what
+    ∷ pieceOf (fresh 0 false) (spelled "a") 4095 .what
+    ∷ pieceOf (fresh 2 false) (spelled "a") 4095 .what
+    ∷ pieceOf (endOf (fresh 0 false) longest .state) (spelled "a") longest .what
+    ∷ pieceOf (endOf (pieceOf (fresh 0 false) (0xFF ∷ []) longest .state) longest .state) (spelled "a") longest .what
+    ∷ []
+
+-- ---- all tables
+
+computed : (map (λ r. map (λ ps. drive (r .mode) (r .skip) longest ps) (r .cuttings)) table ≡ map (λ r. map (λ ps. r .wanted) (r .cuttings)) table)
+    × ((map (λ e. drive 0 (e .skip) longest (e .pieces) .last) edges ≡ map (λ e. e .wanted) edges)
+    × (refusals ≡ call.refused 25 2 ∷ call.refused 24 0 ∷ call.refused 27 0 ∷ call.refused 26 0 ∷ call.refused 21 0 ∷ []))
+unfolding table edges refusals span starts begins same isScalar utf8 width encode bytesOf isBlank step within first rest front quoted.within digitOf sign uinteger value fit signed wholeOf integer hexDigits hexAfterPlus hexValue exponentMarker exponent suffix pointOf dotted undotted decimal infnan integralOf rationalOf denominator exact orElse ureal real justOf complexOf polarOf endsI imaginary aloneOf pairOf toSign startsE rectangular complex zeroInt zeroReal zeroParts judged radixMark prefix parseNumber startsRun firstOf inQuotes afterBackslash stopsHex inHex inTrim inNest breaksWord inWord staysRun endsRun inRun afterHash endsHash inHash inDelim linedOf scalarOf boolKind quoteKind formKind hashKind unreturned endsWith hereEnds lookup words wordKind wordMeans runMeans escaped stringText linedText hereText charNames hexNamed spelledOut characterOf unescape extentItems inBounds turnOf feedOf pieceOf endOf openOf pieceCalls endCalls handOver drive
+computed = (refl, (refl, refl))
