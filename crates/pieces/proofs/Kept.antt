@@ -1,0 +1,366 @@
+-- What holds of every state that the calls produce, with the characters q that were read and the bytes g of the character begun: the
+-- buffer holds the item's bytes, which lie right before the place, and every number is within its bounds. One law for each way in which
+-- a state becomes another.
+use Rattle.chars.specs.Encode.{isScalar, utf8, width, bytesOf}
+use Rattle.chars.proofs.Good.{Scalars}
+use Rattle.items.specs.declared.CharValue.{CharValue}
+use Rattle.items.specs.declared.CharValue.the-variants.{Scalar, Wrong}
+use Rattle.items.specs.declared.Outcome.{Outcome}
+use Rattle.items.specs.declared.Outcome.the-variants.{Token, Str, HereStr, Word, Run, Lined, Keyword, Character, Error, ErrorAt}
+use Rattle.items.specs.declared.Phase.{Phase}
+use Rattle.items.specs.declared.Phase.the-variants as ph
+use Rattle.items.specs.Items.{Place, range, characterSets, rangeAfter, byteCount}
+use Rattle.items.specs.Meaning.{characterOf, charInside}
+use Rattle.items.specs.Readers.{SoFar}
+use Rattle.items.specs.Whole.{limit}
+use Rattle.items.proofs.Splits.{length-bytes}
+use Rattle.items.proofs.Width.{wide, width-le, width-utf8}
+use Rattle.laws.specs.Choice.{if_then_else_}
+use Rattle.laws.specs.Quoted.{code}
+use Rattle.laws.specs.Lent.{written}
+use Rattle.laws.proofs.Lent.{length-written}
+use Rattle.pieces.specs.declared.Beyond.{Beyond}
+use Rattle.pieces.specs.declared.Beyond.the-variants.{End, Char}
+use Rattle.pieces.specs.declared.Part.{Part}
+use Rattle.pieces.specs.declared.Stage.{Stage}
+use Rattle.pieces.specs.declared.Stage.the-variants.{Opening, Pound, FirstLine, Idle, Busy, Waiting, Stopped}
+use Rattle.pieces.specs.declared.State.{State}
+use Rattle.pieces.specs.Bounds.{doneBounds, phaseBounds, beyondBounds, stageBounds, inBounds}
+use Rattle.pieces.specs.Calls.{whole, becomes, lastOf, laidAt, partly, declared}
+use Rattle.pieces.specs.Expected.{longest}
+use Rattle.pieces.proofs.Parts.{Begun, part-bounded}
+use Rattle.pieces.proofs.Phases.{Ranges, Settled, Sized}
+use Prim.Native.Nat.{ℕ, _+_, _≤_, _<_}
+use mathlib.Core.Path.{_≡_, refl, sym, ap, _∙_}
+use mathlib.Core.Bool.{Bool, true, _&&_}
+use mathlib.Core.List.{List, [], _∷_, _++_, append-assoc, append-nil}
+use mathlib.Core.Logic.{_⊎_, ⊎-elim}
+use lib.ListN.{length, take, drop, length-append, length-drop, drop-of-length-le}
+use lib.Seq.{take-at, drop-append-le, length-take-le}
+use lib.Dec.{eqb}
+use native.Mathlib.Omega.{arith}
+use borrow.Author.Tests.{lt-ltb, le-leb, eq-eqb}
+
+-- ---- a buffer with some bytes laid into it
+
+module _ (n : ℕ) (w buf : List ℕ) where
+  pub laid-held : n ≤ length buf → take (n + length w) (laidAt n w buf) ≡ take n buf ++ w
+  laid-held h =
+      ap (take (n + length w)) (sym (append-assoc (take n buf) w (drop (length w) (drop n buf))))
+      ∙ take-at (take n buf ++ w) _ (n + length w) (length-append (take n buf) w ∙ ap (λ (k : ℕ). k + length w) (length-take-le n buf h))
+
+  laid-long : n + length w ≤ length buf → length (laidAt n w buf) ≡ length buf
+  laid-long h =
+      omega (
+        arith,
+        length-append (take n buf) (written w (drop n buf)),
+        length-take-le n buf (omega arith),
+        length-drop n buf,
+        length-written w (drop n buf) (omega (arith, length-drop n buf)),
+      )
+
+-- ---- characters, one more
+
+pub bytes-snoc : (q : List ℕ) (c : ℕ) → bytesOf (q ++ (c ∷ [])) ≡ bytesOf q ++ utf8 c
+unfolding bytesOf
+bytes-snoc [] c = append-nil (utf8 c)
+bytes-snoc (x ∷ q) c = ap (λ (l : List ℕ). utf8 x ++ l) (bytes-snoc q c) ∙ sym (append-assoc (utf8 x) (bytesOf q) (utf8 c))
+
+pub count-snoc : (q : List ℕ) (c : ℕ) → byteCount (q ++ (c ∷ [])) ≡ byteCount q + width c
+count-snoc [] c = omega arith
+count-snoc (x ∷ q) c = omega (arith, count-snoc q c)
+
+scalars-snoc : (q : List ℕ) (c : ℕ) → Scalars q → isScalar c ≡ true → Scalars (q ++ (c ∷ []))
+scalars-snoc [] c h e = (e, tt)
+scalars-snoc (x ∷ q) c h e = (h .0, scalars-snoc q c (h .1) e)
+
+-- ---- the invariant
+
+-- the item that starts at st: its n bytes lie right before the place `at`, and are held
+pub record HeldIn (q buf : List ℕ) (n at st : ℕ) : Type 0 where
+  pub ends : st + n ≡ at
+  pub bytes : drop st (bytesOf q) ≡ take n buf
+  pub some : 1 ≤ n
+
+abbrev pub Held : List ℕ → State → ℕ → Type 0
+Held q s st = HeldIn q (s .buf) (s .marks .len) (s .marks .at) st
+
+abbrev pub Beyonds : Beyond → ℕ → Type 0
+Beyonds End at = Unit {0}
+Beyonds (Char c) at = (isScalar c ≡ true) × (at + width c ≤ limit)
+
+abbrev pub Stops : ℕ → Type 0
+Stops n = (n ≡ 20) ⊎ ((n ≡ 21) ⊎ (n ≡ 23))
+
+abbrev pub Staged : List ℕ → State → Stage → Type 0
+Staged q s Opening = q ≡ []
+Staged q s Pound = Held q s 0 × ((s .marks .len ≡ 1) × (take (s .marks .len) (s .buf) ≡ code "#" ∷ []))
+Staged q s FirstLine = Unit {0}
+Staged q s Idle = Unit {0}
+Staged q s (Busy st p) = Held q s st × Sized (s .marks .len) p
+Staged q s (Waiting st b) = Held q s st × ((2 ≤ s .marks .len) × ((s .marks .part .count ≡ 0) × Beyonds b (s .marks .at)))
+Staged q s (Stopped n p) = Stops n × (p ≤ limit)
+
+-- the reader reads on: no item waits, and no stop stands
+abbrev pub Calm : Stage → Type 0
+Calm Opening = Unit {0}
+Calm Pound = Unit {0}
+Calm FirstLine = Unit {0}
+Calm Idle = Unit {0}
+Calm (Busy st p) = Unit {0}
+Calm (Waiting st b) = ⊥
+Calm (Stopped n p) = ⊥
+
+abbrev pub Within : Place → Type 0
+Within p = (p .from ≤ limit) × (p .to ≤ limit)
+
+pub record Kept (q g : List ℕ) (s : State) : Type 0 where
+  pub mode : s .marks .mode < 2
+  pub full : length (s .buf) ≡ longest
+  pub small : s .marks .len ≤ longest
+  pub place : s .marks .at ≡ byteCount q
+  pub far : s .marks .at + s .marks .part .count ≤ limit
+  pub last : Within (lastOf s)
+  pub scalars : Scalars q
+  pub begun : Begun g (s .marks .part)
+  pub staged : Staged q s (s .marks .stage)
+
+-- ---- a state that is kept is in bounds
+
+pub both : {a b : Bool} → a ≡ true → b ≡ true → (a && b) ≡ true
+both e f = rw (e, f)
+
+done-bounded : (o : Outcome) → Settled o → doneBounds o ≡ true
+done-bounded (Token k d) h = refl
+done-bounded Str h = absurd h
+done-bounded HereStr h = absurd h
+done-bounded Word h = absurd h
+done-bounded Run h = absurd h
+done-bounded Lined h = absurd h
+done-bounded Keyword h = absurd h
+done-bounded Character h = absurd h
+done-bounded (Error n d) h = le-leb _ _ h
+done-bounded (ErrorAt n d a b) h = both (both (le-leb _ _ (h .0)) (le-leb _ _ (h .1 .0))) (le-leb _ _ (h .1 .1))
+
+pub phase-bounded : (n : ℕ) (p : Phase) → Sized n p → phaseBounds p n ≡ true
+phase-bounded n ph.InLine h = refl
+phase-bounded n ph.AfterComma h = refl
+phase-bounded n ph.AfterHash h = refl
+phase-bounded n ph.AfterAngle h = refl
+phase-bounded n ph.HereDelim h = refl
+phase-bounded n ph.HereStart h = refl
+phase-bounded n ph.HereBody h = refl
+phase-bounded n ph.InWord h = refl
+phase-bounded n ph.WordEscape h = refl
+phase-bounded n ph.InRun h = refl
+phase-bounded n ph.InHash h = refl
+phase-bounded n ph.HashEscape h = refl
+phase-bounded n ph.HashTick h = refl
+phase-bounded n ph.HashComma h = refl
+phase-bounded n (ph.Nest d) h = le-leb _ _ h
+phase-bounded n (ph.NestBar d) h = le-leb _ _ h
+phase-bounded n (ph.NestSharp d) h = le-leb _ _ h
+phase-bounded n (ph.Quoted k) h = refl
+phase-bounded n (ph.Closed k) h = le-leb _ _ h
+phase-bounded n (ph.TrimBefore k) h = refl
+phase-bounded n (ph.TrimAfter k) h = refl
+phase-bounded n (ph.Escape k from) h = le-leb _ _ h
+phase-bounded n (ph.Brace k from) h = le-leb _ _ h
+phase-bounded n (ph.Hex k closer from m) h = both (le-leb _ _ (h .0)) (le-leb _ _ (h .1))
+phase-bounded n (ph.Done o) h = done-bounded o h
+
+beyond-bounded : (b : Beyond) (at : ℕ) → Beyonds b at → beyondBounds b at ≡ true
+beyond-bounded End at h = refl
+beyond-bounded (Char c) at h = both (h .0) (le-leb _ _ (h .1))
+
+stop-bounded : (n : ℕ) → Stops n → (if eqb n 20 then true else if eqb n 21 then true else eqb n 23) ≡ true
+stop-bounded n h = ⊎-elim (λ e. rw e) (λ k. ⊎-elim (λ e. rw e) (λ e. rw e) k) h
+
+stage-bounded : (q : List ℕ) (s : State) (g : Stage) → s .marks .at ≡ byteCount q → Staged q s g → stageBounds g (s .marks) ≡ true
+stage-bounded q s Opening e h = eq-eqb _ _ (e ∙ ap byteCount h)
+stage-bounded q s Pound e h = both (eq-eqb _ _ (h .1 .0)) (eq-eqb (s .marks .at) 1 (omega (arith, h .0 .ends)))
+stage-bounded q s FirstLine e h = refl
+stage-bounded q s Idle e h = refl
+stage-bounded q s (Busy st p) e h = both (both (eq-eqb _ _ (h .0 .ends)) (le-leb _ _ (h .0 .some))) (phase-bounded (s .marks .len) p (h .1))
+stage-bounded q s (Waiting st b) e h =
+    both (both (both (eq-eqb _ _ (h .0 .ends)) (le-leb _ _ (h .1 .0))) (eq-eqb _ _ (h .1 .1 .0))) (beyond-bounded b (s .marks .at) (h .1 .1 .1))
+stage-bounded q s (Stopped n p) e h = both (stop-bounded n (h .0)) (le-leb _ _ (h .1))
+
+pub kept-bounded : {q g : List ℕ} {s : State} → Kept q g s → inBounds s ≡ true
+unfolding inBounds
+kept-bounded {q} {g} {s} k =
+    both (both (both (both (both (both (lt-ltb _ _ (k .mode)) (le-leb _ _ (k .far))) (le-leb _ _ (k .small))) (le-leb _ _ (k .last .0))) (le-leb _ _ (k .last .1)))
+    (part-bounded (s .marks .part) (k .begun .wants))) (stage-bounded q s (s .marks .stage) (k .place) (k .staged))
+
+-- ---- how a state becomes another
+
+pub none-begun : Begun [] whole
+none-begun = record { count = refl; reached = λ s. refl; wants = refl; high = omega arith }
+
+module _ {q g : List ℕ} {s : State} (k : Kept q g s) where
+  -- with the next character, which is c
+  module _ (c : ℕ) (scalar : isScalar c ≡ true) (room : s .marks .at + width c ≤ limit) where
+    next-place : s .marks .at + width c ≡ byteCount (q ++ (c ∷ []))
+    next-place = omega (arith, count-snoc q c, k .place)
+
+    -- no item is held
+    pub kept-pass : (b : Stage) (last : Place) → Within last → Staged (q ++ (c ∷ [])) (becomes s (s .buf) b (s .marks .at + width c) 0 last) b
+        → Kept (q ++ (c ∷ [])) [] (becomes s (s .buf) b (s .marks .at + width c) 0 last)
+    kept-pass b last w h = record {
+      mode = k .mode;
+      full = k .full;
+      small = omega arith;
+      place = next-place;
+      far = omega arith;
+      last = w;
+      scalars = scalars-snoc q c (k .scalars) scalar;
+      begun = none-begun;
+      staged = h;
+    }
+
+    -- it is laid behind the n bytes of the item that starts at st, which then are m
+    pub laid-in : (b : Stage) (st n m : ℕ) (last : Place) → m ≡ n + width c → m ≤ longest → st + n ≡ s .marks .at → drop st (bytesOf q) ≡ take n (s .buf)
+        → Held (q ++ (c ∷ [])) (becomes s (laidAt n (utf8 c) (s .buf)) b (s .marks .at + width c) m last) st
+    laid-in b st n m last grown fits e h = let j : n + length (utf8 c) ≡ m = omega (arith, width-utf8 c) in record {
+      ends = omega arith;
+      bytes =
+          ap (drop st) (bytes-snoc q c)
+          ∙ drop-append-le st (bytesOf q) (utf8 c) (omega (arith, length-bytes q, k .place))
+          ∙ ap (λ (l : List ℕ). l ++ utf8 c) h
+          ∙ sym (laid-held n (utf8 c) (s .buf) (omega (arith, k .full)))
+          ∙ ap (λ (i : ℕ). take i (laidAt n (utf8 c) (s .buf))) j;
+      some = omega (arith, wide c);
+    }
+
+    pub kept-laid : (b : Stage) (n m : ℕ) (last : Place) → Within last → m ≡ n + width c → m ≤ longest
+        → Staged (q ++ (c ∷ [])) (becomes s (laidAt n (utf8 c) (s .buf)) b (s .marks .at + width c) m last) b
+        → Kept (q ++ (c ∷ [])) [] (becomes s (laidAt n (utf8 c) (s .buf)) b (s .marks .at + width c) m last)
+    kept-laid b n m last w grown fits h = record {
+      mode = k .mode;
+      full = laid-long n (utf8 c) (s .buf) (omega (arith, width-utf8 c, k .full)) ∙ k .full;
+      small = fits;
+      place = next-place;
+      far = omega arith;
+      last = w;
+      scalars = scalars-snoc q c (k .scalars) scalar;
+      begun = none-begun;
+      staged = h;
+    }
+
+    -- it is the first of an item
+    pub first-in : (b : Stage) (last : Place)
+        → Held (q ++ (c ∷ [])) (becomes s (laidAt 0 (utf8 c) (s .buf)) b (s .marks .at + width c) (width c) last) (s .marks .at)
+    first-in b last =
+        laid-in b (s .marks .at) 0 (width c) last (omega arith) (omega (arith, width-le c)) (omega arith)
+        (drop-of-length-le (bytesOf q) {i = s .marks .at} (omega (arith, length-bytes q, k .place)))
+
+    pub kept-first : (b : Stage) (last : Place) → Within last
+        → Staged (q ++ (c ∷ [])) (becomes s (laidAt 0 (utf8 c) (s .buf)) b (s .marks .at + width c) (width c) last) b
+        → Kept (q ++ (c ∷ [])) [] (becomes s (laidAt 0 (utf8 c) (s .buf)) b (s .marks .at + width c) (width c) last)
+    kept-first b last w h = kept-laid b 0 (width c) last w (omega arith) (omega (arith, width-le c)) h
+
+  -- a stop
+  pub kept-stopped : (n p : ℕ) → Stops n → p ≤ limit → Kept q [] (becomes s (s .buf) (Stopped n p) (s .marks .at) 0 (lastOf s))
+  kept-stopped n p h l = record {
+    mode = k .mode;
+    full = k .full;
+    small = omega arith;
+    place = k .place;
+    far = omega arith;
+    last = k .last;
+    scalars = k .scalars;
+    begun = none-begun;
+    staged = (h, l);
+  }
+
+  -- the end
+  pub kept-end : (last : Place) → Within last → Kept q [] (becomes s (s .buf) Idle (s .marks .at) 0 last)
+  kept-end last w = record {
+    mode = k .mode;
+    full = k .full;
+    small = omega arith;
+    place = k .place;
+    far = omega arith;
+    last = w;
+    scalars = k .scalars;
+    begun = none-begun;
+    staged = tt;
+  }
+
+  -- a character goes on
+  pub kept-partly : (g′ : List ℕ) (p : Part) → Begun g′ p → s .marks .at + p .count ≤ limit → Calm (s .marks .stage) → Kept q g′ (partly s p)
+  kept-partly g′ p h far calm = record {
+    mode = k .mode;
+    full = k .full;
+    small = k .small;
+    place = k .place;
+    far = far;
+    last = k .last;
+    scalars = k .scalars;
+    begun = h;
+    staged = on (s .marks .stage) calm (k .staged);
+  }
+    where
+      on : (b : Stage) → Calm b → Staged q s b → Staged q (partly s p) b
+      on Opening c h = h
+      on Pound c h = h
+      on FirstLine c h = h
+      on Idle c h = h
+      on (Busy st p) c h = h
+      on (Waiting st b) c h = absurd c
+      on (Stopped n p) c h = absurd c
+
+  -- the end is declared
+  pub kept-declared : Kept q g (declared s)
+  kept-declared = record {
+    mode = k .mode;
+    full = k .full;
+    small = k .small;
+    place = k .place;
+    far = k .far;
+    last = k .last;
+    scalars = k .scalars;
+    begun = k .begun;
+    staged = on (s .marks .stage) (k .staged);
+  }
+    where
+      on : (b : Stage) → Staged q s b → Staged q (declared s) b
+      on Opening h = h
+      on Pound h = h
+      on FirstLine h = h
+      on Idle h = h
+      on (Busy st p) h = h
+      on (Waiting st b) h = h
+      on (Stopped n p) h = h
+
+  -- one item of a pair was given
+  pub kept-waiting : (st : ℕ) (b : Beyond) (last : Place) → Within last → Held q s st → 2 ≤ s .marks .len → Beyonds b (s .marks .at)
+      → Kept q [] (becomes s (s .buf) (Waiting st b) (s .marks .at) (s .marks .len) last)
+  kept-waiting st b last w h two ok = record {
+    mode = k .mode;
+    full = k .full;
+    small = k .small;
+    place = k .place;
+    far = omega arith;
+    last = w;
+    scalars = k .scalars;
+    begun = none-begun;
+    staged = (h, (two, (refl, ok)));
+  }
+
+  -- the last range after an item that starts at st
+  pub kept-range : (st : ℕ) (o : Outcome) (i : SoFar) → Ranges o → st ≤ limit → i .at ≤ limit → Within (rangeAfter (lastOf s) st o i)
+  kept-range st (Token n d) i h l r = k .last
+  kept-range st Str i h l r = k .last
+  kept-range st HereStr i h l r = k .last
+  kept-range st Word i h l r = k .last
+  kept-range st Run i h l r = k .last
+  kept-range st Lined i h l r = k .last
+  kept-range st Keyword i h l r = k .last
+  kept-range st Character i h l r = sets (characterOf (charInside (i .bytes)))
+    where
+      sets : (v : CharValue) → Within (characterSets v (lastOf s) (range st (i .at)))
+      sets (Scalar c) = k .last
+      sets (Wrong e d) = (l, r)
+  kept-range st (Error n d) i h l r = k .last
+  kept-range st (ErrorAt n d a b) i h l r = h .1

@@ -1,0 +1,63 @@
+-- An extent gives one item, or the two identifiers of a word that begins with a plus.
+use Rattle.items.specs.declared.CharValue.{CharValue}
+use Rattle.items.specs.declared.CharValue.the-variants.{Scalar, Wrong}
+use Rattle.items.specs.declared.Outcome.{Outcome}
+use Rattle.items.specs.declared.Outcome.the-variants.{Token, Str, HereStr, Word, Run, Lined, Keyword, Character, Error, ErrorAt}
+use Rattle.items.specs.Kinds as kind
+use Rattle.items.specs.Meaning.{Meaning, means, source, wordKind, wordMeans, runMeans, characterOf, charInside, characterMeans, meaningOf}
+use Rattle.items.specs.Readers.{firstIs}
+use Rattle.numbers.specs.declared.Parsed.{Parsed}
+use Rattle.numbers.specs.declared.Parsed.the-variants as parsed
+use Rattle.numbers.specs.Grammar.{parseNumber}
+use Rattle.laws.specs.Quoted.{code}
+use Rattle.laws.proofs.Choice.{if-all, if-is}
+use Prim.Native.Nat.{ℕ, _+_, _<_}
+use mathlib.Core.Path.{_≡_}
+use mathlib.Core.Bool.{Bool, true, false, _&&_}
+use mathlib.Core.List.{List, [], _∷_}
+use lib.ListN.{length}
+use lib.Dec.{eqb, ltb}
+use native.Mathlib.Omega.{arith}
+use borrow.Author.Tests.{ltb-true}
+
+-- the items of an extent from s to e, whose bytes are raw
+pub data Shape (s e : ℕ) (raw : List ℕ) : List Meaning → Type 0 where
+  alone : (m : Meaning) → Shape s e raw (m ∷ [])
+  pair : 1 < length raw → Shape s e raw (means kind.Identifier 0 (source s (s + 1)) ∷ means kind.Identifier 0 (source (s + 1) e) ∷ [])
+
+and-right : (a b : Bool) → (a && b) ≡ true → b ≡ true
+and-right true b e = e
+and-right false b e = let z : _≡_ {A = ℕ} 0 1 = cc in absurd (omega arith)
+
+module _ (s e : ℕ) (raw : List ℕ) where
+  word-shape : Shape s e raw (wordMeans s e raw)
+  unfolding wordMeans
+  word-shape =
+      let P : List Meaning → Type 0 = Shape s e raw in
+      if-all P (eqb (wordKind raw) kind.Identifier)
+      (if-is P (firstIs (code "+") raw && ltb 1 (length raw))
+      (λ f. pair (ltb-true 1 (length raw) (and-right (firstIs (code "+") raw) (ltb 1 (length raw)) f)))
+      (λ f. alone (means kind.Identifier 0 (source s e))))
+      (alone _)
+
+  run-shape : (p : Parsed) → Shape s e raw (runMeans p s e raw)
+  unfolding runMeans
+  run-shape (parsed.Is p) = alone _
+  run-shape parsed.NoNumber = word-shape
+  run-shape parsed.ZeroDenominator = alone _
+
+  character-shape : (v : CharValue) → Shape s e raw (characterMeans v)
+  character-shape (Scalar c) = alone _
+  character-shape (Wrong n d) = alone _
+
+  pub shape : (o : Outcome) → Shape s e raw (meaningOf o s e raw)
+  shape (Token k d) = alone _
+  shape Str = alone _
+  shape HereStr = alone _
+  shape Word = word-shape
+  shape Run = run-shape (parseNumber raw)
+  shape Lined = alone _
+  shape Keyword = alone _
+  shape Character = character-shape (characterOf (charInside raw))
+  shape (Error n d) = alone _
+  shape (ErrorAt n d a b) = alone _

@@ -1,0 +1,10 @@
+pub mod Given
+pub mod Expected
+pub mod Bounds
+pub mod Calls
+pub mod Drive
+pub mod Produced
+pub mod Answers
+pub mod Copied
+pub mod Examples
+pub mod Inner
