@@ -4,8 +4,8 @@ use denote.Ref.{now}
 use Rattle.lexer.specs.Reading.{allItems}
 use Rattle.lexer.proofs.Delivered.{few-records, little-text, room, delivered}
 use borrow.Author.Needs.{needs}
-use Rattle.lexer.proofs.whole.deliver.Statement.{statement}
-use Rattle.lexer.proofs.whole.deliver.Tie as tie
+use Rattle.lexer.proofs.whole.deliver_counted.Statement.{statement}
+use Rattle.lexer.proofs.whole.deliver_counted.Tie as tie
 
 count-requires : tie.Need-count-requires
 count-requires c κs = search needs
@@ -26,10 +26,10 @@ same-length-2 : tie.Need-same-length-2
 same-length-2 c = search needs
 
 returns-3 : tie.Need-returns-3
-returns-3 c = delivered (allItems (now (c .before .before .before .before .before .before .before .before .before .before .before .before .before .args .source)) (c .before .before .before .before .before .before .before .before .before .before .before .before .before .args .position)) (now (c .before .before .before .before .before .before .before .before .before .before .before .before .before .args .recs)) (now (c .before .before .before .before .before .before .before .before .before .before .before .before .before .args .text)) (c .before .before .before .before .before .before .before .before .before .count .result) (c .before .before .before .before .before .before .before .before .before .count .ensures) (c .before .before .before .before .before .before .before .before .if1 .left) (c .before .before .before .before .before .before .before .if2 .left) (c .before .before .before .before .write .ensures .0) (c .before .before .before .before .write .ensures .1)
+returns-3 c = delivered (allItems (now (c .before .before .before .before .before .before .before .before .before .before .before .before .before .args .source)) (c .before .before .before .before .before .before .before .before .before .before .before .before .before .args .position)) (now (c .before .before .before .before .before .before .before .before .before .before .before .before .before .args .recs)) (now (c .before .before .before .before .before .before .before .before .before .before .before .before .before .args .text)) (c .before .before .before .before .before .before .before .before .before .count .result) (c .before .before .before .before .before .before .before .before .before .count .ensures) (c .before .before .before .before .before .before .before .before .if1 .left) (c .before .before .before .before .before .before .before .if2 .left) (c .before .before .before .before .write .ensures .1 .0) (c .before .before .before .before .write .ensures .1 .1)
 
-pub deliver-spec : {M : Type 1} → statement M
-deliver-spec =
+pub deliver-counted-spec : {M : Type 1} → statement M
+deliver-counted-spec =
     tie.close
     (tie.spec
     count-requires
