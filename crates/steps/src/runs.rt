@@ -95,8 +95,8 @@ fn number_end(s: &[u8], at: usize) -> usize
     i
 }
 
-// Past the run of characters that leave an item in its phase.
-pub(crate) fn run_end(s: &[u8], at: usize, phase: Phase) -> usize
+// Past the run of characters of ASCII that leave an item in its phase.
+fn ascii_run(s: &[u8], at: usize, phase: Phase) -> usize
     requires { ⌜ at ≤ length (now s) ⌝ }
     ensures { λ r. ⌜ Passes (now (s .entry)) phase at r ⌝ }
 {
@@ -108,4 +108,18 @@ pub(crate) fn run_end(s: &[u8], at: usize, phase: Phase) -> usize
         Phase::InRun => number_end(s, at),
         _ => at,
     }
+}
+
+// Past the run of characters that leave an item in its phase. Most places without one are told by their first byte.
+pub(crate) fn run_end(s: &[u8], at: usize, phase: Phase) -> usize
+    requires { ⌜ at ≤ length (now s) ⌝ }
+    ensures { λ r. ⌜ Passes (now (s .entry)) phase at r ⌝ }
+{
+    if s.len() <= at {
+        return at;
+    }
+    if ASCII_END <= s[at] {
+        return at;
+    }
+    ascii_run(s, at, phase)
 }
