@@ -1,18 +1,18 @@
 -- Many bytes tested at once: their `|` is ASCII just if each of them is. And a run of ASCII is passed a byte a character.
-use Prim.Native.Nat.{ℕ, zero, suc, _+_, _≤_, _<_}
+use Prim.Native.Nat.{ℕ, suc, _+_, _≤_, _<_}
 use native.Mathlib.Omega.{arith}
-use native.Mathlib.Nat.{add-zero, suc-add}
-use mathlib.Core.Path.{_≡_, refl, ap, sym, _∙_}
+use native.Mathlib.Nat.{add-zero}
+use mathlib.Core.Path.{_≡_, ap, sym, _∙_}
 use mathlib.Core.List.{List, [], _∷_}
 use mathlib.Core.Bool.{Bool, true, false, _&&_}
 use lib.Bits.{bitOr, or-add-and, and-le-l, and-le-r, or-lt}
-use lib.Dec.{ltb, leb, leb·suc-suc}
-use lib.ListN.{length, getD, drop, length-drop}
-use lib.Seq.{drop-drop, getD-drop}
-use borrow.Author.Tests.{lt-ltb, le-ltb, le-leb, lt-leb, ltb-true, ltb-false, leb-true}
-use Rattle.laws.specs.Choice.{if_then_else_}
+use lib.Dec.{ltb, leb}
+use lib.ListN.{length, getD, drop}
+use lib.Seq.{drop-drop}
+use borrow.Author.Tests.{lt-ltb, le-ltb, ltb-true, ltb-false}
 use Rattle.laws.specs.Texts.{span}
 use Rattle.laws.proofs.Choice.{by-bool}
+use Rattle.laws.proofs.Blocks.{block-next}
 use Rattle.chars.specs.Utf8.{ascii, sequences, verdict}
 use Rattle.chars.proofs.Table.{within-true, within-in, within-above}
 use Rattle.chars.proofs.Sequences.{sequences-char}
@@ -40,68 +40,12 @@ or-ascii x b =
     (λ f. rw (e, f) (le-ltb (bitOr x b) 0x80 (omega (arith, ltb-false b 0x80 f, or-add-and x b, and-le-l x b)))))
     (λ e. rw e (le-ltb (bitOr x b) 0x80 (omega (arith, ltb-false x 0x80 e, or-add-and x b, and-le-r x b))))
 
--- ---- runs
-
-module _ (f : ℕ → Bool) where
-  span-le : (l : List ℕ) → span f l ≤ length l
-  unfolding span
-  span-le [] = omega arith
-  span-le (b ∷ l) = go (f b) (span-le l)
-    where
-      go : (x : Bool) → span f l ≤ length l → (if x then suc (span f l) else 0) ≤ suc (length l)
-      go true h = omega arith
-      go false h = omega arith
-
-  -- a run of j goes on if the element past it passes
-  span-next : (l : List ℕ) (j : ℕ) → j < length l → leb (j + 1) (span f l) ≡ (leb j (span f l) && f (getD l j 0))
-  unfolding span
-  span-next [] j h = absurd (omega arith)
-  span-next (b ∷ l) zero h = go (f b)
-    where
-      go : (x : Bool) → leb (0 + 1) (if x then suc (span f l) else 0) ≡ (leb 0 (if x then suc (span f l) else 0) && x)
-      go true = rw (le-leb 1 (suc (span f l)) (omega arith), le-leb 0 (suc (span f l)) (omega arith))
-      go false = refl
-  span-next (b ∷ l) (suc j) h = go (f b) (span-next l j (omega arith))
-    where
-      go : (x : Bool) → leb (j + 1) (span f l) ≡ (leb j (span f l) && f (getD l j 0))
-          → leb (suc j + 1) (if x then suc (span f l) else 0) ≡ (leb (suc j) (if x then suc (span f l) else 0) && f (getD l j 0))
-      go true e =
-          ap (λ (n : ℕ). leb n (suc (span f l))) (suc-add j 1) ∙ leb·suc-suc (j + 1) (span f l) ∙ e
-          ∙ ap (λ (x : Bool). x && f (getD l j 0)) (sym (leb·suc-suc j (span f l)))
-      go false e = rw (lt-leb (suc j + 1) 0 (omega arith), lt-leb (suc j) 0 (omega arith))
-
-  -- n elements of a run passed at once
-  span-jump : (l : List ℕ) (n : ℕ) → n ≤ span f l → span f l ≡ n + span f (drop n l)
-  unfolding span
-  span-jump l zero h = omega arith
-  span-jump [] (suc n) h = absurd (omega arith)
-  span-jump (b ∷ l) (suc n) h = go (f b) (λ k. span-jump l n k) h
-    where
-      go : (x : Bool) → (n ≤ span f l → span f l ≡ n + span f (drop n l)) → suc n ≤ (if x then suc (span f l) else 0)
-          → (if x then suc (span f l) else 0) ≡ suc n + span f (drop n l)
-      go true ih h = let e = ih (omega arith) in omega arith
-      go false ih h = absurd (omega arith)
-
 -- ---- a block of ASCII, and one byte more
 
-pub block-next : (s : List ℕ) (at j x : ℕ) → at + j < length s → ltb x 0x80 ≡ leb j (span ascii (drop at s))
+pub ascii-next : (s : List ℕ) (at j x : ℕ) → at + j < length s → ltb x 0x80 ≡ leb j (span ascii (drop at s))
     → ltb (bitOr x (getD s (at + j) 0)) 0x80 ≡ leb (j + 1) (span ascii (drop at s))
-block-next s at j x h e =
-    or-ascii x (getD s (at + j) 0)
-    ∙ rw (e, ← (ascii-ltb (getD s (at + j) 0)), ← (getD-drop at s j 0))
-    (sym (span-next ascii (drop at s) j (omega (arith, length-drop at s))))
-
--- too few bytes are left for it
-pub block-short : (s : List ℕ) (at n : ℕ) → length s < at + n → 0 < n → leb n (span ascii (drop at s)) ≡ false
-block-short s at n h k = lt-leb n (span ascii (drop at s)) (omega (arith, span-le ascii (drop at s), length-drop at s))
-
--- a block that passed its test is within the text, and the run goes on past it
-module _ (s : List ℕ) (i n : ℕ) {r : Bool} (e : r ≡ leb n (span ascii (drop i s))) (t : r ≡ true) where
-  pub block-room : 0 < n → i + n ≤ length s
-  block-room h = omega (arith, leb-true n (span ascii (drop i s)) (sym e ∙ t), span-le ascii (drop i s), length-drop i s)
-
-  pub block-on : i + n + span ascii (drop (i + n) s) ≡ i + span ascii (drop i s)
-  block-on = rw (← drop-drop n i s) (omega (arith, span-jump ascii (drop i s) n (leb-true n (span ascii (drop i s)) (sym e ∙ t))))
+ascii-next s at j x h e =
+    or-ascii x (getD s (at + j) 0) ∙ rw (← (ascii-ltb (getD s (at + j) 0))) (block-next ascii s at j (ltb x 0x80) h e)
 
 -- ---- a run of ASCII has no bad sequence
 

@@ -110,8 +110,8 @@ pub fn byte_step(t: State, b: u8) -> Step
     })
 }
 
-// The character at a place of a text.
-pub fn decode_at(s: &[u8], at: usize) -> Decoded
+// The character at a place of a text, byte by byte.
+fn decode_bytes(s: &[u8], at: usize) -> Decoded
     ensures { λ r. ⌜ r ≡ placed at (front (drop at (now (s .entry)))) ⌝ }
 {
     if s.len() <= at {
@@ -142,6 +142,23 @@ pub fn decode_at(s: &[u8], at: usize) -> Decoded
         i += 1;
     }
     Decoded::Cut
+}
+
+// The character at a place of a text. One of ASCII, as most are, is its byte.
+pub fn decode_at(s: &[u8], at: usize) -> Decoded
+    ensures { λ r. ⌜ r ≡ placed at (front (drop at (now (s .entry)))) ⌝ }
+{
+    if s.len() <= at {
+        return Decoded::End;
+    }
+    let b = s[at];
+    if b < ASCII_END {
+        return Decoded::Char {
+            code: b as u32,
+            next: at + 1,
+        };
+    }
+    decode_bytes(s, at)
 }
 
 // Whether a block of ASCII stands at a place.

@@ -5,8 +5,8 @@ use Rattle.items.specs.Whole.{call, served, refused, limit, deliver}
 use Rattle.items.specs.declared.Record.{Record}
 use Rattle.meaning.specs.Records.{packed}
 use Rattle.lexer.specs.Reading.{Turn, gives, ends, nextAt, foundOf}
-use Rattle.lexer.specs.Answers.{item, finished, refuses, replied, giveOf, nextOf}
-use Rattle.lexer.specs.Inner.{neededOf, bytesFor, freeAfter}
+use Rattle.lexer.specs.Answers.{Reply, item, finished, refuses, replied, giveOf, nextOf}
+use Rattle.lexer.specs.Inner.{neededOf, bytesFor, freeAfter, Few}
 use Rattle.lexer.specs.declared.Position.{Position}
 use Rattle.lexer.specs.declared.Needed.{Needed}
 use Rattle.lexer.specs.declared.Found.the-variants.{One, End}
@@ -54,6 +54,11 @@ module _ (is : List Item) (recs text : List ℕ) (n : Needed) (e : n ≡ neededO
       unfolding deliver
       delivered a b =
           rw (counts .0, counts .1, le-leb (length is) (length recs / recordWords) fits, le-leb (length (texts is)) (length text) fits-text, a, b)
+
+  -- where there is a record and a byte of text memory for each byte of the source
+  pub ample : (s : List ℕ) → Few s is → length s ≤ length recs / recordWords → length s ≤ length text → {r t : List ℕ} → r ≡ written (records 0 is) recs
+      → t ≡ written (texts is) text → call (served (n .items) (n .text)) r t ≡ deliver is recs text
+  ample s few h k a b = delivered (omega (arith, counts, few .0)) (omega (arith, counts, few .1)) a b
 
 -- ---- the reader
 

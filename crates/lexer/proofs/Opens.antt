@@ -8,17 +8,20 @@ use Rattle.chars.specs.declared.Decoded.the-variants as decoded
 use Rattle.chars.proofs.Chars.{CharAt, nothing-at}
 use Rattle.laws.specs.Quoted.{code}
 use Rattle.laws.proofs.Choice.{by-bool}
-use Rattle.items.specs.Items.{Item, unset, itemsFrom, itemsAt, pastLine, afterPound, items, kept}
-use Rattle.items.specs.Whole.{call, limit, isMode, inReport, itemsIn, deliver, ifGood, readOf}
+use Rattle.items.specs.Items.{Item, Place, unset, itemsFrom, itemsAt, pastLine, afterPound, items, kept, byteCount}
+use Rattle.items.specs.Whole.{Call, call, limit, isMode, inReport, itemsIn, deliver, ifGood, readOf}
 use Rattle.items.specs.Whole as whole
-use Rattle.lexer.specs.Opening.{lineEnd, afterHash, startOf, opening, opened, refused, ifUtf8, openOf}
+use Rattle.items.proofs.Order.{items-count, items-memory}
+use Rattle.items.proofs.Skipped.{kept-count, kept-memory}
+use Rattle.lexer.specs.Opening.{lineEnd, afterHash, startOf, opening, Opening, opened, refused, ifUtf8, openOf}
 use Rattle.lexer.specs.Reading.{allItems}
+use Rattle.lexer.specs.Inner.{Few}
 use Rattle.lexer.specs.declared.Position.{Position}
-use Rattle.lexer.proofs.Here.{Here, char-here, char-found}
+use Rattle.lexer.proofs.Here.{Here, char-here, char-found, room}
 use Rattle.lexer.proofs.Turns.{itemsOn}
 use Rattle.lexer.proofs.All.{all-read}
 use Prim.Native.Nat.{ℕ, _+_, _≤_, _<_}
-use mathlib.Core.Path.{_≡_, refl, sym, ap, _∙_}
+use mathlib.Core.Path.{_≡_, refl, sym, ap, _∙_, subst}
 use mathlib.Core.Bool.{Bool, true, false}
 use mathlib.Core.List.{List, [], _∷_}
 use lib.ListN.{length, drop}
@@ -117,10 +120,19 @@ module _ (s : List ℕ) (report : Bool) where
 pub reads-all : (s : List ℕ) (report skip : Bool) → allItems s (opening s report skip) ≡ kept skip (items report (chars s))
 reads-all s report skip = all-read s (opening s report skip) refl ∙ ap (kept skip) (sym (start-items s report (chars s) refl))
 
+-- they are no more than its bytes, nor are their decoded texts
+few-items : (s : List ℕ) (report skip : Bool) → Few s (kept skip (items report (chars s)))
+few-items s report skip =
+    let is : List Item = items report (chars s) in
+    let r : 0 + byteCount (chars s) ≤ length s = room s (chars s) 0 (omega arith) refl in (
+      omega (arith, kept-count skip is, items-count report (chars s)),
+      omega (arith, kept-memory skip is, items-memory report (chars s)),
+    )
+
 -- ---- the whole-text call by what opening says
 
 module _ (s : List ℕ) (mode : ℕ) (skip : Bool) (recs text : List ℕ) where
-  pub read-opened : (p : Position) → opened p ≡ openOf s mode skip → (length s ≤ limit) × (readOf s mode skip recs text ≡ deliver (allItems s p) recs text)
+  pub read-opened : (p : Position) → opened p ≡ openOf s mode skip → (length s ≤ limit) × Few s (allItems s p) × (readOf s mode skip recs text ≡ deliver (allItems s p) recs text)
   unfolding openOf readOf
   read-opened p e = by-bool (isMode mode)
       (λ m. by-bool (ltb limit (length s))
@@ -129,12 +141,12 @@ module _ (s : List ℕ) (mode : ℕ) (skip : Bool) (recs text : List ℕ) where
       (λ m. let z : opened p ≡ refused 25 mode = rw m at e in let y : _≡_ {A = ℕ} 0 1 = cc in absurd (omega arith))
     where
       good : isMode mode ≡ true → ltb limit (length s) ≡ false → (u : Utf8) → firstBad s ≡ u → opened p ≡ ifUtf8 (firstBad s) (opening s (inReport mode) skip)
-          → (length s ≤ limit) × (readOf s mode skip recs text ≡ deliver (allItems s p) recs text)
+          → (length s ≤ limit) × Few s (allItems s p) × (readOf s mode skip recs text ≡ deliver (allItems s p) recs text)
       good m l Good f h =
           let z : opened p ≡ opened (opening s (inReport mode) skip) = h ∙ ap (λ (u : Utf8). ifUtf8 u (opening s (inReport mode) skip)) f in
           let q : p ≡ opening s (inReport mode) skip = cc in
           let a : allItems s p ≡ itemsIn s mode skip = ap (allItems s) q ∙ reads-all s (inReport mode) skip in
-          (ltb-false limit (length s) l, rw (m, l, f) (ap (λ (i : List Item). deliver i recs text) (sym a)))
+          (ltb-false limit (length s) l, subst (Few s) (sym a) (few-items s (inReport mode) skip), rw (m, l, f) (ap (λ (i : List Item). deliver i recs text) (sym a)))
       good m l (Bad at) f h =
           let z : opened p ≡ refused 21 at = h ∙ ap (λ (u : Utf8). ifUtf8 u (opening s (inReport mode) skip)) f in
           let y : _≡_ {A = ℕ} 0 1 = cc in absurd (omega arith)

@@ -4,14 +4,24 @@ use Rattle.chars.specs.Blank.{isBlank}
 use Rattle.chars.specs.declared.Decoded.{Decoded}
 use Rattle.chars.specs.declared.Decoded.the-variants as decoded
 use Rattle.chars.proofs.Chars.{CharAt, nothing-at}
+use Rattle.chars.proofs.Blanks.{low-run}
+use Rattle.chars.proofs.Table.{within-true}
+use Rattle.laws.specs.Texts.{span}
+use Rattle.laws.proofs.Choice.{by-bool}
+use Rattle.laws.proofs.Runs.{span-le, span-hit, span-stop}
+use Rattle.texts.specs.Runs.{blank}
+use Rattle.steps.proofs.Kept.{ascii-found}
 use Rattle.lexer.specs.Reading.{startFrom}
 use Rattle.lexer.specs.declared.Start.the-variants.{At, Nothing}
 use Rattle.lexer.proofs.Here.{char-found}
-use Prim.Native.Nat.{ℕ}
-use mathlib.Core.Path.{_≡_, sym, ap, _∙_}
+use Prim.Native.Nat.{ℕ, zero, suc, _+_, _≤_, _<_}
+use mathlib.Core.Path.{_≡_, refl, sym, ap, _∙_}
 use mathlib.Core.Bool.{true, false}
 use mathlib.Core.List.{List}
-use lib.ListN.{drop}
+use native.Mathlib.Omega.{arith}
+use lib.Dec.{eqb}
+use lib.ListN.{length, getD, drop, length-drop}
+use borrow.Author.Tests.{eqb-true}
 
 module _ (s : List ℕ) (at : ℕ) where
   module _ (c next : ℕ) (found : decoded.Char c next ≡ placed at (front (drop at s))) where
@@ -30,3 +40,30 @@ module _ (s : List ℕ) (at : ℕ) where
   pub start-none : (o : Decoded) → o ≡ placed at (front (drop at s)) → ((c n : ℕ) → o ≡ decoded.Char c n → ⊥) → Nothing ≡ startFrom at (chars (drop at s))
   unfolding startFrom
   start-none o e h = sym (ap (startFrom at) (nothing-at s at o e h))
+
+-- ---- a run of ASCII's blanks
+
+space-blank : isBlank 0x20 ≡ true
+unfolding isBlank
+space-blank = refl
+
+blank-ascii : (c : ℕ) → blank c ≡ true → (c < 0x80) × (isBlank c ≡ true)
+blank-ascii c e =
+    by-bool (eqb c 0x20)
+    (λ f. let d = eqb-true c 0x20 f in (omega arith, ap isBlank d ∙ space-blank))
+    (λ f. let h = within-true 0x09 0x0D c (rw f at e) in (omega arith, low-run c (h .0) (h .1)))
+
+module _ (s : List ℕ) where
+  blanks : (n at : ℕ) → n ≤ span blank (drop at s) → startFrom (at + n) (chars (drop (at + n) s)) ≡ startFrom at (chars (drop at s))
+  blanks zero at k = let e : at + 0 ≡ at = omega arith in rw e
+  blanks (suc n) at k =
+      let inside : at < length s = omega (arith, span-le blank (drop at s), length-drop at s) in
+      by-bool (blank (getD s at 0))
+      (λ e. let on = span-hit blank s at inside e in
+      let b = blank-ascii (getD s at 0) e in
+      let j : at + suc n ≡ at + 1 + n = omega arith in
+      rw j (blanks n (at + 1) (omega (arith, on)) ∙ sym (start-blank s at (getD s at 0) (at + 1) (ascii-found s at inside (b .0)) (b .1))))
+      (λ e. absurd (omega (arith, span-stop blank s at inside e)))
+
+  pub start-run : (at : ℕ) → startFrom (at + span blank (drop at s)) (chars (drop (at + span blank (drop at s)) s)) ≡ startFrom at (chars (drop at s))
+  start-run at = blanks (span blank (drop at s)) at (omega arith)

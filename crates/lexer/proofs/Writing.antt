@@ -6,13 +6,13 @@ use Rattle.items.specs.declared.Record.{Record}
 use Rattle.items.proofs.Fit.{records-length}
 use Rattle.meaning.specs.Records.{packed}
 use Rattle.lexer.specs.Reading.{nextAt, allFrom, allItems, foundOf}
-use Rattle.lexer.specs.Inner.{bytesFor, freeAfter}
+use Rattle.lexer.specs.Inner.{bytesFor, freeAfter, neededOf}
 use Rattle.lexer.specs.declared.Position.{Position}
 use Rattle.lexer.specs.declared.Found.the-variants.{One, End}
 use Rattle.lexer.proofs.Moves.{Moved, Whole}
-use Rattle.lexer.proofs.Memory.{words-packed, bytes-packed, texts-join, texts-more, records-more}
-use Rattle.lexer.proofs.Going.{Going, going, going-end, going-on, it, it-packed, it-moved}
-use Prim.Native.Nat.{ℕ, _+_, _-_, _*_, _≤_, _<_}
+use Rattle.lexer.proofs.Memory.{words-packed, bytes-packed, texts-join, records-join, texts-more, records-more}
+use Rattle.lexer.proofs.Going.{Going, going, going-end, counted, going-on, it, it-packed, it-moved}
+use Prim.Native.Nat.{ℕ, _+_, _-_, _*_, _/_, _≤_, _<_}
 use mathlib.Core.Path.{_≡_, refl, sym, ap, _∙_, subst}
 use mathlib.Core.List.{List, [], _∷_, _++_}
 use lib.ListN.{length, length-append, take, drop}
@@ -54,6 +54,10 @@ module _ (s : List ℕ) (start : Position) (recs₀ text₀ : List ℕ) (fr : re
 
     pub text-length : length text ≡ length text₀
     text-length = ap length (g .bytes) ∙ length-written (texts (g .done)) text₀ (front (g .going) .1)
+
+    -- what was written, by the words and the bytes that it took
+    pub written-all : (n : ℕ) → n ≡ w / recordWords → End ≡ foundOf free (nextAt s p) → record { items = n; text = free } ≡ neededOf (allItems s start)
+    written-all n h e = counted s start p free (g .done) (g .going) n (omega (arith, g .count, records-length 0 (g .done))) e
 
     pub writing-end : End ≡ foundOf free (nextAt s p) → (recs ≡ written (records 0 (allItems s start)) recs₀) × (text ≡ written (texts (allItems s start)) text₀)
     writing-end e =

@@ -60,3 +60,7 @@ freeAfter free r = if eqb (r .source) 2 then r .past else free
 
 abbrev pub neededOf : List Item → Needed
 neededOf is = record { items = length is; text = length (texts is) }
+
+-- items that are no more than the bytes of their source, nor are their decoded texts
+abbrev pub Few : List ℕ → List Item → Type 0
+Few source is = (length is ≤ length source) × (length (texts is) ≤ length source)

@@ -16,6 +16,7 @@ use meaning::places::range_after;
 use meaning::records::record_of;
 use steps::first_phase;
 use steps::scan;
+use texts::blank_end;
 ghost use mathlib.Core.Path.{_≡_};
 ghost use mathlib.Core.Bool.{true, false, _&&_};
 ghost use Prim.Native.Nat.{_+_, _≤_};
@@ -32,6 +33,19 @@ ghost use Rattle.lexer.specs.declared.Found.the-variants.{One};
 ghost use Rattle.lexer.specs.Reading.{moved, turnOf, turnAt, turn, nextAt, startFrom, foundOf};
 ghost use Rattle.lexer.specs.Inner.{ExtentFits, First};
 
+// Past the blanks of ASCII from a place on, where a space is the first of them: an indentation is passed at once.
+fn past_spaces(source: &[u8], at: usize) -> usize
+    ensures { λ r. ⌜ (at ≤ r) × (startFrom r (chars (drop r (now (source .entry)))) ≡ startFrom at (chars (drop at (now (source .entry))))) ⌝ }
+{
+    if source.len() <= at {
+        return at;
+    }
+    if source[at] == b' ' {
+        return blank_end(source, at);
+    }
+    at
+}
+
 // The first character from a place on that is no blank.
 pub fn consume_whitespace(source: &[u8], from: usize) -> Start
     ensures { λ r. ⌜ r ≡ startFrom from (chars (drop from (now (source .entry)))) ⌝ }
@@ -41,7 +55,7 @@ pub fn consume_whitespace(source: &[u8], from: usize) -> Start
         match decode_at(source, at) {
             Decoded::Char { code, next } => {
                 if is_blank(code) {
-                    at = next;
+                    at = past_spaces(source, next);
                 } else {
                     return Start::At(code, at, next);
                 }

@@ -1,4 +1,4 @@
-// The whole-text call: all items of a source, counted first, then written.
+// The whole-text call: all items of a source, counted first where they might not fit, then written.
 use crate::Found;
 use crate::Needed;
 use crate::OpenAnswer;
@@ -21,7 +21,7 @@ ghost use Rattle.items.specs.Items.{records, recordWords, texts};
 ghost use Rattle.items.specs.Whole.{call, deliver, limit, readOf};
 ghost use Rattle.lexer.specs.Reading.{allItems};
 ghost use Rattle.lexer.specs.Answers.{answerOf};
-ghost use Rattle.lexer.specs.Inner.{neededOf, quotesOf, bytesFor, freeAfter};
+ghost use Rattle.lexer.specs.Inner.{neededOf, quotesOf, bytesFor, freeAfter, Few};
 
 // How many bytes a quote is.
 const QUOTE: usize = 1;
@@ -83,11 +83,12 @@ fn count(source: &[u8], position: Position) -> Needed
     }
 }
 
-// Writes the records of the items from a position on, and their decoded texts.
-fn write(source: &[u8], position: Position, recs: &mut [u32], text: &mut [u8])
+// Writes the records of the items from a position on, and their decoded texts; answers how many records and bytes those are.
+fn write(source: &[u8], position: Position, recs: &mut [u32], text: &mut [u8]) -> Needed
     requires { ⌜ length (now source) ≤ limit ⌝ }
     requires { ⌜ recordWords * length (allItems (now source) position) ≤ length (now recs) ⌝ }
     requires { ⌜ length (texts (allItems (now source) position)) ≤ length (now text) ⌝ }
+    ensures { λ r. ⌜ r ≡ neededOf (allItems (now (source .entry)) position) ⌝ }
     ensures { λ _. ⌜ now (recs .exit) ≡ written (records 0 (allItems (now (source .entry)) position)) (now (recs .entry)) ⌝ }
     ensures { λ _. ⌜ now (text .exit) ≡ written (texts (allItems (now (source .entry)) position)) (now (text .entry)) ⌝ }
 {
@@ -104,14 +105,22 @@ fn write(source: &[u8], position: Position, recs: &mut [u32], text: &mut [u8])
                 p = q;
             }
             Found::End => {
-                return;
+                return Needed {
+                    items: w / WORDS,
+                    text: free,
+                };
             }
         }
     }
 }
 
-// The items from a position on into lent memory, if they fit.
-fn deliver(source: &[u8], position: Position, recs: &mut [u32], text: &mut [u8]) -> ReadAnswer
+// The items from a position on into lent memory, if they fit: they are counted first.
+fn deliver_counted(
+    source: &[u8],
+    position: Position,
+    recs: &mut [u32],
+    text: &mut [u8],
+) -> ReadAnswer
     requires { ⌜ length (now source) ≤ limit ⌝ }
     ensures { λ r. ⌜ call (answerOf r) (now (recs .exit)) (now (text .exit)) ≡ deliver (allItems (now (source .entry)) position) (now (recs .entry)) (now (text .entry)) ⌝ }
 {
@@ -126,6 +135,22 @@ fn deliver(source: &[u8], position: Position, recs: &mut [u32], text: &mut [u8])
     }
     write(source, position, recs, text);
     ReadAnswer::Served(items, bytes)
+}
+
+// The items from a position on into lent memory, if they fit. Where there is a record and a byte of text memory for each byte of the
+// source they do, and nothing is counted.
+fn deliver(source: &[u8], position: Position, recs: &mut [u32], text: &mut [u8]) -> ReadAnswer
+    requires { ⌜ (length (now source) ≤ limit) × Few (now source) (allItems (now source) position) ⌝ }
+    ensures { λ r. ⌜ call (answerOf r) (now (recs .exit)) (now (text .exit)) ≡ deliver (allItems (now (source .entry)) position) (now (recs .entry)) (now (text .entry)) ⌝ }
+{
+    if recs.len() / WORDS < source.len() {
+        return deliver_counted(source, position, recs, text);
+    }
+    if text.len() < source.len() {
+        return deliver_counted(source, position, recs, text);
+    }
+    let done = write(source, position, recs, text);
+    ReadAnswer::Served(done.items, done.text)
 }
 
 // All items of a source: their records, and their decoded texts, in lent memory. Mode 0 is plain and 1 report; comments are left out

@@ -15,7 +15,7 @@ use Rattle.items.specs.Readers.{soFar}
 use Rattle.items.specs.Run as M
 use Rattle.items.specs.Whole.{limit}
 use Rattle.items.proofs.Splits.{length-bytes}
-use Rattle.items.proofs.Width.{width-utf8}
+use Rattle.chars.proofs.Width.{width-utf8}
 use Rattle.laws.specs.Quoted.{code}
 use Rattle.laws.proofs.Choice.{by-bool, if-is}
 use Rattle.pieces.specs.declared.Beyond.{Beyond}

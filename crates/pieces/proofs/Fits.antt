@@ -22,7 +22,7 @@ use Rattle.items.specs.Readers.{firstIs}
 use Rattle.items.specs.Whole.{limit, isMode}
 use Rattle.items.proofs.Every.{Every}
 use Rattle.items.proofs.Shorter.{shorter}
-use Rattle.items.proofs.Width.{width-le}
+use Rattle.chars.proofs.Width.{width-le}
 use Rattle.numbers.specs.declared.Parsed.{Parsed}
 use Rattle.numbers.specs.declared.Parsed.the-variants as parsed
 use Rattle.numbers.specs.Grammar.{parseNumber}

@@ -14,7 +14,7 @@ use Rattle.items.specs.Meaning.{characterOf, charInside}
 use Rattle.items.specs.Readers.{SoFar}
 use Rattle.items.specs.Whole.{limit}
 use Rattle.items.proofs.Splits.{length-bytes}
-use Rattle.items.proofs.Width.{wide, width-le, width-utf8}
+use Rattle.chars.proofs.Width.{wide, width-le, width-utf8}
 use Rattle.laws.specs.Choice.{if_then_else_}
 use Rattle.laws.specs.Quoted.{code}
 use Rattle.laws.specs.Lent.{written}

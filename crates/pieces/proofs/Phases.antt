@@ -22,7 +22,7 @@ use Rattle.items.specs.Machine.{onWord, enterWord, onRun, hashThen, hashLast, o
 use Rattle.items.specs.Readers.{SoFar, eat, firstIs, lastIs, linedOf, closed, unclosed, cut, scalarOf, hashKind, hereEnds}
 use Rattle.items.specs.Whole.{limit}
 use Rattle.items.proofs.Fine.{Fine, FineKind, FineValue, fine-kind, fine-scalar}
-use Rattle.items.proofs.Width.{wide, width-utf8}
+use Rattle.chars.proofs.Width.{wide, width-utf8}
 use Rattle.digits.specs.Hex.{hexValue}
 use Rattle.laws.specs.Quoted.{code}
 use Rattle.laws.proofs.Choice.{if-all}

@@ -8,7 +8,7 @@ use chars::char_width;
 use chars::is_scalar;
 use items::Outcome;
 use items::Phase;
-use steps::kinds;
+use items::kinds;
 ghost use mathlib.Core.Path.{_≡_};
 ghost use mathlib.Core.Bool.{_&&_};
 ghost use mathlib.Core.List.{List};

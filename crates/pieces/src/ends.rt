@@ -18,7 +18,7 @@ use meaning::Text;
 use meaning::meaning;
 use meaning::places::range_after;
 use steps::first_phase;
-use words::kinds;
+use items::kinds;
 ghost use mathlib.Core.Path.{_≡_};
 ghost use mathlib.Core.Bool.{_&&_};
 ghost use Prim.Native.Nat.{_≤_};

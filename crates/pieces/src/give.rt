@@ -8,7 +8,7 @@ use meaning::Range;
 use meaning::Text;
 use meaning::places::place;
 use meaning::records::IN_MEMORY;
-use words::kinds;
+use items::kinds;
 ghost use mathlib.Core.Path.{_≡_};
 ghost use mathlib.Core.List.{[], _∷_};
 ghost use Prim.Native.Nat.{_-_, _≤_, _<_};

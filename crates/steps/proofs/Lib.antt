@@ -1,4 +1,5 @@
 pub mod Characters
 pub mod Delimiter
 pub mod Turn
+pub mod Kept
 pub mod Item

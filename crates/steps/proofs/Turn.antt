@@ -18,8 +18,7 @@ use Rattle.items.specs.declared.Next.the-variants.{Eat, Stop}
 use Rattle.items.specs.Readers.{soFar}
 use Rattle.items.specs.Machine.{stepOf, finishOf, scanOf, depthOf}
 use Rattle.items.proofs.Deep.{deep-eat}
-use Rattle.steps.specs.declared.Scanned.{Scanned}
-use Rattle.steps.specs.Scan.{part, scanned}
+use Rattle.steps.specs.Scan.{part, scanned, answer}
 
 -- a part goes on with the part behind it
 take-more : (l : List ℕ) (a b : ℕ) → take (a + b) l ≡ take a l ++ take b (drop a l)
@@ -42,9 +41,6 @@ no-chars = refl
 
 -- the item from a on in the text s: what the scan answers from a phase and a place on, and what each turn does
 module _ (s : List ℕ) (report : Bool) (a : ℕ) where
-  abbrev pub answer : Phase → ℕ → Scanned
-  answer p at = scanned (scanOf report p (soFar (part s a at) at) (chars (drop at s)))
-
   -- the item with the character at its end
   part-more : (at c next : ℕ) → a ≤ at → CharAt s at c next → part s a next ≡ part s a at ++ utf8 c
   part-more at c next h k =
@@ -54,22 +50,22 @@ module _ (s : List ℕ) (report : Bool) (a : ℕ) where
       (ap (take (next - at)) (drop-drop (at - a) a s ∙ ap (λ (i : ℕ). drop i s) d) ∙ k .bytes))
 
   module _ (p : Phase) (at c next : ℕ) (k : CharAt s at c next) where
-    pub turn-eat : (q : Phase) → a ≤ at → stepOf report p (soFar (part s a at) at) c ≡ Eat q → answer p at ≡ answer q next
+    pub turn-eat : (q : Phase) → a ≤ at → stepOf report p (soFar (part s a at) at) c ≡ Eat q → answer s report a p at ≡ answer s report a q next
     unfolding scanOf
     turn-eat q h e = rw (k .first) (rw (e, scanOf) (rw (← (part-more at c next h k), ← (k .on))))
 
-    pub turn-stop : (o : Outcome) → stepOf report p (soFar (part s a at) at) c ≡ Stop o → answer p at ≡ record { what = o; end = at }
+    pub turn-stop : (o : Outcome) → stepOf report p (soFar (part s a at) at) c ≡ Stop o → answer s report a p at ≡ record { what = o; end = at }
     unfolding scanOf
     turn-stop o e = rw (k .first) (rw (e, scanOf))
 
     pub turn-deep : (q : Phase) → depthOf p ≤ at → stepOf report p (soFar (part s a at) at) c ≡ Eat q → depthOf q ≤ next
     turn-deep q h e = omega (arith, deep-eat report p (soFar (part s a at) at) c q e, k .on, wide c)
 
-  pub turn-last : (p : Phase) (at : ℕ) → chars (drop at s) ≡ [] → answer p at ≡ record { what = finishOf p (part s a at); end = at }
+  pub turn-last : (p : Phase) (at : ℕ) → chars (drop at s) ≡ [] → answer s report a p at ≡ record { what = finishOf p (part s a at); end = at }
   unfolding scanOf
   turn-last p at e = rw e
 
-  pub turn-out : (p : Phase) (at : ℕ) → length s ≤ at → answer p at ≡ record { what = finishOf p (part s a at); end = at }
+  pub turn-out : (p : Phase) (at : ℕ) → length s ≤ at → answer s report a p at ≡ record { what = finishOf p (part s a at); end = at }
   turn-out p at h = turn-last p at (rw (past s at h) no-chars)
 
 -- where no character stands

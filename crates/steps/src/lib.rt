@@ -9,6 +9,7 @@ mod hash;
 mod here;
 mod machine;
 mod quotes;
+mod runs;
 mod signs;
 mod words;
 

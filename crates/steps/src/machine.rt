@@ -4,6 +4,7 @@ use crate::comments;
 use crate::hash;
 use crate::here;
 use crate::quotes;
+use crate::runs::run_end;
 use crate::signs::*;
 use crate::words;
 use chars::Decoded;
@@ -156,9 +157,8 @@ fn scan_end(s: &[u8], start: usize, at: usize, phase: Phase) -> Scanned
     }
 }
 
-// What the item is that starts at `start` and stands in the phase `first` at the place `from`, and where it ends. Internal: the caller
-// shows that the places are in the text, and that no more comments are open than bytes were read.
-pub fn scan(s: &[u8], report: bool, start: usize, from: usize, first: Phase) -> Scanned
+// What the item is that stands in the phase `first` at the place `from`, and where it ends: a run at a time, and a step after each.
+fn scan_on(s: &[u8], report: bool, start: usize, from: usize, first: Phase) -> Scanned
     requires { ⌜ (start ≤ from) × (from ≤ length (now s)) × (depthOf first ≤ from) ⌝ }
     ensures { λ r. ⌜ r ≡
         scanned (scanOf report first (soFar (part (now (s .entry)) start from) from) (chars (drop from (now (s .entry))))) ⌝ }
@@ -166,6 +166,7 @@ pub fn scan(s: &[u8], report: bool, start: usize, from: usize, first: Phase) -> 
     let mut phase = first;
     let mut at = from;
     while at < s.len() {
+        at = run_end(s, at, phase);
         match decode_at(s, at) {
             Decoded::Char { code, next } => match step(report, phase, &s[start..at], at, code) {
                 Next::Eat(then) => {
@@ -188,4 +189,17 @@ pub fn scan(s: &[u8], report: bool, start: usize, from: usize, first: Phase) -> 
         }
     }
     scan_end(s, start, at, phase)
+}
+
+// What the item is that starts at `start` and stands in the phase `first` at the place `from`, and where it ends. Internal: the caller
+// shows that the places are in the text, and that no more comments are open than bytes were read.
+pub fn scan(s: &[u8], report: bool, start: usize, from: usize, first: Phase) -> Scanned
+    requires { ⌜ (start ≤ from) × (from ≤ length (now s)) × (depthOf first ≤ from) ⌝ }
+    ensures { λ r. ⌜ r ≡
+        scanned (scanOf report first (soFar (part (now (s .entry)) start from) from) (chars (drop from (now (s .entry))))) ⌝ }
+{
+    match first {
+        Phase::Done(what) => Scanned { what, end: from },
+        _ => scan_on(s, report, start, from, first),
+    }
 }

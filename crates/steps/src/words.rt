@@ -11,7 +11,7 @@ ghost use Rattle.items.specs.Classes.{breaksWord, inWord, staysRun, endsRun, in
 ghost use Rattle.items.specs.Machine.{onWord, enterWord, onRun};
 
 // Whether a character ends a word.
-fn breaks_word(c: u32) -> bool
+pub(crate) fn breaks_word(c: u32) -> bool
     ensures { λ r. ⌜ r ≡ breaksWord c ⌝ }
 {
     match c {
@@ -56,7 +56,7 @@ pub(crate) fn is_digit(c: u32) -> bool
 }
 
 // Whether a number run goes on with a character.
-fn stays_run(c: u32) -> bool
+pub(crate) fn stays_run(c: u32) -> bool
     ensures { λ r. ⌜ r ≡ staysRun c ⌝ }
 {
     match c {

@@ -1,23 +1,14 @@
-// Texts as bytes, by the definitions of laws/specs/Texts: where a byte stands, and how two texts compare. Each function answers what
+// Texts as bytes, by the definitions of laws/specs/Texts: where a byte stands, how far a run goes, and how two texts compare. Each function answers what
 // the definition that its contract names says of the text, or of the text from a place on. Internal.
 ghost use mathlib.Core.Path.{_≡_};
-ghost use Prim.Native.Nat.{_+_};
 ghost use lib.ListN.{drop};
-ghost use Rattle.laws.specs.Texts.{before, starts, begins, same};
+ghost use Rattle.laws.specs.Texts.{starts, begins, same};
 
-// Where the first b from a place on stands, or where the text ends.
-pub fn find(t: &[u8], from: usize, b: u8) -> usize
-    ensures { λ r. ⌜ r ≡ from + before b (drop from (now (t .entry))) ⌝ }
-{
-    let mut i = from;
-    while i < t.len() {
-        if t[i] == b {
-            return i;
-        }
-        i += 1;
-    }
-    i
-}
+mod runs;
+
+pub use runs::blank_end;
+pub use runs::find;
+pub use runs::plain_end;
 
 // Whether b stands at a place.
 pub fn starts_at(t: &[u8], from: usize, b: u8) -> bool

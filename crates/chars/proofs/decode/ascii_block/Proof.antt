@@ -8,7 +8,8 @@ use lib.ListN.{drop}
 use borrow.Author.Tests.{le-leb}
 use Rattle.laws.specs.Texts.{span}
 use Rattle.chars.specs.Utf8.{ascii}
-use Rattle.chars.proofs.Ascii.{block-next, block-short}
+use Rattle.laws.proofs.Blocks.{block-short}
+use Rattle.chars.proofs.Ascii.{ascii-next}
 use Rattle.chars.proofs.decode.ascii_block.Statement.{statement}
 use Rattle.chars.proofs.decode.ascii_block.Tie as tie
 
@@ -24,9 +25,9 @@ ascii-block-spec =
     (tie.spec
     Inv-loop
     μ-loop
-    (λ c. sym (block-short (now (c .before .args .s)) (c .before .args .at) 16 (omega arith) (omega arith)))
+    (λ c. sym (block-short ascii (now (c .before .args .s)) (c .before .args .at) 16 (omega arith) (omega arith)))
     (λ c. omega arith)
-    (λ c. sym (block-short (now (c .before .before .args .s)) (c .before .before .args .at) 16 (omega arith) (omega arith)))
+    (λ c. sym (block-short ascii (now (c .before .before .args .s)) (c .before .before .args .at) 16 (omega arith) (omega arith)))
     (λ c. let a = c .before .before .args in (omega arith, sym (le-leb 0 (span ascii (drop (a .at) (now (a .s)))) (omega arith))))
     (λ c. omega arith)
     (λ c. omega arith)
@@ -34,7 +35,7 @@ ascii-block-spec =
     (λ c. omega arith)
     (λ c. let a = c .before .before .before .before .before .args in
     let l = c .before .before .loop in
-    (omega arith, block-next (now (a .s)) (a .at) (l .j) (l .or) (omega arith) (l .inv .1)))
+    (omega arith, ascii-next (now (a .s)) (a .at) (l .j) (l .or) (omega arith) (l .inv .1)))
     (λ c. let a = c .before .before .before .before .args in
     let l = c .before .loop in
     let e : l .j ≡ 16 = omega arith in

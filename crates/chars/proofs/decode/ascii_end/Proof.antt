@@ -7,8 +7,9 @@ use denote.Ref.{now}
 use lib.ListN.{length, drop}
 use Rattle.laws.specs.Texts.{span}
 use Rattle.laws.proofs.Runs.{span-hit, span-stop, span-end}
+use Rattle.laws.proofs.Blocks.{block-room, block-on}
 use Rattle.chars.specs.Utf8.{ascii}
-use Rattle.chars.proofs.Ascii.{ascii-yes, ascii-no, block-room, block-on}
+use Rattle.chars.proofs.Ascii.{ascii-yes, ascii-no}
 use Rattle.chars.proofs.decode.ascii_end.Statement.{statement}
 use Rattle.chars.proofs.decode.ascii_end.Tie as tie
 
@@ -26,7 +27,7 @@ abbrev μ-loop2 : tie.MeasureT-loop2
 
 -- a block that passed its test is within the text
 room : (c : tie.Then1 Inv-loop μ-loop Inv-loop2 μ-loop2) → c .before .before .loop .i + 16 ≤ length (now (c .before .before .before .before .args .s))
-room c = block-room (now (c .before .before .before .before .args .s)) (c .before .before .loop .i) 16 (c .before .ascii-block .ensures) (c .if1 .taken) (omega arith)
+room c = block-room ascii (now (c .before .before .before .before .args .s)) (c .before .before .loop .i) 16 (c .before .ascii-block .ensures) (c .if1 .taken) (omega arith)
 
 pub ascii-end-spec : {M : Type 1} → statement M
 ascii-end-spec =
@@ -40,7 +41,7 @@ ascii-end-spec =
     (λ c κs. search needs)
     (λ c. omega (arith, room c))
     (λ c. omega (arith, room c))
-    (λ c. block-on (now (c .before .before .before .before .args .s)) (c .before .before .loop .i) 16 (c .before .ascii-block .ensures) (c .if1 .taken) ∙ c .before .before .loop .inv)
+    (λ c. block-on ascii (now (c .before .before .before .before .args .s)) (c .before .before .loop .i) 16 (c .before .ascii-block .ensures) (c .if1 .taken) ∙ c .before .before .loop .inv)
     (λ c. c .before .before .loop .inv)
     (λ c. omega arith)
     (λ c. omega arith)

@@ -32,11 +32,21 @@ enum-known-code c = search needs
 is-blank-requires : tie.Need-is-blank-requires Inv-loop μ-loop
 is-blank-requires c κs = search needs
 
+past-spaces-requires : tie.Need-past-spaces-requires Inv-loop μ-loop
+past-spaces-requires c κs = search needs
+
 loop-less : tie.Need-loop-less Inv-loop μ-loop
-loop-less c = omega (arith, char-found (now (c .before .before .before .before .before .before .before .before .args .source)) (c .before .before .before .before .before .before .loop .at) (c .before .before .before .code .given .0 .0) (c .before .before .before .code .given .0 .1 .0) (sym (c .before .before .before .code .given .1) ∙ c .before .before .before .before .before .decode-at .ensures), wide (c .before .before .before .code .given .0 .0))
+loop-less c =
+    let read = c .before .before .before .before in
+    omega
+    (arith, char-found (now (c .before .before .before .before .before .before .before .before .before .args .source)) (c .before .before .before .before .before .before .before .loop .at) (read .code .given .0 .0) (read .code .given .0 .1 .0) (sym (read .code .given .1) ∙ c .before .before .before .before .before .before .decode-at .ensures), wide (read .code .given .0 .0), c .past-spaces .ensures .0)
 
 loop-again : tie.Need-loop-again Inv-loop μ-loop
-loop-again c = sym (start-blank (now (c .before .before .before .before .before .before .before .before .args .source)) (c .before .before .before .before .before .before .loop .at) (c .before .before .before .code .given .0 .0) (c .before .before .before .code .given .0 .1 .0) (sym (c .before .before .before .code .given .1) ∙ c .before .before .before .before .before .decode-at .ensures) (sym (c .before .is-blank .ensures) ∙ c .if1 .taken)) ∙ c .before .before .before .before .before .before .loop .inv
+loop-again c =
+    let read = c .before .before .before .before in
+    c .past-spaces .ensures .1
+    ∙ sym (start-blank (now (c .before .before .before .before .before .before .before .before .before .args .source)) (c .before .before .before .before .before .before .before .loop .at) (read .code .given .0 .0) (read .code .given .0 .1 .0) (sym (read .code .given .1) ∙ c .before .before .before .before .before .before .decode-at .ensures) (sym (c .before .before .is-blank .ensures) ∙ c .before .if1 .taken))
+    ∙ c .before .before .before .before .before .before .before .loop .inv
 
 returns : tie.Need-returns Inv-loop μ-loop
 returns c = start-solid (now (c .before .before .before .before .before .before .before .before .args .source)) (c .before .before .before .before .before .before .loop .at) (c .before .before .before .code .given .0 .0) (c .before .before .before .code .given .0 .1 .0) (sym (c .before .before .before .code .given .1) ∙ c .before .before .before .before .before .decode-at .ensures) (sym (c .before .is-blank .ensures) ∙ c .if1 .left) ∙ c .before .before .before .before .before .before .loop .inv
@@ -69,6 +79,7 @@ consume-whitespace-spec =
     decode-at-requires
     enum-known-code
     is-blank-requires
+    past-spaces-requires
     loop-less
     loop-again
     returns

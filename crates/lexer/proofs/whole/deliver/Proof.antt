@@ -1,23 +1,14 @@
--- Too few records, too little text memory, or all is written: the cases of the definition, whose counts are those of the counting pass.
-use native.Mathlib.Omega.{arith}
+-- With a record and a byte of text memory for each byte of the source the items fit, and writing counts them (Delivered); else they are
+-- counted first.
 use denote.Ref.{now}
 use Rattle.lexer.specs.Reading.{allItems}
-use Rattle.lexer.proofs.Delivered.{few-records, little-text, room, delivered}
+use Rattle.lexer.proofs.Delivered.{ample}
 use borrow.Author.Needs.{needs}
 use Rattle.lexer.proofs.whole.deliver.Statement.{statement}
 use Rattle.lexer.proofs.whole.deliver.Tie as tie
 
-count-requires : tie.Need-count-requires
-count-requires c κs = search needs
-
-returns : tie.Need-returns
-returns c = few-records (allItems (now (c .before .before .before .before .before .args .source)) (c .before .before .before .before .before .args .position)) (now (c .before .before .before .before .before .args .recs)) (now (c .before .before .before .before .before .args .text)) (c .before .count .result) (c .before .count .ensures) (c .if1 .taken)
-
-returns-2 : tie.Need-returns-2
-returns-2 c = little-text (allItems (now (c .before .before .before .before .before .before .args .source)) (c .before .before .before .before .before .before .args .position)) (now (c .before .before .before .before .before .before .args .recs)) (now (c .before .before .before .before .before .before .args .text)) (c .before .before .count .result) (c .before .before .count .ensures) (c .before .if1 .left) (c .if2 .taken)
-
-write-requires : tie.Need-write-requires
-write-requires c κs = omega (arith, c .before .before .before .before .before .before .before .before .pre, room (allItems (now (c .before .before .before .before .before .before .before .before .args .source)) (c .before .before .before .before .before .before .before .before .args .position)) (now (c .before .before .before .before .before .before .before .before .args .recs)) (now (c .before .before .before .before .before .before .before .before .args .text)) (c .before .before .before .before .count .result) (c .before .before .before .before .count .ensures) (c .before .before .before .if1 .left) (c .before .before .if2 .left))
+deliver-counted-requires : tie.Need-deliver-counted-requires
+deliver-counted-requires c κs = search needs
 
 same-length : tie.Need-same-length
 same-length c = search needs
@@ -25,17 +16,50 @@ same-length c = search needs
 same-length-2 : tie.Need-same-length-2
 same-length-2 c = search needs
 
+returns : tie.Need-returns
+returns c = search needs
+
+deliver-counted-requires-2 : tie.Need-deliver-counted-requires-2
+deliver-counted-requires-2 c κs = search needs
+
+same-length-3 : tie.Need-same-length-3
+same-length-3 c = search needs
+
+same-length-4 : tie.Need-same-length-4
+same-length-4 c = search needs
+
+returns-2 : tie.Need-returns-2
+returns-2 c = search needs
+
+write-requires : tie.Need-write-requires
+write-requires c κs = search needs
+
+same-length-5 : tie.Need-same-length-5
+same-length-5 c = search needs
+
+same-length-6 : tie.Need-same-length-6
+same-length-6 c = search needs
+
 returns-3 : tie.Need-returns-3
-returns-3 c = delivered (allItems (now (c .before .before .before .before .before .before .before .before .before .before .before .before .before .args .source)) (c .before .before .before .before .before .before .before .before .before .before .before .before .before .args .position)) (now (c .before .before .before .before .before .before .before .before .before .before .before .before .before .args .recs)) (now (c .before .before .before .before .before .before .before .before .before .before .before .before .before .args .text)) (c .before .before .before .before .before .before .before .before .before .count .result) (c .before .before .before .before .before .before .before .before .before .count .ensures) (c .before .before .before .before .before .before .before .before .if1 .left) (c .before .before .before .before .before .before .before .if2 .left) (c .before .before .before .before .write .ensures .0) (c .before .before .before .before .write .ensures .1)
+returns-3 c =
+    let entry = c .before .before .before .before .before .before .before .before .before .before .before .before in
+    let f = entry .args in
+    let done = c .before .before .before .before .write in
+    ample (allItems (now (f .source)) (f .position)) (now (f .recs)) (now (f .text)) (done .result) (done .ensures .0) (now (f .source)) (entry .pre .1) (c .before .before .before .before .before .before .before .before .if1 .left) (c .before .before .before .before .before .before .before .if2 .left) (done .ensures .1 .0) (done .ensures .1 .1)
 
 pub deliver-spec : {M : Type 1} → statement M
 deliver-spec =
     tie.close
     (tie.spec
-    count-requires
-    returns
-    returns-2
-    write-requires
+    deliver-counted-requires
     same-length
     same-length-2
+    returns
+    deliver-counted-requires-2
+    same-length-3
+    same-length-4
+    returns-2
+    write-requires
+    same-length-5
+    same-length-6
     returns-3)

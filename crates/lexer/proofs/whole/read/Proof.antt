@@ -15,7 +15,8 @@ enum-known-position : tie.Need-enum-known-position
 enum-known-position c = search needs
 
 deliver-requires : tie.Need-deliver-requires
-deliver-requires c κs = read-opened (now (c .before .before .before .before .before .before .before .before .before .args .source)) (c .before .before .before .before .before .before .before .before .before .args .mode) (c .before .before .before .before .before .before .before .before .before .args .skip) (now (c .before .before .before .before .before .before .before .before .before .args .recs)) (now (c .before .before .before .before .before .before .before .before .before .args .text)) (c .before .before .before .position .given .0 .0) (sym (ap openingOf (c .before .before .before .position .given .1)) ∙ c .before .before .before .before .before .«open» .ensures) .0
+deliver-requires c κs =
+    let o = read-opened (now (c .before .before .before .before .before .before .before .before .before .args .source)) (c .before .before .before .before .before .before .before .before .before .args .mode) (c .before .before .before .before .before .before .before .before .before .args .skip) (now (c .before .before .before .before .before .before .before .before .before .args .recs)) (now (c .before .before .before .before .before .before .before .before .before .args .text)) (c .before .before .before .position .given .0 .0) (sym (ap openingOf (c .before .before .before .position .given .1)) ∙ c .before .before .before .before .before .«open» .ensures) in (o .0, o .1)
 
 enum-known-m : tie.Need-enum-known-m
 enum-known-m c = search needs
@@ -33,7 +34,7 @@ same-length-2 : tie.Need-same-length-2
 same-length-2 c = search needs
 
 returns : tie.Need-returns
-returns c = c .before .before .before .before .deliver .ensures ∙ sym (read-opened (now (c .before .before .before .before .before .before .before .before .before .before .before .before .before .before .args .source)) (c .before .before .before .before .before .before .before .before .before .before .before .before .before .before .args .mode) (c .before .before .before .before .before .before .before .before .before .before .before .before .before .before .args .skip) (now (c .before .before .before .before .before .before .before .before .before .before .before .before .before .before .args .recs)) (now (c .before .before .before .before .before .before .before .before .before .before .before .before .before .before .args .text)) (c .before .before .before .before .before .before .before .before .position .given .0 .0) (sym (ap openingOf (c .before .before .before .before .before .before .before .before .position .given .1)) ∙ c .before .before .before .before .before .before .before .before .before .before .«open» .ensures) .1)
+returns c = c .before .before .before .before .deliver .ensures ∙ sym (read-opened (now (c .before .before .before .before .before .before .before .before .before .before .before .before .before .before .args .source)) (c .before .before .before .before .before .before .before .before .before .before .before .before .before .before .args .mode) (c .before .before .before .before .before .before .before .before .before .before .before .before .before .before .args .skip) (now (c .before .before .before .before .before .before .before .before .before .before .before .before .before .before .args .recs)) (now (c .before .before .before .before .before .before .before .before .before .before .before .before .before .before .args .text)) (c .before .before .before .before .before .before .before .before .position .given .0 .0) (sym (ap openingOf (c .before .before .before .before .before .before .before .before .position .given .1)) ∙ c .before .before .before .before .before .before .before .before .before .before .«open» .ensures) .2)
 
 returns-2 : tie.Need-returns-2
 returns-2 c = read-refused (now (c .before .before .before .before .before .before .before .args .source)) (c .before .before .before .before .before .before .before .args .mode) (c .before .before .before .before .before .before .before .args .skip) (now (c .before .before .before .before .before .before .before .args .recs)) (now (c .before .before .before .before .before .before .before .args .text)) 25 (c .before .m .given .0 .0) (sym (ap openingOf (c .before .m .given .1)) ∙ c .before .before .before .«open» .ensures)

@@ -8,7 +8,7 @@ use Rattle.laws.proofs.Lent.{length-part}
 use Rattle.lexer.specs.Reading.{nextAt, foundOf, sizeOf}
 use Rattle.lexer.specs.Inner.{bytesFor}
 use Rattle.lexer.specs.declared.Found.the-variants.{One}
-use Rattle.lexer.proofs.Writing.{Writing, writing, writing-end, writing-on, has-moved, room, text-fits, recs-length, text-length}
+use Rattle.lexer.proofs.Writing.{Writing, writing, written-all, writing-end, writing-on, has-moved, room, text-fits, recs-length, text-length}
 use borrow.Author.Needs.{needs}
 use Rattle.lexer.proofs.whole.write.Statement.{statement}
 use Rattle.lexer.proofs.whole.write.Tie as tie
@@ -89,7 +89,9 @@ same-length-2 : tie.Need-same-length-2 Inv-loop μ-loop
 same-length-2 c = text-length (now (c .before .before .before .before .before .before .before .args .source)) (c .before .before .before .before .before .before .before .args .position) (now (c .before .before .before .before .before .before .before .args .recs)) (now (c .before .before .before .before .before .before .before .args .text)) (c .before .before .before .before .before .before .before .pre .1 .0) (c .before .before .before .before .before .before .before .pre .1 .1) (c .before .before .before .loop .inv)
 
 returns : tie.Need-returns Inv-loop μ-loop
-returns c = writing-end (now (c .before .before .before .before .before .before .before .args .source)) (c .before .before .before .before .before .before .before .args .position) (now (c .before .before .before .before .before .before .before .args .recs)) (now (c .before .before .before .before .before .before .before .args .text)) (c .before .before .before .before .before .before .before .pre .1 .0) (c .before .before .before .before .before .before .before .pre .1 .1) (c .before .before .before .loop .inv) (sym (c .enum-told .given .1) ∙ c .before .before .next-item .ensures)
+returns c =
+    let e = sym (c .enum-told .given .1) ∙ c .before .before .next-item .ensures in
+    (written-all (now (c .before .before .before .before .before .before .before .args .source)) (c .before .before .before .before .before .before .before .args .position) (now (c .before .before .before .before .before .before .before .args .recs)) (now (c .before .before .before .before .before .before .before .args .text)) (c .before .before .before .before .before .before .before .pre .1 .0) (c .before .before .before .before .before .before .before .pre .1 .1) (c .before .before .before .loop .inv) _ refl e, writing-end (now (c .before .before .before .before .before .before .before .args .source)) (c .before .before .before .before .before .before .before .args .position) (now (c .before .before .before .before .before .before .before .args .recs)) (now (c .before .before .before .before .before .before .before .args .text)) (c .before .before .before .before .before .before .before .pre .1 .0) (c .before .before .before .before .before .before .before .pre .1 .1) (c .before .before .before .loop .inv) e)
 
 pub write-spec : {M : Type 1} → statement M
 write-spec =

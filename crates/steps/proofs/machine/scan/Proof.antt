@@ -1,186 +1,20 @@
--- The invariant: from the phase and the place that the loop has come to, the machine answers what it answers from the first.
--- A turn decodes one character and takes one step; the measure is what is left of the text.
-use Prim.Native.Nat.{_-_, _≤_}
-use mathlib.Core.Path.{_≡_, refl, sym, _∙_}
-use lib.ListN.{length}
-use native.Mathlib.Omega.{arith}
+-- An item that is at its end is what it is (Kept); any other is scanned.
 use borrow.Author.Needs.{needs}
-use denote.Ref.{now}
-use Rattle.laws.specs.Quoted.{code}
-use Rattle.chars.proofs.Chars.{char-at}
-use Rattle.chars.proofs.Width.{wide}
-use Rattle.items.specs.Machine.{depthOf}
-use Rattle.steps.proofs.Turn.{answer, turn-eat, turn-stop, turn-deep, turn-last, turn-out, none-bad, none-cut, none-end, part-short}
+use Rattle.steps.proofs.Kept.{done-scan}
 use Rattle.steps.proofs.machine.scan.Statement.{statement}
 use Rattle.steps.proofs.machine.scan.Tie as tie
 
-abbrev Inv-loop : tie.InvT-loop
-Inv-loop s report start from phase₀ at₀ phase at =
-    (at ≤ length s) × (start ≤ at) × (depthOf phase ≤ at) × (answer s report start phase₀ at₀ ≡ answer s report start phase at)
+enum-known-first : tie.Need-enum-known-first
+enum-known-first c = search needs
 
-abbrev μ-loop : tie.MeasureT-loop
-μ-loop s report start from phase₀ at₀ phase at = length s - at
+scan-on-requires : tie.Need-scan-on-requires
+scan-on-requires c κs = search needs
 
-loop-holds : tie.Need-loop-holds Inv-loop μ-loop
-loop-holds c = (search needs, search needs, search needs, refl)
+returns : tie.Need-returns
+returns c = rw (c .before .first .given .1) (done-scan _ _ _ _)
 
-decode-at-requires : tie.Need-decode-at-requires Inv-loop μ-loop
-decode-at-requires c κs = search needs
-
-enum-known-code : tie.Need-enum-known-code Inv-loop μ-loop
-enum-known-code c = search needs
-
-sub-step : tie.Need-sub-step Inv-loop μ-loop
-sub-step c = search needs
-
-part-step-start : tie.Need-part-step-start Inv-loop μ-loop
-part-step-start c = search needs
-
-part-step-end : tie.Need-part-step-end Inv-loop μ-loop
-part-step-end c = search needs
-
-step-requires : tie.Need-step-requires Inv-loop μ-loop
-step-requires c κs =
-    let entry = c .before .before .before .before .before .before .before .before in
-    let turn = c .before .before .before .before .before .before in
-    let s = now (entry .args .s) in
-    let at = turn .loop .at in
-    let read = c .before .before in
-    let code = read .code .given .0 .0 in
-    let next = read .code .given .0 .1 .0 in
-    let k = char-at s at code next (sym (read .code .given .1) ∙ read .before .before .decode-at .ensures) (turn .loop .inv .0) in
-    (part-short s (entry .args .start) at, turn .loop .inv .2, omega (arith, k .on, k .inside))
-
-enum-known-then : tie.Need-enum-known-then Inv-loop μ-loop
-enum-known-then c = search needs
-
-loop-less : tie.Need-loop-less Inv-loop μ-loop
-loop-less c =
-    let entry = c .before .before .before .before .before .before .before .before .before .before .before .before in
-    let turn = c .before .before .before .before .before .before .before .before .before .before in
-    let s = now (entry .args .s) in
-    let at = turn .loop .at in
-    let read = c .before .before .before .before .before .before in
-    let code = read .code .given .0 .0 in
-    let next = read .code .given .0 .1 .0 in
-    let k = char-at s at code next (sym (read .code .given .1) ∙ read .before .before .decode-at .ensures) (turn .loop .inv .0) in
-    omega (arith, k .on, k .inside, wide code)
-
-loop-again : tie.Need-loop-again Inv-loop μ-loop
-loop-again c =
-    let entry = c .before .before .before .before .before .before .before .before .before .before .before .before in
-    let turn = c .before .before .before .before .before .before .before .before .before .before in
-    let s = now (entry .args .s) in
-    let at = turn .loop .at in
-    let read = c .before .before .before .before .before .before in
-    let code = read .code .given .0 .0 in
-    let next = read .code .given .0 .1 .0 in
-    let k = char-at s at code next (sym (read .code .given .1) ∙ read .before .before .decode-at .ensures) (turn .loop .inv .0) in
-    let e = sym (c .before .before .before .step .ensures) ∙ c .before .then .given .1 in (
-      k .inside,
-      omega (arith, k .on),
-      turn-deep s (entry .args .report) (entry .args .start) (turn .loop .phase) at code next k _ (turn .loop .inv .2) e,
-      turn .loop .inv .3 ∙ turn-eat s (entry .args .report) (entry .args .start) (turn .loop .phase) at code next k _ (turn .loop .inv .1) e,
-    )
-
-enum-known-what : tie.Need-enum-known-what Inv-loop μ-loop
-enum-known-what c = search needs
-
-returns : tie.Need-returns Inv-loop μ-loop
-returns c =
-    let entry = c .before .before .before .before .before .before .before .before .before .before .before .before in
-    let turn = c .before .before .before .before .before .before .before .before .before .before in
-    let s = now (entry .args .s) in
-    let at = turn .loop .at in
-    let read = c .before .before .before .before .before .before in
-    let code = read .code .given .0 .0 in
-    let next = read .code .given .0 .1 .0 in
-    let k = char-at s at code next (sym (read .code .given .1) ∙ read .before .before .decode-at .ensures) (turn .loop .inv .0) in
-    let e = sym (c .before .before .before .step .ensures) ∙ c .before .what .given .1 in
-    sym (turn .loop .inv .3 ∙ turn-stop s (entry .args .report) (entry .args .start) (turn .loop .phase) at code next k _ e)
-
-enum-told : tie.Need-enum-told Inv-loop μ-loop
-enum-told c = search needs
-
-scan-end-requires : tie.Need-scan-end-requires Inv-loop μ-loop
-scan-end-requires c κs = search needs
-
-returns-2 : tie.Need-returns-2 Inv-loop μ-loop
-returns-2 c =
-    let entry = c .before .before .before .before .before .before .before in
-    let turn = c .before .before .before .before .before in
-    let s = now (entry .args .s) in
-    let at = turn .loop .at in
-    let none = none-bad s at (sym (c .before .enum-told .given .1) ∙ c .before .before .before .decode-at .ensures) in
-    c .scan-end .ensures ∙ sym (turn .loop .inv .3 ∙ turn-last s (entry .args .report) (entry .args .start) (turn .loop .phase) at none)
-
-enum-told-2 : tie.Need-enum-told-2 Inv-loop μ-loop
-enum-told-2 c = search needs
-
-scan-end-requires-2 : tie.Need-scan-end-requires-2 Inv-loop μ-loop
-scan-end-requires-2 c κs = search needs
-
-returns-3 : tie.Need-returns-3 Inv-loop μ-loop
-returns-3 c =
-    let entry = c .before .before .before .before .before .before .before in
-    let turn = c .before .before .before .before .before in
-    let s = now (entry .args .s) in
-    let at = turn .loop .at in
-    let none = none-cut s at (sym (c .before .enum-told2 .given .1) ∙ c .before .before .before .decode-at .ensures) in
-    c .scan-end2 .ensures ∙ sym (turn .loop .inv .3 ∙ turn-last s (entry .args .report) (entry .args .start) (turn .loop .phase) at none)
-
-enum-told-3 : tie.Need-enum-told-3 Inv-loop μ-loop
-enum-told-3 c = search needs
-
-scan-end-requires-3 : tie.Need-scan-end-requires-3 Inv-loop μ-loop
-scan-end-requires-3 c κs = search needs
-
-returns-4 : tie.Need-returns-4 Inv-loop μ-loop
-returns-4 c =
-    let entry = c .before .before .before .before .before .before .before in
-    let turn = c .before .before .before .before .before in
-    let s = now (entry .args .s) in
-    let at = turn .loop .at in
-    let none = none-end s at (sym (c .before .enum-told3 .given .1) ∙ c .before .before .before .decode-at .ensures) in
-    c .scan-end3 .ensures ∙ sym (turn .loop .inv .3 ∙ turn-last s (entry .args .report) (entry .args .start) (turn .loop .phase) at none)
-
-scan-end-requires-4 : tie.Need-scan-end-requires-4 Inv-loop μ-loop
-scan-end-requires-4 c κs = search needs
-
-returns-5 : tie.Need-returns-5 Inv-loop μ-loop
-returns-5 c =
-    let entry = c .before .before .before .before in
-    let turn = c .before .before in
-    let s = now (entry .args .s) in
-    let at = turn .loop .at in
-    c .scan-end4 .ensures ∙ sym (turn .loop .inv .3 ∙ turn-out s (entry .args .report) (entry .args .start) (turn .loop .phase) at (c .before .loop-test .left))
+returns-2 : tie.Need-returns-2
+returns-2 c = c .scan-on .ensures
 
 pub scan-spec : {M : Type 1} → statement M
-scan-spec =
-    tie.close
-    (tie.spec
-    Inv-loop
-    μ-loop
-    loop-holds
-    decode-at-requires
-    enum-known-code
-    sub-step
-    part-step-start
-    part-step-end
-    step-requires
-    enum-known-then
-    loop-less
-    loop-again
-    enum-known-what
-    returns
-    enum-told
-    scan-end-requires
-    returns-2
-    enum-told-2
-    scan-end-requires-2
-    returns-3
-    enum-told-3
-    scan-end-requires-3
-    returns-4
-    scan-end-requires-4
-    returns-5)
+scan-spec = tie.close (tie.spec enum-known-first scan-on-requires returns returns-2)

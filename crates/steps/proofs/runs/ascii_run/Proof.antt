@@ -1,0 +1,112 @@
+-- In each phase the run is that of the phase's characters (Kept); in a phase that has none nothing is passed.
+use borrow.Author.Needs.{needs}
+use native.Mathlib.Omega.{arith}
+use Prim.Native.Nat.{ℕ, _+_}
+use mathlib.Core.Path.{_≡_, refl, sym, ap, _∙_, subst}
+use mathlib.Core.Bool.{Bool}
+use lib.ListN.{drop}
+use denote.Ref.{now}
+use Rattle.laws.specs.Quoted.{code}
+use Rattle.laws.specs.Texts.{span}
+use Rattle.texts.specs.Runs.{plain}
+use Rattle.items.specs.declared.Phase.{Phase}
+use Rattle.items.specs.declared.Phase.the-variants as ph
+use Rattle.steps.specs.Scan.{Passes}
+use Rattle.steps.proofs.Kept.{passes}
+use Rattle.steps.proofs.runs.ascii_run.Statement.{statement}
+use Rattle.steps.proofs.runs.ascii_run.Tie as tie
+
+enum-told : tie.Need-enum-told
+enum-told c = search needs
+
+plain-end-requires : tie.Need-plain-end-requires
+plain-end-requires c κs = search needs
+
+enum-told-2 : tie.Need-enum-told-2
+enum-told-2 c = search needs
+
+plain-end-requires-2 : tie.Need-plain-end-requires-2
+plain-end-requires-2 c κs = search needs
+
+enum-known-phase : tie.Need-enum-known-phase
+enum-known-phase c = search needs
+
+delimiter-requires : tie.Need-delimiter-requires
+delimiter-requires c κs = search needs
+
+plain-end-requires-3 : tie.Need-plain-end-requires-3
+plain-end-requires-3 c κs = search needs
+
+enum-told-3 : tie.Need-enum-told-3
+enum-told-3 c = search needs
+
+word-end-requires : tie.Need-word-end-requires
+word-end-requires c κs = search needs
+
+enum-told-4 : tie.Need-enum-told-4
+enum-told-4 c = search needs
+
+number-end-requires : tie.Need-number-end-requires
+number-end-requires c κs = search needs
+
+returns : tie.Need-returns
+returns c =
+    let a = c .before .before .before .before in
+    let f = a .args in
+    subst (λ (p : Phase). Passes (now (f .s)) p (f .at) (c .plain-end .result)) (sym (c .before .enum-told .given .1))
+    (passes (now (f .s)) (f .at) ph.InLine (c .plain-end .result) (a .pre) (c .plain-end .ensures))
+
+returns-2 : tie.Need-returns-2
+returns-2 c =
+    let a = c .before .before .before .before in
+    let f = a .args in
+    subst (λ (p : Phase). Passes (now (f .s)) p (f .at) (c .plain-end2 .result)) (sym (c .before .enum-told2 .given .1))
+    (passes (now (f .s)) (f .at) _ (c .plain-end2 .result) (a .pre) (c .plain-end2 .ensures))
+
+returns-3 : tie.Need-returns-3
+returns-3 c =
+    let a = c .before .before .before .before .before .before in
+    let f = a .args in
+    let k = c .before .before .before .phase .given .0 .0 in
+    subst (λ (p : Phase). Passes (now (f .s)) p (f .at) (c .plain-end3 .result)) (sym (c .before .before .before .phase .given .1))
+    (passes (now (f .s)) (f .at) (ph.Quoted k) (c .plain-end3 .result) (a .pre)
+    (c .plain-end3 .ensures ∙ ap (λ (d : ℕ). f .at + span (plain d (code "\\")) (drop (f .at) (now (f .s)))) (c .before .delimiter .ensures)))
+
+returns-4 : tie.Need-returns-4
+returns-4 c =
+    let a = c .before .before .before .before in
+    let f = a .args in
+    subst (λ (p : Phase). Passes (now (f .s)) p (f .at) (c .word-end .result)) (sym (c .before .enum-told3 .given .1))
+    (passes (now (f .s)) (f .at) ph.InWord (c .word-end .result) (a .pre) (c .word-end .ensures))
+
+returns-5 : tie.Need-returns-5
+returns-5 c =
+    let a = c .before .before .before .before in
+    let f = a .args in
+    subst (λ (p : Phase). Passes (now (f .s)) p (f .at) (c .number-end .result)) (sym (c .before .enum-told4 .given .1))
+    (passes (now (f .s)) (f .at) ph.InRun (c .number-end .result) (a .pre) (c .number-end .ensures))
+
+returns-6 : tie.Need-returns-6
+returns-6 c = (omega arith, c .before .before .pre, λ report a k. refl)
+
+pub ascii-run-spec : {M : Type 1} → statement M
+ascii-run-spec =
+    tie.close
+    (tie.spec
+    enum-told
+    plain-end-requires
+    enum-told-2
+    plain-end-requires-2
+    enum-known-phase
+    delimiter-requires
+    plain-end-requires-3
+    enum-told-3
+    word-end-requires
+    enum-told-4
+    number-end-requires
+    returns
+    returns-2
+    returns-3
+    returns-4
+    returns-5
+    returns-6)

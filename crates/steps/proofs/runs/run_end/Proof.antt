@@ -1,0 +1,24 @@
+-- Where no character of ASCII stands nothing is passed.
+use borrow.Author.Needs.{needs}
+use native.Mathlib.Omega.{arith}
+use mathlib.Core.Path.{refl}
+use Rattle.steps.proofs.runs.run_end.Statement.{statement}
+use Rattle.steps.proofs.runs.run_end.Tie as tie
+
+returns : tie.Need-returns
+returns c = (omega arith, c .before .before .pre, λ report a k. refl)
+
+shared-slice-read-if2 : tie.Need-shared-slice-read-if2
+shared-slice-read-if2 c = search needs
+
+returns-2 : tie.Need-returns-2
+returns-2 c = (omega arith, c .before .before .before .before .pre, λ report a k. refl)
+
+ascii-run-requires : tie.Need-ascii-run-requires
+ascii-run-requires c κs = search needs
+
+returns-3 : tie.Need-returns-3
+returns-3 c = c .ascii-run .ensures
+
+pub run-end-spec : {M : Type 1} → statement M
+run-end-spec = tie.close (tie.spec returns shared-slice-read-if2 returns-2 ascii-run-requires returns-3)
