@@ -4,7 +4,8 @@ use Rattle.chars.specs.declared.State.{State}
 use Rattle.chars.specs.declared.Step.{Step}
 use Rattle.chars.specs.declared.Step.the-variants as steps
 use Rattle.chars.specs.declared.Decoded.the-variants as decoded
-use Rattle.chars.specs.Utf8.{within, ascii, first}
+use Rattle.laws.specs.Quoted.{within}
+use Rattle.chars.specs.Utf8.{ascii, first}
 use Rattle.chars.specs.Encode.{isScalar, utf8, width}
 use Rattle.chars.specs.Machine.{step, start, told, reads}
 use Rattle.chars.proofs.Agree.{reads-front}

@@ -6,7 +6,8 @@ use Rattle.chars.specs.declared.Step.the-variants as steps
 use Rattle.chars.specs.declared.Utf8.the-variants as verdicts
 use Rattle.chars.specs.Blank.{isBlank}
 use Rattle.chars.specs.Machine.{step, start, told, run}
-use Rattle.chars.specs.Utf8.{within, first, Sequence, read, broken, short, sequences, verdict, firstBad, codePoints, chars}
+use Rattle.laws.specs.Quoted.{within}
+use Rattle.chars.specs.Utf8.{first, Sequence, read, broken, short, sequences, verdict, firstBad, codePoints, chars}
 use Rattle.chars.proofs.Good.{good-bytes}
 use Rattle.chars.proofs.Run.{run-sequences}
 use Rattle.items.specs.declared.Outcome.{Outcome}

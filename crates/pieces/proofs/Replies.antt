@@ -110,7 +110,14 @@ idle-quiet s old = if-all (λ (r : Reply). old ≡ textAfter (r .what) old) (eqb
 
 pub held-declared : (m : Marks) (buf text : List ℕ) (start : ℕ) → Held m buf text start → Held (endDeclared m) buf text start
 held-declared m buf text start h = record {
-  full = h .full; room = h .room; some = h .some; small = h .small; ends = h .ends; far = h .far; from = h .from; to = h .to;
+  full = h .full;
+  room = h .room;
+  some = h .some;
+  small = h .small;
+  ends = h .ends;
+  far = h .far;
+  from = h .from;
+  to = h .to;
 }
 
 -- ---- a pair whose second item waits
@@ -132,7 +139,16 @@ held-waiting s text bounded full room st b e =
     let g = subst (λ (x : Stage). stageBounds x (s .marks) ≡ true) e (t .2) in
     let h = and-true (heldBounds st (s .marks) 2 && eqb (s .marks .part .count) 0) (beyondBounds b (s .marks .at)) g in
     let k = and-true (heldBounds st (s .marks) 2) (eqb (s .marks .part .count) 0) (h .0) in
-    let w = told-held st (s .marks) 2 (k .0) in
-    (record {
-      full = full; room = room; some = omega (arith, w .1); small = n .small; ends = w .0; far = omega (arith, n .far); from = n .from; to = n .to;
-    }, beyond-bounded b (s .marks .at) (h .1))
+    let w = told-held st (s .marks) 2 (k .0) in (
+      record {
+        full = full;
+        room = room;
+        some = omega (arith, w .1);
+        small = n .small;
+        ends = w .0;
+        far = omega (arith, n .far);
+        from = n .from;
+        to = n .to;
+      },
+      beyond-bounded b (s .marks .at) (h .1),
+    )

@@ -16,7 +16,8 @@ use Rattle.laws.proofs.Lent.{length-written}
 use Rattle.chars.specs.declared.State as chars
 use Rattle.chars.specs.declared.Step.{Step}
 use Rattle.chars.specs.declared.Step.the-variants as steps
-use Rattle.chars.specs.Utf8.{within, ascii, first}
+use Rattle.laws.specs.Quoted.{within}
+use Rattle.chars.specs.Utf8.{ascii, first}
 use Rattle.chars.specs.Encode.{width, utf8}
 use Rattle.chars.specs.Blank.{isBlank}
 use Rattle.chars.specs.Machine.{step, told}
@@ -87,7 +88,7 @@ told-part p h = go (p .count) (p .state .need) (p .state .code) h
       where
         three : (need : ℕ) → (1 ≤ need) × (3 + need ≤ 4) × (code < 2 ^ (1 + 6 * 3 - (3 + need))) → Wants 3 need code
         three need f = let e : need ≡ 1 = omega arith in (e, rw e at (f .2))
-    go (suc (suc (suc (suc n)))) need code h = 
+    go (suc (suc (suc (suc n)))) need code h =
         let f = sum (suc (suc (suc (suc n)))) need code (rw (ne-eqb (suc (suc (suc (suc n)))) 0 (λ e. omega arith)) at h) in absurd (omega arith)
 
 told-done : (o : Outcome) → doneBounds o ≡ true → Settled o
@@ -220,9 +221,11 @@ pub sane-bounded : (s : State) → Sane s → (inBounds s ≡ true) × (readsOn 
 unfolding inBounds
 sane-bounded s k =
     let f = stood-bounded (s .marks .stage) (s .marks) (k .stood) in
-    let n = k .numbers in
-    (both (both (both (both (both (both (lt-ltb _ _ (n .mode)) (le-leb _ _ (n .far))) (le-leb _ _ (n .small))) (le-leb _ _ (n .from))) (le-leb _ _ (n .to)))
-    (part-bounded (s .marks .part) (k .wants))) (f .1), f .0)
+    let n = k .numbers in (
+      both (both (both (both (both (both (lt-ltb _ _ (n .mode)) (le-leb _ _ (n .far))) (le-leb _ _ (n .small))) (le-leb _ _ (n .from))) (le-leb _ _ (n .to)))
+          (part-bounded (s .marks .part) (k .wants))) (f .1),
+      f .0,
+    )
 
 -- ---- what the inner functions ask
 
@@ -302,18 +305,32 @@ module _ (s : State) (text : List ℕ) (full : length (s .buf) ≡ longest) (roo
   pub held-busy : (st : ℕ) (p : Phase) → s .marks .stage ≡ Busy st p
       → Held (s .marks) (s .buf) text st × (phaseBounds p (s .marks .len) ≡ true)
   held-busy st p e =
-      let h = subst (Stood (s .marks)) e (k .stood) in
-      (record {
-        full = full; room = room; some = h .0 .1; small = k .numbers .small; ends = h .0 .0;
-        far = omega (arith, k .numbers .far); from = k .numbers .from; to = k .numbers .to;
-      }, phase-bounded (s .marks .len) p (h .1))
+      let h = subst (Stood (s .marks)) e (k .stood) in (
+        record {
+          full = full;
+          room = room;
+          some = h .0 .1;
+          small = k .numbers .small;
+          ends = h .0 .0;
+          far = omega (arith, k .numbers .far);
+          from = k .numbers .from;
+          to = k .numbers .to;
+        },
+        phase-bounded (s .marks .len) p (h .1),
+      )
 
   pub held-pound : s .marks .stage ≡ Pound → Held (s .marks) (s .buf) text 0
   held-pound e =
       let h = subst (Stood (s .marks)) e (k .stood) in
       record {
-        full = full; room = room; some = omega arith; small = k .numbers .small; ends = omega arith;
-        far = omega arith; from = k .numbers .from; to = k .numbers .to;
+        full = full;
+        room = room;
+        some = omega arith;
+        small = k .numbers .small;
+        ends = omega arith;
+        far = omega arith;
+        from = k .numbers .from;
+        to = k .numbers .to;
       }
 
 -- ---- one character
@@ -341,8 +358,13 @@ OnSane (off t w) = Unit {0}
 
 length-laid : (n : ℕ) (w buf : List ℕ) → n + length w ≤ length buf → length (laidAt n w buf) ≡ length buf
 length-laid n w buf h =
-    omega (arith, length-append (take n buf) (written w (drop n buf)), length-take-le n buf (omega arith), length-drop n buf,
-    length-written w (drop n buf) (omega (arith, length-drop n buf)))
+    omega (
+      arith,
+      length-append (take n buf) (written w (drop n buf)),
+      length-take-le n buf (omega arith),
+      length-drop n buf,
+      length-written w (drop n buf) (omega (arith, length-drop n buf)),
+    )
 
 range-within : (last : Place) → Within last → (st : ℕ) (o : Outcome) (i : SoFar) → Ranges o → st ≤ limit → i .at ≤ limit → Within (rangeAfter last st o i)
 range-within last w st (Token n d) i h l r = w
@@ -379,9 +401,11 @@ module _ (s : State) (full : length (s .buf) ≡ longest) (k : Sane s) where
     sane-begin : (last : Place) → Within last → OnSane (on (begin s last c))
     sane-begin last w =
         if-all (λ (t : State). OnSane (on t)) (isBlank c)
-        (become Idle (s .marks .at + width c) 0 last far (omega arith) w tt (s .buf), full)
-        (become (Busy (s .marks .at) (onFirst (firstOf c))) (s .marks .at + width c) (width c) last far (omega (arith, width-le c)) w
-        ((refl, omega (arith, wide c)), first-sized (width c) c) (laidAt 0 (utf8 c) (s .buf)), laid 0 (omega (arith, width-le c)))
+        (become Idle (s .marks .at + width c) 0 last far (omega arith) w tt (s .buf), full) (
+          become (Busy (s .marks .at) (onFirst (firstOf c))) (s .marks .at + width c) (width c) last far (omega (arith, width-le c)) w
+              ((refl, omega (arith, wide c)), first-sized (width c) c) (laidAt 0 (utf8 c) (s .buf)),
+          laid 0 (omega (arith, width-le c)),
+        )
 
     -- the items of an extent: where nothing is given, a comment is skipped
     sane-gives : (st : ℕ) (last set : Place) → Within last → (r : Bool) (ms : List Meaning) → Shape st (s .marks .at) (take (s .marks .len) (s .buf)) ms
@@ -393,9 +417,11 @@ module _ (s : State) (full : length (s .buf) ≡ longest) (k : Sane s) where
     unfolding extentItems
     sane-next st ends some (Eat q) z =
         if-is OnSane (ltb longest (s .marks .len + width c)) (λ _. tt)
-        (λ e. let h : s .marks .len + width c ≤ longest = ltb-false _ _ e in
-        (become (Busy st q) (s .marks .at + width c) (s .marks .len + width c) (lastOf s) far h within-last
-        ((omega arith, omega arith), rw (held-all s full (k .numbers .small)) at z) (laidAt (s .marks .len) (utf8 c) (s .buf)), laid (s .marks .len) h))
+        (λ e. let h : s .marks .len + width c ≤ longest = ltb-false _ _ e in (
+          become (Busy st q) (s .marks .at + width c) (s .marks .len + width c) (lastOf s) far h within-last
+              ((omega arith, omega arith), rw (held-all s full (k .numbers .small)) at z) (laidAt (s .marks .len) (utf8 c) (s .buf)),
+          laid (s .marks .len) h,
+        ))
     sane-next st ends some (Stop o) z =
         sane-gives st (rangeAfter (lastOf s) st o (itemSoFar s)) (rangeAfter (lastOf s) st o (itemSoFar s))
         (range-within (lastOf s) within-last st o (itemSoFar s) z (omega arith) (omega arith)) (report s)

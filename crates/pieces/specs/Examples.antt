@@ -6,13 +6,12 @@ use mathlib.Core.Path.{_≡_, refl}
 use mathlib.Core.Bool.{Bool, true, false}
 use mathlib.Core.List.{List, [], _∷_, _++_, map}
 use lib.ListN.{length, replicate}
-use Rattle.laws.specs.Quoted.{code}
+use Rattle.laws.specs.Quoted.{code, within}
 use Rattle.laws.specs.Texts.{span, starts, begins, same}
 use Rattle.chars.specs.Encode.{isScalar, utf8, width, encode, bytesOf, spelled}
 use Rattle.chars.specs.Blank.{isBlank}
 use Rattle.chars.specs.Machine.{step}
-use Rattle.chars.specs.Utf8.{within, first, rest, front}
-use Rattle.laws.specs.Quoted as quoted
+use Rattle.chars.specs.Utf8.{first, rest, front}
 use Rattle.digits.specs.Digits.{digitOf, sign, uinteger, value, fit, signed, wholeOf, integer}
 use Rattle.digits.specs.Hex.{hexDigits, hexAfterPlus, hexValue}
 use Rattle.numbers.specs.Reals.{exponentMarker, exponent, suffix, pointOf, dotted, undotted, decimal, infnan, integralOf, rationalOf, denominator, exact, orElse, ureal, real}
@@ -136,5 +135,5 @@ refusals =
 computed : (map (λ r. map (λ ps. drive (r .mode) (r .skip) longest ps) (r .cuttings)) table ≡ map (λ r. map (λ ps. r .wanted) (r .cuttings)) table)
     × ((map (λ e. drive 0 (e .skip) longest (e .pieces) .last) edges ≡ map (λ e. e .wanted) edges)
     × (refusals ≡ call.refused 25 2 ∷ call.refused 24 0 ∷ call.refused 27 0 ∷ call.refused 26 0 ∷ call.refused 21 0 ∷ []))
-unfolding table edges refusals span starts begins same isScalar utf8 width encode bytesOf isBlank step within first rest front quoted.within digitOf sign uinteger value fit signed wholeOf integer hexDigits hexAfterPlus hexValue exponentMarker exponent suffix pointOf dotted undotted decimal infnan integralOf rationalOf denominator exact orElse ureal real justOf complexOf polarOf endsI imaginary aloneOf pairOf toSign startsE rectangular complex zeroInt zeroReal zeroParts judged radixMark prefix parseNumber startsRun firstOf inQuotes afterBackslash stopsHex inHex inTrim inNest breaksWord inWord staysRun endsRun inRun afterHash endsHash inHash inDelim linedOf scalarOf boolKind quoteKind formKind hashKind unreturned endsWith hereEnds lookup words wordKind wordMeans runMeans escaped stringText linedText hereText charNames hexNamed spelledOut characterOf unescape extentItems inBounds turnOf feedOf pieceOf endOf openOf pieceCalls endCalls handOver drive
+unfolding table edges refusals span starts begins same isScalar utf8 width encode bytesOf isBlank step within first rest front digitOf sign uinteger value fit signed wholeOf integer hexDigits hexAfterPlus hexValue exponentMarker exponent suffix pointOf dotted undotted decimal infnan integralOf rationalOf denominator exact orElse ureal real justOf complexOf polarOf endsI imaginary aloneOf pairOf toSign startsE rectangular complex zeroInt zeroReal zeroParts judged radixMark prefix parseNumber startsRun firstOf inQuotes afterBackslash stopsHex inHex inTrim inNest breaksWord inWord staysRun endsRun inRun afterHash endsHash inHash inDelim linedOf scalarOf boolKind quoteKind formKind hashKind unreturned endsWith hereEnds lookup words wordKind wordMeans runMeans escaped stringText linedText hereText charNames hexNamed spelledOut characterOf unescape extentItems inBounds turnOf feedOf pieceOf endOf openOf pieceCalls endCalls handOver drive
 computed = (refl, (refl, refl))

@@ -95,7 +95,14 @@ fn give_waiting(m: Marks, buf: &mut [u8], text: &mut [u8], start: usize, b: Beyo
 }
 
 // A piece where a pair's second item waits, unless the end was declared.
-fn piece_waiting(m: Marks, buf: &mut [u8], piece: &[u8], text: &mut [u8], start: usize, b: Beyond) -> Pieced
+fn piece_waiting(
+    m: Marks,
+    buf: &mut [u8],
+    piece: &[u8],
+    text: &mut [u8],
+    start: usize,
+    b: Beyond,
+) -> Pieced
     requires { ⌜ Held m (now buf) (now text) start × BeyondFits b (m .at) ⌝ }
     ensures { λ r. ⌜ (pieced r (now (buf .exit)) (now (text .exit)) ≡ calls.pieceStage (stateOf m (now (buf .entry))) (Stage.Waiting start b) (now (piece .entry)))
         × (now (text .exit) ≡ calls.textAfter (calls.pieceStage (stateOf m (now (buf .entry))) (Stage.Waiting start b) (now (piece .entry)) .what) (now (text .entry))) ⌝ }

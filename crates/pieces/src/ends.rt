@@ -11,14 +11,14 @@ use chars::char_width;
 use chars::is_blank;
 use items::Outcome;
 use items::Record;
-use meaning::Meant;
+use items::kinds;
 use meaning::Means;
+use meaning::Meant;
 use meaning::Range;
 use meaning::Text;
 use meaning::meaning;
 use meaning::places::range_after;
 use steps::first_phase;
-use items::kinds;
 ghost use mathlib.Core.Path.{_≡_};
 ghost use mathlib.Core.Bool.{_&&_};
 ghost use Prim.Native.Nat.{_≤_};
@@ -77,7 +77,14 @@ pub(crate) fn beyond(m: Marks, buf: &mut [u8], last: Range, b: Beyond) -> Marks
     ensures { λ r. ⌜ stateOf r (now (buf .exit)) ≡ calls.beyond (stateOf m (now (buf .entry))) (placeIn last) b ⌝ }
 {
     match b {
-        Beyond::End => marks_at(m, Stage::Idle, m.at, 0, last.from as usize, last.to as usize),
+        Beyond::End => marks_at(
+            m,
+            Stage::Idle,
+            m.at,
+            0,
+            last.from as usize,
+            last.to as usize,
+        ),
         Beyond::Char(c) => begin(m, buf, last.from as usize, last.to as usize, c),
     }
 }
@@ -112,7 +119,15 @@ fn skips(skip: bool, number: u32) -> bool
 }
 
 // The one item of an extent, given or left out, and what stands beyond it.
-fn give_one(m: Marks, buf: &mut [u8], text: &mut [u8], start: usize, last: Range, one: Means, b: Beyond) -> Turned
+fn give_one(
+    m: Marks,
+    buf: &mut [u8],
+    text: &mut [u8],
+    start: usize,
+    last: Range,
+    one: Means,
+    b: Beyond,
+) -> Turned
     requires { ⌜ Held m (now buf) (now text) start × BeyondFits b (m .at) ⌝ }
     ensures { λ r. ⌜ (turnIn r (now (buf .exit)) (now (text .exit)) ≡ oneGiven (stateOf m (now (buf .entry))) start (placeIn last) b one)
         × (now (text .exit) ≡ textTurned (oneGiven (stateOf m (now (buf .entry))) start (placeIn last) b one) (now (text .entry))) ⌝ }
@@ -130,14 +145,29 @@ fn give_one(m: Marks, buf: &mut [u8], text: &mut [u8], start: usize, last: Range
 }
 
 // The first item of a pair; the second waits.
-fn give_pair(m: Marks, buf: &mut [u8], text: &mut [u8], start: usize, last: Range, one: Means, b: Beyond) -> Turned
+fn give_pair(
+    m: Marks,
+    buf: &mut [u8],
+    text: &mut [u8],
+    start: usize,
+    last: Range,
+    one: Means,
+    b: Beyond,
+) -> Turned
     requires { ⌜ Held m (now buf) (now text) start ⌝ }
     ensures { λ r. ⌜ (turnIn r (now (buf .exit)) (now (text .exit)) ≡ pairGiven (stateOf m (now (buf .entry))) start (placeIn last) b one)
         × (now (text .exit) ≡ textTurned (pairGiven (stateOf m (now (buf .entry))) start (placeIn last) b one) (now (text .entry))) ⌝ }
 {
     let len = m.len;
     let r = give(one, last, extent(start, m.at), &buf[..len], text);
-    let next = marks_at(m, Stage::Waiting(start, b), m.at, len, last.from as usize, last.to as usize);
+    let next = marks_at(
+        m,
+        Stage::Waiting(start, b),
+        m.at,
+        len,
+        last.from as usize,
+        last.to as usize,
+    );
     Turned {
         marks: next,
         got: Got::Item(r),
@@ -145,7 +175,14 @@ fn give_pair(m: Marks, buf: &mut [u8], text: &mut [u8], start: usize, last: Rang
 }
 
 // The items of the extent that starts at `start` and ended, by what it turned out to be.
-pub(crate) fn ends(m: Marks, buf: &mut [u8], text: &mut [u8], start: usize, what: Outcome, b: Beyond) -> Turned
+pub(crate) fn ends(
+    m: Marks,
+    buf: &mut [u8],
+    text: &mut [u8],
+    start: usize,
+    what: Outcome,
+    b: Beyond,
+) -> Turned
     requires { ⌜ Held m (now buf) (now text) start × OutcomeFits what × BeyondFits b (m .at) ⌝ }
     ensures { λ r. ⌜ (turnIn r (now (buf .exit)) (now (text .exit)) ≡ calls.ends (stateOf m (now (buf .entry))) start what b)
         × (now (text .exit) ≡ textTurned (calls.ends (stateOf m (now (buf .entry))) start what b) (now (text .entry))) ⌝ }
@@ -169,5 +206,11 @@ pub(crate) fn give_second(m: Marks, buf: &[u8], text: &mut [u8], start: usize) -
         detail: NO_DETAIL,
         text: Text::Source(start + PLUS, m.at),
     };
-    give(second, extent(m.from, m.to), extent(start, m.at), &buf[..m.len], text)
+    give(
+        second,
+        extent(m.from, m.to),
+        extent(start, m.at),
+        &buf[..m.len],
+        text,
+    )
 }

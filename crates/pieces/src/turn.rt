@@ -143,10 +143,13 @@ pub(crate) fn turn(m: Marks, buf: &mut [u8], text: &mut [u8], b: u8) -> Turned
         return stop(m, TOO_LONG, LIMIT);
     }
     match byte_step(part.state, b) {
-        Step::More(state) => go_on(with_part(m, Part {
-            count: part.count + 1,
-            state,
-        })),
+        Step::More(state) => go_on(with_part(
+            m,
+            Part {
+                count: part.count + 1,
+                state,
+            },
+        )),
         Step::Char(c) => on_char(m, buf, text, c),
         Step::Bad => stop(m, NOT_UTF8, m.at),
     }
