@@ -5,7 +5,7 @@ use Rattle.items.specs.Whole.{call, served, refused, limit, deliver}
 use Rattle.items.specs.declared.Record.{Record}
 use Rattle.meaning.specs.Records.{packed}
 use Rattle.lexer.specs.Reading.{Turn, gives, ends, nextAt, foundOf}
-use Rattle.lexer.specs.Answers.{Reply, item, finished, refuses, replied, giveOf, nextOf}
+use Rattle.lexer.specs.Answers.{item, finished, refuses, replied, giveOf, nextOf}
 use Rattle.lexer.specs.Inner.{neededOf, bytesFor, freeAfter, Few}
 use Rattle.lexer.specs.declared.Position.{Position}
 use Rattle.lexer.specs.declared.Needed.{Needed}

@@ -8,12 +8,12 @@ use Rattle.chars.specs.declared.Decoded.the-variants as decoded
 use Rattle.chars.proofs.Chars.{CharAt, nothing-at}
 use Rattle.laws.specs.Quoted.{code}
 use Rattle.laws.proofs.Choice.{by-bool}
-use Rattle.items.specs.Items.{Item, Place, unset, itemsFrom, itemsAt, pastLine, afterPound, items, kept, byteCount}
-use Rattle.items.specs.Whole.{Call, call, limit, isMode, inReport, itemsIn, deliver, ifGood, readOf}
+use Rattle.items.specs.Items.{Item, unset, itemsFrom, itemsAt, pastLine, afterPound, items, kept, byteCount}
+use Rattle.items.specs.Whole.{call, limit, isMode, inReport, itemsIn, deliver, ifGood, readOf}
 use Rattle.items.specs.Whole as whole
 use Rattle.items.proofs.Order.{items-count, items-memory}
 use Rattle.items.proofs.Skipped.{kept-count, kept-memory}
-use Rattle.lexer.specs.Opening.{lineEnd, afterHash, startOf, opening, Opening, opened, refused, ifUtf8, openOf}
+use Rattle.lexer.specs.Opening.{lineEnd, afterHash, startOf, opening, opened, refused, ifUtf8, openOf}
 use Rattle.lexer.specs.Reading.{allItems}
 use Rattle.lexer.specs.Inner.{Few}
 use Rattle.lexer.specs.declared.Position.{Position}

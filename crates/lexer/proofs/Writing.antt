@@ -10,7 +10,7 @@ use Rattle.lexer.specs.Inner.{bytesFor, freeAfter, neededOf}
 use Rattle.lexer.specs.declared.Position.{Position}
 use Rattle.lexer.specs.declared.Found.the-variants.{One, End}
 use Rattle.lexer.proofs.Moves.{Moved, Whole}
-use Rattle.lexer.proofs.Memory.{words-packed, bytes-packed, texts-join, records-join, texts-more, records-more}
+use Rattle.lexer.proofs.Memory.{words-packed, bytes-packed, texts-join, texts-more, records-more}
 use Rattle.lexer.proofs.Going.{Going, going, going-end, counted, going-on, it, it-packed, it-moved}
 use Prim.Native.Nat.{ℕ, _+_, _-_, _*_, _/_, _≤_, _<_}
 use mathlib.Core.Path.{_≡_, refl, sym, ap, _∙_, subst}
