@@ -29,7 +29,7 @@ use Rattle.pieces.specs.Calls.{What, Reply, reply, Turn, on, off, textAfter, tu
 use Rattle.piecewise.specs.Answers.{whatOf, stateOf, turnBy, textTurned, isMore, endDeclared}
 use Rattle.piecewise.specs.Inner.{Held, CharFits, BeyondFits}
 use Rattle.piecewise.proofs.Bounded.{Numbers, numbers}
-use Rattle.piecewise.proofs.Sounds.{told-numbers, told-held}
+use Rattle.piecewise.proofs.Told.{told-numbers, told-held}
 
 no : {A : Type 0} → true ≡ false → A
 no e = absurd (let z : _≡_ {A = ℕ} 0 1 = cc in omega arith)

@@ -3,7 +3,8 @@
 use Prim.Native.Nat.{ℕ}
 use mathlib.Core.Bool.{Bool, true, false}
 use mathlib.Core.List.{List, []}
-use lib.ListN.{take}
+use lib.ListN.{length, take}
+use lib.Dec.{eqb}
 use Rattle.laws.specs.Choice.{if_then_else_}
 use Rattle.items.specs.Items.{Place, range, wordsOf}
 use Rattle.pieces.specs.declared.Stage.{Stage}
@@ -19,7 +20,8 @@ use Rattle.pieces.specs.declared.Opened.{Opened}
 use Rattle.pieces.specs.declared.Answer.{Answer}
 use Rattle.pieces.specs.declared.Pieced.{Pieced}
 use Rattle.pieces.specs.declared.Turned.{Turned}
-use Rattle.pieces.specs.Calls.{What, item, more, finished, refused, Reply, reply, Turn, on, off, marks, textAfter, declared}
+use Rattle.pieces.specs.Calls.{What, item, more, finished, refused, Reply, reply, Turn, on, off, marks, textAfter, declared, pieceOf, endOf}
+use Rattle.pieces.specs.Expected.{longest}
 
 -- an item's text is what the text memory holds from 0 to the place that the record's last word says; `text` is the text memory after
 -- the call
@@ -40,10 +42,22 @@ startOf (start.Refused n mode) = refused n mode
 abbrev pub opened : Opened → Reply
 opened o = reply 0 (startOf (o .start)) (o .state)
 
--- ---- inside: the marks by value, the buffer lent
+-- ---- the marks by value, the buffer lent
 
 abbrev pub stateOf : Marks → List ℕ → State
 stateOf m buf = record { buf = buf; marks = m }
+
+abbrev pub pieced : Pieced → List ℕ → List ℕ → Reply
+pieced p buf text = reply (p .taken) (whatOf (p .got) text) (stateOf (p .marks) buf)
+
+-- the calls with the buffer lent: no state has a buffer of another length, so that is 27
+abbrev pub pieceIn : Marks → List ℕ → List ℕ → ℕ → Reply
+pieceIn m buf bs room = if eqb (length buf) longest then pieceOf (stateOf m buf) bs room else reply 0 (refused 27 0) (stateOf m buf)
+
+abbrev pub endIn : Marks → List ℕ → ℕ → Reply
+endIn m buf room = if eqb (length buf) longest then endOf (stateOf m buf) room else reply 0 (refused 27 0) (stateOf m buf)
+
+-- ---- inside
 
 -- a turn that goes on gives nothing yet
 abbrev pub turnBy : Got → State → List ℕ → Turn
@@ -81,9 +95,6 @@ isMore (Item r) = false
 isMore More = true
 isMore Finished = false
 isMore (Refused n p) = false
-
-abbrev pub pieced : Pieced → List ℕ → List ℕ → Reply
-pieced p buf text = reply (p .taken) (whatOf (p .got) text) (stateOf (p .marks) buf)
 
 abbrev pub refuses : Marks → ℕ → ℕ → Pieced
 refuses m n p = record { marks = m; taken = 0; got = Refused n p }

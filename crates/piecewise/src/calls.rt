@@ -1,4 +1,4 @@
-// The calls: a piece of the text, and its end. Inside, the buffer is lent; the public calls take the state by value and hand it back.
+// The calls: a piece of the text, and its end. `piece` and `end` take the state by value and hand it back; under them, the buffer is lent.
 use crate::bounds::in_bounds;
 use crate::ends::beyond;
 use crate::ends::ends;
@@ -24,7 +24,7 @@ ghost use Prim.Native.Nat.{ℕ};
 ghost use lib.ListN.{length};
 ghost use Rattle.pieces.specs.Bounds.{phaseBounds};
 ghost use Rattle.pieces.specs.Calls as calls;
-ghost use Rattle.piecewise.specs.Answers.{stateOf, isMore, pieced, refuses, endsWith, endDeclared, answered};
+ghost use Rattle.piecewise.specs.Answers.{stateOf, isMore, pieced, refuses, endsWith, endDeclared, answered, pieceIn, endIn};
 ghost use Rattle.piecewise.specs.Inner.{Sound, Held, BeyondFits};
 
 // Whether nothing is given yet.
@@ -125,8 +125,8 @@ fn piece_on(m: Marks, buf: &mut [u8], piece: &[u8], text: &mut [u8]) -> Pieced
     feed(m, buf, piece, text)
 }
 
-// A piece call, with the buffer as a slice.
-fn piece_call(m: Marks, buf: &mut [u8], piece: &[u8], text: &mut [u8]) -> Pieced
+// A piece call on a whole buffer.
+fn read_piece(m: Marks, buf: &mut [u8], piece: &[u8], text: &mut [u8]) -> Pieced
     requires { ⌜ length (now buf) ≡ 4096 ⌝ }
     ensures { λ r. ⌜ (pieced r (now (buf .exit)) (now (text .exit)) ≡ calls.pieceOf (stateOf m (now (buf .entry))) (now (piece .entry)) (length (now (text .entry))))
         × (now (text .exit) ≡ calls.textAfter (calls.pieceOf (stateOf m (now (buf .entry))) (now (piece .entry)) (length (now (text .entry))) .what) (now (text .entry))) ⌝ }
@@ -149,13 +149,13 @@ fn piece_call(m: Marks, buf: &mut [u8], piece: &[u8], text: &mut [u8]) -> Pieced
     }
 }
 
-// A piece call with the buffer lent. Internal: it asks what every array of 4,096 bytes meets.
-pub(crate) fn piece_in(m: Marks, buf: &mut [u8; 4096], piece: &[u8], text: &mut [u8]) -> Pieced
+// A piece call with the buffer as an array. Internal: it asks what every array of 4,096 bytes meets.
+fn piece_in(m: Marks, buf: &mut [u8; 4096], piece: &[u8], text: &mut [u8]) -> Pieced
     requires { ⌜ length (now buf) ≡ 4096 ⌝ }
     ensures { λ r. ⌜ (pieced r (now (buf .exit)) (now (text .exit)) ≡ calls.pieceOf (stateOf m (now (buf .entry))) (now (piece .entry)) (length (now (text .entry))))
         × (now (text .exit) ≡ calls.textAfter (calls.pieceOf (stateOf m (now (buf .entry))) (now (piece .entry)) (length (now (text .entry))) .what) (now (text .entry))) ⌝ }
 {
-    piece_call(m, buf, piece, text)
+    read_piece(m, buf, piece, text)
 }
 
 // The marks with the end declared.
@@ -225,8 +225,8 @@ fn end_item(m: Marks, buf: &mut [u8], text: &mut [u8], start: usize, phase: Phas
     at_end(ends(m, buf, text, start, what, Beyond::End))
 }
 
-// An end call, with the buffer as a slice.
-fn end_call(m: Marks, buf: &mut [u8], text: &mut [u8]) -> Pieced
+// An end call on a whole buffer.
+fn read_end(m: Marks, buf: &mut [u8], text: &mut [u8]) -> Pieced
     requires { ⌜ length (now buf) ≡ 4096 ⌝ }
     ensures { λ r. ⌜ (pieced r (now (buf .exit)) (now (text .exit)) ≡ calls.endOf (stateOf m (now (buf .entry))) (length (now (text .entry))))
         × (now (text .exit) ≡ calls.textAfter (calls.endOf (stateOf m (now (buf .entry))) (length (now (text .entry))) .what) (now (text .entry))) ⌝ }
@@ -249,13 +249,35 @@ fn end_call(m: Marks, buf: &mut [u8], text: &mut [u8]) -> Pieced
     }
 }
 
-// An end call with the buffer lent. Internal: it asks what every array of 4,096 bytes meets.
-pub(crate) fn end_in(m: Marks, buf: &mut [u8; 4096], text: &mut [u8]) -> Pieced
+// An end call with the buffer as an array. Internal: it asks what every array of 4,096 bytes meets.
+fn end_in(m: Marks, buf: &mut [u8; 4096], text: &mut [u8]) -> Pieced
     requires { ⌜ length (now buf) ≡ 4096 ⌝ }
     ensures { λ r. ⌜ (pieced r (now (buf .exit)) (now (text .exit)) ≡ calls.endOf (stateOf m (now (buf .entry))) (length (now (text .entry))))
         × (now (text .exit) ≡ calls.textAfter (calls.endOf (stateOf m (now (buf .entry))) (length (now (text .entry))) .what) (now (text .entry))) ⌝ }
 {
-    end_call(m, buf, text)
+    read_end(m, buf, text)
+}
+
+// A piece call with the buffer lent; 27 where its length is not a buffer's.
+pub fn piece_call(m: Marks, buf: &mut [u8], piece: &[u8], text: &mut [u8]) -> Pieced
+    ensures { λ r. ⌜ (pieced r (now (buf .exit)) (now (text .exit)) ≡ pieceIn m (now (buf .entry)) (now (piece .entry)) (length (now (text .entry))))
+        × (now (text .exit) ≡ calls.textAfter (pieceIn m (now (buf .entry)) (now (piece .entry)) (length (now (text .entry))) .what) (now (text .entry))) ⌝ }
+{
+    if buf.len() != LONGEST {
+        return refuse(m, OUT_OF_BOUNDS, 0);
+    }
+    read_piece(m, buf, piece, text)
+}
+
+// An end call with the buffer lent; 27 where its length is not a buffer's.
+pub fn end_call(m: Marks, buf: &mut [u8], text: &mut [u8]) -> Pieced
+    ensures { λ r. ⌜ (pieced r (now (buf .exit)) (now (text .exit)) ≡ endIn m (now (buf .entry)) (length (now (text .entry))))
+        × (now (text .exit) ≡ calls.textAfter (endIn m (now (buf .entry)) (length (now (text .entry))) .what) (now (text .entry))) ⌝ }
+{
+    if buf.len() != LONGEST {
+        return refuse(m, OUT_OF_BOUNDS, 0);
+    }
+    read_end(m, buf, text)
 }
 
 // Reads on in a piece: takes the fewest bytes of it that make an item ready, or all of them.

@@ -4,7 +4,8 @@ use borrow.Author.Needs.{needs}
 use denote.Ref.{now}
 use Rattle.pieces.specs.Calls.{on}
 use Rattle.piecewise.specs.Answers.{stateOf}
-use Rattle.piecewise.proofs.Sounds.{sane, held-busy, held-pound}
+use Rattle.piecewise.proofs.Sounds.{held-busy, held-pound}
+use Rattle.piecewise.proofs.Told.{sane}
 use Rattle.piecewise.proofs.Steps.{on-stage}
 use Rattle.piecewise.proofs.turn.on_char.Statement.{statement}
 use Rattle.piecewise.proofs.turn.on_char.Tie as tie

@@ -5,7 +5,8 @@ use native.Mathlib.Omega.{arith}
 use borrow.Author.Needs.{needs}
 use denote.Ref.{now}
 use Rattle.piecewise.specs.Answers.{stateOf}
-use Rattle.piecewise.proofs.Sounds.{told-phase, deep, stop-fits}
+use Rattle.piecewise.proofs.Sounds.{stop-fits}
+use Rattle.piecewise.proofs.Told.{told-phase, deep}
 use Rattle.piecewise.proofs.Steps.{eat-quiet}
 use Rattle.piecewise.proofs.turn.on_item.Statement.{statement}
 use Rattle.piecewise.proofs.turn.on_item.Tie as tie

@@ -7,7 +7,8 @@ use borrow.Author.Needs.{needs}
 use denote.Ref.{now}
 use Rattle.piecewise.specs.Answers.{stateOf}
 use Rattle.pieces.specs.Calls.{turnOf}
-use Rattle.piecewise.proofs.Sounds.{sane, char-fits}
+use Rattle.piecewise.proofs.Sounds.{char-fits}
+use Rattle.piecewise.proofs.Told.{sane}
 use Rattle.piecewise.proofs.turn.turn.Statement.{statement}
 use Rattle.piecewise.proofs.turn.turn.Tie as tie
 
