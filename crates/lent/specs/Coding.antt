@@ -18,6 +18,8 @@ use Rattle.pieces.specs.declared.Stage.the-variants.{Opening, Pound, FirstLine,
 use Rattle.pieces.specs.declared.Marks.{Marks}
 use Rattle.lent.specs.declared.Words.{Words}
 use Rattle.lent.specs.declared.Row.{Row}
+use Rattle.lent.specs.declared.Seen.{Seen}
+use Rattle.lent.specs.declared.Seen.the-variants.{Standing, Outside}
 
 -- ---- from words to marks
 
@@ -203,17 +205,25 @@ isByte n = ltb n (2 ^ 8)
 abbrev pub isNarrow : ℕ → Bool
 isNarrow n = ltb n (2 ^ 32)
 
--- what the code asks of a row before it reads it
+-- the numbers that are narrower than a word
+unfoldable pub narrow : Words → Bool
+narrow w =
+    isNarrow (w .mode) && isNarrow (w .which) && isNarrow (w .detail) && isByte (w .need) && isByte (w .low) && isByte (w .high) && isNarrow (w .code)
+
+-- the same, as what the code asks of a row and of words before it reads them
 pub record Narrow (r : Row) : Type 0 where
   pub which : r .which < 2 ^ 32
   pub detail : r .detail < 2 ^ 32
 
--- the numbers that are narrower than a word
-abbrev pub narrow : Words → Bool
-narrow w =
-    isNarrow (w .mode) && isNarrow (w .which) && isNarrow (w .detail) && isByte (w .need) && isByte (w .low) && isByte (w .high) && isNarrow (w .code)
+pub record Narrowed (w : Words) : Type 0 where
+  pub mode : w .mode < 2 ^ 32
+  pub row : Narrow (rowOf w)
+  pub need : w .need < 2 ^ 8
+  pub low : w .low < 2 ^ 8
+  pub high : w .high < 2 ^ 8
+  pub code : w .code < 2 ^ 32
 
-abbrev pub sameRow : Row → Row → Bool
+unfoldable pub sameRow : Row → Row → Bool
 sameRow a b =
     eqb (a .stage) (b .stage) && eqb (a .start) (b .start) && eqb (a .which) (b .which) && eqb (a .detail) (b .detail) && eqb (a .one) (b .one)
     && eqb (a .two) (b .two)
@@ -224,3 +234,7 @@ isRow r = ltb (r .stage) stageCount && sameRow r (stageRow (stageOf r))
 
 unfoldable pub isCode : Words → Bool
 isCode w = narrow w && leb (w .skip) 1 && leb (w .ended) 1 && isRow (rowOf w)
+
+-- what decoding gives
+abbrev pub seen : Words → Seen
+seen w = if isCode w then Standing (standing w) else Outside

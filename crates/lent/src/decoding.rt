@@ -127,7 +127,7 @@ fn row_of(words: Words) -> Row
 
 // The marks that the words stand for.
 fn stand(words: Words) -> Marks
-    requires { ⌜ (words .stage < coding.stageCount) × (coding.narrow words ≡ true) ⌝ }
+    requires { ⌜ (words .stage < coding.stageCount) × coding.Narrowed words ⌝ }
     ensures { λ r. ⌜ r ≡ coding.standing words ⌝ }
 {
     Marks {
@@ -149,4 +149,74 @@ fn stand(words: Words) -> Marks
         to: words.to as usize,
         len: words.len as usize,
     }
+}
+
+// Whether the narrower numbers are narrow.
+fn narrow(words: Words) -> bool
+    ensures { λ r. ⌜ r ≡ coding.narrow words ⌝ }
+{
+    if NARROW_END <= words.mode {
+        return false;
+    }
+    if NARROW_END <= words.which {
+        return false;
+    }
+    if NARROW_END <= words.detail {
+        return false;
+    }
+    if BYTE_END <= words.need {
+        return false;
+    }
+    if BYTE_END <= words.low {
+        return false;
+    }
+    if BYTE_END <= words.high {
+        return false;
+    }
+    words.code < NARROW_END
+}
+
+fn same_row(a: Row, b: Row) -> bool
+    ensures { λ r. ⌜ r ≡ coding.sameRow a b ⌝ }
+{
+    if a.stage != b.stage {
+        return false;
+    }
+    if a.start != b.start {
+        return false;
+    }
+    if a.which != b.which {
+        return false;
+    }
+    if a.detail != b.detail {
+        return false;
+    }
+    if a.one != b.one {
+        return false;
+    }
+    a.two == b.two
+}
+
+// The marks that the words stand for, if they stand for any.
+pub fn decode(words: Words) -> Seen
+    ensures { λ r. ⌜ r ≡ coding.seen words ⌝ }
+{
+    if !narrow(words) {
+        return Seen::Outside;
+    }
+    if 1 < words.skip {
+        return Seen::Outside;
+    }
+    if 1 < words.ended {
+        return Seen::Outside;
+    }
+    if STAGES <= words.stage {
+        return Seen::Outside;
+    }
+    let marks = stand(words);
+    let stage = marks.stage;
+    if !same_row(row_of(words), stage_row(stage)) {
+        return Seen::Outside;
+    }
+    Seen::Standing(marks)
 }

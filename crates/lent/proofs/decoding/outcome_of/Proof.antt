@@ -1,56 +1,57 @@
+-- An arm for each outcome; the last is what is left of the stages.
 use borrow.Author.Needs.{needs}
+use native.Mathlib.Omega.{arith}
+use mathlib.Core.Path.{_≡_}
+use Rattle.lent.specs.Coding.{stageOf}
+use Rattle.lent.proofs.Back.{past}
 use Rattle.lent.proofs.decoding.outcome_of.Statement.{statement}
 use Rattle.lent.proofs.decoding.outcome_of.Tie as tie
-use Rattle.lent.proofs.decoding.outcome_of.Reads as reads
-use Rattle.lent.proofs.decoding.outcome_of.Lts as lts
 
--- src/decoding.rt:40:17
 cast-which : tie.Need-cast-which
 cast-which c = search needs
 
--- src/decoding.rt:41:18
 cast-detail : tie.Need-cast-detail
 cast-detail c = search needs
 
--- src/decoding.rt:35:1
 returns : tie.Need-returns
-returns c = ?
+unfolding stageOf
+returns c = rw (c .match .keys1)
 
--- src/decoding.rt:35:1
 returns-2 : tie.Need-returns-2
-returns-2 c = ?
+unfolding stageOf
+returns-2 c = rw (c .match .keys2)
 
--- src/decoding.rt:35:1
 returns-3 : tie.Need-returns-3
-returns-3 c = ?
+unfolding stageOf
+returns-3 c = rw (c .match .keys3)
 
--- src/decoding.rt:35:1
 returns-4 : tie.Need-returns-4
-returns-4 c = ?
+unfolding stageOf
+returns-4 c = rw (c .match .keys4)
 
--- src/decoding.rt:35:1
 returns-5 : tie.Need-returns-5
-returns-5 c = ?
+unfolding stageOf
+returns-5 c = rw (c .match .keys5)
 
--- src/decoding.rt:35:1
 returns-6 : tie.Need-returns-6
-returns-6 c = ?
+unfolding stageOf
+returns-6 c = rw (c .match .keys6)
 
--- src/decoding.rt:35:1
 returns-7 : tie.Need-returns-7
-returns-7 c = ?
+unfolding stageOf
+returns-7 c = rw (c .match .keys7)
 
--- src/decoding.rt:35:1
 returns-8 : tie.Need-returns-8
-returns-8 c = ?
+unfolding stageOf
+returns-8 c = rw (c .match .keys8)
 
--- src/decoding.rt:35:1
 returns-9 : tie.Need-returns-9
-returns-9 c = ?
+unfolding stageOf
+returns-9 c = rw (c .match .keys9)
 
--- src/decoding.rt:35:1
 returns-10 : tie.Need-returns-10
-returns-10 c = ?
+unfolding stageOf
+returns-10 c = let e : c .before .before .before .args .row .stage ≡ 40 = let h = past (past (past (past (past (past (past (past (past (c .before .before .before .pre .0) (c .match .rest .0 .0 .0 .0 .0 .0 .0 .0 .1)) (c .match .rest .0 .0 .0 .0 .0 .0 .0 .1)) (c .match .rest .0 .0 .0 .0 .0 .0 .1)) (c .match .rest .0 .0 .0 .0 .0 .1)) (c .match .rest .0 .0 .0 .0 .1)) (c .match .rest .0 .0 .0 .1)) (c .match .rest .0 .0 .1)) (c .match .rest .0 .1)) (c .match .rest .1) in omega arith in rw e
 
 pub outcome-of-spec : {M : Type 1} → statement M
 outcome-of-spec =

@@ -1,144 +1,134 @@
+-- An arm for each phase; a stage past the last of them is of an item that is whole.
 use borrow.Author.Needs.{needs}
+use native.Mathlib.Omega.{arith}
+use Rattle.lent.specs.Coding.{stageOf}
+use Rattle.lent.proofs.Back.{past}
 use Rattle.lent.proofs.decoding.phase_of.Statement.{statement}
 use Rattle.lent.proofs.decoding.phase_of.Tie as tie
-use Rattle.lent.proofs.decoding.phase_of.Reads as reads
-use Rattle.lent.proofs.decoding.phase_of.Lts as lts
-use Rattle.lent.proofs.decoding.outcome_of.Reads as outcome-of-reads
-use Rattle.lent.proofs.decoding.quotes_of.Reads as quotes-of-reads
 
--- src/decoding.rt:81:33
 quotes-of-requires : tie.Need-quotes-of-requires
 quotes-of-requires c κs = search needs
 
--- src/decoding.rt:82:33
 quotes-of-requires-2 : tie.Need-quotes-of-requires-2
 quotes-of-requires-2 c κs = search needs
 
--- src/decoding.rt:83:42
 quotes-of-requires-3 : tie.Need-quotes-of-requires-3
 quotes-of-requires-3 c κs = search needs
 
--- src/decoding.rt:84:40
 quotes-of-requires-4 : tie.Need-quotes-of-requires-4
 quotes-of-requires-4 c κs = search needs
 
--- src/decoding.rt:85:33
 quotes-of-requires-5 : tie.Need-quotes-of-requires-5
 quotes-of-requires-5 c κs = search needs
 
--- src/decoding.rt:86:31
 quotes-of-requires-6 : tie.Need-quotes-of-requires-6
 quotes-of-requires-6 c κs = search needs
 
--- src/decoding.rt:88:13
 quotes-of-requires-7 : tie.Need-quotes-of-requires-7
 quotes-of-requires-7 c κs = search needs
 
--- src/decoding.rt:89:13
 cast-t12 : tie.Need-cast-t12
 cast-t12 c = search needs
 
--- src/decoding.rt:93:26
 outcome-of-requires : tie.Need-outcome-of-requires
-outcome-of-requires c κs = ?
+outcome-of-requires c κs = (past (past (past (past (past (past (past (past (past (past (past (past (past (past (past (past (past (past (past (past (past (past (past (past (c .before .pre .0) (c .match .rest .0 .0 .0 .0 .0 .0 .0 .0 .0 .0 .0 .0 .0 .0 .0 .0 .0 .0 .0 .0 .0 .0 .0 .1)) (c .match .rest .0 .0 .0 .0 .0 .0 .0 .0 .0 .0 .0 .0 .0 .0 .0 .0 .0 .0 .0 .0 .0 .0 .1)) (c .match .rest .0 .0 .0 .0 .0 .0 .0 .0 .0 .0 .0 .0 .0 .0 .0 .0 .0 .0 .0 .0 .0 .1)) (c .match .rest .0 .0 .0 .0 .0 .0 .0 .0 .0 .0 .0 .0 .0 .0 .0 .0 .0 .0 .0 .0 .1)) (c .match .rest .0 .0 .0 .0 .0 .0 .0 .0 .0 .0 .0 .0 .0 .0 .0 .0 .0 .0 .0 .1)) (c .match .rest .0 .0 .0 .0 .0 .0 .0 .0 .0 .0 .0 .0 .0 .0 .0 .0 .0 .0 .1)) (c .match .rest .0 .0 .0 .0 .0 .0 .0 .0 .0 .0 .0 .0 .0 .0 .0 .0 .0 .1)) (c .match .rest .0 .0 .0 .0 .0 .0 .0 .0 .0 .0 .0 .0 .0 .0 .0 .0 .1)) (c .match .rest .0 .0 .0 .0 .0 .0 .0 .0 .0 .0 .0 .0 .0 .0 .0 .1)) (c .match .rest .0 .0 .0 .0 .0 .0 .0 .0 .0 .0 .0 .0 .0 .0 .1)) (c .match .rest .0 .0 .0 .0 .0 .0 .0 .0 .0 .0 .0 .0 .0 .1)) (c .match .rest .0 .0 .0 .0 .0 .0 .0 .0 .0 .0 .0 .0 .1)) (c .match .rest .0 .0 .0 .0 .0 .0 .0 .0 .0 .0 .0 .1)) (c .match .rest .0 .0 .0 .0 .0 .0 .0 .0 .0 .0 .1)) (c .match .rest .0 .0 .0 .0 .0 .0 .0 .0 .0 .1)) (c .match .rest .0 .0 .0 .0 .0 .0 .0 .0 .1)) (c .match .rest .0 .0 .0 .0 .0 .0 .0 .1)) (c .match .rest .0 .0 .0 .0 .0 .0 .1)) (c .match .rest .0 .0 .0 .0 .0 .1)) (c .match .rest .0 .0 .0 .0 .1)) (c .match .rest .0 .0 .0 .1)) (c .match .rest .0 .0 .1)) (c .match .rest .0 .1)) (c .match .rest .1), search needs, search needs)
 
--- src/decoding.rt:57:1
 returns : tie.Need-returns
-returns c = ?
+unfolding stageOf
+returns c = rw (c .match .keys1)
 
--- src/decoding.rt:57:1
 returns-2 : tie.Need-returns-2
-returns-2 c = ?
+unfolding stageOf
+returns-2 c = rw (c .match .keys2)
 
--- src/decoding.rt:57:1
 returns-3 : tie.Need-returns-3
-returns-3 c = ?
+unfolding stageOf
+returns-3 c = rw (c .match .keys3)
 
--- src/decoding.rt:57:1
 returns-4 : tie.Need-returns-4
-returns-4 c = ?
+unfolding stageOf
+returns-4 c = rw (c .match .keys4)
 
--- src/decoding.rt:57:1
 returns-5 : tie.Need-returns-5
-returns-5 c = ?
+unfolding stageOf
+returns-5 c = rw (c .match .keys5)
 
--- src/decoding.rt:57:1
 returns-6 : tie.Need-returns-6
-returns-6 c = ?
+unfolding stageOf
+returns-6 c = rw (c .match .keys6)
 
--- src/decoding.rt:57:1
 returns-7 : tie.Need-returns-7
-returns-7 c = ?
+unfolding stageOf
+returns-7 c = rw (c .match .keys7)
 
--- src/decoding.rt:57:1
 returns-8 : tie.Need-returns-8
-returns-8 c = ?
+unfolding stageOf
+returns-8 c = rw (c .match .keys8)
 
--- src/decoding.rt:57:1
 returns-9 : tie.Need-returns-9
-returns-9 c = ?
+unfolding stageOf
+returns-9 c = rw (c .match .keys9)
 
--- src/decoding.rt:57:1
 returns-10 : tie.Need-returns-10
-returns-10 c = ?
+unfolding stageOf
+returns-10 c = rw (c .match .keys10)
 
--- src/decoding.rt:57:1
 returns-11 : tie.Need-returns-11
-returns-11 c = ?
+unfolding stageOf
+returns-11 c = rw (c .match .keys11)
 
--- src/decoding.rt:57:1
 returns-12 : tie.Need-returns-12
-returns-12 c = ?
+unfolding stageOf
+returns-12 c = rw (c .match .keys12)
 
--- src/decoding.rt:57:1
 returns-13 : tie.Need-returns-13
-returns-13 c = ?
+unfolding stageOf
+returns-13 c = rw (c .match .keys13)
 
--- src/decoding.rt:57:1
 returns-14 : tie.Need-returns-14
-returns-14 c = ?
+unfolding stageOf
+returns-14 c = rw (c .match .keys14)
 
--- src/decoding.rt:57:1
 returns-15 : tie.Need-returns-15
-returns-15 c = ?
+unfolding stageOf
+returns-15 c = rw (c .match .keys15)
 
--- src/decoding.rt:57:1
 returns-16 : tie.Need-returns-16
-returns-16 c = ?
+unfolding stageOf
+returns-16 c = rw (c .match .keys16)
 
--- src/decoding.rt:57:1
 returns-17 : tie.Need-returns-17
-returns-17 c = ?
+unfolding stageOf
+returns-17 c = rw (c .match .keys17)
 
--- src/decoding.rt:57:1
 returns-18 : tie.Need-returns-18
-returns-18 c = ?
+unfolding stageOf
+returns-18 c = rw (c .before .match .keys18, c .quotes-of .ensures)
 
--- src/decoding.rt:57:1
 returns-19 : tie.Need-returns-19
-returns-19 c = ?
+unfolding stageOf
+returns-19 c = rw (c .before .match .keys19, c .quotes-of2 .ensures)
 
--- src/decoding.rt:57:1
 returns-20 : tie.Need-returns-20
-returns-20 c = ?
+unfolding stageOf
+returns-20 c = rw (c .before .match .keys20, c .quotes-of3 .ensures)
 
--- src/decoding.rt:57:1
 returns-21 : tie.Need-returns-21
-returns-21 c = ?
+unfolding stageOf
+returns-21 c = rw (c .before .match .keys21, c .quotes-of4 .ensures)
 
--- src/decoding.rt:57:1
 returns-22 : tie.Need-returns-22
-returns-22 c = ?
+unfolding stageOf
+returns-22 c = rw (c .before .match .keys22, c .quotes-of5 .ensures)
 
--- src/decoding.rt:57:1
 returns-23 : tie.Need-returns-23
-returns-23 c = ?
+unfolding stageOf
+returns-23 c = rw (c .before .match .keys23, c .quotes-of6 .ensures)
 
--- src/decoding.rt:57:1
 returns-24 : tie.Need-returns-24
-returns-24 c = ?
+unfolding stageOf
+returns-24 c = rw (c .before .before .match .keys24, c .before .quotes-of7 .ensures)
 
--- src/decoding.rt:57:1
 returns-25 : tie.Need-returns-25
 returns-25 c = search needs
 

@@ -1,51 +1,49 @@
+-- An arm for each stage; a stage past the last of them is of an item.
 use borrow.Author.Needs.{needs}
+use Prim.Native.Nat.{_≤_}
+use native.Mathlib.Omega.{arith}
+use Rattle.lent.specs.Coding.{stageOf}
+use Rattle.lent.proofs.Back.{past}
 use Rattle.lent.proofs.decoding.stage_of.Statement.{statement}
 use Rattle.lent.proofs.decoding.stage_of.Tie as tie
-use Rattle.lent.proofs.decoding.stage_of.Reads as reads
-use Rattle.lent.proofs.decoding.stage_of.Lts as lts
-use Rattle.lent.proofs.decoding.phase_of.Reads as phase-of-reads
 
--- src/decoding.rt:109:60
 cast-t6 : tie.Need-cast-t6
 cast-t6 c = search needs
 
--- src/decoding.rt:110:35
 cast-t8 : tie.Need-cast-t8
 cast-t8 c = search needs
 
--- src/decoding.rt:111:33
 phase-of-requires : tie.Need-phase-of-requires
-phase-of-requires c κs = ?
+phase-of-requires c κs = let h : 0 ≤ c .before .args .row .stage = omega arith in (past (past (past (past (past (past (past h (c .match .rest .0 .0 .0 .0 .0 .0 .1)) (c .match .rest .0 .0 .0 .0 .0 .1)) (c .match .rest .0 .0 .0 .0 .1)) (c .match .rest .0 .0 .0 .1)) (c .match .rest .0 .0 .1)) (c .match .rest .0 .1)) (c .match .rest .1), search needs, search needs)
 
--- src/decoding.rt:97:1
 returns : tie.Need-returns
-returns c = ?
+unfolding stageOf
+returns c = rw (c .match .keys1)
 
--- src/decoding.rt:97:1
 returns-2 : tie.Need-returns-2
-returns-2 c = ?
+unfolding stageOf
+returns-2 c = rw (c .match .keys2)
 
--- src/decoding.rt:97:1
 returns-3 : tie.Need-returns-3
-returns-3 c = ?
+unfolding stageOf
+returns-3 c = rw (c .match .keys3)
 
--- src/decoding.rt:97:1
 returns-4 : tie.Need-returns-4
-returns-4 c = ?
+unfolding stageOf
+returns-4 c = rw (c .match .keys4)
 
--- src/decoding.rt:97:1
 returns-5 : tie.Need-returns-5
-returns-5 c = ?
+unfolding stageOf
+returns-5 c = rw (c .match .keys5)
 
--- src/decoding.rt:97:1
 returns-6 : tie.Need-returns-6
-returns-6 c = ?
+unfolding stageOf
+returns-6 c = rw (c .before .match .keys6)
 
--- src/decoding.rt:97:1
 returns-7 : tie.Need-returns-7
-returns-7 c = ?
+unfolding stageOf
+returns-7 c = rw (c .before .match .keys7)
 
--- src/decoding.rt:97:1
 returns-8 : tie.Need-returns-8
 returns-8 c = search needs
 
