@@ -9,6 +9,7 @@ use pieces::Beyond;
 use pieces::Marks;
 use pieces::Stage;
 ghost use mathlib.Core.Path.{_≡_};
+ghost use Rattle.pieces.specs.Calls.{fresh};
 ghost use Rattle.lent.specs.Coding as coding;
 
 // 1 for yes.
@@ -161,5 +162,31 @@ pub fn encode(m: Marks) -> Words
         from: m.from as u64,
         to: m.to as u64,
         len: m.len as u64,
+    }
+}
+
+// The words of a fresh state.
+pub(crate) fn fresh_words(mode: u32, skip: bool) -> Words
+    ensures { λ r. ⌜ r ≡ coding.coded (fresh mode skip .marks) ⌝ }
+{
+    Words {
+        mode: mode as u64,
+        skip: bit(skip),
+        ended: 0,
+        stage: OPENING,
+        start: 0,
+        which: 0,
+        detail: 0,
+        one: 0,
+        two: 0,
+        at: 0,
+        count: 0,
+        need: 0,
+        low: 0,
+        high: 0,
+        code: 0,
+        from: 0,
+        to: 0,
+        len: 0,
     }
 }

@@ -5,9 +5,11 @@
 use pieces::Got;
 use pieces::Marks;
 
+pub mod calls;
 mod codes;
 pub mod decoding;
 pub mod encoding;
+mod limits;
 
 // The marks of a state as numbers. A word that a stage does not use is 0.
 pub struct Words {
