@@ -6,6 +6,7 @@ use native.Mathlib.Numerals.{add-one}
 use native.Mathlib.Omega.{arith}
 use lib.ListN.{length, take, set, replicate, length-set, replicate-append-replicate}
 use lib.Seq.{take-suc-set, take-all}
+use denote.Ref.{now}
 use Rattle.lent.proofs.calls.clear.Statement.{statement}
 use Rattle.lent.proofs.calls.clear.Tie as tie
 
@@ -45,7 +46,8 @@ same-length c = c .before .loop .inv .0
 returns : tie.Need-returns Inv-loop μ-loop
 returns c =
     let l = c .before .loop in
-    sym (take-all (l .i) (l .buf) (c .loop-test .left)) ∙ l .inv .2 ∙ ap (λ (k : ℕ). replicate k 0) (omega arith)
+    let all : l .i ≡ length (now (c .before .before .args .buf)) = omega arith in
+    sym (take-all (l .i) (l .buf) (c .loop-test .left)) ∙ l .inv .2 ∙ ap (λ (k : ℕ). replicate k 0) all
 
 pub clear-spec : {M : Type 1} → statement M
 clear-spec =

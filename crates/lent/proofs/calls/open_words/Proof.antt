@@ -1,55 +1,43 @@
+-- A buffer of another length, a mode that there is not, or a fresh state.
+use native.Mathlib.Omega.{arith}
+use denote.Ref.{now}
+use Rattle.lent.proofs.Opens.{opens-short, opens-no-mode, opens}
 use borrow.Author.Needs.{needs}
 use Rattle.lent.proofs.calls.open_words.Statement.{statement}
 use Rattle.lent.proofs.calls.open_words.Tie as tie
-use Rattle.lent.proofs.calls.open_words.Reads as reads
-use Rattle.lent.proofs.calls.open_words.Lts as lts
-use Rattle.lent.proofs.calls.clear.Reads as clear-reads
-use Rattle.lent.proofs.calls.refuse.Reads as refuse-reads
-use Rattle.lent.proofs.encoding.fresh_words.Reads as fresh-words-reads
 
--- src/calls.rt:83:23
 fresh-words-requires : tie.Need-fresh-words-requires
 fresh-words-requires c κs = search needs
 
--- src/calls.rt:83:9
 refuse-requires : tie.Need-refuse-requires
 refuse-requires c κs = search needs
 
--- src/calls.rt:83:9
 returns : tie.Need-returns
-returns c = ?
+returns c = opens-short (c .before .before .before .before .args .mode) (c .before .before .before .before .args .skip) (now (c .before .before .before .before .args .buf)) (c .before .before .if1 .taken) (c .before .fresh-words .ensures) (c .refuse .ensures)
 
--- src/calls.rt:85:5
 clear-requires : tie.Need-clear-requires
 clear-requires c κs = search needs
 
--- src/calls.rt:87:23
 fresh-words-requires-2 : tie.Need-fresh-words-requires-2
 fresh-words-requires-2 c κs = search needs
 
--- src/calls.rt:87:9
 refuse-requires-2 : tie.Need-refuse-requires-2
 refuse-requires-2 c κs = search needs
 
--- src/calls.rt:87:9
 same-length : tie.Need-same-length
 same-length c = search needs
 
--- src/calls.rt:87:9
 returns-2 : tie.Need-returns-2
-returns-2 c = ?
+returns-2 c = opens-no-mode (c .before .before .before .before .before .before .before .before .before .args .mode) (c .before .before .before .before .before .before .before .before .before .args .skip) (now (c .before .before .before .before .before .before .before .before .before .args .buf)) (c .before .before .before .before .before .before .before .if1 .left) (c .before .before .before .before .before .clear .ensures) (c .before .before .if2 .taken) (c .before .fresh-words2 .ensures) (c .refuse2 .ensures)
 
--- src/calls.rt:90:16
 fresh-words-requires-3 : tie.Need-fresh-words-requires-3
 fresh-words-requires-3 c κs = search needs
 
--- src/calls.rt:79:1
 same-length-2 : tie.Need-same-length-2
 same-length-2 c = search needs
 
--- src/calls.rt:79:1
 returns-3 : tie.Need-returns-3
-returns-3 c = ?
+returns-3 c = opens (c .before .before .before .before .before .before .before .before .args .mode) (c .before .before .before .before .before .before .before .before .args .skip) (now (c .before .before .before .before .before .before .before .before .args .buf)) (c .before .before .before .before .before .before .if1 .left) (c .before .before .before .before .clear .ensures) (omega arith) (c .fresh-words3 .ensures)
 
 pub open-words-spec : {M : Type 1} → statement M
 open-words-spec =
