@@ -257,6 +257,23 @@ fn slices_of_another_length_are_no_state() {
     assert_eq!(lent, old);
 }
 
+/// The word of a state that is the place past the last whole character.
+const AT: usize = 9;
+
+#[test]
+fn the_longest_text() {
+    let mut lent = Lent::opened();
+    assert_eq!(lent.piece(b" "), raw::MORE);
+    lent.state.words[AT] = raw::LONGEST - 2;
+    assert_eq!((lent.piece(b"a"), &lent.values[..]), (raw::MORE, &[1, 0][..]));
+    let mut longest = lent.clone();
+    assert_eq!((longest.piece(b" "), &longest.values[..]), (raw::ITEM, &[1, 0][..]));
+    assert_eq!((longest.piece(b""), longest.end()), (raw::MORE, raw::FINISHED));
+    let mut longer = lent;
+    assert_eq!((longer.piece(b"aaa"), &longer.values[..]), (raw::TOO_LONG, &[2, raw::LONGEST][..]));
+    assert_eq!((longer.end(), &longer.values[..]), (raw::TOO_LONG, &[0, raw::LONGEST][..]));
+}
+
 #[test]
 fn only_an_item_writes_its_record_and_text() {
     let mut lent = Lent::opened();
