@@ -1,7 +1,7 @@
 //! The crate `chars` against Rust's own library: `char::is_whitespace`, `char::encode_utf8` and `std::str::from_utf8`.
-use crate::proved::{self, BAD, CUT, END};
 use crate::tally::{shown, Count, Tally};
 use crate::Options;
+use proved::{BAD, CUT, END};
 
 /// Every code point, the surrogates among them, some numbers past them all and the last of 32 bits.
 fn codes() -> impl Iterator<Item = u32> {

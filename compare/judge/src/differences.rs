@@ -1,6 +1,6 @@
 //! The listed differences between document 01 and the Rust (docs/DIFFERENCES.md), each met here on its smallest input, so that the
 //! list stays true, and the rules by which a comparison knows them.
-use crate::proved;
+
 use crate::tally::{shown, Count, Tally};
 use crate::Options;
 use item::{Int, Number, Reading, Real};

@@ -4,7 +4,7 @@
 //! Each text is read into memory that is just large enough, into memory with one record or one byte too few (22), and under a mode
 //! that is none (25); a text that is not UTF-8 is refused (21). Memory that a call must leave alone is compared too.
 use crate::numbers;
-use crate::proved;
+
 use crate::tally::{shown, Count, Tally};
 use crate::Options;
 use item::{Item, Reading, WORDS};

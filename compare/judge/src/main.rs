@@ -11,7 +11,6 @@ mod differences;
 mod examples;
 mod lexer;
 mod numbers;
-mod proved;
 mod tally;
 
 use std::process::ExitCode;

@@ -5,11 +5,11 @@
 //! The Rust has one NaN for `+nan.0` and `-nan.0`, so its sign is compared with the text instead. Words that the layout leaves out
 //! must be 0, and memory past the words must be as it was.
 use crate::differences::{listed, rust_number, Called};
-use crate::proved::{self, NUMBER_WORDS};
 use crate::tally::{shown, Count, Tally};
 use crate::Options;
 use item::{Int, Number, Real};
 use num_bigint::BigInt;
+use proved::NUMBER_WORDS;
 use std::str;
 use steel::NumberAnswer;
 

@@ -62,7 +62,8 @@ pub fn number(text: &[u8], words: &mut [u64]) -> u32 {
     unsafe { mihadrena_number(text.as_ptr(), text.len(), words.as_mut_ptr(), words.len()) }
 }
 
-/// What else `read` answers: the items were written.
+/// The words of a record, and what else `read` answers: the items were written.
+pub const RECORD_WORDS: usize = 9;
 pub const SERVED: u32 = 0;
 
 pub fn read(source: &[u8], mode: u32, skip: bool, records: &mut [u32], text: &mut [u8], values: &mut [u64]) -> u32 {
