@@ -17,9 +17,9 @@ const FAMILIES: &[&str] = &["numbers", "reals", "short", "plans", "bad", "long"]
 
 pub fn judge(options: &Options) -> Count {
     let mut count = Count::default();
-    for name in FAMILIES {
+    for name in options.wanted(FAMILIES) {
         let mut tally = Tally::new(format!("numbers number call, {name}"));
-        options.each(name, &mut |text| same(&mut tally, text));
+        options.each(name, u64::MAX, &mut |text| same(&mut tally, text));
         count.add(tally.close());
     }
     count
@@ -37,6 +37,7 @@ enum Said {
 
 /// The Rust's answer, or "no number" where it differs as listed, against ours.
 fn same(tally: &mut Tally, text: &[u8]) {
+    tally.text();
     let expected = match str::from_utf8(text) {
         Ok(source) => {
             let called = rust_number(source);
