@@ -22,7 +22,7 @@ struct Job {
 }
 
 /// So many texts of a random family are compared by one process.
-const BATCH: u64 = 500_000;
+const BATCH: u64 = 250_000;
 
 const fn all(part: &'static str) -> Job {
     Job { part, family: None, texts: 0 }
