@@ -8,25 +8,28 @@ use std::time::Instant;
 /// So often a text is read for its times.
 const READINGS: usize = 9;
 
+/// What a process prints whose reader is refused.
+const REFUSED: &str = "refused";
+
 /// One reading: what it met.
 pub fn once(mut run: Run) -> String {
-    run().to_string()
+    run().map_or(REFUSED.to_string(), |items| items.to_string())
 }
 
-/// Several readings: what one met, the first one's seconds and the best one's.
+/// Several readings: the first one's seconds and the best one's.
 pub fn timed(mut run: Run) -> String {
-    let mut items = 0;
-    let times: Vec<f64> = (0..READINGS)
-        .map(|_| {
-            let start = Instant::now();
-            items = run();
-            start.elapsed().as_secs_f64()
-        })
-        .collect();
-    format!("{items} {:e} {:e}", times[0], times.iter().copied().fold(f64::INFINITY, f64::min))
+    let mut times = [0.0; READINGS];
+    for time in &mut times {
+        let start = Instant::now();
+        if run().is_none() {
+            return REFUSED.to_string();
+        }
+        *time = start.elapsed().as_secs_f64();
+    }
+    format!("{:e} {:e}", times[0], times.iter().copied().fold(f64::INFINITY, f64::min))
 }
 
-/// What a process found: how many items, and its figure.
+/// How many items a reader met, and its instructions.
 pub struct Instructions {
     pub items: u64,
     pub count: u64,
@@ -37,24 +40,22 @@ pub struct Times {
     pub best: f64,
 }
 
-/// The instructions of one reading, inside the reader's own functions alone.
-pub fn instructions(reader: &Reader, file: &Path) -> Instructions {
+/// The instructions of one reading, inside the reader's own functions alone; none if it is refused.
+pub fn instructions(reader: &Reader, file: &Path) -> Option<Instructions> {
     let mut command = Command::new("valgrind");
     command.args(["--tool=callgrind", "--callgrind-out-file=/dev/null"]);
     command.args(reader.inside.iter().map(|name| format!("--toggle-collect={name}")));
     let output = answer(command.arg(this()).args(["once", reader.name]).arg(file));
     let said = String::from_utf8_lossy(&output.stderr);
     let collected = said.lines().find_map(|line| line.split("Collected : ").nth(1)).expect("callgrind's count");
-    Instructions {
-        items: words(&output)[0].parse().expect("a count"),
-        count: collected.trim().parse().expect("a count"),
-    }
+    Some(Instructions { items: figures(&output)?.next()? as u64, count: collected.trim().parse().expect("a count") })
 }
 
-pub fn times(reader: &Reader, file: &Path) -> Times {
+/// The times of a reader; none if it is refused.
+pub fn times(reader: &Reader, file: &Path) -> Option<Times> {
     let output = answer(Command::new(this()).args(["time", reader.name]).arg(file));
-    let second = |at: usize| words(&output)[at].parse().expect("seconds");
-    Times { first: second(1), best: second(2) }
+    let mut figures = figures(&output)?;
+    Some(Times { first: figures.next()?, best: figures.next()? })
 }
 
 fn this() -> std::path::PathBuf {
@@ -67,6 +68,9 @@ fn answer(command: &mut Command) -> Output {
     output
 }
 
-fn words(output: &Output) -> Vec<String> {
-    String::from_utf8_lossy(&output.stdout).split_whitespace().map(String::from).collect()
+/// The figures that a process printed; none if its reader is refused.
+fn figures(output: &Output) -> Option<impl Iterator<Item = f64>> {
+    let said = String::from_utf8_lossy(&output.stdout).trim().to_string();
+    let parsed: Vec<f64> = said.split(' ').map_while(|word| word.parse().ok()).collect();
+    (said != REFUSED).then_some(parsed.into_iter())
 }

@@ -1,10 +1,11 @@
-//! What is measured: each reader reads a whole text once, and answers how many items it met. Memory is lent and cleared before the first
+//! What is measured: each reader reads a whole text once, and answers how many items it met. Memory is cleared before the first
 //! reading, and not between two. Callgrind counts in the functions named here and in what they call, and nowhere else.
 use proved::RECORD_WORDS;
 use std::hint::black_box;
 
-/// A reader with its memory, ready to read one text as often as wanted.
-pub type Run<'a> = Box<dyn FnMut() -> u64 + 'a>;
+/// A reader with its memory, ready to read one text as often as wanted. It answers how many items it met; none if it is refused, as piece
+/// calls are for an item of more than 4,096 bytes.
+pub type Run<'a> = Box<dyn FnMut() -> Option<u64> + 'a>;
 
 pub struct Reader {
     pub name: &'static str,
@@ -16,20 +17,29 @@ pub struct Reader {
 }
 
 const READ: &[&str] = &["mihadrena_read"];
+const PIECES: &[&str] = &["mihadrena_piece", "mihadrena_end"];
 const RUST_READ: &[&str] = &["rust_read"];
 const BARE_READ: &[&str] = &["bare_read"];
 
-/// The readers of a whole text.
-pub const WHOLE: &[Reader] = &[
+/// The readers of a text, whole or in pieces.
+pub const READERS: &[Reader] = &[
     Reader { name: "ample", title: "ample", inside: READ, ready: ample },
     Reader { name: "counted", title: "counted", inside: READ, ready: counted },
+    Reader { name: "pieces-4096", title: "pieces of 4,096", inside: PIECES, ready: |text| pieces(text, 4096) },
+    Reader { name: "pieces-64", title: "of 64", inside: PIECES, ready: |text| pieces(text, 64) },
+    Reader { name: "pieces-1", title: "of 1", inside: PIECES, ready: |text| pieces(text, 1) },
     Reader {
         name: "rust",
         title: "the Rust as published",
         inside: RUST_READ,
-        ready: |text| Box::new(|| rust_read(text)),
+        ready: |text| Box::new(|| Some(rust_read(text))),
     },
-    Reader { name: "bare", title: "without interning", inside: BARE_READ, ready: |text| Box::new(|| bare_read(text)) },
+    Reader {
+        name: "bare",
+        title: "without interning",
+        inside: BARE_READ,
+        ready: |text| Box::new(|| Some(bare_read(text))),
+    },
 ];
 
 /// The checks for UTF-8; none has items.
@@ -45,7 +55,7 @@ pub const NUMBERS: &[Reader] = &[
 ];
 
 pub fn named(name: &str) -> Option<&'static Reader> {
-    [WHOLE, CHECKS, NUMBERS].into_iter().flatten().find(|reader| reader.name == name)
+    [READERS, CHECKS, NUMBERS].into_iter().flatten().find(|reader| reader.name == name)
 }
 
 const PLAIN: u32 = 0;
@@ -57,8 +67,7 @@ fn whole(text: &str, items: usize, bytes: usize) -> Run<'_> {
     let mut values = [0; 2];
     Box::new(move || {
         let answer = proved::read(text.as_bytes(), PLAIN, false, &mut records, &mut memory, &mut values);
-        assert_eq!(answer, proved::SERVED);
-        values[0]
+        (answer == proved::SERVED).then_some(values[0])
     })
 }
 
@@ -70,6 +79,47 @@ fn ample(text: &str) -> Run<'_> {
 /// A byte less than ample: enough, but the call must count to know it.
 fn counted(text: &str) -> Run<'_> {
     whole(text, text.len(), text.len() - 1)
+}
+
+/// What a piece call is lent beside a state: the least text memory, a record and its values.
+struct Lent {
+    bytes: [u8; proved::STATE_BYTES],
+    words: [u64; proved::STATE_WORDS],
+    text: [u8; proved::STATE_BYTES],
+    record: [u32; RECORD_WORDS],
+    values: [u64; 2],
+}
+
+/// A text in pieces of so many bytes.
+fn pieces(text: &str, length: usize) -> Run<'_> {
+    let mut lent = Box::new(Lent {
+        bytes: [0; proved::STATE_BYTES],
+        words: [0; proved::STATE_WORDS],
+        text: [0; proved::STATE_BYTES],
+        record: [0; RECORD_WORDS],
+        values: [0; 2],
+    });
+    Box::new(move || {
+        let Lent { bytes, words, text: memory, record, values } = &mut *lent;
+        assert_eq!(proved::open(PLAIN, false, bytes, words), proved::SERVED);
+        let mut items = 0;
+        for piece in text.as_bytes().chunks(length) {
+            let mut rest = piece;
+            while !rest.is_empty() {
+                let answer = proved::piece(bytes, words, rest, memory, record, values);
+                match answer {
+                    proved::ITEM => items += 1,
+                    proved::MORE => (),
+                    _ => return None,
+                }
+                rest = &rest[values[0] as usize..];
+            }
+        }
+        while proved::end(bytes, words, memory, record, values) == proved::ITEM {
+            items += 1;
+        }
+        Some(items)
+    })
 }
 
 #[no_mangle]
@@ -87,14 +137,14 @@ fn bare_read(text: &str) -> u64 {
 fn check(text: &str) -> Run<'_> {
     Box::new(|| {
         assert_eq!(proved::good_bytes(text.as_bytes()), text.len());
-        0
+        Some(0)
     })
 }
 
 fn rust_checks(text: &str) -> Run<'_> {
     Box::new(|| {
         assert!(rust_check(text.as_bytes()));
-        0
+        Some(0)
     })
 }
 
@@ -119,7 +169,7 @@ fn number(text: &str) -> Run<'_> {
     let mut words = [0; proved::NUMBER_WORDS];
     Box::new(move || {
         numbers.iter().for_each(|number| assert_eq!(proved::number(number.as_bytes(), &mut words), proved::A_NUMBER));
-        numbers.len() as u64
+        Some(numbers.len() as u64)
     })
 }
 
@@ -127,7 +177,7 @@ fn rust_numbers(text: &str) -> Run<'_> {
     let numbers = numbers_of(text);
     Box::new(move || {
         numbers.iter().for_each(|number| assert!(rust_number(number)));
-        numbers.len() as u64
+        Some(numbers.len() as u64)
     })
 }
 

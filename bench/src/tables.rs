@@ -1,6 +1,6 @@
 //! The tables, in the form of docs/SPEED.md. A row is printed as soon as it is measured.
-use crate::measure::{instructions, times, Instructions, Times};
-use crate::readers::{self, Reader, CHECKS, NUMBERS, WHOLE};
+use crate::measure::{instructions, times, Times};
+use crate::readers::{self, Reader, CHECKS, NUMBERS, READERS};
 use crate::texts::{Text, MEGABYTE, TEXTS};
 use crate::Wanted;
 use std::fs;
@@ -8,8 +8,8 @@ use std::path::PathBuf;
 
 pub fn print(wanted: &Wanted) {
     println!("Memory is cleared before the first reading and not between two; no call clears any.\n");
-    let texts: Vec<Written> = wanted.texts.iter().map(|text| Written::of(text, wanted.bytes)).collect();
-    let readers: Vec<&Reader> = WHOLE.iter().chain(CHECKS).collect();
+    let texts: Vec<Written> = wanted.texts.iter().map(|text| Written::of(text, text.name, wanted.bytes)).collect();
+    let readers: Vec<&Reader> = READERS.iter().chain(CHECKS).collect();
     println!("## Instructions a byte\n");
     head(&["text", "bytes", "items"], &readers);
     texts.iter().for_each(|text| counts(text, &readers));
@@ -26,23 +26,24 @@ pub fn print(wanted: &Wanted) {
 
 /// A text in a file, for the processes that read it.
 struct Written {
-    name: &'static str,
+    name: String,
     text: String,
     file: PathBuf,
 }
 
 impl Written {
-    fn of(text: &Text, bytes: usize) -> Written {
+    fn of(text: &Text, name: impl Into<String>, bytes: usize) -> Written {
         let folder = PathBuf::from("target/bench");
         fs::create_dir_all(&folder).expect("a folder");
         let file = folder.join(format!("{}-{bytes}", text.name));
         let made = (text.make)(bytes);
         fs::write(&file, &made).expect("a file");
-        Written { name: text.name, text: made, file }
+        Written { name: name.into(), text: made, file }
     }
 
-    fn a_byte(&self, found: &Instructions) -> f64 {
-        found.count as f64 / self.text.len() as f64
+    /// How many items the text has.
+    fn items(&self) -> u64 {
+        (READERS[0].ready)(&self.text)().expect("a text that is served")
     }
 }
 
@@ -52,30 +53,39 @@ fn head(first: &[&str], readers: &[&Reader]) {
     println!("|{}", "---|".repeat(columns.len()));
 }
 
-/// The instructions a byte of each reader. All that have items must have met the same number of them.
+/// What stands for a reader that is refused: piece calls stop at an item of more than 4,096 bytes.
+const STOPS: &str = " stops |";
+
+/// The instructions a byte of each reader. All that are not refused must have met the same items.
 fn counts(text: &Written, readers: &[&Reader]) {
-    let found: Vec<Instructions> = readers.iter().map(|reader| instructions(reader, &text.file)).collect();
-    let items = found[0].items;
-    assert!(found[..WHOLE.len()].iter().all(|one| one.items == items), "the readers differ on {}", text.name);
-    let row: String = found.iter().map(|one| format!(" {:.1} |", text.a_byte(one))).collect();
+    let items = text.items();
+    let row: String = readers
+        .iter()
+        .map(|reader| {
+            let Some(found) = instructions(reader, &text.file) else {
+                return STOPS.to_string();
+            };
+            assert!(!reads(reader) || found.items == items, "{} meets other items of {}", reader.name, text.name);
+            format!(" {:.1} |", found.count as f64 / text.text.len() as f64)
+        })
+        .collect();
     println!("| {} | {} | {} |{row}", text.name, grouped(text.text.len() as u64), grouped(items));
 }
 
 /// The speed of each reader; of the Rust as published, which finds its names interned from the second reading on, the first's too.
 fn speeds(text: &Written, readers: &[&Reader]) {
-    let items = (readers::WHOLE[0].ready)(&text.text)();
+    let items = text.items();
     let row: String = readers
         .iter()
         .map(|reader| {
-            let Times { first, best } = times(reader, &text.file);
-            let speed = |seconds: f64| text.text.len() as f64 / seconds / 1e6;
-            let each = if reads(reader) && items > 0 {
-                format!(" ({})", short(best * 1e9 / items as f64))
-            } else {
-                String::new()
+            let Some(Times { first, best }) = times(reader, &text.file) else {
+                return STOPS.to_string();
             };
-            let cold = if reader.name == "rust" { format!(", first {}", short(speed(first))) } else { String::new() };
-            format!(" {}{each}{cold} |", short(speed(best)))
+            let speed = |seconds: f64| short(text.text.len() as f64 / seconds / 1e6);
+            let each = reads(reader) && items > 0;
+            let each = if each { format!(" ({})", short(best * 1e9 / items as f64)) } else { String::new() };
+            let cold = if reader.name == "rust" { format!(", first {}", speed(first)) } else { String::new() };
+            format!(" {}{each}{cold} |", speed(best))
         })
         .collect();
     println!("| {} |{row}", text.name);
@@ -83,7 +93,7 @@ fn speeds(text: &Written, readers: &[&Reader]) {
 
 /// Whether a reader has items.
 fn reads(reader: &Reader) -> bool {
-    WHOLE.iter().any(|one| one.name == reader.name)
+    READERS.iter().any(|one| one.name == reader.name)
 }
 
 /// The number calls on a text's numbers, if it has any.
@@ -96,25 +106,22 @@ fn numbers(text: &Written) {
     let row: String = NUMBERS
         .iter()
         .map(|reader| {
-            let count = instructions(reader, &text.file).count as f64 / bytes as f64;
-            let each = times(reader, &text.file).best * 1e9 / numbers.len() as f64;
-            format!(" {count:.1}, {each:.0} ns |")
+            let found = instructions(reader, &text.file).zip(times(reader, &text.file));
+            let (count, time) = found.expect("a number is not refused");
+            format!(" {:.1}, {:.0} ns |", count.count as f64 / bytes as f64, time.best * 1e9 / numbers.len() as f64)
         })
         .collect();
     let each = bytes as f64 / numbers.len() as f64;
     println!("| {} | {} | {each:.1} |{row}", text.name, grouped(numbers.len() as u64));
 }
 
-/// The instructions a byte of the plan, by its size.
+/// The instructions a byte of the plan, by its size in megabytes.
 fn growth(sizes: &[usize]) {
     println!("\n## How cost grows: the plan, instructions a byte\n");
-    let readers: Vec<&Reader> = WHOLE.iter().collect();
-    head(&["MB", "items"], &readers);
+    let readers: Vec<&Reader> = READERS.iter().collect();
+    head(&["MB", "bytes", "items"], &readers);
     for size in sizes {
-        let text = Written::of(&TEXTS[0], size * MEGABYTE);
-        let found: Vec<Instructions> = readers.iter().map(|reader| instructions(reader, &text.file)).collect();
-        let row: String = found.iter().map(|one| format!(" {:.1} |", text.a_byte(one))).collect();
-        println!("| {size} | {} |{row}", grouped(found[0].items));
+        counts(&Written::of(&TEXTS[0], size.to_string(), size * MEGABYTE), &readers);
     }
 }
 

@@ -15,6 +15,7 @@ const fn text(name: &'static str, make: fn(usize) -> String) -> Text {
 pub const TEXTS: &[Text] = &[
     text("plan", plan),
     text("string", |n| format!("\"{}\"", "a".repeat(n - 2))),
+    text("strings-of-4000-bytes", |n| format!("\"{}\"\n", "a".repeat(3998)).repeat(n / 4001)),
     text("line-comments", |n| format!(";{}\n", "x".repeat(60)).repeat(n / 62)),
     text("nested-comments", |n| format!("#|{}#|{}|#|#", "a".repeat(n / 2 - 4), "b".repeat(n / 2 - 4))),
     text("brackets", |n| "()".repeat(n / 2)),

@@ -1,6 +1,7 @@
 //! Texts about as long as places reach, against what document 01 says of them: 4,294,967,295 bytes are read, one more is refused with 20.
 //! The texts lie in one mapping of 4 GiB, in which a few bytes are changed from one to the next, and have few items. The Rust is not
 //! asked: its places wrap (A3). Long rows of comments, skipped, end the Rust's process (A4), and are read here too.
+use crate::pieces::{Answer, Lent, Reads, What};
 use crate::tally::{Count, Tally};
 use crate::Options;
 use item::Record;
@@ -22,6 +23,8 @@ pub fn judge(options: &Options) -> Count {
         count.add(refused(&mut text));
         count.add(served(&mut text));
         count.add(counted(&mut text));
+        drop(text);
+        count.add(pieces());
     }
     count
 }
@@ -70,6 +73,7 @@ const COMMENT: u32 = 25;
 const IDENTIFIER: u32 = 27;
 const STRING: u32 = 30;
 const IN_SOURCE: usize = 1;
+const IN_MEMORY: usize = 2;
 
 /// One byte too many: 20 after 25 and before 21 and 22, of blanks and of bytes that are no text.
 fn refused(text: &mut [u8]) -> Count {
@@ -127,6 +131,38 @@ fn counted(text: &mut [u8]) -> Count {
     let text = &mut text[..LONGEST];
     text.fill(b')');
     tally.same(refuses(proved::TOO_FEW, LONGEST as u64, 0), read(text, PLAIN, false, 1), || "closing brackets".into());
+    tally.close()
+}
+
+/// An item may have so many bytes.
+const LONGEST_ITEM: usize = 4096;
+
+/// Reading in pieces up to the last place, with a word as long as one may be at the end: the end call gives it; one byte more is 20, which
+/// goes before 21 and 23 at that byte.
+fn pieces() -> Count {
+    let mut tally = Tally::between(SIDES, "huge pieces, 2^32 - 1 bytes and one more");
+    tally.text();
+    let mut lent = Lent::open(PLAIN, false);
+    let more = |taken| Answer { taken, what: What::More };
+    let mut left = LONGEST - LONGEST_ITEM;
+    let blanks = vec![b' '; 1 << 20];
+    while left > 0 {
+        let piece = &blanks[..left.min(blanks.len())];
+        tally.same(more(piece.len()), lent.piece(piece), || format!("blanks, {left} left"));
+        left -= piece.len();
+    }
+    let word = vec![b'a'; LONGEST_ITEM];
+    tally.same(more(word.len()), lent.piece(&word), || "the word".into());
+    for beyond in [b'a', b' ', 0xFF] {
+        let mut lent = lent.clone();
+        let stop = |taken| Answer { taken, what: What::Refused(proved::TOO_LONG, LONGEST) };
+        tally.same(stop(1), lent.piece(&[beyond, b' ']), || format!("one byte too many: {beyond:#x}"));
+        tally.same(stop(0), lent.piece(b" "), || "the stop stands".into());
+        tally.same(stop(0), lent.end(), || "the stop stands, end".into());
+    }
+    let record = with_text(IDENTIFIER, 0, LONGEST - LONGEST_ITEM..LONGEST, [IN_MEMORY, 0, LONGEST_ITEM]);
+    tally.same(Answer { taken: 0, what: What::Item(record, word) }, lent.end(), || "the end".into());
+    tally.same(Answer { taken: 0, what: What::Finished }, lent.end(), || "finished".into());
     tally.close()
 }
 

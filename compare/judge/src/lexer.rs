@@ -28,7 +28,8 @@ pub type Read = fn(&str, bool, &mut Reading) -> u64;
 const PLAIN: u32 = 0;
 const REPORT: u32 = 1;
 const NO_MODE: u32 = 2;
-const MODES: [(u32, Read); 2] = [(PLAIN, steel::read), (REPORT, steel_report::read)];
+/// Each mode, and who judges it.
+pub const MODES: [(u32, Read); 2] = [(PLAIN, steel::read), (REPORT, steel_report::read)];
 
 pub fn judge(options: &Options) -> Count {
     let mut count = Count::default();
@@ -96,7 +97,7 @@ fn refused(number: u32, first: usize, second: usize) -> Answer {
 }
 
 /// What the Rust reads a text as; none where it panics.
-fn rust(read: Read, text: &str, skip: bool, tally: &mut Tally) -> Option<Reading> {
+pub fn rust(read: Read, text: &str, skip: bool, tally: &mut Tally) -> Option<Reading> {
     let mut reading = Reading::default();
     let zeros = panic::catch_unwind(AssertUnwindSafe(|| read(text, skip, &mut reading))).ok()?;
     for _ in 0..zeros {

@@ -15,6 +15,7 @@ mod examples;
 mod huge;
 mod lexer;
 mod numbers;
+mod pieces;
 mod scale;
 mod tally;
 
@@ -60,6 +61,8 @@ const PARTS: &[Part] = &[
     ("chars", chars::judge),
     ("numbers", numbers::judge),
     ("lexer", lexer::judge),
+    ("pieces", pieces::judge),
+    ("edges", pieces::edges::judge),
     ("differences", differences::judge),
     ("huge", huge::judge),
 ];
