@@ -1,0 +1,2 @@
+-- What the piece calls leave, over slices and numbers alone.
+pub mod Piece
