@@ -19,6 +19,33 @@ extern "C" {
         values: *mut u64,
         count: usize,
     ) -> u32;
+    fn mihadrena_open(mode: u32, skip: bool, bytes: *mut u8, room: usize, words: *mut u64, count: usize) -> u32;
+    fn mihadrena_piece(
+        bytes: *mut u8,
+        room: usize,
+        words: *mut u64,
+        count: usize,
+        piece: *const u8,
+        length: usize,
+        text: *mut u8,
+        text_length: usize,
+        record: *mut u32,
+        record_length: usize,
+        values: *mut u64,
+        values_length: usize,
+    ) -> u32;
+    fn mihadrena_end(
+        bytes: *mut u8,
+        room: usize,
+        words: *mut u64,
+        count: usize,
+        text: *mut u8,
+        text_length: usize,
+        record: *mut u32,
+        record_length: usize,
+        values: *mut u64,
+        values_length: usize,
+    ) -> u32;
 }
 
 /// What `code_at` answers where no character stands.
@@ -62,11 +89,68 @@ pub fn number(text: &[u8], words: &mut [u64]) -> u32 {
     unsafe { mihadrena_number(text.as_ptr(), text.len(), words.as_mut_ptr(), words.len()) }
 }
 
-/// What else `read` answers: the items were written.
+/// The words of a record, and what else `read` answers: the items were written.
+pub const RECORD_WORDS: usize = 9;
 pub const SERVED: u32 = 0;
 
 pub fn read(source: &[u8], mode: u32, skip: bool, records: &mut [u32], text: &mut [u8], values: &mut [u64]) -> u32 {
     let (words, bytes, count) = (records.len(), text.len(), values.len());
     let (records, text, values) = (records.as_mut_ptr(), text.as_mut_ptr(), values.as_mut_ptr());
     unsafe { mihadrena_read(source.as_ptr(), source.len(), mode, skip, records, words, text, bytes, values, count) }
+}
+
+/// What a piece state has.
+pub const STATE_BYTES: usize = 4096;
+pub const STATE_WORDS: usize = 18;
+
+pub fn open(mode: u32, skip: bool, bytes: &mut [u8], words: &mut [u64]) -> u32 {
+    unsafe { mihadrena_open(mode, skip, bytes.as_mut_ptr(), bytes.len(), words.as_mut_ptr(), words.len()) }
+}
+
+/// What `piece` and `end` answer beside refusals.
+pub const ITEM: u32 = 10;
+pub const MORE: u32 = 11;
+pub const FINISHED: u32 = 12;
+
+pub fn piece(
+    bytes: &mut [u8],
+    words: &mut [u64],
+    piece: &[u8],
+    text: &mut [u8],
+    record: &mut [u32],
+    values: &mut [u64],
+) -> u32 {
+    unsafe {
+        mihadrena_piece(
+            bytes.as_mut_ptr(),
+            bytes.len(),
+            words.as_mut_ptr(),
+            words.len(),
+            piece.as_ptr(),
+            piece.len(),
+            text.as_mut_ptr(),
+            text.len(),
+            record.as_mut_ptr(),
+            record.len(),
+            values.as_mut_ptr(),
+            values.len(),
+        )
+    }
+}
+
+pub fn end(bytes: &mut [u8], words: &mut [u64], text: &mut [u8], record: &mut [u32], values: &mut [u64]) -> u32 {
+    unsafe {
+        mihadrena_end(
+            bytes.as_mut_ptr(),
+            bytes.len(),
+            words.as_mut_ptr(),
+            words.len(),
+            text.as_mut_ptr(),
+            text.len(),
+            record.as_mut_ptr(),
+            record.len(),
+            values.as_mut_ptr(),
+            values.len(),
+        )
+    }
 }
