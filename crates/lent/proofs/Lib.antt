@@ -1,3 +1,4 @@
 pub mod Back
 pub mod Served
 pub mod Opens
+pub mod Values
