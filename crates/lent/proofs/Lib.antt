@@ -4,4 +4,5 @@ pub mod Opens
 pub mod Values
 pub mod Slight
 pub mod Narrowness
+pub mod Rows
 pub mod Same

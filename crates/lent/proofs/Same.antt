@@ -1,116 +1,31 @@
 -- A lent state is a state by value kept as numbers, and a lent call does what the call by value does. So what is proved of the calls by
 -- value holds of the lent ones: number 27 never meets a state that they produced, and however a text is cut they give its items.
-use Rattle.chars.proofs.Scalar.{scalar-true}
 use Rattle.laws.specs.Choice.{if_then_else_}
-use Rattle.items.specs.declared.Outcome.{Outcome}
-use Rattle.items.specs.declared.Outcome.the-variants.{Token, Str, HereStr, Word, Run, Lined, Keyword, Character, Error, ErrorAt}
-use Rattle.items.specs.declared.Phase.{Phase}
 use Rattle.items.specs.declared.Phase.the-variants as ph
-use Rattle.items.specs.declared.Quotes.{Quotes}
-use Rattle.items.specs.declared.Quotes.the-variants.{Double, Lines}
 use Rattle.items.specs.Whole.{inReport}
-use Rattle.pieces.specs.declared.Beyond.the-variants.{End, Char}
-use Rattle.pieces.specs.declared.Stage.{Stage}
-use Rattle.pieces.specs.declared.Stage.the-variants.{Opening, Pound, FirstLine, Idle, Busy, Waiting, Stopped}
 use Rattle.pieces.specs.declared.Marks.{Marks}
 use Rattle.pieces.specs.declared.State.{State as Held}
 use Rattle.pieces.specs.Bounds.{inBounds}
-use Rattle.pieces.specs.Calls.{What, refused, Reply, openOf, pieceOf, endOf}
+use Rattle.pieces.specs.Calls.{refused, Reply, openOf, pieceOf, endOf}
 use Rattle.pieces.specs.Drive.{heed, unlessTaken, pieceCalls, endCalls, handOver, drive, joined}
 use Rattle.pieces.specs.Expected.{Expected, expected, longest}
 use Rattle.pieces.specs.Produced as by
-use Rattle.pieces.proofs.Kept.{both}
 use Rattle.pieces.proofs.Turns.{Safe, goes, waits, halted, safe, never-27}
 use Rattle.pieces.proofs.Demand.{demand-3}
 use Rattle.piecewise.specs.Answers.{stateOf, pieceIn, endIn}
 use Rattle.lent.specs.declared.State.{State}
-use Rattle.lent.specs.declared.Row.{Row}
-use Rattle.lent.specs.Coding.{standing, coded, narrow, isCode, stageRow, phaseRow, outcomeRow, quotesCode, Narrow}
-use Rattle.lent.specs.Calls.{Said, lent, worded, outside, forCode, pieceFor, endFor, openFor}
+use Rattle.lent.specs.Coding.{standing, coded, isCode}
+use Rattle.lent.specs.Calls.{Said, lent, worded, pieceFor, endFor, openFor}
 use Rattle.lent.specs.Drive.{Made, opened, pieced, ended, pieceCallsFor, endCallsFor, handOverFor, driveFor}
-use Rattle.lent.proofs.Back.{standing-coded, coded-standing, coded-is-code}
-use Rattle.lent.proofs.Slight.{Small, Slim, Slight}
-use Rattle.lent.proofs.Narrowness.{Lean, Staged, lean}
-use Prim.Native.Nat.{ℕ, zero, suc, _+_, _*_, _^_, _≤_, _<_}
+use Rattle.lent.proofs.Back.{standing-coded}
+use Rattle.lent.proofs.Narrowness.{lean}
+use Rattle.lent.proofs.Rows.{lean-is-code}
+use Prim.Native.Nat.{ℕ, zero, suc, _+_, _*_, _≤_, _<_}
 use mathlib.Core.Path.{_≡_, refl, sym, ap, subst, _∙_}
 use mathlib.Core.Bool.{Bool, true}
 use mathlib.Core.List.{List, [], _∷_}
 use lib.ListN.{length, drop}
-use lib.Dec.{eqb}
-use native.Mathlib.Omega.{arith}
-use borrow.Author.Tests.{lt-ltb, eq-eqb}
-
--- ---- the words of a state that is lean are a code
-
-small-row : (n : ℕ) → Small n → Small n
-small-row n h = h
-
-quotes-narrow : (k : Quotes) → Small (quotesCode k)
-quotes-narrow Double = omega arith
-quotes-narrow Lines = omega arith
-
-outcome-narrow : (st : ℕ) (o : Outcome) → Slim o → Narrow (outcomeRow st o)
-outcome-narrow st (Token k d) h = record { which = h .0; detail = h .1 }
-outcome-narrow st Str h = record { which = omega arith; detail = omega arith }
-outcome-narrow st HereStr h = record { which = omega arith; detail = omega arith }
-outcome-narrow st Word h = record { which = omega arith; detail = omega arith }
-outcome-narrow st Run h = record { which = omega arith; detail = omega arith }
-outcome-narrow st Lined h = record { which = omega arith; detail = omega arith }
-outcome-narrow st Keyword h = record { which = omega arith; detail = omega arith }
-outcome-narrow st Character h = record { which = omega arith; detail = omega arith }
-outcome-narrow st (Error n d) h = record { which = h .0; detail = h .1 }
-outcome-narrow st (ErrorAt n d a b) h = record { which = h .0; detail = h .1 }
-
-phase-narrow : (st : ℕ) (p : Phase) → Slight p → Narrow (phaseRow st p)
-phase-narrow st ph.InLine h = record { which = omega arith; detail = omega arith }
-phase-narrow st ph.AfterComma h = record { which = omega arith; detail = omega arith }
-phase-narrow st ph.AfterHash h = record { which = omega arith; detail = omega arith }
-phase-narrow st ph.AfterAngle h = record { which = omega arith; detail = omega arith }
-phase-narrow st ph.HereDelim h = record { which = omega arith; detail = omega arith }
-phase-narrow st ph.HereStart h = record { which = omega arith; detail = omega arith }
-phase-narrow st ph.HereBody h = record { which = omega arith; detail = omega arith }
-phase-narrow st ph.InWord h = record { which = omega arith; detail = omega arith }
-phase-narrow st ph.WordEscape h = record { which = omega arith; detail = omega arith }
-phase-narrow st ph.InRun h = record { which = omega arith; detail = omega arith }
-phase-narrow st ph.InHash h = record { which = omega arith; detail = omega arith }
-phase-narrow st ph.HashEscape h = record { which = omega arith; detail = omega arith }
-phase-narrow st ph.HashTick h = record { which = omega arith; detail = omega arith }
-phase-narrow st ph.HashComma h = record { which = omega arith; detail = omega arith }
-phase-narrow st (ph.Nest d) h = record { which = omega arith; detail = omega arith }
-phase-narrow st (ph.NestBar d) h = record { which = omega arith; detail = omega arith }
-phase-narrow st (ph.NestSharp d) h = record { which = omega arith; detail = omega arith }
-phase-narrow st (ph.Quoted k) h = record { which = quotes-narrow k; detail = omega arith }
-phase-narrow st (ph.Closed k) h = record { which = quotes-narrow k; detail = omega arith }
-phase-narrow st (ph.TrimBefore k) h = record { which = quotes-narrow k; detail = omega arith }
-phase-narrow st (ph.TrimAfter k) h = record { which = quotes-narrow k; detail = omega arith }
-phase-narrow st (ph.Escape k from) h = record { which = quotes-narrow k; detail = omega arith }
-phase-narrow st (ph.Brace k from) h = record { which = quotes-narrow k; detail = omega arith }
-phase-narrow st (ph.Hex k closer from m) h = record { which = quotes-narrow k; detail = h }
-phase-narrow st (ph.Done o) h = outcome-narrow st o h
-
-stage-narrow : (g : Stage) → Staged g → Narrow (stageRow g)
-stage-narrow Opening h = record { which = omega arith; detail = omega arith }
-stage-narrow Pound h = record { which = omega arith; detail = omega arith }
-stage-narrow FirstLine h = record { which = omega arith; detail = omega arith }
-stage-narrow Idle h = record { which = omega arith; detail = omega arith }
-stage-narrow (Busy st p) h = phase-narrow st p h
-stage-narrow (Waiting st End) h = record { which = omega arith; detail = omega arith }
-stage-narrow (Waiting st (Char c)) h = record { which = omega arith; detail = h }
-stage-narrow (Stopped n p) h = record { which = h; detail = omega arith }
-
-lean-is-code : (s : Held) → Lean s → isCode (coded (s .marks)) ≡ true
-unfolding coded narrow
-lean-is-code s h =
-    let r : Narrow (stageRow (s .marks .stage)) = stage-narrow (s .marks .stage) (h .stage) in
-    coded-is-code (s .marks)
-    (both (both (both (both (both (both
-    (lt-ltb (s .marks .mode) (2 ^ 32) (h .mode))
-    (lt-ltb (stageRow (s .marks .stage) .which) (2 ^ 32) (r .which)))
-    (lt-ltb (stageRow (s .marks .stage) .detail) (2 ^ 32) (r .detail)))
-    (lt-ltb (s .marks .part .state .need) (2 ^ 8) (h .begun .need)))
-    (lt-ltb (s .marks .part .state .low) (2 ^ 8) (h .begun .low)))
-    (lt-ltb (s .marks .part .state .high) (2 ^ 8) (h .begun .high)))
-    (lt-ltb (s .marks .part .state .code) (2 ^ 32) (h .begun .code)))
+use borrow.Author.Tests.{eq-eqb}
 
 safe-full : {s : Held} → Safe s → length (s .buf) ≡ longest
 safe-full (goes e h) = h .kept .full
@@ -146,3 +61,89 @@ module _ {t : Held} (p : by.Produced t) where
       rw is-code
       (ap (λ (m : Marks). worded (endIn m (t .buf) room)) (standing-coded (t .marks))
       ∙ ap (λ (b : Bool). worded (if b then endOf t room else record { taken = 0; what = refused 27 0; state = t })) (eq-eqb (length (t .buf)) longest is-full))
+
+-- ---- states that the lent calls produced
+
+-- a state by value that was produced, lent
+pub record Stood (s : State) : Type 0 where
+  pub state : Held
+  pub produced : by.Produced state
+  pub is : s ≡ lend state
+
+pub stood : {s : State} → Made s → Stood s
+stood (opened mode skip buf h) =
+    record { state = openOf mode skip .state; produced = by.opened mode skip; is = ap (λ (u : Said). u .state) (same-open mode skip buf h) }
+stood (pieced m bs room) =
+    let z = stood m in
+    record {
+      state = pieceOf (z .state) bs room .state;
+      produced = by.pieced (z .produced) bs room;
+      is = ap (λ (u : State). pieceFor u bs room .state) (z .is) ∙ ap (λ (u : Said). u .state) (same-piece (z .produced) bs room);
+    }
+stood (ended m room) =
+    let z = stood m in
+    record {
+      state = endOf (z .state) room .state;
+      produced = by.ended (z .produced) room;
+      is = ap (λ (u : State). endFor u room .state) (z .is) ∙ ap (λ (u : Said). u .state) (same-end (z .produced) room);
+    }
+
+-- what 27 is given without
+pub record Within (s : State) : Type 0 where
+  pub full : length (s .buf) ≡ longest
+  pub code : isCode (s .words) ≡ true
+  pub bounded : inBounds (stateOf (standing (s .words)) (s .buf)) ≡ true
+
+-- 01: "Number 27 never meets a state that the opening call and later calls produced."
+pub never-27-lent : {s : State} → Made s → Within s
+never-27-lent m =
+    let z = stood m in
+    subst Within (sym (z .is))
+    (record {
+      full = is-full (z .produced);
+      code = is-code (z .produced);
+      bounded = ap (λ (n : Marks). inBounds (stateOf n (z .state .buf))) (standing-coded (z .state .marks)) ∙ never-27 (z .produced);
+    })
+
+-- ---- a caller
+
+unless-same : (l : List ℕ) {a b : Expected} {f g : List ℕ → Expected} → a ≡ b → ((left : List ℕ) → f left ≡ g left) → unlessTaken l a f ≡ unlessTaken l b g
+unless-same [] e h = e
+unless-same (x ∷ left) e h = h (x ∷ left)
+
+module _ (room : ℕ) where
+  piece-calls-same : (calls : ℕ) {t : Held} → by.Produced t → (bs : List ℕ) (lentNext : State → Expected) (next : Held → Expected)
+      → ((u : Held) → by.Produced u → lentNext (lend u) ≡ next u) → pieceCallsFor room calls (lend t) bs lentNext ≡ pieceCalls room calls t bs next
+  unfolding pieceCallsFor pieceCalls
+  piece-calls-same zero p bs lentNext next h = refl
+  piece-calls-same (suc calls) {t} p bs lentNext next h =
+      let r : Reply = pieceOf t bs room in
+      let made : by.Produced (r .state) = by.pieced p bs room in
+      ap (λ (u : Said). heed (u .what) (unlessTaken (drop (u .taken) bs) (lentNext (u .state)) (λ left. pieceCallsFor room calls (u .state) left lentNext)))
+      (same-piece p bs room)
+      ∙ ap (heed (r .what))
+      (unless-same (drop (r .taken) bs) (h (r .state) made) (λ left. piece-calls-same calls made left lentNext next h))
+
+  end-calls-same : (calls : ℕ) {t : Held} → by.Produced t → endCallsFor room calls (lend t) ≡ endCalls room calls t
+  unfolding endCallsFor endCalls
+  end-calls-same zero p = refl
+  end-calls-same (suc calls) {t} p =
+      let r : Reply = endOf t room in
+      ap (λ (u : Said). heed (u .what) (endCallsFor room calls (u .state))) (same-end p room) ∙ ap (heed (r .what)) (end-calls-same calls (by.ended p room))
+
+  hand-over-same : (ps : List (List ℕ)) {t : Held} → by.Produced t → handOverFor room (lend t) ps ≡ handOver room t ps
+  unfolding handOverFor handOver
+  hand-over-same [] p = end-calls-same 4 p
+  hand-over-same (q ∷ ps) p =
+      piece-calls-same (2 * length q + 2) p q (λ t. handOverFor room t ps) (λ t. handOver room t ps) (λ u made. hand-over-same ps made)
+
+  pub drive-same : (mode : ℕ) (skip : Bool) (buf : List ℕ) (pieces : List (List ℕ)) → length buf ≡ longest
+      → driveFor mode skip buf room pieces ≡ drive mode skip room pieces
+  unfolding driveFor drive
+  drive-same mode skip buf pieces h =
+      ap (λ (u : Said). handOverFor room (u .state) pieces) (same-open mode skip buf h) ∙ hand-over-same pieces (by.opened mode skip)
+
+  -- DEMAND 3 of the lent calls: however a text is cut into pieces, they give exactly what the definition of items says of the text
+  pub demand-3-lent : (mode : ℕ) (skip : Bool) (buf : List ℕ) (pieces : List (List ℕ)) → length buf ≡ longest → mode < 2 → longest ≤ room
+      → driveFor mode skip buf room pieces ≡ expected (inReport mode) skip (joined pieces)
+  demand-3-lent mode skip buf pieces full h wide = drive-same mode skip buf pieces full ∙ demand-3 mode skip room pieces h wide
