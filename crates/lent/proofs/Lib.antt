@@ -6,3 +6,4 @@ pub mod Slight
 pub mod Narrowness
 pub mod Rows
 pub mod Same
+pub mod Stays

@@ -8,7 +8,6 @@ use Rattle.chars.specs.Encode.{width}
 use Rattle.chars.specs.Utf8.{ascii, first}
 use Rattle.chars.specs.Machine.{step, told}
 use Rattle.chars.proofs.Table.{within-true}
-use Rattle.laws.specs.Choice.{if_then_else_}
 use Rattle.laws.specs.Quoted.{within, code}
 use Rattle.laws.proofs.Choice.{if-is, if-all, and-true}
 use Rattle.items.specs.declared.Phase.the-variants.{AfterHash}
@@ -26,11 +25,11 @@ use Rattle.pieces.specs.declared.Stage.the-variants.{Opening, Pound, FirstLine,
 use Rattle.pieces.specs.declared.State.{State}
 use Rattle.pieces.specs.Bounds.{inBounds}
 use Rattle.pieces.specs.Expected.{longest}
-use Rattle.pieces.specs.Calls.{Turn, on, off, Reply, reply, more, refused, finished, lastOf, itemSoFar, stopped, begin, beyond, gives, report, ends, onNext, onStage, partly, turnOf}
-use Rattle.pieces.specs.Calls.{after, feedOf, pieceStage, pieceOf, declared, replied, unlessCut, endStage, endUnlessStopped, endOf, fresh, openOf}
+use Rattle.pieces.specs.Calls.{Turn, on, off, Reply, reply, finished, lastOf, itemSoFar, stopped, begin, beyond, gives, report, ends, onNext, onStage, partly, turnOf}
+use Rattle.pieces.specs.Calls.{after, feedOf, pieceStage, pieceOf, declared, replied, unlessCut, endUnlessStopped, endOf, fresh, openOf}
 use Rattle.pieces.specs.Produced.{Produced, opened, pieced, ended}
 use Rattle.lent.proofs.Slight.{Small, Slight, Eaten, slight-step, slight-first}
-use Prim.Native.Nat.{ℕ, _+_, _-_, _*_, _^_, _%_, _≤_, _<_}
+use Prim.Native.Nat.{ℕ, _+_, _-_, _*_, _^_, _%_, _<_}
 use mathlib.Core.Path.{_≡_}
 use mathlib.Core.Bool.{Bool, true, _&&_}
 use mathlib.Core.List.{List, [], _∷_}

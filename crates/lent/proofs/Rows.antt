@@ -9,7 +9,6 @@ use Rattle.pieces.specs.declared.Beyond.the-variants.{End, Char}
 use Rattle.pieces.specs.declared.Stage.{Stage}
 use Rattle.pieces.specs.declared.Stage.the-variants.{Opening, Pound, FirstLine, Idle, Busy, Waiting, Stopped}
 use Rattle.pieces.specs.declared.State.{State as Held}
-use Rattle.pieces.specs.Produced as by
 use Rattle.pieces.proofs.Kept.{both}
 use Rattle.lent.specs.Coding.{coded, narrow, isCode, stageRow, phaseRow, outcomeRow, quotesCode, Narrow}
 use Rattle.lent.proofs.Back.{coded-is-code}

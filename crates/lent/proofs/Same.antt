@@ -1,7 +1,6 @@
 -- A lent state is a state by value kept as numbers, and a lent call does what the call by value does. So what is proved of the calls by
 -- value holds of the lent ones: number 27 never meets a state that they produced, and however a text is cut they give its items.
 use Rattle.laws.specs.Choice.{if_then_else_}
-use Rattle.items.specs.declared.Phase.the-variants as ph
 use Rattle.items.specs.Whole.{inReport}
 use Rattle.pieces.specs.declared.Marks.{Marks}
 use Rattle.pieces.specs.declared.State.{State as Held}

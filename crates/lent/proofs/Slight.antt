@@ -23,10 +23,9 @@ use Rattle.items.proofs.Fine.{FineKind, FineValue, fine-kind, fine-scalar}
 use Rattle.digits.specs.Hex.{hexValue}
 use Rattle.laws.specs.Quoted.{code}
 use Rattle.laws.proofs.Choice.{if-all}
-use Prim.Native.Nat.{ℕ, _+_, _^_, _≤_, _<_}
+use Prim.Native.Nat.{ℕ, _^_, _<_}
 use mathlib.Core.Bool.{Bool}
-use mathlib.Core.List.{List}
-use lib.ListN.{length, drop}
+use lib.ListN.{drop}
 use lib.Dec.{eqb, leb}
 use native.Mathlib.Omega.{arith}
 
