@@ -1,6 +1,6 @@
 -- Words and marks: every marks come back from their words, and words that are a code are the words of what they stand for. So a state
 -- loses nothing by being kept as numbers, and a refused call leaves each word as it was.
-use Prim.Native.Nat.{ℕ, zero, suc, _+_, _^_, _≤_, _<_}
+use Prim.Native.Nat.{ℕ, zero, suc, _+_, _^_, _≤_}
 use mathlib.Core.Path.{_≡_, refl, sym, ap, _∙_}
 use mathlib.Core.Bool.{Bool, true, false, _&&_}
 use native.Mathlib.Omega.{arith}
@@ -13,7 +13,6 @@ use Rattle.items.specs.declared.Outcome.{Outcome}
 use Rattle.items.specs.declared.Outcome.the-variants.{Token, Str, HereStr, Word, Run, Lined, Keyword, Character, Error, ErrorAt}
 use Rattle.items.specs.declared.Phase.{Phase}
 use Rattle.items.specs.declared.Phase.the-variants as ph
-use Rattle.pieces.specs.declared.Beyond.{Beyond}
 use Rattle.pieces.specs.declared.Beyond.the-variants.{End, Char}
 use Rattle.pieces.specs.declared.Stage.{Stage}
 use Rattle.pieces.specs.declared.Stage.the-variants.{Opening, Pound, FirstLine, Idle, Busy, Waiting, Stopped}
@@ -21,8 +20,8 @@ use Rattle.pieces.specs.declared.Marks.{Marks}
 use Rattle.pieces.proofs.Kept.{both}
 use Rattle.lent.specs.declared.Words.{Words}
 use Rattle.lent.specs.declared.Row.{Row}
-use Rattle.lent.specs.Coding.{stageOf, row, rowOf, standing, bit, quotesOf, quotesCode, outcomeRow, phaseRow, beyondRow, stageRow, withRow, coded}
-use Rattle.lent.specs.Coding.{narrow, isRow, sameRow, isCode, stageCount, Narrow, Narrowed}
+use Rattle.lent.specs.Coding.{stageOf, row, rowOf, standing, bit, quotesOf, quotesCode, outcomeRow, phaseRow, stageRow, coded}
+use Rattle.lent.specs.Coding.{narrow, isRow, sameRow, isCode, stageCount, Narrowed}
 
 -- ---- numbers
 

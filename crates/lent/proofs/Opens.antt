@@ -1,6 +1,6 @@
 -- Opening, by its three answers: the words are those of a fresh state and the buffer is all 0, but for a buffer of another length.
 use Prim.Native.Nat.{ℕ, _<_}
-use mathlib.Core.Path.{_≡_, refl, sym, ap, _∙_}
+use mathlib.Core.Path.{_≡_, refl, ap, _∙_}
 use mathlib.Core.Bool.{Bool}
 use mathlib.Core.List.{List, []}
 use native.Mathlib.Omega.{arith}
@@ -11,12 +11,12 @@ use Rattle.laws.proofs.Choice.{if-yes, if-no}
 use Rattle.items.specs.Whole.{isMode}
 use Rattle.pieces.specs.declared.Got.{Got}
 use Rattle.pieces.specs.declared.Got.the-variants.{More, Refused}
-use Rattle.pieces.specs.Calls.{Reply, reply, more, refused, fresh, openOf}
+use Rattle.pieces.specs.Calls.{reply, more, refused, fresh, openOf}
 use Rattle.pieces.specs.Expected.{longest}
 use Rattle.lent.specs.declared.Words.{Words}
 use Rattle.lent.specs.declared.Told.{Told}
 use Rattle.lent.specs.Coding.{coded}
-use Rattle.lent.specs.Calls.{worded, outside, lent, said, openFor}
+use Rattle.lent.specs.Calls.{worded, said, openFor}
 
 -- nothing is taken
 abbrev nothing-taken : Words → Got → Told

@@ -5,17 +5,14 @@ use mathlib.Core.Bool.{Bool, true, false}
 use mathlib.Core.List.{List}
 use Prim.Native.Nat.{ℕ}
 use native.Mathlib.Omega.{arith}
-use Rattle.laws.proofs.Choice.{by-bool}
 use Rattle.laws.specs.Choice.{if_then_else_}
 use Rattle.pieces.specs.declared.Marks.{Marks}
 use Rattle.pieces.specs.declared.Pieced.{Pieced}
 use Rattle.pieces.specs.declared.Got.the-variants.{Refused}
 use Rattle.pieces.specs.Calls.{Reply, textAfter}
 use Rattle.piecewise.specs.Answers.{pieced}
-use Rattle.lent.specs.declared.Words.{Words}
 use Rattle.lent.specs.declared.State.{State}
 use Rattle.lent.specs.declared.Told.{Told}
-use Rattle.lent.specs.declared.Seen.{Seen}
 use Rattle.lent.specs.declared.Seen.the-variants.{Standing, Outside}
 use Rattle.lent.specs.Coding.{standing, isCode, seen}
 use Rattle.lent.specs.Calls.{Said, worded, outside, forCode, said, toldOf}

@@ -64,6 +64,21 @@ pub fn end_words(words: Words, buf: &mut [u8], text: &mut [u8]) -> Told
     }
 }
 
+// The same with the buffer as an array, which is how a state holds it.
+pub(crate) fn piece_array(words: Words, buf: &mut [u8; 4096], piece: &[u8], text: &mut [u8]) -> Told
+    ensures { λ r. ⌜ (said r (now (buf .exit)) (now (text .exit)) ≡ pieceFor (lent words (now (buf .entry))) (now (piece .entry)) (length (now (text .entry))))
+        × (now (text .exit) ≡ textAfter (pieceFor (lent words (now (buf .entry))) (now (piece .entry)) (length (now (text .entry))) .what) (now (text .entry))) ⌝ }
+{
+    piece_words(words, buf, piece, text)
+}
+
+pub(crate) fn end_array(words: Words, buf: &mut [u8; 4096], text: &mut [u8]) -> Told
+    ensures { λ r. ⌜ (said r (now (buf .exit)) (now (text .exit)) ≡ endFor (lent words (now (buf .entry))) (length (now (text .entry))))
+        × (now (text .exit) ≡ textAfter (endFor (lent words (now (buf .entry))) (length (now (text .entry))) .what) (now (text .entry))) ⌝ }
+{
+    end_words(words, buf, text)
+}
+
 // Every byte becomes 0.
 fn clear(buf: &mut [u8])
     ensures { λ r. ⌜ now (buf .exit) ≡ replicate (length (now (buf .entry))) 0 ⌝ }

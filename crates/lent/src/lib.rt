@@ -9,6 +9,7 @@ pub mod calls;
 mod codes;
 pub mod decoding;
 pub mod encoding;
+pub mod lending;
 mod limits;
 
 // The marks of a state as numbers. A word that a stage does not use is 0.

@@ -1,6 +1,5 @@
 -- An arm for each phase; a stage past the last of them is of an item that is whole.
 use borrow.Author.Needs.{needs}
-use native.Mathlib.Omega.{arith}
 use Rattle.lent.specs.Coding.{stageOf}
 use Rattle.lent.proofs.Back.{past}
 use Rattle.lent.proofs.decoding.phase_of.Statement.{statement}

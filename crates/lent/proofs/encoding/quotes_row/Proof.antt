@@ -1,8 +1,6 @@
 -- The row with the number of the quotes.
 use borrow.Author.Needs.{needs}
-use mathlib.Core.Path.{_∙_, ap}
-use Prim.Native.Nat.{ℕ}
-use Rattle.lent.specs.Coding.{row}
+use mathlib.Core.Path.{_∙_}
 use Rattle.lent.proofs.encoding.quotes_row.Statement.{statement}
 use Rattle.lent.proofs.encoding.quotes_row.Tie as tie
 
