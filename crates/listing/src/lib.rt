@@ -6,9 +6,9 @@ use items::kinds;
 use pieces::Answer;
 use pieces::Got;
 use pieces::State;
-use pieces::calls::end;
-use pieces::calls::piece;
-use pieces::opening::open;
+use piecewise::calls::end;
+use piecewise::calls::piece;
+use piecewise::opening::open;
 
 const OUT: i32 = 1;
 

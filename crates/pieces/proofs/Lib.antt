@@ -3,9 +3,6 @@ pub mod Parts
 pub mod Kept
 pub mod Pairs
 pub mod Turns
-pub mod Laid
-pub mod Bounded
-pub mod Gives
 pub mod Cuts
 pub mod Unfinished
 pub mod Agree
@@ -13,9 +10,5 @@ pub mod Demand
 pub mod Fewest
 pub mod Stands
 pub mod Resume
-pub mod Shown
-pub mod Sounds
-pub mod Steps
-pub mod Replies
 pub mod Fits
 pub mod Ready

@@ -4,7 +4,4 @@ pub mod Bounds
 pub mod Calls
 pub mod Drive
 pub mod Produced
-pub mod Answers
-pub mod Copied
 pub mod Examples
-pub mod Inner

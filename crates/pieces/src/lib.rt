@@ -1,20 +1,12 @@
 // Reading a text that comes in pieces, item by item: document 01, "Piecewise". A state holds the bytes of the item that is being read
 // and the marks of where the reader stands; each call takes bytes of a piece and gives one item, or asks for more.
 //
-// specs/Expected says, on the definition of items alone, what all calls together give for a text however it is cut; specs/Calls says
-// what one call does with a state, and proofs/ that the two agree.
+// Here are the types, what they mean, and the theorems: specs/Expected says, on the definition of items alone, what all calls together
+// give for a text however it is cut; specs/Calls says what one call does with a state, and proofs/ that the two agree. The calls
+// themselves are the crate piecewise.
 use chars::State as Begun;
 use items::Phase;
 use items::Record;
-
-mod bounds;
-pub mod calls;
-mod ends;
-mod give;
-mod lay;
-mod limits;
-pub mod opening;
-mod turn;
 
 // What stands beyond a pair such as `+foo` whose second item waits.
 pub enum Beyond {

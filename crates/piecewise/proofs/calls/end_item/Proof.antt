@@ -1,0 +1,63 @@
+-- Whether a character is cut; else the items of what the item turned out to be.
+use mathlib.Core.Path.{refl, sym, subst}
+use lib.Seq.{length-take-le}
+use lib.Dec.{eqb}
+use native.Mathlib.Omega.{arith}
+use borrow.Author.Tests.{eq-eqb, ne-eqb}
+use borrow.Author.Needs.{needs}
+use denote.Ref.{now}
+use Rattle.piecewise.specs.Answers.{stateOf}
+use Rattle.piecewise.specs.Inner.{OutcomeFits}
+use Rattle.piecewise.proofs.Replies.{reply-yes, reply-no, end-turn}
+use Rattle.piecewise.proofs.Sounds.{finish-fits}
+use Rattle.piecewise.proofs.calls.end_item.Statement.{statement}
+use Rattle.piecewise.proofs.calls.end_item.Tie as tie
+
+stop-requires : tie.Need-stop-requires
+stop-requires c κs = search needs
+
+at-end-requires : tie.Need-at-end-requires
+at-end-requires c κs = search needs
+
+returns : tie.Need-returns
+returns c = reply-no (now (c .before .before .before .before .before .before .args .text)) (eqb (c .before .before .before .before .before .before .args .m .part .count) 0) _ _ (ne-eqb _ _ (c .before .before .if1 .taken)) (rw (c .at-end .ensures, c .before .stop .ensures) (refl, refl))
+
+slice-reshare-prefix-finish : tie.Need-slice-reshare-prefix-finish
+slice-reshare-prefix-finish c = omega arith
+
+slice-aggregate-finish : tie.Need-slice-aggregate-finish
+slice-aggregate-finish c = sym (length-take-le (c .before .before .before .before .before .args .m .len) (now (c .before .before .before .before .before .args .buf)) (omega arith))
+
+finish-requires : tie.Need-finish-requires
+finish-requires c κs = search needs
+
+ends-requires : tie.Need-ends-requires
+ends-requires c κs = (c .before .before .before .before .before .before .before .before .pre .0, subst OutcomeFits (sym (c .before .before .finish .ensures)) (finish-fits (stateOf (c .before .before .before .before .before .before .before .before .args .m) (now (c .before .before .before .before .before .before .before .before .args .buf))) (c .before .before .before .before .before .before .before .before .pre .0 .full) (c .before .before .before .before .before .before .before .before .pre .0 .small) (c .before .before .before .before .before .before .before .before .pre .0 .some) (c .before .before .before .before .before .before .before .before .args .phase) (c .before .before .before .before .before .before .before .before .pre .1)), tt)
+
+at-end-requires-2 : tie.Need-at-end-requires-2
+at-end-requires-2 c κs = search needs
+
+same-length : tie.Need-same-length
+same-length c = search needs
+
+same-length-2 : tie.Need-same-length-2
+same-length-2 c = search needs
+
+returns-2 : tie.Need-returns-2
+returns-2 c = reply-yes (now (c .before .before .before .before .before .before .before .before .before .before .before .before .before .before .args .text)) (eqb (c .before .before .before .before .before .before .before .before .before .before .before .before .before .before .args .m .part .count) 0) _ _ (eq-eqb _ _ (c .before .before .before .before .before .before .before .before .before .before .if1 .left)) (let g = rw (c .before .before .before .before .before .before .before .before .finish .ensures) at (c .before .before .before .before .before .ends .ensures) in rw (c .at-end2 .ensures) (end-turn _ _ _ (now (c .before .before .before .before .before .before .before .before .before .before .before .before .before .before .args .text)) (c .before .before .before .before .before .ends .result .got) _ (g .0) (g .1)))
+
+pub end-item-spec : {M : Type 1} → statement M
+end-item-spec =
+    tie.close
+    (tie.spec
+    stop-requires
+    at-end-requires
+    returns
+    slice-reshare-prefix-finish
+    slice-aggregate-finish
+    finish-requires
+    ends-requires
+    at-end-requires-2
+    same-length
+    same-length-2
+    returns-2)
