@@ -3,8 +3,8 @@ use borrow.Author.Needs.{needs}
 use Prim.Native.Nat.{_≤_}
 use mathlib.Core.Path.{_≡_}
 use lib.ListN.{length}
-use Rattle.lexlist.proofs.list_piece.Statement.{statement}
-use Rattle.lexlist.proofs.list_piece.Tie as tie
+use Rattle.listing.proofs.list_piece.Statement.{statement}
+use Rattle.listing.proofs.list_piece.Tie as tie
 
 abbrev Inv-loop : tie.InvT-loop
 Inv-loop bytes text₀ now₀ from₀ calls₀ text now from calls = (from ≤ length bytes) × (length text ≡ length text₀)

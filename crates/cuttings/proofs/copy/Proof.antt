@@ -1,21 +1,19 @@
--- The turns are counted down, and the text memory keeps its length.
+-- Each place that is read or written lies in its slice.
 use borrow.Author.Needs.{needs}
+use Prim.Native.Nat.{_≤_, _-_}
 use mathlib.Core.Path.{_≡_}
 use lib.ListN.{length}
-use Rattle.lexlist.proofs.list_all.Statement.{statement}
-use Rattle.lexlist.proofs.list_all.Tie as tie
+use Rattle.cuttings.proofs.copy.Statement.{statement}
+use Rattle.cuttings.proofs.copy.Tie as tie
 
 abbrev Inv-loop : tie.InvT-loop
-Inv-loop text₀ now₀ turns₀ text now turns = length text ≡ length text₀
+Inv-loop from to₀ i₀ to i = (i ≤ length from) × (length to ≡ length to₀)
 
 abbrev μ-loop : tie.MeasureT-loop
-μ-loop text₀ now₀ turns₀ text now turns = turns
+μ-loop from to₀ i₀ to i = length from - i
 
 loop-holds : tie.Need-loop-holds Inv-loop μ-loop
 loop-holds c = search needs
-
-list-some-requires : tie.Need-list-some-requires Inv-loop μ-loop
-list-some-requires c κs = search needs
 
 same-length : tie.Need-same-length Inv-loop μ-loop
 same-length c = search needs
@@ -23,8 +21,14 @@ same-length c = search needs
 returns : tie.Need-returns Inv-loop μ-loop
 returns c = search needs
 
-sub-turns : tie.Need-sub-turns Inv-loop μ-loop
-sub-turns c = search needs
+shared-slice-read-to : tie.Need-shared-slice-read-to Inv-loop μ-loop
+shared-slice-read-to c = search needs
+
+slice-write-to : tie.Need-slice-write-to Inv-loop μ-loop
+slice-write-to c = search needs
+
+add-i : tie.Need-add-i Inv-loop μ-loop
+add-i c = search needs
 
 loop-less : tie.Need-loop-less Inv-loop μ-loop
 loop-less c = search needs
@@ -38,17 +42,18 @@ same-length-2 c = search needs
 returns-2 : tie.Need-returns-2 Inv-loop μ-loop
 returns-2 c = search needs
 
-pub list-all-spec : {M : Type 1} → statement M
-list-all-spec =
+pub copy-spec : {M : Type 1} → statement M
+copy-spec =
     tie.close
     (tie.spec
     Inv-loop
     μ-loop
     loop-holds
-    list-some-requires
     same-length
     returns
-    sub-turns
+    shared-slice-read-to
+    slice-write-to
+    add-i
     loop-less
     loop-again
     same-length-2
