@@ -78,6 +78,13 @@ stages r =
     ∷ Busy start (ph.Done (ErrorAt which detail one two))
     ∷ []
 
+-- the first number of an item, and of an item that is whole
+abbrev pub firstPhase : ℕ
+firstPhase = 7
+
+abbrev pub firstDone : ℕ
+firstDone = 31
+
 -- how many stages have a number
 abbrev pub stageCount : ℕ
 stageCount = 41

@@ -93,3 +93,8 @@ pub const STAGES: u64 = 41;
 pub const DOUBLE: u64 = 0;
 
 pub const LINES: u64 = 1;
+
+// The answers to a question, as `skip` and `ended` are.
+pub const NO: u64 = 0;
+
+pub const YES: u64 = 1;

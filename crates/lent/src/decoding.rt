@@ -33,7 +33,7 @@ fn quotes_of(which: u64) -> Quotes
 
 // The outcome of an item that is whole.
 fn outcome_of(row: Row) -> Outcome
-    requires { ⌜ (31 ≤ row .stage) × (row .stage < coding.stageCount) × coding.Narrow row ⌝ }
+    requires { ⌜ (coding.firstDone ≤ row .stage) × (row .stage < coding.stageCount) × coding.Narrow row ⌝ }
     ensures { λ r. ⌜ Stage.Busy (row .start) (Phase.Done r) ≡ coding.stageOf row ⌝ }
 {
     let stage = row.stage;
@@ -55,7 +55,7 @@ fn outcome_of(row: Row) -> Outcome
 
 // The phase of an item.
 fn phase_of(row: Row) -> Phase
-    requires { ⌜ (7 ≤ row .stage) × (row .stage < coding.stageCount) × coding.Narrow row ⌝ }
+    requires { ⌜ (coding.firstPhase ≤ row .stage) × (row .stage < coding.stageCount) × coding.Narrow row ⌝ }
     ensures { λ r. ⌜ Stage.Busy (row .start) r ≡ coding.stageOf row ⌝ }
 {
     let stage = row.stage;
@@ -132,8 +132,8 @@ fn stand(words: Words) -> Marks
 {
     Marks {
         mode: words.mode as u32,
-        skip: words.skip == 1,
-        ended: words.ended == 1,
+        skip: words.skip == YES,
+        ended: words.ended == YES,
         stage: stage_of(row_of(words)),
         at: words.at as usize,
         part: Part {
@@ -204,10 +204,10 @@ pub fn decode(words: Words) -> Seen
     if !narrow(words) {
         return Seen::Outside;
     }
-    if 1 < words.skip {
+    if YES < words.skip {
         return Seen::Outside;
     }
-    if 1 < words.ended {
+    if YES < words.ended {
         return Seen::Outside;
     }
     if STAGES <= words.stage {

@@ -12,14 +12,14 @@ ghost use mathlib.Core.Path.{_≡_};
 ghost use Rattle.pieces.specs.Calls.{fresh};
 ghost use Rattle.lent.specs.Coding as coding;
 
-// 1 for yes.
+// The answer to a question.
 fn bit(yes: bool) -> u64
     ensures { λ r. ⌜ r ≡ coding.bit yes ⌝ }
 {
     if yes {
-        return 1;
+        return YES;
     }
-    0
+    NO
 }
 
 // The number of a kind of quotes.
@@ -172,7 +172,7 @@ pub(crate) fn fresh_words(mode: u32, skip: bool) -> Words
     Words {
         mode: mode as u64,
         skip: bit(skip),
-        ended: 0,
+        ended: NO,
         stage: OPENING,
         start: 0,
         which: 0,

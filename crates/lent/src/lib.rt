@@ -7,8 +7,8 @@ use pieces::Marks;
 
 pub mod calls;
 mod codes;
-pub mod decoding;
-pub mod encoding;
+mod decoding;
+mod encoding;
 pub mod lending;
 mod limits;
 
