@@ -115,10 +115,13 @@ fn numbers(text: &Written) {
     println!("| {} | {} | {each:.1} |{row}", text.name, grouped(numbers.len() as u64));
 }
 
+/// The readers whose growth is shown.
+const GROWING: &[&str] = &["ample", "counted", "pieces-4096", "rust", "bare"];
+
 /// The instructions a byte of the plan, by its size in megabytes.
 fn growth(sizes: &[usize]) {
     println!("\n## How cost grows: the plan, instructions a byte\n");
-    let readers: Vec<&Reader> = READERS.iter().collect();
+    let readers: Vec<&Reader> = READERS.iter().filter(|reader| GROWING.contains(&reader.name)).collect();
     head(&["MB", "bytes", "items"], &readers);
     for size in sizes {
         counts(&Written::of(&TEXTS[0], size.to_string(), size * MEGABYTE), &readers);
