@@ -169,14 +169,12 @@ uint32_t mihadrena_read(const uint8_t *source, size_t source_length, uint32_t mo
 #define MIHADRENA_MORE 11     /* all of the piece was taken, and no item is ready */
 #define MIHADRENA_FINISHED 12 /* all items were given */
 
-/* The least text memory that a piece or end call asks for: as long as an item may be. */
+/* The least text memory that they ask for, as long as an item may be, and how many values they write. */
 #define MIHADRENA_PIECE_TEXT 4096
-
-/* How many values they write. */
 #define MIHADRENA_PIECE_VALUES 2
 
-/* The state of a reading, which the caller keeps from call to call, at any address and for as long as he likes. docs/STATE.md says what
- * its words mean, and outside which bounds a state is refused with MIHADRENA_BAD_STATE: none that the calls made is. */
+/* The state of a reading, which the caller keeps from call to call. docs/STATE.md says what its words mean, and outside which bounds a
+ * state is refused with MIHADRENA_BAD_STATE: none that the calls made is. */
 #define MIHADRENA_STATE_BYTES 4096
 #define MIHADRENA_STATE_WORDS 18
 #define MIHADRENA_STATE_SIZE 4240
@@ -186,7 +184,6 @@ typedef struct mihadrena_state {
     uint8_t bytes[MIHADRENA_STATE_BYTES]; /* the bytes of the item that is being read */
     uint64_t words[MIHADRENA_STATE_WORDS];
 } mihadrena_state;
-
 MIHADRENA_ASSERT(sizeof(mihadrena_state) == MIHADRENA_STATE_SIZE, "a state is 4,096 bytes and 18 words");
 MIHADRENA_ASSERT(MIHADRENA_ALIGN_OF(mihadrena_state) == MIHADRENA_STATE_ALIGN, "a state is aligned as its words are");
 
@@ -195,35 +192,29 @@ typedef struct mihadrena_told {
     uint64_t taken; /* how many bytes of the piece were taken */
     uint64_t place; /* what a refusal comes with; else 0 */
 } mihadrena_told;
-
 MIHADRENA_ASSERT(sizeof(mihadrena_told) == 8 * MIHADRENA_PIECE_VALUES, "these are two values");
 
-/* Opens a state, which is written whole, in a mode, with comments kept or skipped. MIHADRENA_SERVED, or MIHADRENA_NO_MODE for another
- * mode, and then the state is a plain one. MIHADRENA_BAD_STATE, and nothing is written, if the two slices have not
- * MIHADRENA_STATE_BYTES bytes and MIHADRENA_STATE_WORDS words.
+/* Opens a state, in a mode, with comments kept or skipped, and writes it whole: MIHADRENA_SERVED, or MIHADRENA_NO_MODE for another mode,
+ * with a plain state. MIHADRENA_BAD_STATE, and nothing is written, if the two slices have not the lengths of a state's.
  *
  *     mihadrena_state state;
  *     mihadrena_open(MIHADRENA_PLAIN, false, state.bytes, MIHADRENA_STATE_BYTES,
  *                    state.words, MIHADRENA_STATE_WORDS);  // MIHADRENA_SERVED
  */
-uint32_t mihadrena_open(uint32_t mode, bool skip_comments, uint8_t *bytes, size_t bytes_length,
-                        uint64_t *words, size_t words_length);
+uint32_t mihadrena_open(uint32_t mode, bool skip_comments, uint8_t *bytes, size_t bytes_length, uint64_t *words, size_t words_length);
 
 /* Reads on in a piece: takes the fewest bytes from its front that make an item ready, or all of them. An item is ready once a character
  * behind it was read. Call it again with what was not taken, until it answers MIHADRENA_MORE.
  *
- * MIHADRENA_ITEM: the item's record goes to `record`, its text, a number's digits too, to the front of `text` (text source
- * MIHADRENA_IN_MEMORY); no other byte of `text` changes. MIHADRENA_MORE changes neither. values[0] is how many bytes were taken,
- * values[1] is 0.
+ * MIHADRENA_ITEM: the item's record goes to `record`, its text, a number's digits too, to the front of `text` (MIHADRENA_IN_MEMORY); no
+ * other byte of `text` changes. MIHADRENA_MORE changes neither. values[0] is how many bytes were taken, values[1] is 0.
  *
  * Refusals: values[1] is what they come with.
- *   MIHADRENA_TOO_FEW      `record` has under MIHADRENA_RECORD_WORDS words or `values` under MIHADRENA_PIECE_VALUES: before anything else,
- *                          and nothing changes; where there are two values they are what is needed, 1 item and 0 bytes of text
- *   MIHADRENA_BAD_STATE    the slices are not a state's, or the state is outside its bounds; nothing is taken, nothing changes
- *   MIHADRENA_LITTLE_TEXT  nothing is taken, nothing changes
- *   MIHADRENA_TOO_LONG, MIHADRENA_NOT_UTF8, MIHADRENA_LONG_ITEM  the reading stops, at the byte that shows it, which is taken; every later
- *                          call takes nothing and answers the same
- *   MIHADRENA_AFTER_END    the end was declared; nothing is taken, nothing changes
+ *   MIHADRENA_TOO_FEW  `record` has under MIHADRENA_RECORD_WORDS words or `values` under MIHADRENA_PIECE_VALUES: before anything else, and
+ *       nothing changes; where there are two values they are what is needed, 1 item and 0 bytes of text
+ *   MIHADRENA_BAD_STATE (slices of other lengths too), MIHADRENA_LITTLE_TEXT, MIHADRENA_AFTER_END  nothing is taken, nothing changes
+ *   MIHADRENA_TOO_LONG, MIHADRENA_NOT_UTF8, MIHADRENA_LONG_ITEM  the reading stops, at the byte that shows it, which is taken; every
+ *       later call takes nothing and answers the same
  *
  *     uint8_t text[MIHADRENA_PIECE_TEXT];
  *     mihadrena_record record;
