@@ -1,8 +1,8 @@
 /* Mihadrena: a proved reader of felling plans, for C.
  *
- * A text goes in as bytes of UTF-8. Out come items, one record of nine 32-bit words each, in the order of the text, and the decoded
- * texts of those that have an escape. All memory is the caller's: the library allocates nothing, keeps nothing between two calls,
- * and writes only to the memory that a call is lent. Every call ends.
+ * A text goes in as bytes of UTF-8, whole or in pieces. Out come items, one record of nine 32-bit words each, in the order of the text,
+ * and the decoded texts of those that have an escape. All memory is the caller's: the library allocates nothing, keeps nothing between
+ * two calls, and writes only to the memory that a call is lent. Every call ends.
  *
  * Link with libexports.a, which `rt staticlib exports` writes to target/staticlib. Nothing else is needed.
  *
@@ -18,9 +18,11 @@
 
 #ifdef __cplusplus
 #define MIHADRENA_ASSERT(fact, text) static_assert(fact, text)
+#define MIHADRENA_ALIGN_OF(type) alignof(type)
 extern "C" {
 #else
 #define MIHADRENA_ASSERT(fact, text) _Static_assert(fact, text)
+#define MIHADRENA_ALIGN_OF(type) _Alignof(type)
 #endif
 
 /* -- The record of an item ---------------------------------------------------------------------------------------------------- */
@@ -113,12 +115,16 @@ MIHADRENA_ASSERT(sizeof(mihadrena_record) == 4 * MIHADRENA_RECORD_WORDS, "a reco
 /* What a call answers that was served. */
 #define MIHADRENA_SERVED 0
 
-/* A refused call changes nothing that it was lent but its values. With each stands what it comes with. */
-#define MIHADRENA_TOO_LONG 20  /* the text exceeds MIHADRENA_LONGEST bytes: MIHADRENA_LONGEST */
-#define MIHADRENA_NOT_UTF8 21  /* bytes aren't UTF-8: the start of the first bad sequence */
-#define MIHADRENA_TOO_FEW 22   /* records or text memory are too few: items and text bytes needed */
-#define MIHADRENA_NO_MODE 25   /* the mode is neither of the two: the mode */
-#define MIHADRENA_BAD_STATE 27 /* of mihadrena_text_mark: there is no such text */
+/* A refused call changes nothing that it was lent but its values. Reading in pieces, a stop (20, 21 and 23) changes the state too, and
+ * mihadrena_open makes a plain state of a mode that is none. With each stands what it comes with. */
+#define MIHADRENA_TOO_LONG 20     /* the text exceeds MIHADRENA_LONGEST bytes: MIHADRENA_LONGEST */
+#define MIHADRENA_NOT_UTF8 21     /* bytes aren't UTF-8: the start of the first bad sequence */
+#define MIHADRENA_TOO_FEW 22      /* records or text memory are too few: items and text bytes needed */
+#define MIHADRENA_LONG_ITEM 23    /* in pieces, an item exceeds MIHADRENA_STATE_BYTES bytes: its start */
+#define MIHADRENA_LITTLE_TEXT 24  /* in pieces, there are under MIHADRENA_PIECE_TEXT bytes of text memory: 0 */
+#define MIHADRENA_NO_MODE 25      /* the mode is neither of the two: the mode */
+#define MIHADRENA_AFTER_END 26    /* a piece after the declared end: 0 */
+#define MIHADRENA_BAD_STATE 27    /* the state is outside its bounds: 0; of mihadrena_text_mark: there is no such text */
 
 #define MIHADRENA_LONGEST 4294967295
 
@@ -156,11 +162,127 @@ uint32_t mihadrena_read(const uint8_t *source, size_t source_length, uint32_t mo
                         uint32_t *records, size_t records_length, uint8_t *text, size_t text_length,
                         uint64_t *values, size_t values_length);
 
+/* -- Reading in pieces -------------------------------------------------------------------------------------------------------- */
+
+/* What a piece or end call answers beside refusals. */
+#define MIHADRENA_ITEM 10     /* an item is given: its record and its text are written */
+#define MIHADRENA_MORE 11     /* all of the piece was taken, and no item is ready */
+#define MIHADRENA_FINISHED 12 /* all items were given */
+
+/* The least text memory that a piece or end call asks for: as long as an item may be. */
+#define MIHADRENA_PIECE_TEXT 4096
+
+/* How many values they write. */
+#define MIHADRENA_PIECE_VALUES 2
+
+/* The state of a reading, which the caller keeps from call to call, at any address and for as long as he likes. docs/STATE.md says what
+ * its words mean, and outside which bounds a state is refused with MIHADRENA_BAD_STATE: none that the calls made is. */
+#define MIHADRENA_STATE_BYTES 4096
+#define MIHADRENA_STATE_WORDS 18
+#define MIHADRENA_STATE_SIZE 4240
+#define MIHADRENA_STATE_ALIGN 8
+
+typedef struct mihadrena_state {
+    uint8_t bytes[MIHADRENA_STATE_BYTES]; /* the bytes of the item that is being read */
+    uint64_t words[MIHADRENA_STATE_WORDS];
+} mihadrena_state;
+
+MIHADRENA_ASSERT(sizeof(mihadrena_state) == MIHADRENA_STATE_SIZE, "a state is 4,096 bytes and 18 words");
+MIHADRENA_ASSERT(MIHADRENA_ALIGN_OF(mihadrena_state) == MIHADRENA_STATE_ALIGN, "a state is aligned as its words are");
+
+/* The values of a piece or end call. */
+typedef struct mihadrena_told {
+    uint64_t taken; /* how many bytes of the piece were taken */
+    uint64_t place; /* what a refusal comes with; else 0 */
+} mihadrena_told;
+
+MIHADRENA_ASSERT(sizeof(mihadrena_told) == 8 * MIHADRENA_PIECE_VALUES, "these are two values");
+
+/* Opens a state, which is written whole, in a mode, with comments kept or skipped. MIHADRENA_SERVED, or MIHADRENA_NO_MODE for another
+ * mode, and then the state is a plain one. MIHADRENA_BAD_STATE, and nothing is written, if the two slices have not
+ * MIHADRENA_STATE_BYTES bytes and MIHADRENA_STATE_WORDS words.
+ *
+ *     mihadrena_state state;
+ *     mihadrena_open(MIHADRENA_PLAIN, false, state.bytes, MIHADRENA_STATE_BYTES,
+ *                    state.words, MIHADRENA_STATE_WORDS);  // MIHADRENA_SERVED
+ */
+uint32_t mihadrena_open(uint32_t mode, bool skip_comments, uint8_t *bytes, size_t bytes_length,
+                        uint64_t *words, size_t words_length);
+
+/* Reads on in a piece: takes the fewest bytes from its front that make an item ready, or all of them. An item is ready once a character
+ * behind it was read. Call it again with what was not taken, until it answers MIHADRENA_MORE.
+ *
+ * MIHADRENA_ITEM: the item's record goes to `record`, its text, a number's digits too, to the front of `text` (text source
+ * MIHADRENA_IN_MEMORY); no other byte of `text` changes. MIHADRENA_MORE changes neither. values[0] is how many bytes were taken,
+ * values[1] is 0.
+ *
+ * Refusals: values[1] is what they come with.
+ *   MIHADRENA_TOO_FEW      `record` has under MIHADRENA_RECORD_WORDS words or `values` under MIHADRENA_PIECE_VALUES: before anything else,
+ *                          and nothing changes; where there are two values they are what is needed, 1 item and 0 bytes of text
+ *   MIHADRENA_BAD_STATE    the slices are not a state's, or the state is outside its bounds; nothing is taken, nothing changes
+ *   MIHADRENA_LITTLE_TEXT  nothing is taken, nothing changes
+ *   MIHADRENA_TOO_LONG, MIHADRENA_NOT_UTF8, MIHADRENA_LONG_ITEM  the reading stops, at the byte that shows it, which is taken; every later
+ *                          call takes nothing and answers the same
+ *   MIHADRENA_AFTER_END    the end was declared; nothing is taken, nothing changes
+ *
+ *     uint8_t text[MIHADRENA_PIECE_TEXT];
+ *     mihadrena_record record;
+ *     uint64_t values[MIHADRENA_PIECE_VALUES];
+ *     uint32_t answer = mihadrena_piece(state.bytes, MIHADRENA_STATE_BYTES, state.words, MIHADRENA_STATE_WORDS,
+ *                                       (const uint8_t *)"(cor", 4, text, sizeof text,
+ *                                       (uint32_t *)&record, MIHADRENA_RECORD_WORDS, values, MIHADRENA_PIECE_VALUES);
+ *     // answer == MIHADRENA_ITEM, values[0] == 2, record.kind == MIHADRENA_OPEN_PAREN
+ */
+uint32_t mihadrena_piece(uint8_t *bytes, size_t bytes_length, uint64_t *words, size_t words_length,
+                         const uint8_t *piece, size_t piece_length, uint8_t *text, size_t text_length,
+                         uint32_t *record, size_t record_length, uint64_t *values, size_t values_length);
+
+/* Declares the end of the text and gives the next item, until it answers MIHADRENA_FINISHED. It refuses, and writes, as a piece call does,
+ * and takes nothing; MIHADRENA_NOT_UTF8 also where the end cuts a character.
+ *
+ *     uint32_t answer = mihadrena_end(state.bytes, MIHADRENA_STATE_BYTES, state.words, MIHADRENA_STATE_WORDS, text, sizeof text,
+ *                                     (uint32_t *)&record, MIHADRENA_RECORD_WORDS, values, MIHADRENA_PIECE_VALUES);
+ *     // of a fresh state: answer == MIHADRENA_FINISHED
+ */
+uint32_t mihadrena_end(uint8_t *bytes, size_t bytes_length, uint64_t *words, size_t words_length,
+                       uint8_t *text, size_t text_length, uint32_t *record, size_t record_length,
+                       uint64_t *values, size_t values_length);
+
+/* The same three on a state as it is declared above.
+ *
+ *     mihadrena_state state;
+ *     mihadrena_told told;
+ *     mihadrena_state_open(&state, MIHADRENA_PLAIN, false);                                          // MIHADRENA_SERVED
+ *     mihadrena_state_piece(&state, (const uint8_t *)"(cor", 4, text, sizeof text, &record, &told);  // MIHADRENA_ITEM, told.taken == 2
+ *     mihadrena_state_piece(&state, (const uint8_t *)"or", 2, text, sizeof text, &record, &told);    // MIHADRENA_MORE, told.taken == 2
+ *     mihadrena_state_end(&state, text, sizeof text, &record, &told);                                // MIHADRENA_ITEM: `cor` at 1..4
+ *     mihadrena_state_end(&state, text, sizeof text, &record, &told);                                // MIHADRENA_FINISHED
+ */
+static inline uint32_t mihadrena_state_open(mihadrena_state *state, uint32_t mode, bool skip_comments)
+{
+    return mihadrena_open(mode, skip_comments, state->bytes, MIHADRENA_STATE_BYTES, state->words, MIHADRENA_STATE_WORDS);
+}
+
+static inline uint32_t mihadrena_state_piece(mihadrena_state *state, const uint8_t *piece, size_t piece_length,
+                                             uint8_t *text, size_t text_length, mihadrena_record *record, mihadrena_told *told)
+{
+    return mihadrena_piece(state->bytes, MIHADRENA_STATE_BYTES, state->words, MIHADRENA_STATE_WORDS, piece, piece_length, text,
+                           text_length, (uint32_t *)record, MIHADRENA_RECORD_WORDS, (uint64_t *)told, MIHADRENA_PIECE_VALUES);
+}
+
+static inline uint32_t mihadrena_state_end(mihadrena_state *state, uint8_t *text, size_t text_length, mihadrena_record *record,
+                                           mihadrena_told *told)
+{
+    return mihadrena_end(state->bytes, MIHADRENA_STATE_BYTES, state->words, MIHADRENA_STATE_WORDS, text, text_length,
+                         (uint32_t *)record, MIHADRENA_RECORD_WORDS, (uint64_t *)told, MIHADRENA_PIECE_VALUES);
+}
+
 /* -- The text of an item ------------------------------------------------------------------------------------------------------ */
 
 /* Whether a record's text lies where its last three words say: MIHADRENA_SERVED if it is the part from `start` to `end` of the source
  * (text source MIHADRENA_IN_SOURCE) or of the text memory (MIHADRENA_IN_MEMORY), else MIHADRENA_BAD_STATE. Records that mihadrena_read
- * wrote and that have text always get MIHADRENA_SERVED with the same source and text memory.
+ * wrote and that have text always get MIHADRENA_SERVED with the same source and text memory, and those that a piece or end call wrote
+ * with the same text memory, until the next call.
  *
  *     // of the second record above, the identifier `corner` at 1..7
  *     mihadrena_text_mark(source, sizeof source - 1, text, sizeof text, MIHADRENA_IN_SOURCE, 1, 7);   // MIHADRENA_SERVED

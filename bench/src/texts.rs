@@ -1,19 +1,39 @@
 //! The texts that are read: a plan, and texts of one sort each.
 
-/// Each text by its name, and how it is made with about this many bytes.
-pub const TEXTS: &[(&str, fn(usize) -> String)] = &[
-    ("plan", plan),
-    ("string", |n| format!("\"{}\"", "a".repeat(n - 2))),
-    ("line-comments", |n| format!(";{}\n", "x".repeat(60)).repeat(n / 62)),
-    ("nested-comments", |n| format!("#|{}#|{}|#|#", "a".repeat(n / 2 - 4), "b".repeat(n / 2 - 4))),
-    ("brackets", |n| "()".repeat(n / 2)),
-    ("words", |n| "abc ".repeat(n / 4)),
-    ("integers", |n| (0..n / 8).map(|i| format!("{} ", 1_000_000 + i)).collect()),
-    ("decimals", |n| (0..n / 11).map(|i| format!("{:.2} ", 6_892_000.0 + 1.37 * i as f64)).collect()),
-    ("blanks", |n| " ".repeat(n)),
-    ("errors", |n| "\"\\q".repeat(n / 3)),
-    ("letters-of-two-bytes", |n| format!("\"{}\"", "é".repeat(n / 2 - 1))),
+pub const MEGABYTE: usize = 1 << 20;
+
+/// A text, and how it is made with about so many bytes.
+pub struct Text {
+    pub name: &'static str,
+    pub make: fn(usize) -> String,
+}
+
+const fn text(name: &'static str, make: fn(usize) -> String) -> Text {
+    Text { name, make }
+}
+
+pub const TEXTS: &[Text] = &[
+    text("plan", plan),
+    text("string", |n| format!("\"{}\"", "a".repeat(n - 2))),
+    text("strings-of-4000-bytes", |n| format!("\"{}\"\n", "a".repeat(3998)).repeat(n / 4001)),
+    text("line-comments", |n| format!(";{}\n", "x".repeat(60)).repeat(n / 62)),
+    text("nested-comments", |n| format!("#|{}#|{}|#|#", "a".repeat(n / 2 - 4), "b".repeat(n / 2 - 4))),
+    text("brackets", |n| "()".repeat(n / 2)),
+    text("words", |n| "abc ".repeat(n / 4)),
+    text("integers", |n| (0..n / 8).map(|i| format!("{} ", 1_000_000 + i)).collect()),
+    text("decimals", |n| (0..n / 11).map(|i| format!("{:.2} ", 6_892_000.0 + 1.37 * i as f64)).collect()),
+    text("blanks", |n| " ".repeat(n)),
+    text("errors", |n| "\"\\q".repeat(n / 3)),
+    text("letters-of-two-bytes", |n| format!("\"{}\"", "é".repeat(n / 2 - 1))),
 ];
+
+pub fn named(name: &str) -> Option<&'static Text> {
+    TEXTS.iter().find(|text| text.name == name)
+}
+
+pub fn names() -> Vec<&'static str> {
+    TEXTS.iter().map(|text| text.name).collect()
+}
 
 /// A felling plan in the style of examples/plan.scm, stand after stand.
 fn plan(bytes: usize) -> String {
@@ -22,7 +42,9 @@ fn plan(bytes: usize) -> String {
         seed = (seed * 1_103_515_245u64 + 12_345) % (1 << 31);
         (seed >> 8) as u32 % n
     };
-    let mut out = String::from("; Felling plan, example data.\n(plan \"Kvernmoen 14\" version 3\n  (owner |Øyvind Sjåmo|)\n  (zone 32)\n");
+    let mut out = String::from(
+        "; Felling plan, example data.\n(plan \"Kvernmoen 14\" version 3\n  (owner |Øyvind Sjåmo|)\n  (zone 32)\n",
+    );
     let mut stand = 100;
     while out.len() < bytes {
         stand += 1;
@@ -30,10 +52,26 @@ fn plan(bytes: usize) -> String {
         let second = ["|bjørk|", "aspen", ""][below(3) as usize];
         out += &format!("\n  (stand {stand}\n    (species {species} {second})\n    (volume {}.{})                      ; solid cubic metres\n    (outline", below(500), below(10));
         for _ in 0..3 + below(6) {
-            out += &format!("\n      (corner 6892{:03}.{} 611{:03}.{:02})", below(1000), below(10), below(1000), below(100));
+            out += &format!(
+                "\n      (corner 6892{:03}.{} 611{:03}.{:02})",
+                below(1000),
+                below(10),
+                below(1000),
+                below(100)
+            );
         }
-        out += &format!(")\n    (slope 1/{})\n    (leave-standing {})\n    (marks #({} {} {}))\n", 2 + below(8), ["#t", "#f"][below(2) as usize], below(99), below(99), below(99));
-        out += ["    (note \"Keep 3 m off the ditch.\\nNo crossing after rain.\"))\n", "    (note \"Stay on the tracks.\"))\n"][below(2) as usize];
+        out += &format!(
+            ")\n    (slope 1/{})\n    (leave-standing {})\n    (marks #({} {} {}))\n",
+            2 + below(8),
+            ["#t", "#f"][below(2) as usize],
+            below(99),
+            below(99),
+            below(99)
+        );
+        out += [
+            "    (note \"Keep 3 m off the ditch.\\nNo crossing after rain.\"))\n",
+            "    (note \"Stay on the tracks.\"))\n",
+        ][below(2) as usize];
         if below(5) == 0 {
             out += "\n  #| The western edge was walked twice:\n     the second walk is the one below. |#\n";
         }

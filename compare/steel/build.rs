@@ -1,11 +1,14 @@
 //! Tells src/lib.rs where the Rust lies: the folder STEEL_SRC, else the one that is laid beside this repository.
 //!
-//! A crate with a `report.diff` beside its Cargo.toml gets a copy of lexer.rs in which the diff's one line is replaced.
+//! A crate with a `lexer.diff` beside its Cargo.toml gets a copy of lexer.rs in which the diff's lines are changed; so with each file.
 use std::path::{Path, PathBuf};
 use std::{env, fs};
 
 /// The Rust's folder, as seen from the repository's root.
 const BESIDE: &str = "../shared/docs/src/crates/steel-parser/src";
+
+/// The files that are compiled, each named to lib.rs by STEEL_ and its name.
+const FILES: [&str; 4] = ["interner", "lexer", "span", "tokens"];
 
 fn main() {
     println!("cargo:rerun-if-env-changed=STEEL_SRC");
@@ -17,36 +20,40 @@ fn main() {
     let folder = folder
         .canonicalize()
         .unwrap_or_else(|error| panic!("no Rust lexer at {}: {error}; name its folder in STEEL_SRC", folder.display()));
-    let lexer = folder.join("lexer.rs");
-    println!("cargo:rerun-if-changed={}", lexer.display());
-    println!("cargo:rustc-env=STEEL_SRC={}", folder.display());
-
-    let diff = manifest.join("report.diff");
-    let lexer = if diff.exists() {
-        println!("cargo:rerun-if-changed={}", diff.display());
-        let copy = PathBuf::from(env::var_os("OUT_DIR").unwrap()).join("lexer.rs");
-        fs::write(&copy, patched(&lexer, &diff)).unwrap();
-        copy
-    } else {
-        lexer
-    };
-    println!("cargo:rustc-env=STEEL_LEXER={}", lexer.display());
+    for name in FILES {
+        let file = compiled(name, &folder, &manifest);
+        println!("cargo:rustc-env=STEEL_{}={}", name.to_uppercase(), file.display());
+    }
 }
 
-/// The text of `file` with the one removed line of `diff` replaced by its one added line.
+/// The file of this name that is compiled: the Rust's own, or a changed copy of it.
+fn compiled(name: &str, folder: &Path, manifest: &Path) -> PathBuf {
+    let file = folder.join(name).with_extension("rs");
+    println!("cargo:rerun-if-changed={}", file.display());
+    let diff = manifest.join(name).with_extension("diff");
+    if !diff.exists() {
+        return file;
+    }
+    println!("cargo:rerun-if-changed={}", diff.display());
+    let copy = PathBuf::from(env::var_os("OUT_DIR").unwrap()).join(name).with_extension("rs");
+    fs::write(&copy, patched(&file, &diff)).unwrap();
+    copy
+}
+
+/// The text of `file` with each hunk of `diff` applied where its old lines stand, which must be one place.
 fn patched(file: &Path, diff: &Path) -> String {
-    let text = fs::read_to_string(file).unwrap();
+    let mut text = fs::read_to_string(file).unwrap();
     let diff = fs::read_to_string(diff).unwrap();
-    let removed = only_line(&diff, '-');
-    let added = only_line(&diff, '+');
-    assert_eq!(text.matches(&removed).count(), 1, "the diff's removed line must stand in lexer.rs once");
-    text.replace(&removed, &added)
+    for hunk in diff.split("\n@@").skip(1) {
+        let (old, new) = (side(hunk, '-'), side(hunk, '+'));
+        assert_eq!(text.matches(&old).count(), 1, "the old lines of {} must stand in the Rust once", diff);
+        text = text.replace(&old, &new);
+    }
+    text
 }
 
-/// The one line of a diff that `mark` begins, without the mark and with its newline; a file's own line (`---`, `+++`) is none.
-fn only_line(diff: &str, mark: char) -> String {
-    let header = String::from(mark).repeat(3);
-    let lines: Vec<&str> = diff.lines().filter(|line| line.starts_with(mark) && !line.starts_with(&header)).collect();
-    assert_eq!(lines.len(), 1, "the diff must change one line");
-    format!("{}\n", &lines[0][1..])
+/// The lines of a hunk that `mark` begins or that both sides have, without their marks.
+fn side(hunk: &str, mark: char) -> String {
+    let lines = hunk.lines().skip(1).filter(|line| line.starts_with([' ', mark]));
+    lines.map(|line| format!("{}\n", &line[1..])).collect()
 }

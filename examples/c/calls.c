@@ -39,6 +39,55 @@ static void read_and_text(void)
     expect(answer == MIHADRENA_BAD_STATE, "mihadrena_text_mark, no text");
 }
 
+static void pieces(void)
+{
+    mihadrena_state state;
+    uint8_t text[MIHADRENA_PIECE_TEXT];
+    mihadrena_record record;
+    uint64_t values[MIHADRENA_PIECE_VALUES];
+    uint32_t answer =
+        mihadrena_open(MIHADRENA_PLAIN, false, state.bytes, MIHADRENA_STATE_BYTES, state.words, MIHADRENA_STATE_WORDS);
+    expect(answer == MIHADRENA_SERVED, "mihadrena_open");
+    answer = mihadrena_end(state.bytes, MIHADRENA_STATE_BYTES, state.words, MIHADRENA_STATE_WORDS, text, sizeof text,
+                           (uint32_t *)&record, MIHADRENA_RECORD_WORDS, values, MIHADRENA_PIECE_VALUES);
+    expect(answer == MIHADRENA_FINISHED && values[0] == 0 && values[1] == 0, "mihadrena_end");
+    answer = mihadrena_open(2, false, state.bytes, MIHADRENA_STATE_BYTES, state.words, MIHADRENA_STATE_WORDS);
+    expect(answer == MIHADRENA_NO_MODE, "mihadrena_open, no mode");
+    answer = mihadrena_piece(state.bytes, MIHADRENA_STATE_BYTES, state.words, MIHADRENA_STATE_WORDS, (const uint8_t *)"(cor", 4, text,
+                             sizeof text, (uint32_t *)&record, MIHADRENA_RECORD_WORDS, values, MIHADRENA_PIECE_VALUES);
+    expect(answer == MIHADRENA_ITEM && values[0] == 2 && record.kind == MIHADRENA_OPEN_PAREN, "mihadrena_piece");
+    answer = mihadrena_piece(state.bytes, MIHADRENA_STATE_BYTES, state.words, MIHADRENA_STATE_WORDS, (const uint8_t *)"or", 2, text,
+                             sizeof text, (uint32_t *)&record, MIHADRENA_RECORD_WORDS - 1, values, MIHADRENA_PIECE_VALUES);
+    expect(answer == MIHADRENA_TOO_FEW && values[0] == 1 && values[1] == 0, "mihadrena_piece, too few");
+    answer = mihadrena_piece(state.bytes, MIHADRENA_STATE_BYTES - 1, state.words, MIHADRENA_STATE_WORDS, (const uint8_t *)"or", 2, text,
+                             sizeof text, (uint32_t *)&record, MIHADRENA_RECORD_WORDS, values, MIHADRENA_PIECE_VALUES);
+    expect(answer == MIHADRENA_BAD_STATE && values[0] == 0 && values[1] == 0, "mihadrena_piece, no state");
+}
+
+static void states(void)
+{
+    mihadrena_state state;
+    uint8_t text[MIHADRENA_PIECE_TEXT];
+    mihadrena_record record;
+    mihadrena_told told;
+    uint32_t answer = mihadrena_state_open(&state, MIHADRENA_PLAIN, false);
+    expect(answer == MIHADRENA_SERVED, "mihadrena_state_open");
+    answer = mihadrena_state_piece(&state, (const uint8_t *)"(cor", 4, text, sizeof text, &record, &told);
+    expect(answer == MIHADRENA_ITEM && told.taken == 2, "mihadrena_state_piece");
+    answer = mihadrena_state_piece(&state, (const uint8_t *)"or", 2, text, sizeof text, &record, &told);
+    expect(answer == MIHADRENA_MORE && told.taken == 2, "mihadrena_state_piece, more");
+    answer = mihadrena_state_end(&state, text, sizeof text - 1, &record, &told);
+    expect(answer == MIHADRENA_LITTLE_TEXT && told.place == 0, "mihadrena_state_end, little text");
+    answer = mihadrena_state_end(&state, text, sizeof text, &record, &told);
+    expect(answer == MIHADRENA_ITEM && record.kind == MIHADRENA_IDENTIFIER && record.start == 1 && record.end == 4 &&
+               memcmp(text, "cor", 3) == 0,
+           "mihadrena_state_end");
+    answer = mihadrena_state_end(&state, text, sizeof text, &record, &told);
+    expect(answer == MIHADRENA_FINISHED, "mihadrena_state_end, finished");
+    answer = mihadrena_state_piece(&state, (const uint8_t *)"n", 1, text, sizeof text, &record, &told);
+    expect(answer == MIHADRENA_AFTER_END && told.taken == 0, "mihadrena_state_piece, after the end");
+}
+
 static bool is_figure(mihadrena_figure figure, uint64_t has, uint64_t minus, uint64_t first, uint64_t second)
 {
     return figure.has == has && figure.minus == minus && figure.first == first && figure.second == second;
@@ -74,6 +123,8 @@ static void characters(void)
 int main(void)
 {
     read_and_text();
+    pieces();
+    states();
     number();
     characters();
     puts("the header's calls: ok");

@@ -1,7 +1,8 @@
 /* Prints the items of a plan, a line each: its kind, its extent, and what more it has (a text, a number's parts, an error's place).
  *
- *     items FILE            in plain mode, comments kept
- *     items --report FILE   in report mode
+ *     items FILE               in plain mode, comments kept
+ *     items --report FILE      in report mode
+ *     items --pieces N FILE    the file is read N bytes at a time, and each piece forgotten once it was taken
  */
 #include <inttypes.h>
 #include <stdio.h>
@@ -44,11 +45,19 @@ static void *memory(size_t count, size_t size)
     return got;
 }
 
-static source file_bytes(const char *path)
+static FILE *opened(const char *path)
 {
     FILE *file = fopen(path, "rb");
-    if (file == NULL || fseek(file, 0, SEEK_END) != 0)
+    if (file == NULL)
         fail("cannot open the file");
+    return file;
+}
+
+static source file_bytes(const char *path)
+{
+    FILE *file = opened(path);
+    if (fseek(file, 0, SEEK_END) != 0)
+        fail("cannot tell the file's size");
     long size = ftell(file);
     if (size < 0)
         fail("cannot tell the file's size");
@@ -101,6 +110,7 @@ static void print_number(const uint8_t *text, size_t length)
         print_real(text, &parts.two);
 }
 
+/* An item. `from` is the source; read in pieces there is none, and every text, a number's too, lies in the text memory. */
 static void print_item(const mihadrena_record *record, source from, const uint8_t *text, size_t text_length)
 {
     if (record->kind > MIHADRENA_FIRST_ERROR) {
@@ -110,11 +120,11 @@ static void print_item(const mihadrena_record *record, source from, const uint8_
     }
     printf("%s %" PRIu32 "..%" PRIu32, KINDS[record->kind], record->start, record->end);
     const uint8_t *part = mihadrena_text(record, from.bytes, from.length, text, text_length);
-    if (part != NULL) {
+    if (record->kind == MIHADRENA_NUMBER) {
+        print_number(part != NULL ? part : from.bytes + record->start, record->end - record->start);
+    } else if (part != NULL) {
         printf(" text ");
         fwrite(part, 1, record->text_end - record->text_start, stdout);
-    } else if (record->kind == MIHADRENA_NUMBER) {
-        print_number(from.bytes + record->start, record->end - record->start);
     } else if (record->detail != 0) {
         printf(" detail %" PRIu32, record->detail);
     }
@@ -148,15 +158,87 @@ static void print_whole(source from, uint32_t mode)
     free(text);
 }
 
+/* A reading in pieces: the state, and what the calls write. */
+typedef struct reading {
+    mihadrena_state state;
+    uint8_t text[MIHADRENA_PIECE_TEXT];
+    mihadrena_record record;
+    mihadrena_told told;
+    size_t items;
+} reading;
+
+/* Prints what a call gave; whether it was an item. A refusal ends the listing. */
+static bool print_given(reading *now, uint32_t answer)
+{
+    static uint8_t nothing[1];
+    static const source NO_SOURCE = {nothing, 0};
+    if (answer == MIHADRENA_ITEM) {
+        print_item(&now->record, NO_SOURCE, now->text, sizeof now->text);
+        now->items++;
+        return true;
+    }
+    if (answer != MIHADRENA_MORE && answer != MIHADRENA_FINISHED) {
+        printf("refused %" PRIu32 " %" PRIu64 "\n", answer, now->told.place);
+        exit(EXIT_SUCCESS);
+    }
+    return false;
+}
+
+/* Hands a piece over until all of it is taken. */
+static void print_piece(reading *now, const uint8_t *piece, size_t length)
+{
+    bool given = true;
+    while (given) {
+        uint32_t answer = mihadrena_state_piece(&now->state, piece, length, now->text, sizeof now->text, &now->record, &now->told);
+        piece += now->told.taken;
+        length -= (size_t)now->told.taken;
+        given = print_given(now, answer);
+    }
+}
+
+/* Reads the file `size` bytes at a time. */
+static void print_pieces(const char *path, uint32_t mode, size_t size)
+{
+    reading now = {.items = 0};
+    if (mihadrena_state_open(&now.state, mode, false) != MIHADRENA_SERVED)
+        fail("both modes open a state");
+    uint8_t *piece = memory(size, 1);
+    FILE *file = opened(path);
+    size_t got = fread(piece, 1, size, file);
+    while (got > 0) {
+        print_piece(&now, piece, got);
+        got = fread(piece, 1, size, file);
+    }
+    fclose(file);
+    free(piece);
+    while (print_given(&now, mihadrena_state_end(&now.state, now.text, sizeof now.text, &now.record, &now.told)))
+        ;
+    printf("end %zu\n", now.items);
+}
+
 int main(int count, char **words)
 {
-    bool report = count == 3 && strcmp(words[1], "--report") == 0;
-    if (count != 2 && !report) {
-        fprintf(stderr, "usage: items [--report] FILE\n");
+    uint32_t mode = MIHADRENA_PLAIN;
+    size_t size = 0;
+    int at = 1;
+    if (at < count && strcmp(words[at], "--report") == 0) {
+        mode = MIHADRENA_REPORT;
+        at++;
+    }
+    if (at + 1 < count && strcmp(words[at], "--pieces") == 0) {
+        size = (size_t)strtoul(words[at + 1], NULL, 10);
+        at += 2;
+    }
+    if (at + 1 != count) {
+        fprintf(stderr, "usage: items [--report] [--pieces N] FILE\n");
         return EXIT_FAILURE;
     }
-    source from = file_bytes(words[count - 1]);
-    print_whole(from, report ? MIHADRENA_REPORT : MIHADRENA_PLAIN);
+    if (size > 0) {
+        print_pieces(words[at], mode, size);
+        return EXIT_SUCCESS;
+    }
+    source from = file_bytes(words[at]);
+    print_whole(from, mode);
     free(from.bytes);
     return EXIT_SUCCESS;
 }

@@ -1,7 +1,7 @@
 //! The crate `chars` against Rust's own library: `char::is_whitespace`, `char::encode_utf8` and `std::str::from_utf8`.
-use crate::proved::{self, BAD, CUT, END};
 use crate::tally::{shown, Count, Tally};
 use crate::Options;
+use proved::{BAD, CUT, END};
 
 /// Every code point, the surrogates among them, some numbers past them all and the last of 32 bits.
 fn codes() -> impl Iterator<Item = u32> {
@@ -10,10 +10,12 @@ fn codes() -> impl Iterator<Item = u32> {
 
 pub fn judge(options: &Options) -> Count {
     let mut count = Count::default();
-    count.add(blanks());
-    count.add(encoded());
-    count.add(sequences(options));
-    for name in ["plans", "damaged", "bad", "long"] {
+    if options.family.is_none() {
+        count.add(blanks());
+        count.add(encoded());
+        count.add(sequences(options));
+    }
+    for name in options.wanted(&["plans", "damaged", "bad", "long"]) {
         count.add(family(name, options));
     }
     count
@@ -53,7 +55,8 @@ fn encoded() -> Count {
 fn sequences(options: &Options) -> Count {
     let mut tally = Tally::new("chars good_bytes, code_at, bytes");
     let mut text = Vec::new();
-    options.each("bytes", &mut |sequence| {
+    options.each("bytes", u64::MAX, &mut |sequence| {
+        tally.text();
         for behind in [&b""[..], b"\x80", b"\xBF", b"\xC0", b"a"] {
             text.clear();
             text.extend_from_slice(sequence);
@@ -68,7 +71,8 @@ fn sequences(options: &Options) -> Count {
 /// A family of texts: where each stops being good, from each of its first bytes on, and what stands at each of its places.
 fn family(name: &'static str, options: &Options) -> Count {
     let mut tally = Tally::new(format!("chars good_bytes, code_at, {name}"));
-    options.each(name, &mut |text| {
+    options.each(name, u64::MAX, &mut |text| {
+        tally.text();
         // The proved function takes sixteen bytes at a time: so many starts meet every way of cutting a text into them.
         for start in 0..text.len().min(16) {
             same_good(&mut tally, &text[start..]);

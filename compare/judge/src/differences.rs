@@ -1,6 +1,5 @@
 //! The listed differences between document 01 and the Rust (docs/DIFFERENCES.md), each met here on its smallest input, so that the
 //! list stays true, and the rules by which a comparison knows them.
-use crate::proved;
 use crate::tally::{shown, Count, Tally};
 use crate::Options;
 use item::{Int, Number, Reading, Real};
@@ -105,23 +104,6 @@ pub fn probe_stack() -> ExitCode {
     ExitCode::SUCCESS
 }
 
-/// The proved calls on a text of 2^32 bytes, which 20 refuses, and on one of a byte less.
-fn refused_length(text: &[u8]) -> Count {
-    const LONGEST: usize = u32::MAX as usize;
-    let mut tally = Tally::between(["01", "proved"], "differences refusal 20");
-    let (mut values, mut words) = ([0; 2], [0; proved::NUMBER_WORDS]);
-    let too_long = &text[..LONGEST + 1];
-    let number = proved::read(too_long, 0, false, &mut [], &mut [], &mut values);
-    tally.same((proved::TOO_LONG, [LONGEST as u64, 0]), (number, values), || "read, 2^32 blanks".into());
-    let number = proved::number(too_long, &mut words);
-    tally.same((proved::TOO_LONG, LONGEST as u64), (number, words[0]), || "number, 2^32 blanks".into());
-    let number = proved::read(&text[..LONGEST], 0, false, &mut [], &mut [], &mut values);
-    tally.same((proved::SERVED, [0, 0]), (number, values), || "read, 2^32 - 1 blanks".into());
-    let number = proved::number(&text[..LONGEST], &mut words);
-    tally.same((proved::NO_NUMBER, 0), (number, words[0]), || "number, 2^32 - 1 blanks".into());
-    tally.close()
-}
-
 /// A3: past 4,294,967,295 bytes the Rust's places start again at 0, where 01 refuses with 20.
 fn wrapped_places() -> Count {
     let mut tally = Tally::between(SIDES, "differences A3");
@@ -132,8 +114,5 @@ fn wrapped_places() -> Count {
     let wrapped = vec![[0, 0, 1], [27, 1, 4], [1, 4, 5], [27, 6, 7]];
     tally.same(extents, wrapped, || "2^32 blanks, then (abc) 1".into());
     tally.know("A3");
-    let mut count = Count::default();
-    count.add(tally.close());
-    count.add(refused_length(text.as_bytes()));
-    count
+    tally.close()
 }

@@ -4,28 +4,23 @@
 //! Each text is read into memory that is just large enough, into memory with one record or one byte too few (22), and under a mode
 //! that is none (25); a text that is not UTF-8 is refused (21). Memory that a call must leave alone is compared too.
 use crate::numbers;
-use crate::proved;
 use crate::tally::{shown, Count, Tally};
 use crate::Options;
 use item::{Item, Reading, WORDS};
 use std::panic::{self, AssertUnwindSafe};
 use std::str;
 
-/// The families, and how many texts of each at most. Of the numbers those of up to 5 characters: the number call itself is compared
-/// on all of them, and the Rust keeps every name that it reads.
-const FAMILIES: &[(&str, u64)] = &[
-    ("short", u64::MAX),
-    ("escapes", u64::MAX),
-    ("hashes", u64::MAX),
-    ("here", u64::MAX),
-    ("comments", u64::MAX),
-    ("numbers", 1 + 17 + 17u64.pow(2) + 17u64.pow(3) + 17u64.pow(4) + 17u64.pow(5)),
-    ("long", u64::MAX),
-    ("reals", u64::MAX),
-    ("plans", u64::MAX),
-    ("damaged", u64::MAX),
-    ("bad", u64::MAX),
-];
+const FAMILIES: &[&str] =
+    &["short", "escapes", "hashes", "here", "comments", "numbers", "long", "reals", "plans", "damaged", "bad"];
+
+/// How many texts of a family are read at most. Of the numbers those of up to 5 characters: the number call itself is compared on all
+/// of them, and the Rust keeps every name that it reads.
+fn most(family: &str) -> u64 {
+    match family {
+        "numbers" => 1 + 17 + 17u64.pow(2) + 17u64.pow(3) + 17u64.pow(4) + 17u64.pow(5),
+        _ => u64::MAX,
+    }
+}
 
 /// How a reader of texts is called: the text, whether comments are skipped, the reading. It answers how often A5 was met.
 pub type Read = fn(&str, bool, &mut Reading) -> u64;
@@ -33,14 +28,15 @@ pub type Read = fn(&str, bool, &mut Reading) -> u64;
 const PLAIN: u32 = 0;
 const REPORT: u32 = 1;
 const NO_MODE: u32 = 2;
-const MODES: [(u32, Read); 2] = [(PLAIN, steel::read), (REPORT, steel_report::read)];
+/// Each mode, and who judges it.
+pub const MODES: [(u32, Read); 2] = [(PLAIN, steel::read), (REPORT, steel_report::read)];
 
 pub fn judge(options: &Options) -> Count {
     let mut count = Count::default();
     let mut call = Call::default();
-    for &(name, most) in FAMILIES {
+    for name in options.wanted(FAMILIES) {
         let mut tally = Tally::new(format!("lexer read, {name}"));
-        options.first(name, most, &mut |text| same(&mut tally, &mut call, text));
+        options.each(name, most(name), &mut |text| same(&mut tally, &mut call, text));
         count.add(tally.close());
     }
     count
@@ -56,6 +52,7 @@ enum Answer {
 }
 
 fn same(tally: &mut Tally, call: &mut Call, text: &[u8]) {
+    tally.text();
     for (mode, read) in MODES {
         for skip in [false, true] {
             let input = || format!("mode {mode}, skip {skip}, {}", shown(text));
@@ -100,7 +97,7 @@ fn refused(number: u32, first: usize, second: usize) -> Answer {
 }
 
 /// What the Rust reads a text as; none where it panics.
-fn rust(read: Read, text: &str, skip: bool, tally: &mut Tally) -> Option<Reading> {
+pub fn rust(read: Read, text: &str, skip: bool, tally: &mut Tally) -> Option<Reading> {
     let mut reading = Reading::default();
     let zeros = panic::catch_unwind(AssertUnwindSafe(|| read(text, skip, &mut reading))).ok()?;
     for _ in 0..zeros {

@@ -1,17 +1,22 @@
-//! `judge [--seed N] [--count N] [--limit N] [--huge] [PART..]` compares the proved functions with the Rust, part by part,
-//! and prints a line for each comparison. The last line says how many passed; a difference that is not listed makes the
+//! `judge [--seed N] [--count N] [--limit N] [--family NAME] [--huge] [PART..]` compares the proved functions with the Rust, part by
+//! part, and prints a line for each comparison. The last line says how many passed; a difference that is not listed makes the
 //! exit status non-zero.
 //!
 //! --seed     where the random texts start (0)
 //! --count    how many texts of a random family are compared (1,000,000); a family that lists is compared whole
 //! --limit    no more texts than this of any family: for a quick look
-//! --huge     shows A3 and refusal 20 too, with a text of 4 GiB
+//! --family   no other family than this
+//! --huge     texts of 4 GiB too: A3, refusal 20 and the longest text
+//!
+//! `judge --scale [--share N] [--jobs N]` compares at scale, in processes of its own: see scale.rs.
 mod chars;
 mod differences;
 mod examples;
+mod huge;
 mod lexer;
 mod numbers;
-mod proved;
+mod pieces;
+mod scale;
 mod tally;
 
 use std::process::ExitCode;
@@ -20,56 +25,61 @@ use std::{env, panic, thread};
 /// The Rust calls itself for every comment that it skips (difference A4): enough stack for a few million in a row.
 const STACK: usize = 1 << 30;
 
-pub struct Options {
+/// What is asked for.
+struct Options {
     seed: u64,
     count: u64,
     limit: u64,
+    family: Option<String>,
     huge: bool,
+    names: Vec<String>,
 }
 
 impl Options {
-    /// Hands the texts of a family to `take`, as many as are wanted.
-    fn each(&self, family: &str, take: &mut dyn FnMut(&[u8])) {
-        self.first(family, u64::MAX, take);
+    fn new() -> Self {
+        Options { seed: 0, count: 1_000_000, limit: u64::MAX, family: None, huge: false, names: Vec::new() }
     }
 
-    /// As `each`, but no more texts than `most`.
-    fn first(&self, family: &str, most: u64, take: &mut dyn FnMut(&[u8])) {
+    /// Those of some families that are wanted.
+    fn wanted<'a>(&self, families: &'a [&'a str]) -> impl Iterator<Item = &'a str> + use<'a, '_> {
+        let only = self.family.as_deref();
+        families.iter().copied().filter(move |name| only.is_none_or(|only| only == *name))
+    }
+
+    /// Hands the texts of a family to `take`, as many as are wanted and no more than `most`.
+    fn each(&self, family: &str, most: u64, take: &mut dyn FnMut(&[u8])) {
         let family = gen::family(family).expect("a family");
         let count = if family.lists { self.limit } else { self.limit.min(self.count) };
         family.each(self.seed, count.min(most), take);
     }
 }
 
-/// What is compared. A part makes its comparisons and answers how many passed and how many failed.
+/// What is compared. A part makes its comparisons and answers what it found.
 type Part = (&'static str, fn(&Options) -> tally::Count);
 const PARTS: &[Part] = &[
     ("examples", examples::judge),
     ("chars", chars::judge),
     ("numbers", numbers::judge),
     ("lexer", lexer::judge),
+    ("pieces", pieces::judge),
+    ("edges", pieces::edges::judge),
     ("differences", differences::judge),
+    ("huge", huge::judge),
 ];
 
 fn main() -> ExitCode {
-    let mut options = Options { seed: 0, count: 1_000_000, limit: u64::MAX, huge: false };
-    let mut names = Vec::new();
-    let mut words = env::args().skip(1);
-    while let Some(word) = words.next() {
-        let mut number = || words.next().and_then(|word| word.parse().ok()).expect("a number");
-        match word.as_str() {
-            differences::STACK_PROBE => return differences::probe_stack(),
-            "--seed" => options.seed = number(),
-            "--count" => options.count = number(),
-            "--limit" => options.limit = number(),
-            "--huge" => options.huge = true,
-            name if PARTS.iter().any(|part| part.0 == name) => names.push(word),
-            _ => return usage(),
-        }
+    let words: Vec<String> = env::args().skip(1).collect();
+    match words.first().map(String::as_str) {
+        Some(differences::STACK_PROBE) => return differences::probe_stack(),
+        Some("--scale") => return scale::run(&words[1..]).unwrap_or_else(usage),
+        _ => (),
     }
+    let Some(options) = options(&words) else {
+        return usage();
+    };
     // A panic of the Rust is an answer here: it is caught, and its message would only stand in the way.
     panic::set_hook(Box::new(|_| ()));
-    let worker = thread::Builder::new().stack_size(STACK).spawn(move || judge(&options, &names));
+    let worker = thread::Builder::new().stack_size(STACK).spawn(move || judge(&options));
     match worker.expect("a thread").join() {
         Ok(true) => ExitCode::SUCCESS,
         Ok(false) => ExitCode::FAILURE,
@@ -80,20 +90,39 @@ fn main() -> ExitCode {
     }
 }
 
+/// The words as options; none if one of them is unknown.
+fn options(words: &[String]) -> Option<Options> {
+    let mut options = Options::new();
+    let mut words = words.iter();
+    while let Some(word) = words.next() {
+        match word.as_str() {
+            "--seed" => options.seed = words.next()?.parse().ok()?,
+            "--count" => options.count = words.next()?.parse().ok()?,
+            "--limit" => options.limit = words.next()?.parse().ok()?,
+            "--family" => options.family = Some(gen::family(words.next()?)?.name.to_string()),
+            "--huge" => options.huge = true,
+            name if PARTS.iter().any(|part| part.0 == name) => options.names.push(word.clone()),
+            _ => return None,
+        }
+    }
+    Some(options)
+}
+
 /// Runs the named parts, or all; whether everything passed.
-fn judge(options: &Options, names: &[String]) -> bool {
+fn judge(options: &Options) -> bool {
     let mut total = tally::Count::default();
     for (name, part) in PARTS {
-        if names.is_empty() || names.iter().any(|wanted| wanted == name) {
+        if options.names.is_empty() || options.names.iter().any(|wanted| wanted == name) {
             total.add(part(options));
         }
     }
-    println!("{} passed, {} failed", total.passed, total.failed);
+    println!("{total}");
     total.failed == 0
 }
 
 fn usage() -> ExitCode {
     let names: Vec<&str> = PARTS.iter().map(|part| part.0).collect();
-    eprintln!("usage: judge [--seed N] [--count N] [--limit N] [--huge] [{}]", names.join("|"));
+    eprintln!("usage: judge [--seed N] [--count N] [--limit N] [--family NAME] [--huge] [{}]", names.join("|"));
+    eprintln!("       judge --scale [--share N] [--jobs N]");
     ExitCode::FAILURE
 }

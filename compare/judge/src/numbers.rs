@@ -5,11 +5,11 @@
 //! The Rust has one NaN for `+nan.0` and `-nan.0`, so its sign is compared with the text instead. Words that the layout leaves out
 //! must be 0, and memory past the words must be as it was.
 use crate::differences::{listed, rust_number, Called};
-use crate::proved::{self, NUMBER_WORDS};
 use crate::tally::{shown, Count, Tally};
 use crate::Options;
 use item::{Int, Number, Real};
 use num_bigint::BigInt;
+use proved::NUMBER_WORDS;
 use std::str;
 use steel::NumberAnswer;
 
@@ -17,9 +17,9 @@ const FAMILIES: &[&str] = &["numbers", "reals", "short", "plans", "bad", "long"]
 
 pub fn judge(options: &Options) -> Count {
     let mut count = Count::default();
-    for name in FAMILIES {
+    for name in options.wanted(FAMILIES) {
         let mut tally = Tally::new(format!("numbers number call, {name}"));
-        options.each(name, &mut |text| same(&mut tally, text));
+        options.each(name, u64::MAX, &mut |text| same(&mut tally, text));
         count.add(tally.close());
     }
     count
@@ -37,6 +37,7 @@ enum Said {
 
 /// The Rust's answer, or "no number" where it differs as listed, against ours.
 fn same(tally: &mut Tally, text: &[u8]) {
+    tally.text();
     let expected = match str::from_utf8(text) {
         Ok(source) => {
             let called = rust_number(source);

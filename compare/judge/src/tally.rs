@@ -1,22 +1,63 @@
 //! Counts what a comparison finds, prints its first differences and, at its end, one line.
 use std::collections::BTreeMap;
-use std::fmt::Debug;
+use std::fmt::{self, Debug};
+use std::str::FromStr;
 use std::time::Instant;
 
 /// So many differences of a comparison are printed; the others are counted.
 const SHOWN: u64 = 5;
 
-/// How many comparisons passed and failed.
-#[derive(Default)]
+/// What was found so far: comparisons that passed and failed, the texts that they were made on, the single answers compared, how many
+/// of these differ, and how often each listed difference was met.
+#[derive(Clone, Debug, Default, PartialEq)]
 pub struct Count {
     pub passed: u64,
     pub failed: u64,
+    pub texts: u64,
+    pub compared: u64,
+    pub different: u64,
+    pub known: BTreeMap<String, u64>,
 }
 
 impl Count {
     pub fn add(&mut self, other: Count) {
         self.passed += other.passed;
         self.failed += other.failed;
+        self.texts += other.texts;
+        self.compared += other.compared;
+        self.different += other.different;
+        for (name, times) in other.known {
+            *self.known.entry(name).or_default() += times;
+        }
+    }
+}
+
+/// A count is a line of numbers, each with what it counts: `1 passed, 0 failed, 20 texts, 40 compared, 0 different, 3 A1`.
+impl fmt::Display for Count {
+    fn fmt(&self, f: &mut fmt::Formatter<'_>) -> fmt::Result {
+        let Count { passed, failed, texts, compared, different, known } = self;
+        write!(f, "{passed} passed, {failed} failed, {texts} texts, {compared} compared, {different} different")?;
+        known.iter().try_for_each(|(name, times)| write!(f, ", {times} {name}"))
+    }
+}
+
+impl FromStr for Count {
+    type Err = String;
+
+    fn from_str(line: &str) -> Result<Count, String> {
+        let mut count = Count::default();
+        for part in line.split(", ") {
+            let number = part.split_once(' ').and_then(|(number, what)| Some((number.parse().ok()?, what)));
+            match number.ok_or_else(|| line.to_string())? {
+                (number, "passed") => count.passed = number,
+                (number, "failed") => count.failed = number,
+                (number, "texts") => count.texts = number,
+                (number, "compared") => count.compared = number,
+                (number, "different") => count.different = number,
+                (number, name) => drop(count.known.insert(name.to_string(), number)),
+            }
+        }
+        Ok(count)
     }
 }
 
@@ -24,9 +65,7 @@ impl Count {
 pub struct Tally {
     name: String,
     sides: [&'static str; 2],
-    compared: u64,
-    differences: u64,
-    known: BTreeMap<&'static str, u64>,
+    count: Count,
     start: Instant,
 }
 
@@ -37,15 +76,20 @@ impl Tally {
     }
 
     pub fn between(sides: [&'static str; 2], name: impl Into<String>) -> Self {
-        Tally { name: name.into(), sides, compared: 0, differences: 0, known: BTreeMap::new(), start: Instant::now() }
+        Tally { name: name.into(), sides, count: Count::default(), start: Instant::now() }
+    }
+
+    /// Counts a text on which answers are compared.
+    pub fn text(&mut self) {
+        self.count.texts += 1;
     }
 
     /// Compares the two sides' answers for one input. `input` is asked only for a difference.
     pub fn same<T: PartialEq + Debug>(&mut self, left: T, right: T, input: impl FnOnce() -> String) {
-        self.compared += 1;
+        self.count.compared += 1;
         if left != right {
-            self.differences += 1;
-            if self.differences <= SHOWN {
+            self.count.different += 1;
+            if self.count.different <= SHOWN {
                 let [first, second] = self.sides;
                 println!("DIFFERENCE in {}: {}\n    {first}: {left:?}\n    {second}: {right:?}", self.name, input());
             }
@@ -54,17 +98,21 @@ impl Tally {
 
     /// Counts a difference that docs/DIFFERENCES.md lists under this name.
     pub fn know(&mut self, name: &'static str) {
-        *self.known.entry(name).or_default() += 1;
+        match self.count.known.get_mut(name) {
+            Some(times) => *times += 1,
+            None => drop(self.count.known.insert(name.to_string(), 1)),
+        }
     }
 
     /// Prints the comparison's line.
     pub fn close(self) -> Count {
-        let seconds = self.start.elapsed().as_secs_f64();
-        let known: String = self.known.iter().map(|(name, count)| format!(", {name} {count} times")).collect();
-        let Tally { name, compared, differences, .. } = self;
-        println!("{name:36} {compared:>11} compared, {differences} differences{known}, {seconds:.1} s");
-        let failed = u64::from(differences > 0);
-        Count { passed: 1 - failed, failed }
+        let Tally { name, mut count, start, .. } = self;
+        let known: String = count.known.iter().map(|(name, times)| format!(", {name} {times} times")).collect();
+        let (compared, different, seconds) = (count.compared, count.different, start.elapsed().as_secs_f64());
+        println!("{name:36} {compared:>11} compared, {different} differences{known}, {seconds:.1} s");
+        count.failed = u64::from(different > 0);
+        count.passed = 1 - count.failed;
+        count
     }
 }
 

@@ -1,4 +1,5 @@
 // The whole-text call of the crate `lexer`: its answer as a number and two values.
+use flat::put_values;
 use lexer::ReadAnswer;
 ghost use mathlib.Core.Path.{_≡_};
 ghost use mathlib.Core.List.{[], _∷_};
@@ -20,9 +21,6 @@ const NO_MODE: u32 = 25;
 
 // What refusal 20 comes with.
 const LONGEST: u64 = 4_294_967_295;
-
-// How many values an answer has.
-const VALUES: usize = 2;
 
 // An answer: its number and its two values.
 struct Told {
@@ -55,20 +53,9 @@ fn answer(a: ReadAnswer) -> Told
     }
 }
 
-// Writes two values at the front of `values`, where there is room for both.
-fn put_values(values: &mut [u64], first: u64, second: u64)
-    ensures { λ _. ⌜ now (values .exit) ≡ lay (first ∷ second ∷ []) (now (values .entry)) ⌝ }
-{
-    if values.len() < VALUES {
-        return;
-    }
-    values[0] = first;
-    values[1] = second;
-}
-
 // Reads a whole text. `mode` is 0 for plain and 1 for report; `skip` leaves comments out. The items' records, nine words each, and
 // their decoded texts are written from the front of `records` and `text` on. `values` gets how many items and how many bytes of text
-// were written, or the two values of the refusal; with fewer than VALUES words it is left as it was.
+// were written, or the two values of the refusal; where there is no room for both it is left as it was.
 #[no_mangle]
 pub extern "C" fn mihadrena_read(
     source: &[u8],

@@ -5,6 +5,9 @@ pub const HEAD: usize = 22;
 
 // What a head says.
 pub struct Frame {
+    // it is told of the whole-text call, and of the piece calls
+    pub whole: bool,
+    pub pieces: bool,
     // comments are skipped
     pub skip: bool,
     pub mode: u32,
@@ -21,6 +24,11 @@ pub struct Frame {
     pub first: u32,
     pub second: u32,
 }
+
+// What a frame is told of, where that is one of the two alone.
+const WHOLE_ALONE: u8 = 1;
+
+const PIECES_ALONE: u8 = 2;
 
 // A word below this is spelled as a byte; any other as this and its four bytes.
 const ESCAPE: u8 = 255;
@@ -51,6 +59,8 @@ fn four(a: u8, b: u8, c: u8, d: u8) -> u32 {
 // A head, of its bytes.
 pub fn head(b: &[u8; HEAD]) -> Frame {
     Frame {
+        whole: b[2] != PIECES_ALONE,
+        pieces: b[2] != WHOLE_ALONE,
         skip: b[0] == 1,
         mode: wide(b[1]),
         answer: wide(b[3]),
@@ -115,4 +125,20 @@ pub fn same_words(told: &[u8], records: &[u32]) -> bool {
         n = n + 1;
     }
     at == told.len()
+}
+
+// Writes the words spelled, as far as there is room; how many there are.
+pub fn spell_out(told: &[u8], words: &mut [u32]) -> usize {
+    let mut at: usize = 0;
+    let mut n: usize = 0;
+    while n < words.len() {
+        if told.len() <= at {
+            return n;
+        }
+        let word = word_at(told, at);
+        words[n] = word;
+        at = past_word(told, at);
+        n = n + 1;
+    }
+    n
 }

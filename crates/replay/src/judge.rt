@@ -1,7 +1,22 @@
-// What the list tells of a text, against what the proved call answers.
+// What the list tells of a text, against what the proved calls answer.
+use crate::cut;
 use crate::frame::Frame;
 use crate::frame::same_words;
+use cuttings::Cutting;
 use lexer::ReadAnswer;
+
+// What comes of a frame.
+pub enum Verdict {
+    Met,
+    // the whole-text call answers something else
+    Whole,
+    // the piece calls do, handed a byte at a time
+    Bytes,
+    // they do, handed 0 to 4 bytes at a time
+    Pieces,
+    // it tells of more bytes than there are
+    Broken,
+}
 
 // The answers of the whole-text call.
 const SERVED: u32 = 0;
@@ -52,7 +67,57 @@ fn whole(
     same_words(words, records) && texts::equal(memory, text)
 }
 
-// Whether the whole-text call answers what a frame tells. The slices are longer than what the frame has of each.
+// A byte at a time.
+fn bytes() -> Cutting {
+    Cutting {
+        first: 1,
+        low: 1,
+        high: 1,
+    }
+}
+
+// An empty piece, one of a byte, and so on to four bytes, again and again.
+fn mixed() -> Cutting {
+    Cutting {
+        first: 0,
+        low: 0,
+        high: 4,
+    }
+}
+
+// What comes of a frame with the piece calls, if it is told of them.
+fn in_pieces(f: Frame, source: &[u8], words: &[u8], memory: &[u8]) -> Verdict {
+    if !f.pieces {
+        return Verdict::Met;
+    }
+    if !cut::frame(f, source, words, memory, bytes()) {
+        return Verdict::Bytes;
+    }
+    if !cut::frame(f, source, words, memory, mixed()) {
+        return Verdict::Pieces;
+    }
+    Verdict::Met
+}
+
+// What comes of a frame, by the calls that it is told of.
+fn judged(
+    f: Frame,
+    source: &[u8],
+    words: &[u8],
+    memory: &[u8],
+    records: &mut [u32],
+    text: &mut [u8],
+) -> Verdict {
+    if !f.whole {
+        return in_pieces(f, source, words, memory);
+    }
+    if !whole(f, source, words, memory, records, text) {
+        return Verdict::Whole;
+    }
+    in_pieces(f, source, words, memory)
+}
+
+// What comes of a frame. The slices are longer than what it has of each.
 pub fn frame(
     f: Frame,
     source: &[u8],
@@ -60,28 +125,28 @@ pub fn frame(
     memory: &[u8],
     records: &mut [u32],
     text: &mut [u8],
-) -> bool {
+) -> Verdict {
     let n = f.source;
     let spelled = f.words;
     let decoded = f.memory;
     let lent = f.records;
     let bytes = f.text;
     if source.len() < n {
-        return false;
+        return Verdict::Broken;
     }
     if words.len() < spelled {
-        return false;
+        return Verdict::Broken;
     }
     if memory.len() < decoded {
-        return false;
+        return Verdict::Broken;
     }
     if records.len() < lent {
-        return false;
+        return Verdict::Broken;
     }
     if text.len() < bytes {
-        return false;
+        return Verdict::Broken;
     }
-    whole(
+    judged(
         f,
         &source[..n],
         &words[..spelled],

@@ -109,7 +109,8 @@ impl core::error::Error for Error {}
 
 impl core::error::Error for HexError {}
 
-/// A call that was refused. It has changed nothing that it was lent.
+/// A call that was refused. Of a whole text it has changed nothing that it was lent. Reading in pieces, [`Refusal::TooLong`],
+/// [`Refusal::NotUtf8`] and [`Refusal::LongItem`] stop the reading: every later call is refused the same way.
 #[derive(Clone, Copy, Debug, PartialEq, Eq, Hash)]
 pub enum Refusal {
     /// The text exceeds 4,294,967,295 bytes.
@@ -123,6 +124,10 @@ pub enum Refusal {
         /// How many bytes of text memory.
         text: usize,
     },
+    /// In pieces, an item exceeds 4,096 bytes; its start.
+    LongItem(usize),
+    /// A piece after the declared end.
+    AfterEnd,
 }
 
 impl Refusal {
@@ -133,6 +138,8 @@ impl Refusal {
             raw::TOO_LONG => Self::TooLong,
             raw::NOT_UTF8 => Self::NotUtf8(first),
             raw::TOO_FEW => Self::TooFew { records: first, text: second },
+            raw::LONG_ITEM => Self::LongItem(first),
+            raw::AFTER_END => Self::AfterEnd,
             _ => unreachable!("the library refuses these calls for nothing else"),
         }
     }
@@ -144,6 +151,8 @@ impl Refusal {
             Self::TooLong => raw::TOO_LONG,
             Self::NotUtf8(_) => raw::NOT_UTF8,
             Self::TooFew { .. } => raw::TOO_FEW,
+            Self::LongItem(_) => raw::LONG_ITEM,
+            Self::AfterEnd => raw::AFTER_END,
         }
     }
 }
@@ -156,6 +165,8 @@ impl fmt::Display for Refusal {
             Self::TooFew { records, text } => {
                 write!(f, "too little memory, {records} records and {text} text bytes needed")
             }
+            Self::LongItem(start) => write!(f, "item at byte {start} exceeds {} bytes", raw::STATE_BYTES),
+            Self::AfterEnd => write!(f, "piece after the end of the text"),
         }
     }
 }

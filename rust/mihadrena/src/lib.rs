@@ -1,9 +1,10 @@
 //! A proved reader of felling plans: the items of a Scheme text as Steel's lexer reads them, in lent memory.
 //!
 //! The functions behind this crate are proved (crates/ of the repository): every call ends, touches only the memory that it is lent, and
-//! answers what the definitions say. This crate makes a safe interface of them: [`Items`] reads a whole text, [`number`] takes a number
-//! apart. It allocates nothing and depends on nothing but the archive that `rt staticlib exports` writes; `build.rs` looks for it in
-//! the repository's target/staticlib, or in the folder that the environment variable `MIHADRENA_ARCHIVE` names.
+//! answers what the definitions say. This crate makes a safe interface of them: [`Items`] reads a whole text, [`PieceReader`] one that
+//! comes in pieces, and [`number`] takes a number apart. It allocates nothing and depends on nothing but the archive that
+//! `rt staticlib exports` writes; `build.rs` looks for it in the repository's target/staticlib, or in the folder that the environment
+//! variable `MIHADRENA_ARCHIVE` names.
 //!
 //! ```
 //! use mihadrena::{number, Int, Items, Kind, Number, Options, Real, Record};
@@ -33,6 +34,7 @@ mod error;
 mod items;
 mod kind;
 mod number;
+mod pieces;
 #[allow(missing_docs, clippy::unreadable_literal)]
 pub mod raw;
 
@@ -40,4 +42,5 @@ pub use error::{Error, HexError, Refusal};
 pub use items::{needed, Item, Items, Mode, Needed, Options};
 pub use kind::{Kind, Paren, ParenMod};
 pub use number::{number, Decimal, Int, NotNumber, Number, Real, Sign};
+pub use pieces::PieceReader;
 pub use raw::Record;

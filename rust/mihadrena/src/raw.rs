@@ -99,7 +99,10 @@ pub const SERVED: u32 = 0;
 pub const TOO_LONG: u32 = 20;
 pub const NOT_UTF8: u32 = 21;
 pub const TOO_FEW: u32 = 22;
+pub const LONG_ITEM: u32 = 23;
+pub const LITTLE_TEXT: u32 = 24;
 pub const NO_MODE: u32 = 25;
+pub const AFTER_END: u32 = 26;
 pub const BAD_STATE: u32 = 27;
 
 /// The longest text, in bytes.
@@ -111,6 +114,42 @@ pub const REPORT: u32 = 1;
 
 /// How many values `mihadrena_read` writes.
 pub const READ_VALUES: usize = 2;
+
+// What a piece or end call answers beside refusals.
+pub const ITEM: u32 = 10;
+pub const MORE: u32 = 11;
+pub const FINISHED: u32 = 12;
+
+/// The least text memory that a piece or end call asks for.
+pub const PIECE_TEXT: usize = 4096;
+
+/// How many values they write.
+pub const PIECE_VALUES: usize = 2;
+
+// What a state has.
+pub const STATE_BYTES: usize = 4096;
+pub const STATE_WORDS: usize = 18;
+pub const STATE_SIZE: usize = 4240;
+pub const STATE_ALIGN: usize = 8;
+
+/// The state of a reading in pieces, which the caller keeps from call to call; docs/STATE.md says what its words mean.
+#[repr(C)]
+#[derive(Clone, Debug, PartialEq, Eq)]
+pub struct State {
+    /// The bytes of the item that is being read.
+    pub bytes: [u8; STATE_BYTES],
+    pub words: [u64; STATE_WORDS],
+}
+
+/// The values of a piece or end call.
+#[repr(C)]
+#[derive(Clone, Copy, Debug, Default, PartialEq, Eq)]
+pub struct Told {
+    /// How many bytes of the piece were taken.
+    pub taken: u64,
+    /// What a refusal comes with; else 0.
+    pub place: u64,
+}
 
 // What `mihadrena_number` answers beside refusals.
 pub const A_NUMBER: u32 = 0;
@@ -175,11 +214,16 @@ pub const CODE_CUT: u32 = 0x110001;
 pub const CODE_END: u32 = 0x110002;
 
 const _: () = assert!(size_of::<Record>() == RECORD_WORDS * size_of::<u32>());
+const _: () = assert!(size_of::<State>() == STATE_SIZE && align_of::<State>() == STATE_ALIGN);
+const _: () = assert!(size_of::<Told>() == PIECE_VALUES * size_of::<u64>());
 const _: () = assert!(size_of::<Parts>() == NUMBER_WORDS * size_of::<u64>());
 
 #[rustfmt::skip]
 extern "C" {
     pub fn mihadrena_read(source: *const u8, source_length: usize, mode: u32, skip_comments: bool, records: *mut u32, records_length: usize, text: *mut u8, text_length: usize, values: *mut u64, values_length: usize) -> u32;
+    pub fn mihadrena_open(mode: u32, skip_comments: bool, bytes: *mut u8, bytes_length: usize, words: *mut u64, words_length: usize) -> u32;
+    pub fn mihadrena_piece(bytes: *mut u8, bytes_length: usize, words: *mut u64, words_length: usize, piece: *const u8, piece_length: usize, text: *mut u8, text_length: usize, record: *mut u32, record_length: usize, values: *mut u64, values_length: usize) -> u32;
+    pub fn mihadrena_end(bytes: *mut u8, bytes_length: usize, words: *mut u64, words_length: usize, text: *mut u8, text_length: usize, record: *mut u32, record_length: usize, values: *mut u64, values_length: usize) -> u32;
     pub fn mihadrena_text_mark(source: *const u8, source_length: usize, text: *const u8, text_length: usize, text_source: u32, start: u32, end: u32) -> u32;
     pub fn mihadrena_number(text: *const u8, text_length: usize, words: *mut u64, words_length: usize) -> u32;
     pub fn mihadrena_good_bytes(text: *const u8, text_length: usize) -> usize;

@@ -1,4 +1,5 @@
 //! The declarations of `mihadrena::raw` are those of include/mihadrena.h: every constant, every struct's fields, every function.
+use mihadrena::raw;
 use std::collections::BTreeMap;
 
 const HEADER: &str = include_str!("../../../include/mihadrena.h");
@@ -57,6 +58,7 @@ fn every_constant_is_the_headers() {
 /// A type of C as Rust writes it.
 fn rust_type(c: &str) -> &str {
     match c.trim() {
+        "uint8_t" => "u8",
         "uint32_t" => "u32",
         "uint64_t" => "u64",
         "size_t" => "usize",
@@ -71,19 +73,32 @@ fn rust_type(c: &str) -> &str {
     }
 }
 
-/// `const uint8_t *text` as `text: *const u8`.
+/// `const uint8_t *text` as `text: *const u8`, and `uint8_t bytes[MIHADRENA_STATE_BYTES]` as `bytes: [u8; STATE_BYTES]`.
 fn rust_parameter(c: &str) -> String {
     let c = c.trim();
-    let at = c.rfind(|letter: char| letter != '_' && !letter.is_alphanumeric()).expect("a type and a name") + 1;
-    format!("{}: {}", &c[at..], rust_type(&c[..at]))
+    if let Some((one, length)) = c.strip_suffix(']').and_then(|c| c.split_once("[MIHADRENA_")) {
+        let (name, element) = declared(one);
+        return format!("{name}: [{element}; {length}]");
+    }
+    let (name, kind) = declared(c);
+    format!("{name}: {kind}")
 }
 
-/// The header's functions, but for the one that is written out there.
+/// The name that C declares, and its type as Rust writes it.
+fn declared(c: &str) -> (&str, &str) {
+    let at = c.rfind(|letter: char| letter != '_' && !letter.is_alphanumeric()).expect("a type and a name") + 1;
+    (&c[at..], rust_type(&c[..at]))
+}
+
+/// The text without the functions that are written out in the header.
+fn without_inline(code: &str) -> String {
+    let mut parts = code.split("static inline");
+    let first = parts.next().expect("a text").to_string();
+    parts.fold(first, |before, inline| before + inline.split_once("\n}\n").expect("its end").1)
+}
+
 fn header_functions() -> Declared {
-    let code = code(HEADER);
-    let (before, inline) = code.split_once("static inline").expect("mihadrena_text is written out");
-    let behind = inline.split_once("\n}\n").expect("its end").1;
-    let declarations = [before, behind].concat();
+    let declarations = without_inline(&code(HEADER));
     let mut functions = Declared::new();
     for declaration in declarations.split(';') {
         let Some(paren) = declaration.find('(').filter(|_| declaration.ends_with(')')) else { continue };
@@ -112,7 +127,7 @@ fn raw_functions() -> Declared {
 #[test]
 fn every_function_is_the_headers() {
     let functions = raw_functions();
-    assert!(functions.len() >= 8, "the functions are found");
+    assert!(functions.len() >= 11, "the functions are found");
     assert_eq!(functions, header_functions());
 }
 
@@ -132,9 +147,20 @@ fn raw_fields(name: &str) -> Vec<String> {
 
 #[test]
 fn every_struct_is_the_headers() {
-    for (c, rust) in [("record", "Record"), ("figure", "Figure"), ("real", "Real"), ("parts", "Parts")] {
+    let structs = [
+        ("record", "Record"),
+        ("state", "State"),
+        ("told", "Told"),
+        ("figure", "Figure"),
+        ("real", "Real"),
+        ("parts", "Parts"),
+    ];
+    for (c, rust) in structs {
         assert_eq!(header_fields(c), raw_fields(rust), "{rust}");
     }
-    assert_eq!(size_of::<mihadrena::raw::Record>(), 4 * mihadrena::raw::RECORD_WORDS);
-    assert_eq!(size_of::<mihadrena::raw::Parts>(), 8 * mihadrena::raw::NUMBER_WORDS);
+    assert_eq!(size_of::<raw::Record>(), 4 * raw::RECORD_WORDS);
+    assert_eq!(size_of::<raw::State>(), raw::STATE_BYTES + 8 * raw::STATE_WORDS);
+    assert_eq!((size_of::<raw::State>(), align_of::<raw::State>()), (raw::STATE_SIZE, raw::STATE_ALIGN));
+    assert_eq!(size_of::<raw::Told>(), 8 * raw::PIECE_VALUES);
+    assert_eq!(size_of::<raw::Parts>(), 8 * raw::NUMBER_WORDS);
 }

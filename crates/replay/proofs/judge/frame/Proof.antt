@@ -21,29 +21,29 @@ returns-4 c = search needs
 returns-5 : tie.Need-returns-5
 returns-5 c = search needs
 
-slice-aggregate-whole : tie.Need-slice-aggregate-whole
-slice-aggregate-whole c = sym (length-take-le _ _ (omega arith))
+slice-aggregate-judged : tie.Need-slice-aggregate-judged
+slice-aggregate-judged c = sym (length-take-le _ _ (omega arith))
 
-slice-aggregate-whole-2 : tie.Need-slice-aggregate-whole-2
-slice-aggregate-whole-2 c = sym (length-take-le _ _ (omega arith))
+slice-aggregate-judged-2 : tie.Need-slice-aggregate-judged-2
+slice-aggregate-judged-2 c = sym (length-take-le _ _ (omega arith))
 
-slice-aggregate-whole-3 : tie.Need-slice-aggregate-whole-3
-slice-aggregate-whole-3 c = sym (length-take-le _ _ (omega arith))
+slice-aggregate-judged-3 : tie.Need-slice-aggregate-judged-3
+slice-aggregate-judged-3 c = sym (length-take-le _ _ (omega arith))
 
-slice-relend-prefix-whole : tie.Need-slice-relend-prefix-whole
-slice-relend-prefix-whole c = search needs
+slice-relend-prefix-judged : tie.Need-slice-relend-prefix-judged
+slice-relend-prefix-judged c = search needs
 
-slice-aggregate-whole-4 : tie.Need-slice-aggregate-whole-4
-slice-aggregate-whole-4 c = sym (length-take-le _ _ (omega arith))
+slice-aggregate-judged-4 : tie.Need-slice-aggregate-judged-4
+slice-aggregate-judged-4 c = sym (length-take-le _ _ (omega arith))
 
-slice-relend-prefix-whole-2 : tie.Need-slice-relend-prefix-whole-2
-slice-relend-prefix-whole-2 c = search needs
+slice-relend-prefix-judged-2 : tie.Need-slice-relend-prefix-judged-2
+slice-relend-prefix-judged-2 c = search needs
 
-slice-aggregate-whole-5 : tie.Need-slice-aggregate-whole-5
-slice-aggregate-whole-5 c = sym (length-take-le _ _ (omega arith))
+slice-aggregate-judged-5 : tie.Need-slice-aggregate-judged-5
+slice-aggregate-judged-5 c = sym (length-take-le _ _ (omega arith))
 
-whole-requires : tie.Need-whole-requires
-whole-requires c κs = search needs
+judged-requires : tie.Need-judged-requires
+judged-requires c κs = search needs
 
 same-length : tie.Need-same-length
 same-length c = search needs
@@ -63,14 +63,14 @@ frame-spec =
     returns-3
     returns-4
     returns-5
-    slice-aggregate-whole
-    slice-aggregate-whole-2
-    slice-aggregate-whole-3
-    slice-relend-prefix-whole
-    slice-aggregate-whole-4
-    slice-relend-prefix-whole-2
-    slice-aggregate-whole-5
-    whole-requires
+    slice-aggregate-judged
+    slice-aggregate-judged-2
+    slice-aggregate-judged-3
+    slice-relend-prefix-judged
+    slice-aggregate-judged-4
+    slice-relend-prefix-judged-2
+    slice-aggregate-judged-5
+    judged-requires
     same-length
     same-length-2
     returns-6)

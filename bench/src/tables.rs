@@ -1,0 +1,148 @@
+//! The tables, in the form of docs/SPEED.md. A row is printed as soon as it is measured.
+use crate::measure::{instructions, times, Times};
+use crate::readers::{self, Reader, CHECKS, NUMBERS, READERS};
+use crate::texts::{Text, MEGABYTE, TEXTS};
+use crate::Wanted;
+use std::fs;
+use std::path::PathBuf;
+
+pub fn print(wanted: &Wanted) {
+    println!("Memory is cleared before the first reading and not between two; no call clears any.\n");
+    let texts: Vec<Written> = wanted.texts.iter().map(|text| Written::of(text, text.name, wanted.bytes)).collect();
+    let readers: Vec<&Reader> = READERS.iter().chain(CHECKS).collect();
+    println!("## Instructions a byte\n");
+    head(&["text", "bytes", "items"], &readers);
+    texts.iter().for_each(|text| counts(text, &readers));
+    println!("\n## MB/s (ns an item), best of nine readings\n");
+    head(&["text"], &readers);
+    texts.iter().for_each(|text| speeds(text, &readers));
+    println!("\n## The number call: instructions a byte of the numbers, ns a number\n");
+    head(&["text", "numbers", "bytes of each"], &NUMBERS.iter().collect::<Vec<_>>());
+    texts.iter().for_each(numbers);
+    if !wanted.growth.is_empty() {
+        growth(&wanted.growth);
+    }
+}
+
+/// A text in a file, for the processes that read it.
+struct Written {
+    name: String,
+    text: String,
+    file: PathBuf,
+}
+
+impl Written {
+    fn of(text: &Text, name: impl Into<String>, bytes: usize) -> Written {
+        let folder = PathBuf::from("target/bench");
+        fs::create_dir_all(&folder).expect("a folder");
+        let file = folder.join(format!("{}-{bytes}", text.name));
+        let made = (text.make)(bytes);
+        fs::write(&file, &made).expect("a file");
+        Written { name: name.into(), text: made, file }
+    }
+
+    /// How many items the text has.
+    fn items(&self) -> u64 {
+        (READERS[0].ready)(&self.text)().expect("a text that is served")
+    }
+}
+
+fn head(first: &[&str], readers: &[&Reader]) {
+    let columns: Vec<&str> = first.iter().copied().chain(readers.iter().map(|reader| reader.title)).collect();
+    println!("| {} |", columns.join(" | "));
+    println!("|{}", "---|".repeat(columns.len()));
+}
+
+/// What stands for a reader that is refused: piece calls stop at an item of more than 4,096 bytes.
+const STOPS: &str = " stops |";
+
+/// The instructions a byte of each reader. All that are not refused must have met the same items.
+fn counts(text: &Written, readers: &[&Reader]) {
+    let items = text.items();
+    let row: String = readers
+        .iter()
+        .map(|reader| {
+            let Some(found) = instructions(reader, &text.file) else {
+                return STOPS.to_string();
+            };
+            assert!(!reads(reader) || found.items == items, "{} meets other items of {}", reader.name, text.name);
+            format!(" {:.1} |", found.count as f64 / text.text.len() as f64)
+        })
+        .collect();
+    println!("| {} | {} | {} |{row}", text.name, grouped(text.text.len() as u64), grouped(items));
+}
+
+/// The speed of each reader; of the Rust as published, which finds its names interned from the second reading on, the first's too.
+fn speeds(text: &Written, readers: &[&Reader]) {
+    let items = text.items();
+    let row: String = readers
+        .iter()
+        .map(|reader| {
+            let Some(Times { first, best }) = times(reader, &text.file) else {
+                return STOPS.to_string();
+            };
+            let speed = |seconds: f64| short(text.text.len() as f64 / seconds / 1e6);
+            let each = reads(reader) && items > 0;
+            let each = if each { format!(" ({})", short(best * 1e9 / items as f64)) } else { String::new() };
+            let cold = if reader.name == "rust" { format!(", first {}", speed(first)) } else { String::new() };
+            format!(" {}{each}{cold} |", speed(best))
+        })
+        .collect();
+    println!("| {} |{row}", text.name);
+}
+
+/// Whether a reader has items.
+fn reads(reader: &Reader) -> bool {
+    READERS.iter().any(|one| one.name == reader.name)
+}
+
+/// The number calls on a text's numbers, if it has any.
+fn numbers(text: &Written) {
+    let numbers = readers::numbers_of(&text.text);
+    if numbers.is_empty() {
+        return;
+    }
+    let bytes: usize = numbers.iter().map(|number| number.len()).sum();
+    let row: String = NUMBERS
+        .iter()
+        .map(|reader| {
+            let found = instructions(reader, &text.file).zip(times(reader, &text.file));
+            let (count, time) = found.expect("a number is not refused");
+            format!(" {:.1}, {:.0} ns |", count.count as f64 / bytes as f64, time.best * 1e9 / numbers.len() as f64)
+        })
+        .collect();
+    let each = bytes as f64 / numbers.len() as f64;
+    println!("| {} | {} | {each:.1} |{row}", text.name, grouped(numbers.len() as u64));
+}
+
+/// The readers whose growth is shown.
+const GROWING: &[&str] = &["ample", "counted", "pieces-4096", "rust", "bare"];
+
+/// The instructions a byte of the plan, by its size in megabytes.
+fn growth(sizes: &[usize]) {
+    println!("\n## How cost grows: the plan, instructions a byte\n");
+    let readers: Vec<&Reader> = READERS.iter().filter(|reader| GROWING.contains(&reader.name)).collect();
+    head(&["MB", "bytes", "items"], &readers);
+    for size in sizes {
+        counts(&Written::of(&TEXTS[0], size.to_string(), size * MEGABYTE), &readers);
+    }
+}
+
+/// A figure with three digits or so.
+fn short(figure: f64) -> String {
+    if figure < 100.0 {
+        format!("{figure:.1}")
+    } else {
+        grouped(figure.round() as u64)
+    }
+}
+
+/// A number with its thousands set apart.
+fn grouped(number: u64) -> String {
+    let digits = number.to_string();
+    let first = digits.len() % 3;
+    let groups = digits.as_bytes()[first..].chunks(3).map(|group| std::str::from_utf8(group).expect("digits"));
+    let groups: Vec<&str> =
+        Some(&digits[..first]).filter(|group| !group.is_empty()).into_iter().chain(groups).collect();
+    groups.join(",")
+}

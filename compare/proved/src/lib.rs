@@ -1,0 +1,156 @@
+//! The proved functions (crates/exports), each behind a safe function. A slice is passed as a pointer and a length.
+
+extern "C" {
+    fn mihadrena_good_bytes(text: *const u8, length: usize) -> usize;
+    fn mihadrena_code_at(text: *const u8, length: usize, at: usize) -> u32;
+    fn mihadrena_next_at(text: *const u8, length: usize, at: usize) -> usize;
+    fn mihadrena_is_blank(code: u32) -> bool;
+    fn mihadrena_put_char(code: u32, text: *mut u8, length: usize) -> usize;
+    fn mihadrena_number(text: *const u8, length: usize, words: *mut u64, count: usize) -> u32;
+    fn mihadrena_read(
+        source: *const u8,
+        length: usize,
+        mode: u32,
+        skip: bool,
+        records: *mut u32,
+        words: usize,
+        text: *mut u8,
+        bytes: usize,
+        values: *mut u64,
+        count: usize,
+    ) -> u32;
+    fn mihadrena_open(mode: u32, skip: bool, bytes: *mut u8, room: usize, words: *mut u64, count: usize) -> u32;
+    fn mihadrena_piece(
+        bytes: *mut u8,
+        room: usize,
+        words: *mut u64,
+        count: usize,
+        piece: *const u8,
+        length: usize,
+        text: *mut u8,
+        text_length: usize,
+        record: *mut u32,
+        record_length: usize,
+        values: *mut u64,
+        values_length: usize,
+    ) -> u32;
+    fn mihadrena_end(
+        bytes: *mut u8,
+        room: usize,
+        words: *mut u64,
+        count: usize,
+        text: *mut u8,
+        text_length: usize,
+        record: *mut u32,
+        record_length: usize,
+        values: *mut u64,
+        values_length: usize,
+    ) -> u32;
+}
+
+/// What `code_at` answers where no character stands.
+pub const BAD: u32 = 0x110000;
+pub const CUT: u32 = 0x110001;
+pub const END: u32 = 0x110002;
+
+pub fn good_bytes(text: &[u8]) -> usize {
+    unsafe { mihadrena_good_bytes(text.as_ptr(), text.len()) }
+}
+
+pub fn code_at(text: &[u8], at: usize) -> u32 {
+    unsafe { mihadrena_code_at(text.as_ptr(), text.len(), at) }
+}
+
+pub fn next_at(text: &[u8], at: usize) -> usize {
+    unsafe { mihadrena_next_at(text.as_ptr(), text.len(), at) }
+}
+
+pub fn is_blank(code: u32) -> bool {
+    unsafe { mihadrena_is_blank(code) }
+}
+
+pub fn put_char(code: u32, text: &mut [u8]) -> usize {
+    unsafe { mihadrena_put_char(code, text.as_mut_ptr(), text.len()) }
+}
+
+/// 01's numbers of the refusals, which `number` and `read` answer.
+pub const TOO_LONG: u32 = 20;
+pub const NOT_UTF8: u32 = 21;
+pub const TOO_FEW: u32 = 22;
+pub const NO_MODE: u32 = 25;
+
+/// How many words `number` writes, and what else it answers: a number, none, 01's error 8.
+pub const NUMBER_WORDS: usize = 27;
+pub const A_NUMBER: u32 = 0;
+pub const NO_NUMBER: u32 = 1;
+pub const ZERO_DENOMINATOR: u32 = 8;
+
+pub fn number(text: &[u8], words: &mut [u64]) -> u32 {
+    unsafe { mihadrena_number(text.as_ptr(), text.len(), words.as_mut_ptr(), words.len()) }
+}
+
+/// The words of a record, and what else `read` answers: the items were written.
+pub const RECORD_WORDS: usize = 9;
+pub const SERVED: u32 = 0;
+
+pub fn read(source: &[u8], mode: u32, skip: bool, records: &mut [u32], text: &mut [u8], values: &mut [u64]) -> u32 {
+    let (words, bytes, count) = (records.len(), text.len(), values.len());
+    let (records, text, values) = (records.as_mut_ptr(), text.as_mut_ptr(), values.as_mut_ptr());
+    unsafe { mihadrena_read(source.as_ptr(), source.len(), mode, skip, records, words, text, bytes, values, count) }
+}
+
+/// What a piece state has.
+pub const STATE_BYTES: usize = 4096;
+pub const STATE_WORDS: usize = 18;
+
+pub fn open(mode: u32, skip: bool, bytes: &mut [u8], words: &mut [u64]) -> u32 {
+    unsafe { mihadrena_open(mode, skip, bytes.as_mut_ptr(), bytes.len(), words.as_mut_ptr(), words.len()) }
+}
+
+/// What `piece` and `end` answer beside refusals.
+pub const ITEM: u32 = 10;
+pub const MORE: u32 = 11;
+pub const FINISHED: u32 = 12;
+
+pub fn piece(
+    bytes: &mut [u8],
+    words: &mut [u64],
+    piece: &[u8],
+    text: &mut [u8],
+    record: &mut [u32],
+    values: &mut [u64],
+) -> u32 {
+    unsafe {
+        mihadrena_piece(
+            bytes.as_mut_ptr(),
+            bytes.len(),
+            words.as_mut_ptr(),
+            words.len(),
+            piece.as_ptr(),
+            piece.len(),
+            text.as_mut_ptr(),
+            text.len(),
+            record.as_mut_ptr(),
+            record.len(),
+            values.as_mut_ptr(),
+            values.len(),
+        )
+    }
+}
+
+pub fn end(bytes: &mut [u8], words: &mut [u64], text: &mut [u8], record: &mut [u32], values: &mut [u64]) -> u32 {
+    unsafe {
+        mihadrena_end(
+            bytes.as_mut_ptr(),
+            bytes.len(),
+            words.as_mut_ptr(),
+            words.len(),
+            text.as_mut_ptr(),
+            text.len(),
+            record.as_mut_ptr(),
+            record.len(),
+            values.as_mut_ptr(),
+            values.len(),
+        )
+    }
+}

@@ -1,0 +1,3 @@
+-- What the piece calls leave, over slices and numbers alone.
+pub mod Piece
+pub mod Held

@@ -1,0 +1,259 @@
+// The piece calls of the crate `lent`, over slices and numbers alone, which is all that C and Rust pass. A state is what a caller lends as
+// STATE_BYTES bytes and STATE_WORDS words (docs/STATE.md); what a call gives is a number, an item's record goes to lent words, and so do
+// the count of bytes taken and a refusal's place.
+use lent::Told;
+use lent::Words;
+use lent::calls::end_words;
+use lent::calls::open_words;
+use lent::calls::piece_words;
+use meaning::records::WORDS;
+use meaning::records::put;
+use pieces::Got;
+ghost use mathlib.Core.Path.{_≡_};
+ghost use mathlib.Core.List.{List, [], _∷_};
+ghost use Prim.Native.Nat.{ℕ, _≤_};
+ghost use lib.ListN.{length};
+ghost use Rattle.laws.specs.Lent.{written};
+ghost use Rattle.chars.specs.Encode.{lay};
+ghost use Rattle.items.specs.Items.{recordWords};
+ghost use Rattle.pieces.specs.Calls.{textAfter};
+ghost use Rattle.piecewise.specs.Answers.{whatOf};
+ghost use Rattle.lent.specs.Calls.{said};
+ghost use Rattle.flat.specs.Piece.{listed, wordsIn, stateWords, isState, opened, startNumber, openLeft, left, gives, whatNumber, whatPlace, recordAfter, isRoom, pieceLeft, endLeft, memory};
+
+// What a piece or end call gives beside refusals.
+const AN_ITEM: u32 = 10;
+
+const MORE: u32 = 11;
+
+const FINISHED: u32 = 12;
+
+// What opening answers beside refusals.
+const OPENED: u32 = 0;
+
+// Document 01's refusals 22 and 27.
+const TOO_FEW: u32 = 22;
+
+const BAD_STATE: u32 = 27;
+
+// What a state has.
+const STATE_BYTES: usize = 4096;
+
+const STATE_WORDS: usize = 18;
+
+// How many values are written.
+const VALUES: usize = 2;
+
+// What a call needs at most of records: refusal 22 comes with it.
+const ONE_RECORD: u64 = 1;
+
+// Whether there are as many bytes and words as a state has.
+fn is_state(bytes: usize, words: usize) -> bool
+    ensures { λ r. ⌜ r ≡ isState bytes words ⌝ }
+{
+    if bytes != STATE_BYTES {
+        return false;
+    }
+    words == STATE_WORDS
+}
+
+// Whether there is room for a record and for two values.
+fn is_room(item: usize, values: usize) -> bool
+    ensures { λ r. ⌜ r ≡ isRoom item values ⌝ }
+{
+    if item < WORDS {
+        return false;
+    }
+    VALUES <= values
+}
+
+// The words of a state.
+fn words_in(words: &[u64]) -> Words
+    requires { ⌜ length (now words) ≡ stateWords ⌝ }
+    ensures { λ r. ⌜ r ≡ wordsIn (now (words .entry)) ⌝ }
+{
+    Words {
+        mode: words[0],
+        skip: words[1],
+        ended: words[2],
+        stage: words[3],
+        start: words[4],
+        which: words[5],
+        detail: words[6],
+        one: words[7],
+        two: words[8],
+        at: words[9],
+        count: words[10],
+        need: words[11],
+        low: words[12],
+        high: words[13],
+        code: words[14],
+        from: words[15],
+        to: words[16],
+        len: words[17],
+    }
+}
+
+// Writes a state's words.
+fn put_words(words: &mut [u64], w: Words)
+    requires { ⌜ length (now words) ≡ stateWords ⌝ }
+    ensures { λ _. ⌜ now (words .exit) ≡ written (listed w) (now (words .entry)) ⌝ }
+{
+    words[0] = w.mode;
+    words[1] = w.skip;
+    words[2] = w.ended;
+    words[3] = w.stage;
+    words[4] = w.start;
+    words[5] = w.which;
+    words[6] = w.detail;
+    words[7] = w.one;
+    words[8] = w.two;
+    words[9] = w.at;
+    words[10] = w.count;
+    words[11] = w.need;
+    words[12] = w.low;
+    words[13] = w.high;
+    words[14] = w.code;
+    words[15] = w.from;
+    words[16] = w.to;
+    words[17] = w.len;
+}
+
+// What opening answers.
+fn start_number(got: Got) -> u32
+    ensures { λ r. ⌜ ((text : List ℕ) → r ≡ startNumber (whatOf got text)) ⌝ }
+{
+    match got {
+        Got::Item(_record) => OPENED,
+        Got::More => OPENED,
+        Got::Finished => OPENED,
+        Got::Refused(number, _place) => number,
+    }
+}
+
+// What is given, as a number.
+fn number(got: Got) -> u32
+    ensures { λ r. ⌜ ((text : List ℕ) → r ≡ whatNumber (whatOf got text)) ⌝ }
+{
+    match got {
+        Got::Item(_record) => AN_ITEM,
+        Got::More => MORE,
+        Got::Finished => FINISHED,
+        Got::Refused(number, _place) => number,
+    }
+}
+
+// A refusal's place.
+fn place(got: Got) -> u64
+    ensures { λ r. ⌜ ((text : List ℕ) → r ≡ whatPlace (whatOf got text)) ⌝ }
+{
+    match got {
+        Got::Item(_record) => 0,
+        Got::More => 0,
+        Got::Finished => 0,
+        Got::Refused(_number, place) => place as u64,
+    }
+}
+
+// Writes the record of an item.
+fn put_item(item: &mut [u32], got: Got)
+    requires { ⌜ recordWords ≤ length (now item) ⌝ }
+    ensures { λ _. ⌜ ((text : List ℕ) → now (item .exit) ≡ recordAfter (whatOf got text) (now (item .entry))) ⌝ }
+{
+    match got {
+        Got::Item(record) => put(item, record),
+        Got::More => (),
+        Got::Finished => (),
+        Got::Refused(_number, _place) => (),
+    }
+}
+
+// Writes two values at the front of `values`, where there is room for both.
+pub fn put_values(values: &mut [u64], first: u64, second: u64)
+    ensures { λ _. ⌜ now (values .exit) ≡ lay (first ∷ second ∷ []) (now (values .entry)) ⌝ }
+{
+    if values.len() < VALUES {
+        return;
+    }
+    values[0] = first;
+    values[1] = second;
+}
+
+// Passes on what a call of `lent` told: the state's words, an item's record, the two values; answers what is given, as a number.
+fn tell(told: Told, words: &mut [u64], item: &mut [u32], values: &mut [u64]) -> u32
+    requires { ⌜ (length (now words) ≡ stateWords) × (recordWords ≤ length (now item)) ⌝ }
+    ensures { λ r. ⌜ ((buf text old : List ℕ) → left r (memory buf (now (words .exit)) (textAfter (whatOf (told .got) text) old) (now (item .exit)) (now (values .exit)))
+        ≡ gives (memory buf (now (words .entry)) old (now (item .entry)) (now (values .entry))) (said told buf text)) ⌝ }
+{
+    let after = told.words;
+    let got = told.got;
+    put_words(words, after);
+    put_item(item, got);
+    put_values(values, told.taken as u64, place(got));
+    number(got)
+}
+
+// Opens a state, written to `buf` and `words`: `mode` is 0 for plain and 1 for report; `skip` leaves comments out. A mode that is none is
+// refused with 25, and the state is a plain one. BAD_STATE if these are not the bytes and words of a state; then nothing is written.
+pub fn open(mode: u32, skip: bool, buf: &mut [u8], words: &mut [u64]) -> u32
+    ensures { λ r. ⌜ opened r (now (buf .exit)) (now (words .exit)) ≡ openLeft mode skip (now (buf .entry)) (now (words .entry)) ⌝ }
+{
+    if !is_state(buf.len(), words.len()) {
+        return BAD_STATE;
+    }
+    let told = open_words(mode, skip, buf);
+    let after = told.words;
+    let got = told.got;
+    put_words(words, after);
+    start_number(got)
+}
+
+// Reads on in a piece: takes the fewest bytes of it that make an item ready, or all of them. `values` gets how many were taken, and a
+// refusal's place or 0. An item's record goes to `item`, its text to the front of `text`; nothing else is written there. TOO_FEW with
+// ONE_RECORD and 0 if `item` or `values` are too few, and BAD_STATE if these are not the bytes and words of a state: then nothing else
+// is written.
+pub fn piece(
+    buf: &mut [u8],
+    words: &mut [u64],
+    piece: &[u8],
+    text: &mut [u8],
+    item: &mut [u32],
+    values: &mut [u64],
+) -> u32
+    ensures { λ r. ⌜ left r (memory (now (buf .exit)) (now (words .exit)) (now (text .exit)) (now (item .exit)) (now (values .exit)))
+        ≡ pieceLeft (memory (now (buf .entry)) (now (words .entry)) (now (text .entry)) (now (item .entry)) (now (values .entry))) (now (piece .entry)) ⌝ }
+{
+    if !is_room(item.len(), values.len()) {
+        put_values(values, ONE_RECORD, 0);
+        return TOO_FEW;
+    }
+    if !is_state(buf.len(), words.len()) {
+        put_values(values, 0, 0);
+        return BAD_STATE;
+    }
+    let told = piece_words(words_in(words), buf, piece, text);
+    tell(told, words, item, values)
+}
+
+// Declares the end of the text: gives the next item, or says that all were given. It writes as a piece call does.
+pub fn end(
+    buf: &mut [u8],
+    words: &mut [u64],
+    text: &mut [u8],
+    item: &mut [u32],
+    values: &mut [u64],
+) -> u32
+    ensures { λ r. ⌜ left r (memory (now (buf .exit)) (now (words .exit)) (now (text .exit)) (now (item .exit)) (now (values .exit)))
+        ≡ endLeft (memory (now (buf .entry)) (now (words .entry)) (now (text .entry)) (now (item .entry)) (now (values .entry))) ⌝ }
+{
+    if !is_room(item.len(), values.len()) {
+        put_values(values, ONE_RECORD, 0);
+        return TOO_FEW;
+    }
+    if !is_state(buf.len(), words.len()) {
+        put_values(values, 0, 0);
+        return BAD_STATE;
+    }
+    let told = end_words(words_in(words), buf, text);
+    tell(told, words, item, values)
+}

@@ -1,0 +1,161 @@
+// What the list tells of a text, against what the piece calls give under a cutting.
+use crate::frame::Frame;
+use crate::frame::spell_out;
+use cuttings::Cutting;
+use cuttings::Reading;
+use cuttings::part;
+use cuttings::record_at;
+use items::Record;
+use items::kinds::NUMBER;
+use meaning::records::IN_MEMORY;
+use meaning::records::IN_SOURCE;
+use meaning::records::WORDS;
+
+// The words or bytes of each memory.
+const ROOM: usize = 8192;
+
+// The answer of a frame that tells no stop.
+const SERVED: u32 = 0;
+
+// The text source of an item with no text.
+const NO_TEXT: u32 = 0;
+
+// How many bytes a character has that starts with this byte.
+fn width(first: u8) -> usize {
+    if first < 0x80 {
+        return 1;
+    }
+    if first < 0xE0 {
+        return 2;
+    }
+    if first < 0xF0 {
+        return 3;
+    }
+    4
+}
+
+// How many bytes have been taken when the item that ends at a place is given: the character beyond it has been read, or all.
+fn ready_at(source: &[u8], end: usize) -> usize {
+    if source.len() <= end {
+        return source.len();
+    }
+    std::num::wrapping_add_usize(end, width(source[end]))
+}
+
+// Where the piece calls have the text of an item that is told: in the text memory, if there is one.
+fn text_source(told: Record) -> u32 {
+    if told.kind == NUMBER {
+        return IN_MEMORY;
+    }
+    if told.source == NO_TEXT {
+        return NO_TEXT;
+    }
+    IN_MEMORY
+}
+
+// Whether two records have the same kind, detail, extent and place.
+fn same_item(a: Record, b: Record) -> bool {
+    a.kind == b.kind
+        && a.detail == b.detail
+        && a.start == b.start
+        && a.end == b.end
+        && a.from == b.from
+        && a.to == b.to
+}
+
+// Whether a text is that of an item that is told. A number's is its extent.
+fn same_text(told: Record, text: &[u8], source: &[u8], memory: &[u8]) -> bool {
+    if told.kind == NUMBER {
+        return texts::equal(text, part(source, told.start as usize, told.end as usize));
+    }
+    if told.source == IN_SOURCE {
+        return texts::equal(text, part(source, told.first as usize, told.past as usize));
+    }
+    texts::equal(text, part(memory, told.first as usize, told.past as usize))
+}
+
+// Whether an item is the one told: its words, its text, and the byte that it came with.
+fn met(
+    told: Record,
+    given: Record,
+    text: &[u8],
+    count: usize,
+    source: &[u8],
+    memory: &[u8],
+) -> bool {
+    same_item(told, given)
+        && given.source == text_source(told)
+        && given.first == 0
+        && same_text(told, text, source, memory)
+        && count == ready_at(source, told.end as usize)
+}
+
+// Whether the items given are those told, of which there are so many words.
+fn all_met(
+    told: &[u32],
+    source: &[u8],
+    memory: &[u8],
+    items: usize,
+    records: &[u32],
+    counts: &[usize],
+    texts: &[u8],
+) -> bool {
+    let mut at: usize = 0;
+    let mut n: usize = 0;
+    while n < items {
+        if counts.len() <= n {
+            return false;
+        }
+        let count = counts[n];
+        let given = record_at(records, n);
+        let next = std::num::wrapping_add_usize(at, given.past as usize);
+        if !met(
+            record_at(told, n),
+            given,
+            part(texts, at, next),
+            count,
+            source,
+            memory,
+        ) {
+            return false;
+        }
+        at = next;
+        n = n + 1;
+    }
+    true
+}
+
+// Whether a reading ends as a frame tells: with all items given, or with a stop and its place.
+fn ended(f: Frame, r: Reading) -> bool {
+    if !r.over {
+        return false;
+    }
+    if !r.kept {
+        return false;
+    }
+    if f.answer == SERVED {
+        return r.refusal == 0;
+    }
+    r.refusal == f.answer && r.place == f.first as usize
+}
+
+// Whether the piece calls give under a cutting what a frame tells.
+pub fn frame(f: Frame, source: &[u8], words: &[u8], memory: &[u8], cutting: Cutting) -> bool {
+    let mut told = [0u32; ROOM];
+    let mut records = [0u32; ROOM];
+    let mut counts = [0usize; ROOM];
+    let mut texts = [0u8; ROOM];
+    let n = spell_out(words, &mut told);
+    let r = cuttings::read(
+        source,
+        cutting,
+        f.mode,
+        f.skip,
+        &mut records,
+        &mut counts,
+        &mut texts,
+    );
+    ended(f, r)
+        && n / WORDS == r.items
+        && all_met(&told, source, memory, r.items, &records, &counts, &texts)
+}
