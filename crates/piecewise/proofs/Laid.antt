@@ -1,19 +1,28 @@
--- The bytes of a character laid into the buffer one by one.
-use Prim.Native.Nat.{ℕ, suc, _+_, _/_, _%_, _≤_, _<_}
+-- The bytes of a character laid into the buffer one by one, and those of a run at once.
+use Prim.Native.Nat.{ℕ, suc, _+_, _-_, _/_, _%_, _≤_, _<_}
 use mathlib.Core.Path.{_≡_, refl, sym, ap, _∙_}
-use mathlib.Core.List.{List, [], _∷_, _++_, append-assoc}
-use lib.ListN.{length, take, drop, set}
+use mathlib.Core.List.{List, [], _∷_, _++_, append-assoc, append-nil}
+use lib.ListN.{length, take, drop, set, length-drop, drop-of-length-le}
 use lib.Seq.{sets, sets-eq, drop-drop}
 use native.Mathlib.Omega.{arith}
 use native.Mathlib.Numerals.{add-one}
+use borrow.Rule.Slice.PartMut.{putMid}
+use Rattle.laws.specs.Lent.{written}
+use Rattle.laws.proofs.Lent.{part-rest}
 use Rattle.chars.specs.Encode.{width, utf8, one, two, three, four}
 use Rattle.chars.proofs.Width.{utf8-one, utf8-two, utf8-three, utf8-four, width-utf8}
 use Rattle.pieces.specs.Calls.{laidAt}
 
-laid-sets : (n : ℕ) (w buf : List ℕ) → n + length w ≤ length buf → sets buf n w ≡ laidAt n w buf
+pub laid-sets : (n : ℕ) (w buf : List ℕ) → n + length w ≤ length buf → sets buf n w ≡ laidAt n w buf
 laid-sets n w buf h =
     sets-eq w buf n h ∙ append-assoc (take n buf) w (drop (n + length w) buf)
     ∙ ap (λ (l : List ℕ). take n buf ++ (w ++ l)) (sym (drop-drop (length w) n buf))
+
+-- `&mut buf[n..]`, lent to a callee that writes w from its start on
+pub part-laid : (n : ℕ) (w buf : List ℕ) {last : List ℕ} → last ≡ written w (take (length buf - n) (drop n buf)) → putMid n (length buf - n) buf last ≡ laidAt n w buf
+part-laid n w buf e =
+    let past : length (drop n buf) ≤ length buf - n = omega (arith, length-drop n buf) in
+    rw (e, part-rest buf n, drop-of-length-le (drop n buf) past, append-nil (written w (drop n buf)))
 
 module _ (buf : List ℕ) (n c : ℕ) (room : n + width c ≤ length buf) where
   laid-as : (w : List ℕ) → utf8 c ≡ w → sets buf n w ≡ laidAt n (utf8 c) buf

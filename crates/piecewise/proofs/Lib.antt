@@ -4,5 +4,6 @@ pub mod Gives
 pub mod Shown
 pub mod Told
 pub mod Sounds
+pub mod Passes
 pub mod Steps
 pub mod Replies

@@ -1,3 +1,4 @@
 pub mod Answers
 pub mod Copied
 pub mod Inner
+pub mod Passed

@@ -5,6 +5,8 @@ use crate::ends::ends;
 use crate::ends::extent;
 use crate::ends::give_second;
 use crate::limits::*;
+use crate::passing::ahead;
+use crate::passing::pass;
 use crate::turn::stop;
 use crate::turn::turn;
 use items::Phase;
@@ -50,7 +52,8 @@ fn refuse(m: Marks, number: u32, place: usize) -> Pieced
     }
 }
 
-// The bytes of a piece one by one, until something is given or all are taken.
+// The bytes of a piece, until something is given or all are taken: a run of those that leave the reader where it stands, then one by a
+// turn.
 fn feed(m: Marks, buf: &mut [u8], piece: &[u8], text: &mut [u8]) -> Pieced
     requires { ⌜ Sound m (now buf) (now text) ⌝ }
     ensures { λ r. ⌜ (pieced r (now (buf .exit)) (now (text .exit)) ≡ calls.feedOf (stateOf m (now (buf .entry))) (now (piece .entry)) 0)
@@ -59,18 +62,29 @@ fn feed(m: Marks, buf: &mut [u8], piece: &[u8], text: &mut [u8]) -> Pieced
     let mut marks = m;
     let mut i = 0;
     while i < piece.len() {
-        let turned = turn(marks, buf, text, piece[i]);
+        let run = ahead(marks, piece, i);
+        let at = i + run;
+        let here = pass(marks, buf, &piece[i..at]);
+        if at == piece.len() {
+            return Pieced {
+                marks: here,
+                taken: at,
+                got: Got::More,
+            };
+        }
+        let taken = at + 1;
+        let turned = turn(here, buf, text, piece[at]);
         let next = turned.marks;
         let got = turned.got;
         if !is_more(got) {
             return Pieced {
                 marks: next,
-                taken: i + 1,
+                taken,
                 got,
             };
         }
         marks = next;
-        i += 1;
+        i = taken;
     }
     Pieced {
         marks,

@@ -37,7 +37,7 @@ fn past(a: usize, b: usize) -> usize
 }
 
 // Copies the bytes of raw to the start of the text memory.
-fn copy_all(raw: &[u8], text: &mut [u8])
+pub(crate) fn copy_all(raw: &[u8], text: &mut [u8])
     requires { ⌜ length (now raw) ≤ length (now text) ⌝ }
     ensures { λ _. ⌜ now (text .exit) ≡ written (now (raw .entry)) (now (text .entry)) ⌝ }
 {

@@ -7,4 +7,5 @@ mod give;
 mod lay;
 mod limits;
 pub mod opening;
+mod passing;
 mod turn;

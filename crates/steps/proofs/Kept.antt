@@ -1,5 +1,5 @@
 -- A run of characters that leave an item in its phase: the scan answers past it what it answers before it.
-use Prim.Native.Nat.{ℕ, zero, suc, _+_, _≤_, _<_}
+use Prim.Native.Nat.{ℕ, zero, suc, _+_, _-_, _≤_, _<_}
 use mathlib.Core.Path.{_≡_, refl, sym, ap, _∙_}
 use mathlib.Core.Bool.{Bool, true, false, not, _&&_}
 use mathlib.Core.List.{List, [], _∷_, _++_}
@@ -137,11 +137,11 @@ module _ (s : List ℕ) (report : Bool) (a : ℕ) (p : Phase) where
   pub run-on : (at : ℕ) → a ≤ at → answer s report a p at ≡ answer s report a p (at + span (keeps p) (drop at s))
   run-on at h = steps (span (keeps p) (drop at s)) at h (omega arith)
 
-pub passes : (s : List ℕ) (at : ℕ) (p : Phase) (r : ℕ) → at ≤ length s → r ≡ at + span (keeps p) (drop at s) → Passes s p at r
-passes s at p r h e = (
-  omega arith,
+pub passes : (s : List ℕ) (at : ℕ) (p : Phase) (r : ℕ) → at ≤ length s → at ≤ r → r ≤ at + span (keeps p) (drop at s) → Passes s p at r
+passes s at p r h low high = (
+  low,
   omega (arith, span-le (keeps p) (drop at s), length-drop at s),
-  λ report a k. run-on s report a p at k ∙ ap (answer s report a p) (sym e),
+  λ report a k. let e : at + (r - at) ≡ r = omega arith in steps s report a p (r - at) at k (omega arith) ∙ ap (answer s report a p) e,
 )
 
 -- ---- an item that is at its end

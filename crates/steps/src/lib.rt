@@ -1,7 +1,7 @@
 // The machine's code: what one character does in each phase of an item, what the end of the text makes of a phase, and the scan of an
 // item from its first character to its end. Document 01 and the Rust say what an item is; crate `items` has their definition and the
 // machine, and each contract here cites the machine. Nothing is decoded: a step finds where the item ends and what it turned out to be.
-// Internal: crates `lexer` and `pieces` stand on it.
+// Internal: crates `lexer` and `piecewise` stand on it.
 use items::Outcome;
 
 mod comments;
@@ -19,6 +19,7 @@ pub use machine::finish;
 pub use machine::first_phase;
 pub use machine::scan;
 pub use machine::step;
+pub use runs::ascii_run;
 
 // What an item turned out to be, and where it ends.
 pub struct Scanned {

@@ -10,7 +10,7 @@ ghost use lib.ListN.{length, drop};
 ghost use Rattle.laws.specs.Quoted.{within};
 ghost use Rattle.laws.specs.Texts.{span};
 ghost use Rattle.items.specs.Classes.{delimOf};
-ghost use Rattle.steps.specs.Runs.{ofWord, ofRun};
+ghost use Rattle.steps.specs.Runs.{ofWord, ofRun, keeps};
 ghost use Rattle.steps.specs.Scan.{Passes};
 
 // Below it a byte is a character of ASCII.
@@ -95,10 +95,9 @@ fn number_end(s: &[u8], at: usize) -> usize
     i
 }
 
-// Past the run of characters of ASCII that leave an item in its phase.
-fn ascii_run(s: &[u8], at: usize, phase: Phase) -> usize
-    requires { ⌜ at ≤ length (now s) ⌝ }
-    ensures { λ r. ⌜ Passes (now (s .entry)) phase at r ⌝ }
+// Past a run of characters of ASCII that leave an item in its phase.
+pub fn ascii_run(s: &[u8], at: usize, phase: Phase) -> usize
+    ensures { λ r. ⌜ (at ≤ r) × (r ≤ at + span (keeps phase) (drop at (now (s .entry)))) ⌝ }
 {
     match phase {
         Phase::InLine => plain_end(s, at, b'\n', b'\n'),

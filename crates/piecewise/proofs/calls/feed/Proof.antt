@@ -1,17 +1,21 @@
 -- The invariant: from the state and the place that the loop has come to, the rest of the piece gives what all of it gives from the first,
--- and the state is within its bounds and reads on. The measure is what is left of the piece.
-use Prim.Native.Nat.{_-_, _≤_}
+-- and the state is within its bounds and reads on. A run that is passed keeps it (Passes), and so does a turn. The measure is what is left
+-- of the piece.
+use Prim.Native.Nat.{_+_, _-_, _≤_}
 use mathlib.Core.Path.{_≡_, refl, sym, ap, _∙_, subst}
-use lib.ListN.{length, drop}
+use lib.ListN.{length, drop, length-take}
 use native.Mathlib.Omega.{arith}
 use borrow.Author.Tests.{not-true, not-false}
 use borrow.Author.Needs.{needs}
 use denote.Ref.{now}
+use Rattle.pieces.specs.Calls.{feedOf}
 use Rattle.piecewise.specs.Answers.{stateOf}
-use Rattle.pieces.specs.Calls.{marks, feedOf}
 use Rattle.piecewise.specs.Inner.{Sound}
+use Rattle.piecewise.specs.Passed.{kept}
+use Rattle.piecewise.proofs.Passes.{passes, run-within}
 use Rattle.piecewise.proofs.Replies.{fed-on, fed-off, fed-all, answers}
 use Rattle.piecewise.proofs.Sounds.{turn-sound}
+use Rattle.piecewise.proofs.Told.{sane}
 use Rattle.piecewise.proofs.calls.feed.Statement.{statement}
 use Rattle.piecewise.proofs.calls.feed.Tie as tie
 
@@ -25,44 +29,90 @@ abbrev μ-loop : tie.MeasureT-loop
 loop-holds : tie.Need-loop-holds Inv-loop μ-loop
 loop-holds c = (omega arith, c .before .before .before .pre, refl, refl)
 
-shared-slice-read-turn : tie.Need-shared-slice-read-turn Inv-loop μ-loop
-shared-slice-read-turn c = omega arith
+ahead-requires : tie.Need-ahead-requires Inv-loop μ-loop
+ahead-requires c κs =
+    let l = c .before .loop in
+    let k = sane (stateOf (l .marks) (l .buf)) (l .inv .1 .bounded) (l .inv .1 .calm) in (k .numbers .small, omega (arith, k .numbers .far))
 
-turn-requires : tie.Need-turn-requires Inv-loop μ-loop
-turn-requires c κs = c .before .before .before .before .loop .inv .1
+add-at : tie.Need-add-at Inv-loop μ-loop
+add-at c = omega (arith, run-within (kept (c .before .before .loop .marks .stage)) (now (c .before .before .before .before .before .before .args .piece)) (c .before .before .loop .i) (c .ahead .result) (c .before .before .loop .inv .0) (c .ahead .ensures .0))
 
-is-more-requires : tie.Need-is-more-requires Inv-loop μ-loop
-is-more-requires c κs = search needs
+sub-pass : tie.Need-sub-pass Inv-loop μ-loop
+sub-pass c = omega arith
 
-add-t19 : tie.Need-add-t19 Inv-loop μ-loop
-add-t19 c = omega arith
+part-pass-start : tie.Need-part-pass-start Inv-loop μ-loop
+part-pass-start c = omega (arith, run-within (kept (c .before .before .before .loop .marks .stage)) (now (c .before .before .before .before .before .before .before .args .piece)) (c .before .before .before .loop .i) (c .before .ahead .result) (c .before .before .before .loop .inv .0) (c .before .ahead .ensures .0))
+
+part-pass-end : tie.Need-part-pass-end Inv-loop μ-loop
+part-pass-end c = omega (arith, run-within (kept (c .before .before .before .loop .marks .stage)) (now (c .before .before .before .before .before .before .before .args .piece)) (c .before .before .before .loop .i) (c .before .ahead .result) (c .before .before .before .loop .inv .0) (c .before .ahead .ensures .0))
+
+pass-requires : tie.Need-pass-requires Inv-loop μ-loop
+pass-requires c κs = (
+  c .before .before .before .before .loop .inv .1 .full,
+  omega (arith, c .before .before .ahead .ensures .1, length-take (c .before .before .before .before .loop .i + c .before .before .ahead .result - c .before .before .before .before .loop .i) (drop (c .before .before .before .before .loop .i) (now (c .before .before .before .before .before .before .before .before .args .piece)))),
+  omega (arith, c .before .before .ahead .ensures .2, length-take (c .before .before .before .before .loop .i + c .before .before .ahead .result - c .before .before .before .before .loop .i) (drop (c .before .before .before .before .loop .i) (now (c .before .before .before .before .before .before .before .before .args .piece)))),
+)
 
 same-length : tie.Need-same-length Inv-loop μ-loop
 same-length c = search needs
 
 same-length-2 : tie.Need-same-length-2 Inv-loop μ-loop
-same-length-2 c = c .before .before .before .before .before .before .before .turn .kept .1 .1 .0 ∙ ap length (c .before .before .before .before .before .before .before .before .before .before .before .before .loop .inv .2)
+same-length-2 c = ap length (c .before .before .before .before .before .before .before .before .loop .inv .2)
 
 returns : tie.Need-returns Inv-loop μ-loop
-returns c = let f = fed-off (stateOf (c .before .before .before .before .before .before .before .before .before .before .before .before .loop .marks) (c .before .before .before .before .before .before .before .before .before .before .before .before .loop .buf)) (now (c .before .before .before .before .before .before .before .before .before .before .before .before .before .before .before .before .args .piece)) (c .before .before .before .before .before .before .before .before .before .before .before .before .loop .i) (c .before .before .before .before .before .before .before .before .before .before .before .loop-test .taken) _ _ _ (c .before .before .before .before .before .before .before .before .before .before .before .before .loop .text) (c .before .before .before .before .before .before .before .turn .result .got) (sym (c .before .is-more .ensures) ∙ not-true _ (c .if1 .taken)) (c .before .before .before .before .before .before .before .turn .ensures .0) (c .before .before .before .before .before .before .before .turn .ensures .1) in answers _ _ _ _ _ (f .0 ∙ c .before .before .before .before .before .before .before .before .before .before .before .before .loop .inv .3) (f .1) (c .before .before .before .before .before .before .before .before .before .before .before .before .loop .inv .2)
+returns c =
+    let l = c .before .before .before .before .before .before .before .before .loop in
+    let there = passes (l .marks) (l .buf) (l .text) (now (c .before .before .before .before .before .before .before .before .before .before .before .before .args .piece)) (l .i) (c .before .before .before .before .before .before .ahead .result) (l .inv .1) (c .before .before .before .before .before .before .ahead .ensures) _ _ (c .before .before .before .pass .ensures) in
+    answers _ _ _ _ _ (fed-all _ (now (c .before .before .before .before .before .before .before .before .before .before .before .before .args .piece)) (l .i + c .before .before .before .before .before .before .ahead .result) (omega arith) ∙ there .1 ∙ l .inv .3) refl (l .inv .2)
 
-add-i : tie.Need-add-i Inv-loop μ-loop
-add-i c = omega arith
+add-taken : tie.Need-add-taken Inv-loop μ-loop
+add-taken c = omega (arith, run-within (kept (c .before .before .before .before .before .before .before .before .loop .marks .stage)) (now (c .before .before .before .before .before .before .before .before .before .before .before .before .args .piece)) (c .before .before .before .before .before .before .before .before .loop .i) (c .before .before .before .before .before .before .ahead .result) (c .before .before .before .before .before .before .before .before .loop .inv .0) (c .before .before .before .before .before .before .ahead .ensures .0))
 
-loop-less : tie.Need-loop-less Inv-loop μ-loop
-loop-less c = omega arith
+shared-slice-read-turn : tie.Need-shared-slice-read-turn Inv-loop μ-loop
+shared-slice-read-turn c = omega (arith, run-within (kept (c .before .before .before .before .before .before .before .before .before .before .before .loop .marks .stage)) (now (c .before .before .before .before .before .before .before .before .before .before .before .before .before .before .before .args .piece)) (c .before .before .before .before .before .before .before .before .before .before .before .loop .i) (c .before .before .before .before .before .before .before .before .before .ahead .result) (c .before .before .before .before .before .before .before .before .before .before .before .loop .inv .0) (c .before .before .before .before .before .before .before .before .before .ahead .ensures .0))
 
-loop-again : tie.Need-loop-again Inv-loop μ-loop
-loop-again c = let f = fed-on (stateOf (c .before .before .before .before .before .before .before .before .before .before .before .before .loop .marks) (c .before .before .before .before .before .before .before .before .before .before .before .before .loop .buf)) (now (c .before .before .before .before .before .before .before .before .before .before .before .before .before .before .before .before .args .piece)) (c .before .before .before .before .before .before .before .before .before .before .before .before .loop .i) (c .before .before .before .before .before .before .before .before .before .before .before .loop-test .taken) _ _ _ (c .before .before .before .before .before .before .before .before .before .before .before .before .loop .text) (c .before .before .before .before .before .before .before .turn .result .got) (sym (c .before .is-more .ensures) ∙ not-false _ (c .if1 .left)) (c .before .before .before .before .before .before .before .turn .ensures .0) (c .before .before .before .before .before .before .before .turn .ensures .1) in (omega arith, subst (Sound _ _) (sym (f .2)) (turn-sound (c .before .before .before .before .before .before .before .before .before .before .before .before .loop .marks) (c .before .before .before .before .before .before .before .before .before .before .before .before .loop .buf) (c .before .before .before .before .before .before .before .before .before .before .before .before .loop .text) (c .before .before .before .before .before .before .before .before .before .before .before .before .loop .inv .1) _ _ _ (f .0)), f .2 ∙ c .before .before .before .before .before .before .before .before .before .before .before .before .loop .inv .2, f .1 ∙ c .before .before .before .before .before .before .before .before .before .before .before .before .loop .inv .3)
+turn-requires : tie.Need-turn-requires Inv-loop μ-loop
+turn-requires c κs =
+    let l = c .before .before .before .before .before .before .before .before .before .before .before .loop in
+    let there = passes (l .marks) (l .buf) (l .text) (now (c .before .before .before .before .before .before .before .before .before .before .before .before .before .before .before .args .piece)) (l .i) (c .before .before .before .before .before .before .before .before .before .ahead .result) (l .inv .1) (c .before .before .before .before .before .before .before .before .before .ahead .ensures) _ _ (c .before .before .before .before .before .before .pass .ensures) in
+    there .0
+
+is-more-requires : tie.Need-is-more-requires Inv-loop μ-loop
+is-more-requires c κs = search needs
 
 same-length-3 : tie.Need-same-length-3 Inv-loop μ-loop
-same-length-3 c = search needs
+same-length-3 c = c .before .before .before .before .before .before .before .turn .kept .1 .0 ∙ c .before .before .before .before .before .before .before .before .before .before .before .before .before .before .pass .kept .1 .0 ∙ c .before .before .before .before .before .before .before .before .before .before .before .before .before .before .before .before .before .before .before .loop .inv .1 .full ∙ sym (c .before .before .before .before .before .before .before .before .before .before .before .before .before .before .before .before .before .before .before .before .before .before .before .pre .full)
 
 same-length-4 : tie.Need-same-length-4 Inv-loop μ-loop
-same-length-4 c = search needs
+same-length-4 c = c .before .before .before .before .before .before .before .turn .kept .1 .1 .0 ∙ ap length (c .before .before .before .before .before .before .before .before .before .before .before .before .before .before .before .before .before .before .before .loop .inv .2)
 
 returns-2 : tie.Need-returns-2 Inv-loop μ-loop
-returns-2 c = answers _ _ _ _ _ (fed-all (stateOf (c .before .loop .marks) (c .before .loop .buf)) (now (c .before .before .before .before .before .args .piece)) (c .before .loop .i) (c .loop-test .left) ∙ c .before .loop .inv .3) refl (c .before .loop .inv .2)
+returns-2 c =
+    let l = c .before .before .before .before .before .before .before .before .before .before .before .before .before .before .before .before .before .before .before .loop in
+    let there = passes (l .marks) (l .buf) (l .text) (now (c .before .before .before .before .before .before .before .before .before .before .before .before .before .before .before .before .before .before .before .before .before .before .before .args .piece)) (l .i) (c .before .before .before .before .before .before .before .before .before .before .before .before .before .before .before .before .before .ahead .result) (l .inv .1) (c .before .before .before .before .before .before .before .before .before .before .before .before .before .before .before .before .before .ahead .ensures) _ _ (c .before .before .before .before .before .before .before .before .before .before .before .before .before .before .pass .ensures) in
+    let inside = run-within (kept (c .before .before .before .before .before .before .before .before .before .before .before .before .before .before .before .before .before .before .before .loop .marks .stage)) (now (c .before .before .before .before .before .before .before .before .before .before .before .before .before .before .before .before .before .before .before .before .before .before .before .args .piece)) (c .before .before .before .before .before .before .before .before .before .before .before .before .before .before .before .before .before .before .before .loop .i) (c .before .before .before .before .before .before .before .before .before .before .before .before .before .before .before .before .before .ahead .result) (c .before .before .before .before .before .before .before .before .before .before .before .before .before .before .before .before .before .before .before .loop .inv .0) (c .before .before .before .before .before .before .before .before .before .before .before .before .before .before .before .before .before .ahead .ensures .0) in
+    let f = fed-off _ (now (c .before .before .before .before .before .before .before .before .before .before .before .before .before .before .before .before .before .before .before .before .before .before .before .args .piece)) (l .i + c .before .before .before .before .before .before .before .before .before .before .before .before .before .before .before .before .before .ahead .result) (omega arith) _ _ _ (l .text) (c .before .before .before .before .before .before .before .turn .result .got) (sym (c .before .is-more .ensures) ∙ not-true _ (c .if2 .taken)) (c .before .before .before .before .before .before .before .turn .ensures .0) (c .before .before .before .before .before .before .before .turn .ensures .1) in
+    answers _ _ _ _ _ (f .0 ∙ there .1 ∙ l .inv .3) (f .1) (l .inv .2)
+
+loop-less : tie.Need-loop-less Inv-loop μ-loop
+loop-less c = omega (arith, run-within (kept (c .before .before .before .before .before .before .before .before .before .before .before .before .before .before .before .before .before .before .before .loop .marks .stage)) (now (c .before .before .before .before .before .before .before .before .before .before .before .before .before .before .before .before .before .before .before .before .before .before .before .args .piece)) (c .before .before .before .before .before .before .before .before .before .before .before .before .before .before .before .before .before .before .before .loop .i) (c .before .before .before .before .before .before .before .before .before .before .before .before .before .before .before .before .before .ahead .result) (c .before .before .before .before .before .before .before .before .before .before .before .before .before .before .before .before .before .before .before .loop .inv .0) (c .before .before .before .before .before .before .before .before .before .before .before .before .before .before .before .before .before .ahead .ensures .0))
+
+loop-again : tie.Need-loop-again Inv-loop μ-loop
+loop-again c =
+    let l = c .before .before .before .before .before .before .before .before .before .before .before .before .before .before .before .before .before .before .before .loop in
+    let there = passes (l .marks) (l .buf) (l .text) (now (c .before .before .before .before .before .before .before .before .before .before .before .before .before .before .before .before .before .before .before .before .before .before .before .args .piece)) (l .i) (c .before .before .before .before .before .before .before .before .before .before .before .before .before .before .before .before .before .ahead .result) (l .inv .1) (c .before .before .before .before .before .before .before .before .before .before .before .before .before .before .before .before .before .ahead .ensures) _ _ (c .before .before .before .before .before .before .before .before .before .before .before .before .before .before .pass .ensures) in
+    let inside = run-within (kept (c .before .before .before .before .before .before .before .before .before .before .before .before .before .before .before .before .before .before .before .loop .marks .stage)) (now (c .before .before .before .before .before .before .before .before .before .before .before .before .before .before .before .before .before .before .before .before .before .before .before .args .piece)) (c .before .before .before .before .before .before .before .before .before .before .before .before .before .before .before .before .before .before .before .loop .i) (c .before .before .before .before .before .before .before .before .before .before .before .before .before .before .before .before .before .ahead .result) (c .before .before .before .before .before .before .before .before .before .before .before .before .before .before .before .before .before .before .before .loop .inv .0) (c .before .before .before .before .before .before .before .before .before .before .before .before .before .before .before .before .before .ahead .ensures .0) in
+    let f = fed-on _ (now (c .before .before .before .before .before .before .before .before .before .before .before .before .before .before .before .before .before .before .before .before .before .before .before .args .piece)) (l .i + c .before .before .before .before .before .before .before .before .before .before .before .before .before .before .before .before .before .ahead .result) (omega arith) _ _ _ (l .text) (c .before .before .before .before .before .before .before .turn .result .got) (sym (c .before .is-more .ensures) ∙ not-false _ (c .if2 .left)) (c .before .before .before .before .before .before .before .turn .ensures .0) (c .before .before .before .before .before .before .before .turn .ensures .1) in
+    (omega arith, subst (Sound _ _) (sym (f .2)) (turn-sound _ _ _ (there .0) _ _ _ (f .0)), f .2 ∙ l .inv .2, f .1 ∙ there .1 ∙ l .inv .3)
+
+same-length-5 : tie.Need-same-length-5 Inv-loop μ-loop
+same-length-5 c = search needs
+
+same-length-6 : tie.Need-same-length-6 Inv-loop μ-loop
+same-length-6 c = search needs
+
+returns-3 : tie.Need-returns-3 Inv-loop μ-loop
+returns-3 c = answers _ _ _ _ _ (fed-all (stateOf (c .before .loop .marks) (c .before .loop .buf)) (now (c .before .before .before .before .before .args .piece)) (c .before .loop .i) (c .loop-test .left) ∙ c .before .loop .inv .3) refl (c .before .loop .inv .2)
 
 pub feed-spec : {M : Type 1} → statement M
 feed-spec =
@@ -71,16 +121,24 @@ feed-spec =
     Inv-loop
     μ-loop
     loop-holds
-    shared-slice-read-turn
-    turn-requires
-    is-more-requires
-    add-t19
+    ahead-requires
+    add-at
+    sub-pass
+    part-pass-start
+    part-pass-end
+    pass-requires
     same-length
     same-length-2
     returns
-    add-i
-    loop-less
-    loop-again
+    add-taken
+    shared-slice-read-turn
+    turn-requires
+    is-more-requires
     same-length-3
     same-length-4
-    returns-2)
+    returns-2
+    loop-less
+    loop-again
+    same-length-5
+    same-length-6
+    returns-3)

@@ -1,20 +1,22 @@
--- In each phase the run is that of the phase's characters (Kept); in a phase that has none nothing is passed.
+-- In each phase the run is that of the phase's characters; in a phase that has none nothing is passed.
 use borrow.Author.Needs.{needs}
 use native.Mathlib.Omega.{arith}
-use Prim.Native.Nat.{ℕ, _+_}
-use mathlib.Core.Path.{_≡_, refl, sym, ap, _∙_, subst}
-use mathlib.Core.Bool.{Bool}
+use Prim.Native.Nat.{ℕ, _+_, _≤_}
+use mathlib.Core.Path.{_≡_, sym, ap, _∙_}
+use mathlib.Core.List.{List}
 use lib.ListN.{drop}
 use denote.Ref.{now}
 use Rattle.laws.specs.Quoted.{code}
 use Rattle.laws.specs.Texts.{span}
 use Rattle.texts.specs.Runs.{plain}
 use Rattle.items.specs.declared.Phase.{Phase}
-use Rattle.items.specs.declared.Phase.the-variants as ph
-use Rattle.steps.specs.Scan.{Passes}
-use Rattle.steps.proofs.Kept.{passes}
+use Rattle.steps.specs.Runs.{keeps}
 use Rattle.steps.proofs.runs.ascii_run.Statement.{statement}
 use Rattle.steps.proofs.runs.ascii_run.Tie as tie
+
+-- a run that is as long as the phase's
+upto : (p q : Phase) → q ≡ p → (at : ℕ) (l : List ℕ) {r : ℕ} → r ≡ at + span (keeps q) l → (at ≤ r) × (r ≤ at + span (keeps p) l)
+upto p q e at l h = let f : span (keeps q) l ≡ span (keeps p) l = ap (λ (x : Phase). span (keeps x) l) e in (omega arith, omega arith)
 
 enum-told : tie.Need-enum-told
 enum-told c = search needs
@@ -50,44 +52,25 @@ number-end-requires : tie.Need-number-end-requires
 number-end-requires c κs = search needs
 
 returns : tie.Need-returns
-returns c =
-    let a = c .before .before .before .before in
-    let f = a .args in
-    subst (λ (p : Phase). Passes (now (f .s)) p (f .at) (c .plain-end .result)) (sym (c .before .enum-told .given .1))
-    (passes (now (f .s)) (f .at) ph.InLine (c .plain-end .result) (a .pre) (c .plain-end .ensures))
+returns c = upto _ _ (sym (c .before .enum-told .given .1)) _ _ (c .plain-end .ensures)
 
 returns-2 : tie.Need-returns-2
-returns-2 c =
-    let a = c .before .before .before .before in
-    let f = a .args in
-    subst (λ (p : Phase). Passes (now (f .s)) p (f .at) (c .plain-end2 .result)) (sym (c .before .enum-told2 .given .1))
-    (passes (now (f .s)) (f .at) _ (c .plain-end2 .result) (a .pre) (c .plain-end2 .ensures))
+returns-2 c = upto _ _ (sym (c .before .enum-told2 .given .1)) _ _ (c .plain-end2 .ensures)
 
 returns-3 : tie.Need-returns-3
 returns-3 c =
-    let a = c .before .before .before .before .before .before in
-    let f = a .args in
-    let k = c .before .before .before .phase .given .0 .0 in
-    subst (λ (p : Phase). Passes (now (f .s)) p (f .at) (c .plain-end3 .result)) (sym (c .before .before .before .phase .given .1))
-    (passes (now (f .s)) (f .at) (ph.Quoted k) (c .plain-end3 .result) (a .pre)
-    (c .plain-end3 .ensures ∙ ap (λ (d : ℕ). f .at + span (plain d (code "\\")) (drop (f .at) (now (f .s)))) (c .before .delimiter .ensures)))
+    let f = c .before .before .before .before .before .before .args in
+    upto _ _ (sym (c .before .before .before .phase .given .1)) _ _
+    (c .plain-end3 .ensures ∙ ap (λ (d : ℕ). f .at + span (plain d (code "\\")) (drop (f .at) (now (f .s)))) (c .before .delimiter .ensures))
 
 returns-4 : tie.Need-returns-4
-returns-4 c =
-    let a = c .before .before .before .before in
-    let f = a .args in
-    subst (λ (p : Phase). Passes (now (f .s)) p (f .at) (c .word-end .result)) (sym (c .before .enum-told3 .given .1))
-    (passes (now (f .s)) (f .at) ph.InWord (c .word-end .result) (a .pre) (c .word-end .ensures))
+returns-4 c = upto _ _ (sym (c .before .enum-told3 .given .1)) _ _ (c .word-end .ensures)
 
 returns-5 : tie.Need-returns-5
-returns-5 c =
-    let a = c .before .before .before .before in
-    let f = a .args in
-    subst (λ (p : Phase). Passes (now (f .s)) p (f .at) (c .number-end .result)) (sym (c .before .enum-told4 .given .1))
-    (passes (now (f .s)) (f .at) ph.InRun (c .number-end .result) (a .pre) (c .number-end .ensures))
+returns-5 c = upto _ _ (sym (c .before .enum-told4 .given .1)) _ _ (c .number-end .ensures)
 
 returns-6 : tie.Need-returns-6
-returns-6 c = (omega arith, c .before .before .pre, λ report a k. refl)
+returns-6 c = (omega arith, omega arith)
 
 pub ascii-run-spec : {M : Type 1} → statement M
 ascii-run-spec =

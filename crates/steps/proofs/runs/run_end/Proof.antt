@@ -2,6 +2,8 @@
 use borrow.Author.Needs.{needs}
 use native.Mathlib.Omega.{arith}
 use mathlib.Core.Path.{refl}
+use denote.Ref.{now}
+use Rattle.steps.proofs.Kept.{passes}
 use Rattle.steps.proofs.runs.run_end.Statement.{statement}
 use Rattle.steps.proofs.runs.run_end.Tie as tie
 
@@ -18,7 +20,9 @@ ascii-run-requires : tie.Need-ascii-run-requires
 ascii-run-requires c κs = search needs
 
 returns-3 : tie.Need-returns-3
-returns-3 c = c .ascii-run .ensures
+returns-3 c =
+    let a = c .before .before .before .before .before in
+    passes (now (a .args .s)) (a .args .at) (a .args .phase) (c .ascii-run .result) (a .pre) (c .ascii-run .ensures .0) (c .ascii-run .ensures .1)
 
 pub run-end-spec : {M : Type 1} → statement M
 run-end-spec = tie.close (tie.spec returns shared-slice-read-if2 returns-2 ascii-run-requires returns-3)

@@ -1,0 +1,82 @@
+// The bytes of a piece that leave the reader where it stands, passed at once: most bytes of a word, a number, a string or a comment, and
+// most blanks. Each does what a turn does.
+use crate::give::copy_all;
+use crate::limits::*;
+use crate::opening::marks_at;
+use pieces::Marks;
+use pieces::Stage;
+use steps::ascii_run;
+use texts::blank_end;
+ghost use mathlib.Core.Path.{_≡_};
+ghost use Prim.Native.Nat.{_+_, _≤_, _<_};
+ghost use lib.ListN.{length, drop};
+ghost use Rattle.laws.specs.Texts.{span};
+ghost use Rattle.items.specs.Whole.{limit};
+ghost use Rattle.piecewise.specs.Answers.{stateOf};
+ghost use Rattle.piecewise.specs.Passed.{kept, passed};
+
+// The lesser of two numbers.
+fn fewer(a: usize, b: usize) -> usize
+    ensures { λ r. ⌜ (r ≤ a) × (r ≤ b) ⌝ }
+{
+    if a < b {
+        return a;
+    }
+    b
+}
+
+// How many bytes of the piece, from a place on, leave the reader at a stage.
+fn kept_count(stage: Stage, piece: &[u8], from: usize) -> usize
+    ensures { λ r. ⌜ r ≤ span (kept stage) (drop from (now (piece .entry))) ⌝ }
+{
+    match stage {
+        Stage::Idle => blank_end(piece, from) - from,
+        Stage::Busy(_start, phase) => ascii_run(piece, from, phase) - from,
+        _ => 0,
+    }
+}
+
+// How many bytes of the piece, from a place on, may be passed at once: none within a character.
+pub(crate) fn ahead(m: Marks, piece: &[u8], from: usize) -> usize
+    requires { ⌜ (m .len ≤ 4096) × (m .at ≤ limit) ⌝ }
+    ensures { λ r. ⌜ (r ≤ span (kept (m .stage)) (drop from (now (piece .entry)))) × (m .len + r ≤ 4096) × (m .at + r ≤ limit) × (0 < r → m .part .count ≡ 0) ⌝ }
+{
+    if m.part.count != 0 {
+        return 0;
+    }
+    let stage = m.stage;
+    let count = kept_count(stage, piece, from);
+    fewer(count, fewer(LONGEST - m.len, LIMIT - m.at))
+}
+
+// Passes a run of bytes.
+pub(crate) fn pass(m: Marks, buf: &mut [u8], run: &[u8]) -> Marks
+    requires { ⌜ (length (now buf) ≡ 4096) × (m .len + length (now run) ≤ 4096) × (m .at + length (now run) ≤ limit) ⌝ }
+    ensures { λ r. ⌜ stateOf r (now (buf .exit)) ≡ passed (stateOf m (now (buf .entry))) (now (run .entry)) ⌝ }
+{
+    let n = run.len();
+    if n == 0 {
+        return m;
+    }
+    let stage = m.stage;
+    let len = m.len;
+    match stage {
+        Stage::Opening => m,
+        Stage::Pound => m,
+        Stage::FirstLine => m,
+        Stage::Idle => marks_at(m, Stage::Idle, m.at + n, 0, m.from, m.to),
+        Stage::Busy(start, phase) => {
+            copy_all(run, &mut buf[len..]);
+            marks_at(
+                m,
+                Stage::Busy(start, phase),
+                m.at + n,
+                len + n,
+                m.from,
+                m.to,
+            )
+        }
+        Stage::Waiting(_start, _beyond) => m,
+        Stage::Stopped(_number, _place) => m,
+    }
+}
