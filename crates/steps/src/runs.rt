@@ -14,7 +14,7 @@ ghost use Rattle.steps.specs.Runs.{ofWord, ofRun};
 ghost use Rattle.steps.specs.Scan.{Passes};
 
 // Below it a byte is a character of ASCII.
-const ASCII_END: u8 = 0x80;
+pub(crate) const ASCII_END: u8 = 0x80;
 
 // What closes the quotes.
 fn delimiter(k: Quotes) -> u8
@@ -53,7 +53,7 @@ fn of_word(c: u8) -> bool
 }
 
 // Where the characters end that a word goes on with.
-fn word_end(s: &[u8], at: usize) -> usize
+pub(crate) fn word_end(s: &[u8], at: usize) -> usize
     ensures { λ r. ⌜ r ≡ at + span ofWord (drop at (now (s .entry))) ⌝ }
 {
     let mut i = at;
@@ -81,7 +81,7 @@ fn of_run(c: u8) -> bool
 }
 
 // Where the characters end that a number run goes on with.
-fn number_end(s: &[u8], at: usize) -> usize
+pub(crate) fn number_end(s: &[u8], at: usize) -> usize
     ensures { λ r. ⌜ r ≡ at + span ofRun (drop at (now (s .entry))) ⌝ }
 {
     let mut i = at;
