@@ -17,6 +17,7 @@ ghost use Rattle.numbers.specs.Grammar.{parseNumber};
 ghost use Rattle.items.specs.Meaning.{wordMeans, runMeans, characterMeans, characterOf, charInside, meaningOf};
 ghost use Rattle.meaning.specs.Meant.{only, pair, meant, sizedAll, errorOf, lastError};
 
+pub mod counts;
 pub mod places;
 mod quoted;
 pub mod records;
@@ -72,6 +73,12 @@ pub struct Range {
     pub to: u32,
 }
 
+// How many items there are, and how many bytes of text memory they take.
+pub struct Counted {
+    pub items: usize,
+    pub text: usize,
+}
+
 fn one(kind: u32, detail: u32, text: Text) -> Meant
     ensures { λ r. ⌜ r ≡ only kind detail text ⌝ }
 {
@@ -102,7 +109,7 @@ fn two(start: usize, end: usize) -> Meant
 }
 
 // Whether a word begins with a plus and goes on.
-fn splits(raw: &[u8]) -> bool
+pub(crate) fn splits(raw: &[u8]) -> bool
     ensures { λ r. ⌜ r ≡ (firstIs (code "+") (now (raw .entry)) && ltb 1 (length (now (raw .entry)))) ⌝ }
 {
     if raw.len() <= 1 {
