@@ -4,6 +4,7 @@
 // which are internal to the reader.
 use items::Outcome;
 use numbers::Parsed;
+use numbers::is_plain;
 use numbers::parse_number;
 use words::word_kind;
 ghost use mathlib.Core.Path.{_≡_};
@@ -133,11 +134,14 @@ fn word(start: usize, end: usize, raw: &[u8]) -> Meant
     one(IDENTIFIER, NO_DETAIL, Text::Source(start, end))
 }
 
-// What a number run's extent holds.
+// What a number run's extent holds. The plainest numbers are told without their parts.
 fn run(start: usize, end: usize, raw: &[u8]) -> Meant
     requires { ⌜ (0 < length (now raw)) × (end ≡ start + length (now raw)) ⌝ }
     ensures { λ r. ⌜ meant r ≡ sizedAll (runMeans (parseNumber (now (raw .entry))) start end (now (raw .entry))) ⌝ }
 {
+    if is_plain(raw) {
+        return one(NUMBER, NO_DETAIL, Text::Nowhere);
+    }
     match parse_number(raw) {
         Parsed::Is(_parts) => one(NUMBER, NO_DETAIL, Text::Nowhere),
         Parsed::NoNumber => word(start, end, raw),
