@@ -6,8 +6,7 @@ use escapes::has_escape;
 use items::kinds;
 use meaning::Means;
 use meaning::Text;
-use numbers::Parsed;
-use numbers::parse_number;
+use numbers::is_plain;
 use steps::Ending;
 use steps::line_ending;
 use steps::run_ending;
@@ -80,11 +79,10 @@ fn tell_run(at: usize, end: usize, raw: &[u8]) -> Quick
     requires { ⌜ end ≡ at + length (now raw) ⌝ }
     ensures { λ r. ⌜ Tells Run at (now (raw .entry)) r ⌝ }
 {
-    match parse_number(raw) {
-        Parsed::Is(_) => bare(kinds::NUMBER, kinds::NO_DETAIL, at, end),
-        Parsed::NoNumber => Quick::Other,
-        Parsed::ZeroDenominator => Quick::Other,
+    if is_plain(raw) {
+        return bare(kinds::NUMBER, kinds::NO_DETAIL, at, end);
     }
+    Quick::Other
 }
 
 // What a string's bytes tell: its text lies in the source where it has no escape.
