@@ -40,6 +40,9 @@ const TAB: u8 = 0x09;
 
 const CARRIAGE_RETURN: u8 = 0x0D;
 
+// How many blanks are passed byte by byte.
+const FEW: usize = 8;
+
 // Past the blanks of ASCII from a place on, where a space is the first of them: an indentation is passed at once.
 fn past_spaces(source: &[u8], at: usize) -> usize
     ensures { λ r. ⌜ (at ≤ r) × (startFrom r (chars (drop r (now (source .entry)))) ≡ startFrom at (chars (drop at (now (source .entry))))) ⌝ }
@@ -70,17 +73,21 @@ fn blank_at(source: &[u8], at: usize) -> bool
     b <= CARRIAGE_RETURN
 }
 
-// Past the blanks of ASCII from a place on.
-pub fn past_blanks(source: &[u8], at: usize) -> usize
-    ensures { λ r. ⌜ startFrom r (chars (drop r (now (source .entry)))) ≡ startFrom at (chars (drop at (now (source .entry)))) ⌝ }
+// Past the blanks of ASCII from a place on: the first few byte by byte, since most runs are short, and the rest by blocks.
+pub fn past_blanks(source: &[u8], from: usize) -> usize
+    ensures { λ r. ⌜ startFrom r (chars (drop r (now (source .entry)))) ≡ startFrom from (chars (drop from (now (source .entry)))) ⌝ }
 {
-    if blank_at(source, at) {
-        if blank_at(source, at + 1) {
-            return blank_end(source, at);
+    let mut at = from;
+    let mut n: usize = 0;
+    while n < FEW {
+        if blank_at(source, at) {
+            at += 1;
+            n += 1;
+        } else {
+            return at;
         }
-        return at + 1;
     }
-    at
+    blank_end(source, at)
 }
 
 // The first character from a place on that is no blank.

@@ -110,7 +110,7 @@ fn write(source: &[u8], position: Position, recs: &mut [u32], text: &mut [u8]) -
                     to: end as u32,
                 };
                 put(&mut recs[w..], record_of(m, extent, extent, free));
-                w = w + WORDS;
+                w += WORDS;
                 at = end;
                 second = false;
             }
