@@ -1,7 +1,7 @@
 -- One digit, a run of digits, a sign: what the definitions say at a place of a text.
 use Rattle.digits.specs.Digits.{noDigit, digitOf, digits, sign, uinteger}
 use Rattle.laws.specs.Quoted.{code, within}
-use Rattle.laws.proofs.Choice.{by-bool, if-is, within-is}
+use Rattle.laws.proofs.Choice.{by-bool, if-all, if-is, within-is}
 use Rattle.laws.proofs.Places.{past, here}
 use Rattle.laws.proofs.Runs.{span-hit, span-stop, span-end}
 use Prim.Native.Nat.{ℕ, _+_, _-_, _≤_, _<_}
@@ -48,6 +48,14 @@ module _ (c : ℕ) where
   pub digit-le : digitOf c ≤ noDigit
   digit-le = digit-all (λ d. d ≤ noDigit) (λ h. omega arith) (λ h. omega arith) (λ h. omega arith) (omega arith)
 
+  -- a digit of radix 10 is one of 0 to 9
+  pub decimal-digit : ltb (digitOf c) 10 ≡ within (code "0") (code "9") c
+  unfolding digitOf
+  decimal-digit = by-bool (within (code "0") (code "9") c)
+      (λ h. let r = within-is _ _ _ h in rw h (lt-ltb (c - code "0") 10 (omega arith)))
+      (λ h. rw h (if-all (λ (d : ℕ). ltb d 10 ≡ false) (within (code "A") (code "F") c) (le-ltb (c - code "A" + 10) 10 (omega arith))
+      (if-all (λ (d : ℕ). ltb d 10 ≡ false) (within (code "a") (code "f") c) (le-ltb (c - code "a" + 10) 10 (omega arith)) (le-ltb noDigit 10 (omega arith)))))
+
 -- the byte at i, of the digit d
 module _ (R : ℕ) (t : List ℕ) (i d : ℕ) (h : i < length t) (e : d ≡ digitOf (getD t i 0)) where
   pub run-hit : d < R → i + digits R (drop i t) ≡ i + 1 + digits R (drop (i + 1) t)
@@ -59,6 +67,14 @@ module _ (R : ℕ) (t : List ℕ) (i d : ℕ) (h : i < length t) (e : d ≡ digi
 module _ (R : ℕ) (t : List ℕ) (i : ℕ) where
   pub run-end : length t ≤ i → i + digits R (drop i t) ≡ i
   run-end h = span-end (λ c. ltb (digitOf c) R) t i h
+
+-- the byte at i, by whether it is one of 0 to 9
+module _ (t : List ℕ) (i : ℕ) (h : i < length t) where
+  pub decimal-hit : true ≡ within (code "0") (code "9") (getD t i 0) → i + digits 10 (drop i t) ≡ i + 1 + digits 10 (drop (i + 1) t)
+  decimal-hit e = span-hit (λ c. ltb (digitOf c) 10) t i h (decimal-digit (getD t i 0) ∙ sym e)
+
+  pub decimal-stop : false ≡ within (code "0") (code "9") (getD t i 0) → i + digits 10 (drop i t) ≡ i
+  decimal-stop e = span-stop (λ c. ltb (digitOf c) 10) t i h (decimal-digit (getD t i 0) ∙ sym e)
 
 -- the sign at a place
 module _ (t : List ℕ) (i : ℕ) where

@@ -92,6 +92,21 @@ pub fn run_end(t: &[u8], from: usize, radix: u64) -> usize
     i
 }
 
+// Where the run of decimal digits from a place on ends, with one test a byte.
+pub fn decimal_end(t: &[u8], from: usize) -> usize
+    ensures { λ r. ⌜ r ≡ from + digits 10 (drop from (now (t .entry))) ⌝ }
+{
+    let mut i = from;
+    while i < t.len() {
+        if within(b'0', b'9', t[i]) {
+            i += 1;
+        } else {
+            return i;
+        }
+    }
+    i
+}
+
 // Where the sign at a place ends, if one is there.
 pub fn sign_end(t: &[u8], from: usize) -> usize
     ensures { λ r. ⌜ r ≡ from + sign (drop from (now (t .entry))) ⌝ }

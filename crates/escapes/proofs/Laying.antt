@@ -5,11 +5,13 @@ use mathlib.Core.Path.{_≡_, refl, sym, ap, _∙_}
 use mathlib.Core.List.{List, [], _∷_, _++_, append-assoc, append-nil}
 use mathlib.Core.Bool.{true}
 use native.Mathlib.Omega.{arith}
-use lib.ListN.{length, take, drop, set, length-append, drop-of-length-le}
+use lib.ListN.{length, getD, take, drop, set, length-append, drop-of-length-le}
+use lib.Seq.{length-take-le, take-suc, take-all}
+use native.Mathlib.Numerals.{add-one}
 use borrow.Author.Tests.{le-ltb}
 use borrow.Rule.Slice.PartMut.{putMid}
 use Rattle.laws.specs.Lent.{written}
-use Rattle.laws.proofs.Lent.{length-written, length-part, part-written}
+use Rattle.laws.proofs.Lent.{length-written, written-push, length-part, part-written}
 use Rattle.chars.specs.Encode.{width, isScalar, encode, lay, laid}
 use Rattle.chars.proofs.Width.{width-utf8}
 use Rattle.chars.proofs.Round.{encode-scalar}
@@ -42,17 +44,25 @@ module _ {k : Quotes} {raw all : List ℕ} {n i : ℕ} (r : Reading k raw all n 
   pub reading-le : n ≤ length all
   reading-le = omega (arith, sum)
 
+  -- v more, up to the place `next`
+  module _ (v : List ℕ) (next : ℕ) (inside : next ≤ length raw) (more : unescape k (drop i raw) ≡ v ++ unescape k (drop next raw)) where
+    pub more-fits : n + length v ≤ length all
+    more-fits = omega (arith, sum, ap length more, length-append v (unescape k (drop next raw)))
+
+    unfoldable pub reading-more : (m : ℕ) → m ≡ length v → Reading k raw all (n + m) next
+    reading-more m p = record {
+      w = r .w ++ v;
+      count = length-append (r .w) v ∙ ap (λ (j : ℕ). j + length v) (r .count) ∙ ap (λ (j : ℕ). n + j) (sym p);
+      inside = inside;
+      whole = append-assoc (r .w) v _ ∙ ap (λ (l : List ℕ). r .w ++ l) (sym more) ∙ r .whole;
+    }
+
   module _ (e : Element) (u : Unescapes k raw (unescape k (drop i raw)) (i + 1) e) where
     pub reading-fits : n + length (bytesGiven (e .given)) ≤ length all
-    reading-fits = omega (arith, sum, ap length (u .whole), length-append (bytesGiven (e .given)) (unescape k (drop (e .next) raw)))
+    reading-fits = more-fits (bytesGiven (e .given)) (e .next) (u .inside) (u .whole)
 
     pub reading-on : (m : ℕ) → m ≡ length (bytesGiven (e .given)) → Reading k raw all (n + m) (e .next)
-    reading-on m p = record {
-      w = r .w ++ bytesGiven (e .given);
-      count = length-append (r .w) (bytesGiven (e .given)) ∙ ap (λ (j : ℕ). j + length (bytesGiven (e .given))) (r .count) ∙ ap (λ (j : ℕ). n + j) (sym p);
-      inside = u .inside;
-      whole = append-assoc (r .w) (bytesGiven (e .given)) _ ∙ ap (λ (l : List ℕ). r .w ++ l) (sym (u .whole)) ∙ r .whole;
-    }
+    reading-on m p = reading-more (bytesGiven (e .given)) (e .next) (u .inside) (u .whole) m p
 
 -- ---- the same, laid into the free memory, which was `old`
 
@@ -77,20 +87,40 @@ module _ {k : Quotes} {raw all old free : List ℕ} {n i : ℕ} (l : Laying k ra
   pub laying-end : length raw ≤ i → (n ≡ length all) × (free ≡ written all old)
   laying-end h = (reading-end (l .reading) h, l .laid ∙ ap (λ (w : List ℕ). written w old) (reading-all (l .reading) h))
 
+  module _ (v : List ℕ) (next : ℕ) (inside : next ≤ length raw) (more : unescape k (drop i raw) ≡ v ++ unescape k (drop next raw)) where
+    pub more-room : length v ≤ length (take (length free - n) (drop n free))
+    more-room = rw (length-part free n) (omega (arith, more-fits (l .reading) v next inside more, laying-length, fit))
+
+    pub laying-more : (m : ℕ) (last : List ℕ) → m ≡ length v → last ≡ written v (take (length free - n) (drop n free))
+        → Laying k raw all old (putMid n (length free - n) free last) (n + m) next
+    unfolding reading-more
+    laying-more m last p q = record {
+      reading = reading-more (l .reading) v next inside more m p;
+      laid = part-written (l .reading .w) v old (l .laid) (l .reading .count) w-fits q;
+    }
+
   module _ (e : Element) (u : Unescapes k raw (unescape k (drop i raw)) (i + 1) e) where
     pub laying-fits : n + length (bytesGiven (e .given)) ≤ length free
     laying-fits = omega (arith, reading-fits (l .reading) e u, laying-length, fit)
 
     pub laying-room : length (bytesGiven (e .given)) ≤ length (take (length free - n) (drop n free))
-    laying-room = rw (length-part free n) (omega (arith, laying-fits))
+    laying-room = more-room (bytesGiven (e .given)) (e .next) (u .inside) (u .whole)
 
     pub laying-on : (m : ℕ) (last : List ℕ) → m ≡ length (bytesGiven (e .given)) → last ≡ written (bytesGiven (e .given)) (take (length free - n) (drop n free))
         → Laying k raw all old (putMid n (length free - n) free last) (n + m) (e .next)
-    unfolding reading-on
-    laying-on m last p q = record {
-      reading = reading-on (l .reading) e u m p;
-      laid = part-written (l .reading .w) (bytesGiven (e .given)) old (l .laid) (l .reading .count) w-fits q;
-    }
+    laying-on m last p q = laying-more (bytesGiven (e .given)) (e .next) (u .inside) (u .whole) m last p q
+
+-- ---- a copy, byte by byte
+
+pub copied-next : (run old now : List ℕ) (i : ℕ) → i < length run → i < length old → now ≡ written (take i run) old
+    → set now i (getD run i 0) ≡ written (take (i + 1) run) old
+copied-next run old now i h g e =
+    let l : length (take i run) ≡ i = length-take-le i run (omega arith) in
+    rw (e, add-one i, take-suc run i 0 h)
+    (ap (λ (k : ℕ). set (written (take i run) old) k (getD run i 0)) (sym l) ∙ written-push (take i run) old (getD run i 0) (omega (arith, l)))
+
+pub copied-end : (run old now : List ℕ) (i : ℕ) → length run ≤ i → now ≡ written (take i run) old → now ≡ written run old
+copied-end run old now i h e = e ∙ ap (λ (l : List ℕ). written l old) (take-all i run h)
 
 -- ---- one element's bytes
 

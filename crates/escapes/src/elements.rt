@@ -31,7 +31,7 @@ fn give(given: Given, next: usize) -> Element
 }
 
 // What closes the quotes.
-fn delimiter(k: Quotes) -> u8
+pub(crate) fn delimiter(k: Quotes) -> u8
     ensures { λ r. ⌜ r ≡ delimOf k ⌝ }
 {
     match k {

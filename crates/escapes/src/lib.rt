@@ -4,19 +4,25 @@
 // lexer and the pieces.
 ghost use mathlib.Core.Path.{_≡_};
 ghost use mathlib.Core.Bool.{true};
-ghost use Prim.Native.Nat.{_≤_};
+ghost use Prim.Native.Nat.{_+_, _≤_};
 ghost use lib.ListN.{length, drop};
 ghost use Rattle.laws.specs.Lent.{written};
+ghost use Rattle.laws.specs.Quoted.{code};
+ghost use Rattle.laws.specs.Texts.{span};
+ghost use Rattle.texts.specs.Runs.{plain};
+ghost use Rattle.items.specs.Classes.{delimOf};
 ghost use Rattle.items.specs.Meaning.{escaped, unescape};
 ghost use Rattle.escapes.specs.Elements.{bytesGiven, sound};
 
 mod elements;
 
+use crate::elements::delimiter;
 use crate::elements::read_element;
 use chars::char_width;
 use chars::put_char;
 use items::Quotes;
 use texts::find;
+use texts::plain_end;
 
 // What an element of a text gives.
 pub enum Given {
@@ -68,6 +74,25 @@ fn given_length(given: Given) -> usize
     }
 }
 
+// Where the run of plain characters of ASCII from a place on ends: neither what closes the quotes nor a backslash.
+fn run_end(raw: &[u8], at: usize, k: Quotes) -> usize
+    ensures { λ r. ⌜ r ≡ at + span (plain (delimOf k) (code "\\")) (drop at (now (raw .entry))) ⌝ }
+{
+    plain_end(raw, at, delimiter(k), b'\\')
+}
+
+// A run of bytes, at the start of the free text memory.
+fn put_run(run: &[u8], free: &mut [u8])
+    requires { ⌜ length (now run) ≤ length (now free) ⌝ }
+    ensures { λ _. ⌜ now (free .exit) ≡ written (now (run .entry)) (now (free .entry)) ⌝ }
+{
+    let mut i = 0;
+    while i < run.len() {
+        free[i] = run[i];
+        i += 1;
+    }
+}
+
 // Internal. The text of the quoted item `raw` from a place after its opening quote on, written at the start of the free text memory, and
 // how many bytes it has.
 pub fn decode(raw: &[u8], from: usize, k: Quotes, free: &mut [u8]) -> usize
@@ -77,7 +102,13 @@ pub fn decode(raw: &[u8], from: usize, k: Quotes, free: &mut [u8]) -> usize
     let mut n = 0;
     let mut i = from;
     while i < raw.len() {
-        let e = read_element(raw, i, k);
+        let stop = run_end(raw, i, k);
+        put_run(&raw[i..stop], &mut free[n..]);
+        n = n + (stop - i);
+        if raw.len() <= stop {
+            return n;
+        }
+        let e = read_element(raw, stop, k);
         let given = e.given;
         i = e.next;
         n = n + put_given(given, &mut free[n..]);
@@ -93,7 +124,12 @@ pub fn decoded_length(raw: &[u8], from: usize, k: Quotes) -> usize
     let mut n = 0;
     let mut i = from;
     while i < raw.len() {
-        let e = read_element(raw, i, k);
+        let stop = run_end(raw, i, k);
+        n = n + (stop - i);
+        if raw.len() <= stop {
+            return n;
+        }
+        let e = read_element(raw, stop, k);
         let given = e.given;
         i = e.next;
         n = n + given_length(given);

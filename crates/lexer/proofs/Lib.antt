@@ -9,11 +9,14 @@ pub mod Starts
 pub mod Gives
 pub mod Scans
 pub mod Nexts
+pub mod Glances
+pub mod Tells
 pub mod All
 pub mod Opens
 pub mod Memory
 pub mod Going
 pub mod Writing
+pub mod Quickly
 pub mod Delivered
 pub mod Texts
 pub mod ReadsOn

@@ -8,7 +8,7 @@ use Rattle.chars.proofs.Blanks.{low-run}
 use Rattle.chars.proofs.Table.{within-true}
 use Rattle.laws.specs.Texts.{span}
 use Rattle.laws.proofs.Choice.{by-bool}
-use Rattle.laws.proofs.Runs.{span-le, span-hit, span-stop}
+use Rattle.laws.proofs.Runs.{span-le, span-hit, span-stop, span-end}
 use Rattle.texts.specs.Runs.{blank}
 use Rattle.steps.proofs.Kept.{ascii-found}
 use Rattle.lexer.specs.Reading.{startFrom}
@@ -16,12 +16,12 @@ use Rattle.lexer.specs.declared.Start.the-variants.{At, Nothing}
 use Rattle.lexer.proofs.Here.{char-found}
 use Prim.Native.Nat.{ℕ, zero, suc, _+_, _≤_, _<_}
 use mathlib.Core.Path.{_≡_, refl, sym, ap, _∙_}
-use mathlib.Core.Bool.{true, false}
+use mathlib.Core.Bool.{Bool, true, false}
 use mathlib.Core.List.{List}
 use native.Mathlib.Omega.{arith}
-use lib.Dec.{eqb}
+use lib.Dec.{eqb, leb}
 use lib.ListN.{length, getD, drop, length-drop}
-use borrow.Author.Tests.{eqb-true}
+use borrow.Author.Tests.{eqb-true, le-leb}
 
 module _ (s : List ℕ) (at : ℕ) where
   module _ (c next : ℕ) (found : decoded.Char c next ≡ placed at (front (drop at s))) where
@@ -54,7 +54,7 @@ blank-ascii c e =
     (λ f. let h = within-true 0x09 0x0D c (rw f at e) in (omega arith, low-run c (h .0) (h .1)))
 
 module _ (s : List ℕ) where
-  blanks : (n at : ℕ) → n ≤ span blank (drop at s) → startFrom (at + n) (chars (drop (at + n) s)) ≡ startFrom at (chars (drop at s))
+  pub blanks : (n at : ℕ) → n ≤ span blank (drop at s) → startFrom (at + n) (chars (drop (at + n) s)) ≡ startFrom at (chars (drop at s))
   blanks zero at k = let e : at + 0 ≡ at = omega arith in rw e
   blanks (suc n) at k =
       let inside : at < length s = omega (arith, span-le blank (drop at s), length-drop at s) in
@@ -67,3 +67,16 @@ module _ (s : List ℕ) where
 
   pub start-run : (at : ℕ) → startFrom (at + span blank (drop at s)) (chars (drop (at + span blank (drop at s)) s)) ≡ startFrom at (chars (drop at s))
   start-run at = blanks (span blank (drop at s)) at (omega arith)
+
+-- ---- whether a blank of ASCII stands at a place
+
+module _ (s : List ℕ) (at : ℕ) where
+  pub blank-past : length s ≤ at → false ≡ leb 1 (span blank (drop at s))
+  blank-past h = let e : span blank (drop at s) ≡ 0 = omega (arith, span-end blank s at h) in rw e
+
+  pub blank-here : at < length s → (b : Bool) → b ≡ blank (getD s at 0) → b ≡ leb 1 (span blank (drop at s))
+  blank-here h true e =
+      let n = span-hit blank s at h (sym e) in
+      sym (le-leb 1 (span blank (drop at s)) (omega arith))
+  blank-here h false e =
+      let n : span blank (drop at s) ≡ 0 = omega (arith, span-stop blank s at h (sym e)) in rw n

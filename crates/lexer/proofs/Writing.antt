@@ -14,7 +14,7 @@ use Rattle.lexer.proofs.Memory.{words-packed, bytes-packed, texts-join,
 use Rattle.lexer.proofs.Going.{Going, going, going-end, counted, going-on, it, it-packed, it-moved}
 use Prim.Native.Nat.{ℕ, _+_, _-_, _*_, _/_, _≤_, _<_}
 use mathlib.Core.Path.{_≡_, refl, sym, ap, _∙_, subst}
-use mathlib.Core.List.{List, [], _∷_, _++_}
+use mathlib.Core.List.{List, [], _∷_, _++_, append-nil}
 use lib.ListN.{length, length-append, take, drop}
 use native.Mathlib.Omega.{arith}
 use borrow.Rule.Slice.PartMut.{putMid}
@@ -109,4 +109,19 @@ module _ (s : List ℕ) (start : Position) (recs₀ text₀ : List ℕ) (fr : re
             count = ap length more-records ∙ length-append (records 0 (g .done)) (wordsOf r) ∙ ap (λ (k : ℕ). k + 9) (g .count);
             rows = part-written (records 0 (g .done)) (wordsOf r) recs₀ (g .rows) (g .count) (fits .0) hx ∙ ap (λ (l : List ℕ). written l recs₀) (sym more-records);
             bytes = part-written (texts (g .done)) (bytesFor s r) text₀ (g .bytes) (g .going .bytes) (fits .1) hy ∙ ap (λ (l : List ℕ). written l text₀) (sym more-texts);
+          }
+
+      -- a turn whose item has no decoded text
+      pub writing-bare : freeAfter free r ≡ free → bytesFor s r ≡ [] → {x : List ℕ} → x ≡ written (wordsOf r) (take (length recs - w) (drop w recs))
+          → Writing s start recs₀ text₀ (putMid w (length recs - w) recs x) text q free (w + 9)
+      writing-bare hf hb {x} hx =
+          let n : Going s start q (freeAfter free r) (g .done ++ (i ∷ [])) = going-on s start p free (g .done) (g .going) r q e in
+          let same : texts (g .done ++ (i ∷ [])) ≡ texts (g .done) =
+          more-texts ∙ ap (λ (l : List ℕ). texts (g .done) ++ l) hb ∙ append-nil (texts (g .done)) in
+          record {
+            done = g .done ++ (i ∷ []);
+            going = subst (λ (k : ℕ). Going s start q k (g .done ++ (i ∷ []))) hf n;
+            count = ap length more-records ∙ length-append (records 0 (g .done)) (wordsOf r) ∙ ap (λ (k : ℕ). k + 9) (g .count);
+            rows = part-written (records 0 (g .done)) (wordsOf r) recs₀ (g .rows) (g .count) (front (g .going) .0) hx ∙ ap (λ (l : List ℕ). written l recs₀) (sym more-records);
+            bytes = g .bytes ∙ ap (λ (l : List ℕ). written l text₀) (sym same);
           }

@@ -4,3 +4,4 @@ pub mod Answers
 pub mod Text
 pub mod Inner
 pub mod ReadOn
+pub mod Glance

@@ -3,8 +3,10 @@
 // the source beside its position. Which items a text has is document 01's "An item", defined in crate `items`; what each call answers is
 // defined in specs/ of this crate and in items/specs/Whole.
 use items::Record;
+use meaning::Means;
 use meaning::Range;
 
+mod glance;
 mod opening;
 mod reader;
 mod reading;
@@ -45,6 +47,14 @@ pub enum Found {
     // an item, and the position after it
     One(Record, Position),
     End,
+}
+
+// What one look tells.
+pub enum Quick {
+    // an item by its meaning, and its extent
+    Item(Means, usize, usize),
+    // anything else
+    Other,
 }
 
 // What the items of a text need: records, and bytes of text memory.

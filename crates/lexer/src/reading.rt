@@ -21,7 +21,9 @@ ghost use mathlib.Core.Path.{_≡_};
 ghost use mathlib.Core.Bool.{true, false, _&&_};
 ghost use Prim.Native.Nat.{_+_, _≤_};
 ghost use lib.ListN.{length, drop};
-ghost use lib.Dec.{eqb};
+ghost use lib.Dec.{eqb, leb};
+ghost use Rattle.laws.specs.Texts.{span};
+ghost use Rattle.texts.specs.Runs.{blank};
 ghost use Rattle.chars.specs.Utf8.{chars};
 ghost use Rattle.items.specs.Readers.{soFar};
 ghost use Rattle.items.specs.Kinds as kinds;
@@ -32,6 +34,14 @@ ghost use Rattle.meaning.specs.Records.{recordFor, TextFits};
 ghost use Rattle.lexer.specs.declared.Found.the-variants.{One};
 ghost use Rattle.lexer.specs.Reading.{moved, turnOf, turnAt, turn, nextAt, startFrom, foundOf};
 ghost use Rattle.lexer.specs.Inner.{ExtentFits, First};
+
+// The blanks of ASCII are the space and those from the tab to the carriage return.
+const TAB: u8 = 0x09;
+
+const CARRIAGE_RETURN: u8 = 0x0D;
+
+// How many blanks are passed byte by byte.
+const FEW: usize = 8;
 
 // Past the blanks of ASCII from a place on, where a space is the first of them: an indentation is passed at once.
 fn past_spaces(source: &[u8], at: usize) -> usize
@@ -44,6 +54,40 @@ fn past_spaces(source: &[u8], at: usize) -> usize
         return blank_end(source, at);
     }
     at
+}
+
+// Whether a blank of ASCII stands at a place.
+fn blank_at(source: &[u8], at: usize) -> bool
+    ensures { λ r. ⌜ r ≡ leb 1 (span blank (drop at (now (source .entry)))) ⌝ }
+{
+    if source.len() <= at {
+        return false;
+    }
+    let b = source[at];
+    if b == b' ' {
+        return true;
+    }
+    if b < TAB {
+        return false;
+    }
+    b <= CARRIAGE_RETURN
+}
+
+// Past the blanks of ASCII from a place on: the first few byte by byte, since most runs are short, and the rest by blocks.
+pub fn past_blanks(source: &[u8], from: usize) -> usize
+    ensures { λ r. ⌜ startFrom r (chars (drop r (now (source .entry)))) ≡ startFrom from (chars (drop from (now (source .entry)))) ⌝ }
+{
+    let mut at = from;
+    let mut n: usize = 0;
+    while n < FEW {
+        if blank_at(source, at) {
+            at += 1;
+            n += 1;
+        } else {
+            return at;
+        }
+    }
+    blank_end(source, at)
 }
 
 // The first character from a place on that is no blank.
@@ -86,15 +130,15 @@ fn past(p: Position, at: usize, last: Range) -> Position
     }
 }
 
-// At the start of an extent, the first of its two items given.
-fn halfway(p: Position, at: usize) -> Position
-    ensures { λ r. ⌜ r ≡ moved p at (placeIn (p .last)) true ⌝ }
+// At another place, with the same last error range; `second` says that of the two items of the extent there the first was given.
+pub fn stand(p: Position, at: usize, second: bool) -> Position
+    ensures { λ r. ⌜ r ≡ moved p at (placeIn (p .last)) second ⌝ }
 {
     let last = p.last;
     Position {
         at: at,
         last: last,
-        second: true,
+        second: second,
         report: p.report,
         skip: p.skip,
     }
@@ -129,7 +173,7 @@ fn found(p: Position, free: usize, start: usize, what: Outcome, raw: &[u8]) -> F
             if p.second {
                 one(n, extent, last, free, past(p, end, last))
             } else {
-                one(m, extent, last, free, halfway(p, start))
+                one(m, extent, last, free, stand(p, start, true))
             }
         }
     }

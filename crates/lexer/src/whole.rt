@@ -3,16 +3,21 @@ use crate::Found;
 use crate::Needed;
 use crate::OpenAnswer;
 use crate::Position;
+use crate::Quick;
 use crate::ReadAnswer;
+use crate::glance::quick_item;
 use crate::opening::open;
 use crate::reading::next_item;
+use crate::reading::stand;
 use escapes::decode;
 use items::Quotes;
 use items::Record;
 use items::kinds::STRING_LITERAL;
+use meaning::Range;
 use meaning::records::IN_MEMORY;
 use meaning::records::WORDS;
 use meaning::records::put;
+use meaning::records::record_of;
 ghost use mathlib.Core.Path.{_≡_};
 ghost use Prim.Native.Nat.{_*_, _≤_, _<_};
 ghost use lib.ListN.{length};
@@ -93,23 +98,39 @@ fn write(source: &[u8], position: Position, recs: &mut [u32], text: &mut [u8]) -
     ensures { λ _. ⌜ now (text .exit) ≡ written (texts (allItems (now (source .entry)) position)) (now (text .entry)) ⌝ }
 {
     let mut p = position;
+    let mut at = position.at;
+    let mut second = position.second;
     let mut free: usize = 0;
     let mut w: usize = 0;
     loop {
-        match next_item(source, p, free) {
-            Found::One(r, q) => {
-                put(&mut recs[w..], r);
-                put_text(source, r, &mut text[free..]);
-                w = w + WORDS;
-                free = free_after(free, r);
-                p = q;
-            }
-            Found::End => {
-                return Needed {
-                    items: w / WORDS,
-                    text: free,
+        match quick_item(source, p.report, p.skip, at) {
+            Quick::Item(m, start, end) => {
+                let extent = Range {
+                    from: start as u32,
+                    to: end as u32,
                 };
+                put(&mut recs[w..], record_of(m, extent, extent, free));
+                w += WORDS;
+                at = end;
+                second = false;
             }
+            Quick::Other => match next_item(source, stand(p, at, second), free) {
+                Found::One(r, q) => {
+                    put(&mut recs[w..], r);
+                    put_text(source, r, &mut text[free..]);
+                    w = w + WORDS;
+                    free = free_after(free, r);
+                    at = q.at;
+                    second = q.second;
+                    p = q;
+                }
+                Found::End => {
+                    return Needed {
+                        items: w / WORDS,
+                        text: free,
+                    };
+                }
+            },
         }
     }
 }

@@ -1,3 +1,4 @@
 pub mod Errors
 pub mod Lines
 pub mod Both
+pub mod Counting

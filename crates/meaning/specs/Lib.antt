@@ -1,3 +1,4 @@
 pub mod Meant
 pub mod Places
 pub mod Records
+pub mod Counts

@@ -4,6 +4,7 @@
 // which are internal to the reader.
 use items::Outcome;
 use numbers::Parsed;
+use numbers::is_plain;
 use numbers::parse_number;
 use words::word_kind;
 ghost use mathlib.Core.Path.{_≡_};
@@ -17,6 +18,7 @@ ghost use Rattle.numbers.specs.Grammar.{parseNumber};
 ghost use Rattle.items.specs.Meaning.{wordMeans, runMeans, characterMeans, characterOf, charInside, meaningOf};
 ghost use Rattle.meaning.specs.Meant.{only, pair, meant, sizedAll, errorOf, lastError};
 
+pub mod counts;
 pub mod places;
 mod quoted;
 pub mod records;
@@ -72,6 +74,12 @@ pub struct Range {
     pub to: u32,
 }
 
+// How many items there are, and how many bytes of text memory they take.
+pub struct Counted {
+    pub items: usize,
+    pub text: usize,
+}
+
 fn one(kind: u32, detail: u32, text: Text) -> Meant
     ensures { λ r. ⌜ r ≡ only kind detail text ⌝ }
 {
@@ -102,7 +110,7 @@ fn two(start: usize, end: usize) -> Meant
 }
 
 // Whether a word begins with a plus and goes on.
-fn splits(raw: &[u8]) -> bool
+pub(crate) fn splits(raw: &[u8]) -> bool
     ensures { λ r. ⌜ r ≡ (firstIs (code "+") (now (raw .entry)) && ltb 1 (length (now (raw .entry)))) ⌝ }
 {
     if raw.len() <= 1 {
@@ -126,11 +134,14 @@ fn word(start: usize, end: usize, raw: &[u8]) -> Meant
     one(IDENTIFIER, NO_DETAIL, Text::Source(start, end))
 }
 
-// What a number run's extent holds.
+// What a number run's extent holds. The plainest numbers are told without their parts.
 fn run(start: usize, end: usize, raw: &[u8]) -> Meant
     requires { ⌜ (0 < length (now raw)) × (end ≡ start + length (now raw)) ⌝ }
     ensures { λ r. ⌜ meant r ≡ sizedAll (runMeans (parseNumber (now (raw .entry))) start end (now (raw .entry))) ⌝ }
 {
+    if is_plain(raw) {
+        return one(NUMBER, NO_DETAIL, Text::Nowhere);
+    }
     match parse_number(raw) {
         Parsed::Is(_parts) => one(NUMBER, NO_DETAIL, Text::Nowhere),
         Parsed::NoNumber => word(start, end, raw),

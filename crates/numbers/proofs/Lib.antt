@@ -5,3 +5,5 @@ pub mod Judged
 pub mod Call
 pub mod Inside
 pub mod Zero
+pub mod Plain
+pub mod PlainPlaces

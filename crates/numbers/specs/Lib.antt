@@ -1,5 +1,6 @@
 pub mod Reals
 pub mod Grammar
+pub mod Plain
 pub mod Inside
 pub mod Call
 pub mod Examples

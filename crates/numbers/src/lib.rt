@@ -7,6 +7,8 @@ use digits::Int;
 use digits::Span;
 ghost use mathlib.Core.Path.{_≡_};
 ghost use Rattle.numbers.specs.Grammar.{zeroInt, zeroReal, zeroParts, judged, radixMark, prefix, parseNumber};
+ghost use lib.ListN.{drop};
+ghost use Rattle.numbers.specs.Plain.{fraction, plain};
 ghost use Rattle.numbers.specs.Call.{answered, given, number};
 
 mod complexes;
@@ -208,6 +210,32 @@ pub fn parse_number(t: &[u8]) -> Parsed
     } else {
         judge(complexes::complex_at(t, PREFIX, radix))
     }
+}
+
+// Whether a dot and digits stand from a place on, and nothing else.
+fn fraction_at(t: &[u8], from: usize) -> bool
+    ensures { λ r. ⌜ r ≡ fraction (drop from (now (t .entry))) ⌝ }
+{
+    if texts::starts_at(t, from, b'.') {
+        let start = from + 1;
+        if t.len() <= start {
+            return false;
+        }
+        return digits::decimal_end(t, start) == t.len();
+    }
+    false
+}
+
+// Whether a text is one of the plainest numbers, in one pass: 14, -14, 14.7. Internal: where this is enough no parts are needed.
+pub fn is_plain(t: &[u8]) -> bool
+    ensures { λ r. ⌜ r ≡ plain (now (t .entry)) ⌝ }
+{
+    let from = digits::sign_end(t, 0);
+    let end = digits::decimal_end(t, from);
+    if end == t.len() {
+        return from < end;
+    }
+    fraction_at(t, end)
 }
 
 // The answer to a text that is not refused.

@@ -3,3 +3,4 @@ pub mod Delimiter
 pub mod Turn
 pub mod Kept
 pub mod Item
+pub mod Ended

@@ -5,6 +5,7 @@
 use items::Outcome;
 
 mod comments;
+mod endings;
 mod hash;
 mod here;
 mod machine;
@@ -13,6 +14,10 @@ mod runs;
 mod signs;
 mod words;
 
+pub use endings::line_ending;
+pub use endings::run_ending;
+pub use endings::string_ending;
+pub use endings::word_ending;
 pub use here::delimiter_length;
 pub use here::here_line;
 pub use machine::finish;
@@ -25,4 +30,11 @@ pub use runs::ascii_run;
 pub struct Scanned {
     pub what: Outcome,
     pub end: usize,
+}
+
+// Where an item ends, as far as one look tells.
+pub enum Ending {
+    At(usize),
+    // the scan tells: a word with a backslash
+    Unknown,
 }

@@ -14,7 +14,7 @@ ghost use Rattle.steps.specs.Runs.{ofWord, ofRun, keeps};
 ghost use Rattle.steps.specs.Scan.{Passes};
 
 // Below it a byte is a character of ASCII.
-const ASCII_END: u8 = 0x80;
+pub(crate) const ASCII_END: u8 = 0x80;
 
 // What closes the quotes.
 fn delimiter(k: Quotes) -> u8
@@ -36,12 +36,18 @@ fn between(a: u8, b: u8, c: u8) -> bool
     c <= b
 }
 
-// Whether a word goes on with a byte. Most are small letters.
+// Whether a word goes on with a byte. Most are small letters, and most words end before a space or a bracket.
 fn of_word(c: u8) -> bool
     ensures { λ r. ⌜ r ≡ ofWord c ⌝ }
 {
     if between(b'a', b'z', c) {
         return true;
+    }
+    if c == b' ' {
+        return false;
+    }
+    if c == b')' {
+        return false;
     }
     if ASCII_END <= c {
         return false;
@@ -53,7 +59,7 @@ fn of_word(c: u8) -> bool
 }
 
 // Where the characters end that a word goes on with.
-fn word_end(s: &[u8], at: usize) -> usize
+pub(crate) fn word_end(s: &[u8], at: usize) -> usize
     ensures { λ r. ⌜ r ≡ at + span ofWord (drop at (now (s .entry))) ⌝ }
 {
     let mut i = at;
@@ -67,12 +73,19 @@ fn word_end(s: &[u8], at: usize) -> usize
     i
 }
 
-// Whether a number run goes on with a byte. Most are digits.
+// Whether a number run goes on with a byte. Most are digits or a dot, and most runs end before a blank or a bracket, all of which come
+// before the plus.
 fn of_run(c: u8) -> bool
     ensures { λ r. ⌜ r ≡ ofRun c ⌝ }
 {
     if between(b'0', b'9', c) {
         return true;
+    }
+    if c == b'.' {
+        return true;
+    }
+    if c < b'+' {
+        return false;
     }
     if ASCII_END <= c {
         return false;
@@ -81,7 +94,7 @@ fn of_run(c: u8) -> bool
 }
 
 // Where the characters end that a number run goes on with.
-fn number_end(s: &[u8], at: usize) -> usize
+pub(crate) fn number_end(s: &[u8], at: usize) -> usize
     ensures { λ r. ⌜ r ≡ at + span ofRun (drop at (now (s .entry))) ⌝ }
 {
     let mut i = at;

@@ -74,7 +74,7 @@ pub(crate) fn stays_run(c: u32) -> bool
 }
 
 // Whether a character ends a number run, so that it may be a number. The one place where report mode differs.
-fn ends_run(report: bool, c: u32) -> bool
+pub(crate) fn ends_run(report: bool, c: u32) -> bool
     ensures { λ r. ⌜ r ≡ endsRun report c ⌝ }
 {
     match c {

@@ -1,211 +1,214 @@
--- `word_kind` tries the rows of the table from the first to the last and keeps what it found; as no two rows are spelled alike, that is
--- the kind that the definition finds from the first row on.
-use mathlib.Core.Path.{_∙_}
-use borrow.Author.Needs.{needs}
+-- Each arm tries the rows that begin with its byte, and no others can be the word's.
+use Rattle.words.proofs.Rows.{by-first, empty-word, no-row}
 use Rattle.chars.specs.Encode.{bytesOf, utf8}
-use Rattle.items.specs.Meaning.{words}
-use Rattle.words.proofs.Order.{none-tried, tried, last-first}
+use Rattle.items.specs.Meaning.{words, lookup}
+use denote.Ref.{now}
+use mathlib.Core.Path.{refl}
+use borrow.Author.Needs.{needs}
 use Rattle.words.proofs.word_kind.Statement.{statement}
 use Rattle.words.proofs.word_kind.Tie as tie
+
+returns : tie.Need-returns
+returns c = empty-word _ (c .if1 .taken)
+
+shared-slice-read-first : tie.Need-shared-slice-read-first
+shared-slice-read-first c = search needs
+
+slice-aggregate-either : tie.Need-slice-aggregate-either
+slice-aggregate-either c = search needs
+
+slice-aggregate-either-2 : tie.Need-slice-aggregate-either-2
+slice-aggregate-either-2 c = search needs
+
+either-requires : tie.Need-either-requires
+either-requires c κs = search needs
+
+slice-aggregate-only : tie.Need-slice-aggregate-only
+slice-aggregate-only c = search needs
+
+only-requires : tie.Need-only-requires
+only-requires c κs = search needs
+
+slice-aggregate-either-3 : tie.Need-slice-aggregate-either-3
+slice-aggregate-either-3 c = search needs
+
+slice-aggregate-either-4 : tie.Need-slice-aggregate-either-4
+slice-aggregate-either-4 c = search needs
+
+either-requires-2 : tie.Need-either-requires-2
+either-requires-2 c κs = search needs
 
 slice-aggregate-row : tie.Need-slice-aggregate-row
 slice-aggregate-row c = search needs
 
+slice-aggregate-either-5 : tie.Need-slice-aggregate-either-5
+slice-aggregate-either-5 c = search needs
+
+slice-aggregate-either-6 : tie.Need-slice-aggregate-either-6
+slice-aggregate-either-6 c = search needs
+
+either-requires-3 : tie.Need-either-requires-3
+either-requires-3 c κs = search needs
+
 row-requires : tie.Need-row-requires
 row-requires c κs = search needs
 
-slice-aggregate-row-2 : tie.Need-slice-aggregate-row-2
-slice-aggregate-row-2 c = search needs
+slice-aggregate-either-7 : tie.Need-slice-aggregate-either-7
+slice-aggregate-either-7 c = search needs
 
-row-requires-2 : tie.Need-row-requires-2
-row-requires-2 c κs = search needs
+slice-aggregate-either-8 : tie.Need-slice-aggregate-either-8
+slice-aggregate-either-8 c = search needs
 
-slice-aggregate-row-3 : tie.Need-slice-aggregate-row-3
-slice-aggregate-row-3 c = search needs
+either-requires-4 : tie.Need-either-requires-4
+either-requires-4 c κs = search needs
 
-row-requires-3 : tie.Need-row-requires-3
-row-requires-3 c κs = search needs
+slice-aggregate-only-2 : tie.Need-slice-aggregate-only-2
+slice-aggregate-only-2 c = search needs
 
-slice-aggregate-row-4 : tie.Need-slice-aggregate-row-4
-slice-aggregate-row-4 c = search needs
+only-requires-2 : tie.Need-only-requires-2
+only-requires-2 c κs = search needs
 
-row-requires-4 : tie.Need-row-requires-4
-row-requires-4 c κs = search needs
+slice-aggregate-either-9 : tie.Need-slice-aggregate-either-9
+slice-aggregate-either-9 c = search needs
 
-slice-aggregate-row-5 : tie.Need-slice-aggregate-row-5
-slice-aggregate-row-5 c = search needs
+slice-aggregate-either-10 : tie.Need-slice-aggregate-either-10
+slice-aggregate-either-10 c = search needs
 
-row-requires-5 : tie.Need-row-requires-5
-row-requires-5 c κs = search needs
+either-requires-5 : tie.Need-either-requires-5
+either-requires-5 c κs = search needs
 
-slice-aggregate-row-6 : tie.Need-slice-aggregate-row-6
-slice-aggregate-row-6 c = search needs
+slice-aggregate-only-3 : tie.Need-slice-aggregate-only-3
+slice-aggregate-only-3 c = search needs
 
-row-requires-6 : tie.Need-row-requires-6
-row-requires-6 c κs = search needs
+only-requires-3 : tie.Need-only-requires-3
+only-requires-3 c κs = search needs
 
-slice-aggregate-row-7 : tie.Need-slice-aggregate-row-7
-slice-aggregate-row-7 c = search needs
+slice-aggregate-only-4 : tie.Need-slice-aggregate-only-4
+slice-aggregate-only-4 c = search needs
 
-row-requires-7 : tie.Need-row-requires-7
-row-requires-7 c κs = search needs
+only-requires-4 : tie.Need-only-requires-4
+only-requires-4 c κs = search needs
 
-slice-aggregate-row-8 : tie.Need-slice-aggregate-row-8
-slice-aggregate-row-8 c = search needs
+slice-aggregate-only-5 : tie.Need-slice-aggregate-only-5
+slice-aggregate-only-5 c = search needs
 
-row-requires-8 : tie.Need-row-requires-8
-row-requires-8 c κs = search needs
+only-requires-5 : tie.Need-only-requires-5
+only-requires-5 c κs = search needs
 
-slice-aggregate-row-9 : tie.Need-slice-aggregate-row-9
-slice-aggregate-row-9 c = search needs
+slice-aggregate-only-6 : tie.Need-slice-aggregate-only-6
+slice-aggregate-only-6 c = search needs
 
-row-requires-9 : tie.Need-row-requires-9
-row-requires-9 c κs = search needs
+only-requires-6 : tie.Need-only-requires-6
+only-requires-6 c κs = search needs
 
-slice-aggregate-row-10 : tie.Need-slice-aggregate-row-10
-slice-aggregate-row-10 c = search needs
+slice-aggregate-either-11 : tie.Need-slice-aggregate-either-11
+slice-aggregate-either-11 c = search needs
 
-row-requires-10 : tie.Need-row-requires-10
-row-requires-10 c κs = search needs
+slice-aggregate-either-12 : tie.Need-slice-aggregate-either-12
+slice-aggregate-either-12 c = search needs
 
-slice-aggregate-row-11 : tie.Need-slice-aggregate-row-11
-slice-aggregate-row-11 c = search needs
+either-requires-6 : tie.Need-either-requires-6
+either-requires-6 c κs = search needs
 
-row-requires-11 : tie.Need-row-requires-11
-row-requires-11 c κs = search needs
+returns-2 : tie.Need-returns-2
+unfolding words lookup bytesOf utf8
+returns-2 c = by-first (now (c .before .before .before .before .before .before .before .args .raw)) _ (c .before .before .before .before .before .if1 .left) (c .before .before .before .match .keys1) (c .either .ensures)
 
-slice-aggregate-row-12 : tie.Need-slice-aggregate-row-12
-slice-aggregate-row-12 c = search needs
+returns-3 : tie.Need-returns-3
+unfolding words lookup bytesOf utf8
+returns-3 c = by-first (now (c .before .before .before .before .before .before .args .raw)) _ (c .before .before .before .before .if1 .left) (c .before .before .match .keys2) (c .only .ensures)
 
-row-requires-12 : tie.Need-row-requires-12
-row-requires-12 c κs = search needs
+returns-4 : tie.Need-returns-4
+unfolding words lookup bytesOf utf8
+returns-4 c = by-first (now (c .before .before .before .before .before .before .before .args .raw)) _ (c .before .before .before .before .before .if1 .left) (c .before .before .before .match .keys3) (c .either2 .ensures)
 
-slice-aggregate-row-13 : tie.Need-slice-aggregate-row-13
-slice-aggregate-row-13 c = search needs
+returns-5 : tie.Need-returns-5
+unfolding words lookup bytesOf utf8
+returns-5 c = by-first (now (c .before .before .before .before .before .before .before .before .before .args .raw)) _ (c .before .before .before .before .before .before .before .if1 .left) (c .before .before .before .before .before .match .keys4) (rw (c .before .either3 .ensures) at (c .row .ensures))
 
-row-requires-13 : tie.Need-row-requires-13
-row-requires-13 c κs = search needs
+returns-6 : tie.Need-returns-6
+unfolding words lookup bytesOf utf8
+returns-6 c = by-first (now (c .before .before .before .before .before .before .before .args .raw)) _ (c .before .before .before .before .before .if1 .left) (c .before .before .before .match .keys5) (c .either4 .ensures)
 
-slice-aggregate-row-14 : tie.Need-slice-aggregate-row-14
-slice-aggregate-row-14 c = search needs
+returns-7 : tie.Need-returns-7
+unfolding words lookup bytesOf utf8
+returns-7 c = by-first (now (c .before .before .before .before .before .before .args .raw)) _ (c .before .before .before .before .if1 .left) (c .before .before .match .keys6) (c .only2 .ensures)
 
-row-requires-14 : tie.Need-row-requires-14
-row-requires-14 c κs = search needs
+returns-8 : tie.Need-returns-8
+unfolding words lookup bytesOf utf8
+returns-8 c = by-first (now (c .before .before .before .before .before .before .before .args .raw)) _ (c .before .before .before .before .before .if1 .left) (c .before .before .before .match .keys7) (c .either5 .ensures)
 
-slice-aggregate-row-15 : tie.Need-slice-aggregate-row-15
-slice-aggregate-row-15 c = search needs
+returns-9 : tie.Need-returns-9
+unfolding words lookup bytesOf utf8
+returns-9 c = by-first (now (c .before .before .before .before .before .before .args .raw)) _ (c .before .before .before .before .if1 .left) (c .before .before .match .keys8) (c .only3 .ensures)
 
-row-requires-15 : tie.Need-row-requires-15
-row-requires-15 c κs = search needs
+returns-10 : tie.Need-returns-10
+unfolding words lookup bytesOf utf8
+returns-10 c = by-first (now (c .before .before .before .before .before .before .args .raw)) _ (c .before .before .before .before .if1 .left) (c .before .before .match .keys9) (c .only4 .ensures)
 
-slice-aggregate-row-16 : tie.Need-slice-aggregate-row-16
-slice-aggregate-row-16 c = search needs
+returns-11 : tie.Need-returns-11
+unfolding words lookup bytesOf utf8
+returns-11 c = by-first (now (c .before .before .before .before .before .before .args .raw)) _ (c .before .before .before .before .if1 .left) (c .before .before .match .keys10) (c .only5 .ensures)
 
-row-requires-16 : tie.Need-row-requires-16
-row-requires-16 c κs = search needs
+returns-12 : tie.Need-returns-12
+unfolding words lookup bytesOf utf8
+returns-12 c = by-first (now (c .before .before .before .before .before .before .args .raw)) _ (c .before .before .before .before .if1 .left) (c .before .before .match .keys11) (c .only6 .ensures)
 
-slice-aggregate-row-17 : tie.Need-slice-aggregate-row-17
-slice-aggregate-row-17 c = search needs
+returns-13 : tie.Need-returns-13
+unfolding words lookup bytesOf utf8
+returns-13 c = by-first (now (c .before .before .before .before .before .before .before .args .raw)) _ (c .before .before .before .before .before .if1 .left) (c .before .before .before .match .keys12) (c .either6 .ensures)
 
-row-requires-17 : tie.Need-row-requires-17
-row-requires-17 c κs = search needs
-
-slice-aggregate-row-18 : tie.Need-slice-aggregate-row-18
-slice-aggregate-row-18 c = search needs
-
-row-requires-18 : tie.Need-row-requires-18
-row-requires-18 c κs = search needs
-
-slice-aggregate-row-19 : tie.Need-slice-aggregate-row-19
-slice-aggregate-row-19 c = search needs
-
-row-requires-19 : tie.Need-row-requires-19
-row-requires-19 c κs = search needs
-
-returns : tie.Need-returns
-unfolding words bytesOf utf8
-returns c =
-    let at18 = c .before .before in
-    let at17 = at18 .before .before in
-    let at16 = at17 .before .before in
-    let at15 = at16 .before .before in
-    let at14 = at15 .before .before in
-    let at13 = at14 .before .before in
-    let at12 = at13 .before .before in
-    let at11 = at12 .before .before in
-    let at10 = at11 .before .before in
-    let at9 = at10 .before .before in
-    let at8 = at9 .before .before in
-    let at7 = at8 .before .before in
-    let at6 = at7 .before .before in
-    let at5 = at6 .before .before in
-    let at4 = at5 .before .before in
-    let at3 = at4 .before .before in
-    let at2 = at3 .before .before in
-    let at1 = at2 .before .before in
-    let raw = at1 .before .before .before .args .raw .now in
-    (tried raw _ _ _ (c .row19 .ensures)
-    (tried raw _ _ _ (at18 .row18 .ensures)
-    (tried raw _ _ _ (at17 .row17 .ensures)
-    (tried raw _ _ _ (at16 .row16 .ensures)
-    (tried raw _ _ _ (at15 .row15 .ensures)
-    (tried raw _ _ _ (at14 .row14 .ensures)
-    (tried raw _ _ _ (at13 .row13 .ensures)
-    (tried raw _ _ _ (at12 .row12 .ensures)
-    (tried raw _ _ _ (at11 .row11 .ensures)
-    (tried raw _ _ _ (at10 .row10 .ensures)
-    (tried raw _ _ _ (at9 .row9 .ensures)
-    (tried raw _ _ _ (at8 .row8 .ensures)
-    (tried raw _ _ _ (at7 .row7 .ensures)
-    (tried raw _ _ _ (at6 .row6 .ensures)
-    (tried raw _ _ _ (at5 .row5 .ensures)
-    (tried raw _ _ _ (at4 .row4 .ensures)
-    (tried raw _ _ _ (at3 .row3 .ensures)
-    (tried raw _ _ _ (at2 .row2 .ensures)
-    (tried raw _ _ _ (at1 .row .ensures)
-    (none-tried raw _))))))))))))))))))))
-    ∙ last-first raw
+returns-14 : tie.Need-returns-14
+returns-14 c = by-first (now (c .before .before .before .before .args .raw)) _ (c .before .before .if1 .left) refl (no-row _ _ (c .match .rest .0 .0 .0 .0 .0 .0 .0 .0 .0 .0 .0 .1) (c .match .rest .0 .0 .0 .0 .0 .0 .0 .0 .0 .0 .1) (c .match .rest .0 .0 .0 .0 .0 .0 .0 .0 .0 .1) (c .match .rest .0 .0 .0 .0 .0 .0 .0 .0 .1) (c .match .rest .0 .0 .0 .0 .0 .0 .0 .1) (c .match .rest .0 .0 .0 .0 .0 .0 .1) (c .match .rest .0 .0 .0 .0 .0 .1) (c .match .rest .0 .0 .0 .0 .1) (c .match .rest .0 .0 .0 .1) (c .match .rest .0 .0 .1) (c .match .rest .0 .1) (c .match .rest .1))
 
 pub word-kind-spec : {M : Type 1} → statement M
 word-kind-spec =
     tie.close
     (tie.spec
+    returns
+    shared-slice-read-first
+    slice-aggregate-either
+    slice-aggregate-either-2
+    either-requires
+    slice-aggregate-only
+    only-requires
+    slice-aggregate-either-3
+    slice-aggregate-either-4
+    either-requires-2
     slice-aggregate-row
+    slice-aggregate-either-5
+    slice-aggregate-either-6
+    either-requires-3
     row-requires
-    slice-aggregate-row-2
-    row-requires-2
-    slice-aggregate-row-3
-    row-requires-3
-    slice-aggregate-row-4
-    row-requires-4
-    slice-aggregate-row-5
-    row-requires-5
-    slice-aggregate-row-6
-    row-requires-6
-    slice-aggregate-row-7
-    row-requires-7
-    slice-aggregate-row-8
-    row-requires-8
-    slice-aggregate-row-9
-    row-requires-9
-    slice-aggregate-row-10
-    row-requires-10
-    slice-aggregate-row-11
-    row-requires-11
-    slice-aggregate-row-12
-    row-requires-12
-    slice-aggregate-row-13
-    row-requires-13
-    slice-aggregate-row-14
-    row-requires-14
-    slice-aggregate-row-15
-    row-requires-15
-    slice-aggregate-row-16
-    row-requires-16
-    slice-aggregate-row-17
-    row-requires-17
-    slice-aggregate-row-18
-    row-requires-18
-    slice-aggregate-row-19
-    row-requires-19
-    returns)
+    slice-aggregate-either-7
+    slice-aggregate-either-8
+    either-requires-4
+    slice-aggregate-only-2
+    only-requires-2
+    slice-aggregate-either-9
+    slice-aggregate-either-10
+    either-requires-5
+    slice-aggregate-only-3
+    only-requires-3
+    slice-aggregate-only-4
+    only-requires-4
+    slice-aggregate-only-5
+    only-requires-5
+    slice-aggregate-only-6
+    only-requires-6
+    slice-aggregate-either-11
+    slice-aggregate-either-12
+    either-requires-6
+    returns-2
+    returns-3
+    returns-4
+    returns-5
+    returns-6
+    returns-7
+    returns-8
+    returns-9
+    returns-10
+    returns-11
+    returns-12
+    returns-13
+    returns-14)

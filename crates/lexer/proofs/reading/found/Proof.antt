@@ -44,8 +44,8 @@ past-requires-2 c κs = search needs
 one-requires-2 : tie.Need-one-requires-2
 one-requires-2 c κs = fits-two (c .before .before .before .before .before .before .before .before .before .args .free) (meaningOf (c .before .before .before .before .before .before .before .before .before .args .what) (c .before .before .before .before .before .before .before .before .before .args .start) (c .before .before .before .before .before .before .before .before .before .args .start + length (now (c .before .before .before .before .before .before .before .before .before .args .raw))) (now (c .before .before .before .before .before .before .before .before .before .args .raw))) (c .before .before .before .m2 .given .0 .0) (c .before .before .before .m2 .given .0 .1 .0) (sym (ap meant (c .before .before .before .m2 .given .1)) ∙ c .before .before .before .before .before .meaning .ensures) (c .before .before .before .before .before .before .before .before .before .pre .texts) .1
 
-halfway-requires : tie.Need-halfway-requires
-halfway-requires c κs = search needs
+stand-requires : tie.Need-stand-requires
+stand-requires c κs = search needs
 
 one-requires-3 : tie.Need-one-requires-3
 one-requires-3 c κs = fits-two (c .before .before .before .before .before .before .before .before .before .args .free) (meaningOf (c .before .before .before .before .before .before .before .before .before .args .what) (c .before .before .before .before .before .before .before .before .before .args .start) (c .before .before .before .before .before .before .before .before .before .args .start + length (now (c .before .before .before .before .before .before .before .before .before .args .raw))) (now (c .before .before .before .before .before .before .before .before .before .args .raw))) (c .before .before .before .m2 .given .0 .0) (c .before .before .before .m2 .given .0 .1 .0) (sym (ap meant (c .before .before .before .m2 .given .1)) ∙ c .before .before .before .before .before .meaning .ensures) (c .before .before .before .before .before .before .before .before .before .pre .texts) .0
@@ -57,7 +57,7 @@ returns-2 : tie.Need-returns-2
 returns-2 c = found-second (c .before .before .before .before .before .before .before .before .before .before .args .free) (c .before .before .before .before .before .before .before .before .before .before .args .p) (c .before .before .before .before .before .before .before .before .before .before .args .start) (c .before .before .before .before .before .before .before .before .before .before .args .what) (now (c .before .before .before .before .before .before .before .before .before .before .args .raw)) (c .before .before .before .before .before .before .before .range-after .result) (c .before .before .before .before .before .before .before .range-after .ensures) (c .one2 .result) (c .before .past2 .result) (c .before .before .before .before .m2 .given .0 .0) (c .before .before .before .before .m2 .given .0 .1 .0) (sym (ap meant (c .before .before .before .before .m2 .given .1)) ∙ c .before .before .before .before .before .before .meaning .ensures) (c .before .before .if1 .taken) (c .one2 .ensures) (c .before .past2 .ensures)
 
 returns-3 : tie.Need-returns-3
-returns-3 c = found-first (c .before .before .before .before .before .before .before .before .before .before .args .free) (c .before .before .before .before .before .before .before .before .before .before .args .p) (c .before .before .before .before .before .before .before .before .before .before .args .start) (c .before .before .before .before .before .before .before .before .before .before .args .what) (now (c .before .before .before .before .before .before .before .before .before .before .args .raw)) (c .before .before .before .before .before .before .before .range-after .result) (c .before .before .before .before .before .before .before .range-after .ensures) (c .one3 .result) (c .before .halfway .result) (c .before .before .before .before .m2 .given .0 .0) (c .before .before .before .before .m2 .given .0 .1 .0) (sym (ap meant (c .before .before .before .before .m2 .given .1)) ∙ c .before .before .before .before .before .before .meaning .ensures) (c .before .before .if1 .left) (c .one3 .ensures) (c .before .halfway .ensures)
+returns-3 c = found-first (c .before .before .before .before .before .before .before .before .before .before .args .free) (c .before .before .before .before .before .before .before .before .before .before .args .p) (c .before .before .before .before .before .before .before .before .before .before .args .start) (c .before .before .before .before .before .before .before .before .before .before .args .what) (now (c .before .before .before .before .before .before .before .before .before .before .args .raw)) (c .before .before .before .before .before .before .before .range-after .result) (c .before .before .before .before .before .before .before .range-after .ensures) (c .one3 .result) (c .before .stand .result) (c .before .before .before .before .m2 .given .0 .0) (c .before .before .before .before .m2 .given .0 .1 .0) (sym (ap meant (c .before .before .before .before .m2 .given .1)) ∙ c .before .before .before .before .before .before .meaning .ensures) (c .before .before .if1 .left) (c .one3 .ensures) (c .before .stand .ensures)
 
 pub found-spec : {M : Type 1} → statement M
 found-spec =
@@ -74,7 +74,7 @@ found-spec =
     enum-known-m-2
     past-requires-2
     one-requires-2
-    halfway-requires
+    stand-requires
     one-requires-3
     returns
     returns-2

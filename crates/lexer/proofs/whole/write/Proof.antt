@@ -1,59 +1,118 @@
--- What the two memories hold is what is done, written; each turn adds one record and one text, and at the end all is done.
-use mathlib.Core.Path.{_≡_, refl, sym, _∙_}
+-- What the two memories hold is what is done, written; each turn adds one record and one text, and at the end all is done. An item that
+-- one look told is the next item (Glances), and has no text to write.
+use mathlib.Core.Path.{_≡_, refl, sym, ap, _∙_, subst}
 use Prim.Native.Nat.{_+_, _-_, _≤_, _<_, _^_}
 use native.Mathlib.Omega.{arith}
 use lib.ListN.{length, take, drop}
 use denote.Ref.{now}
+use Rattle.laws.specs.Lent.{written}
 use Rattle.laws.proofs.Lent.{length-part}
+use Rattle.items.specs.Items.{wordsOf}
+use Rattle.items.specs.declared.Record.{Record}
 use Rattle.lexer.specs.Reading.{nextAt, foundOf, sizeOf}
 use Rattle.lexer.specs.Inner.{bytesFor}
+use Rattle.lexer.specs.declared.Position.{Position}
 use Rattle.lexer.specs.declared.Found.the-variants.{One}
 use Rattle.lexer.proofs.Writing.{Writing, writing, written-all, writing-end, writing-on, has-moved, room, text-fits, recs-length, text-length}
+use Rattle.lexer.proofs.Quickly.{here, quick-fits, quick-room, quick-smaller, quick-writes}
 use borrow.Author.Needs.{needs}
 use Rattle.lexer.proofs.whole.write.Statement.{statement}
 use Rattle.lexer.proofs.whole.write.Tie as tie
 
 abbrev Inv-loop : tie.InvT-loop
-Inv-loop source recs₀ text₀ p₀ free₀ w₀ recs text p free w = Writing source p₀ recs₀ text₀ recs text p free w
+Inv-loop source recs₀ text₀ p₀ at₀ second₀ free₀ w₀ recs text p at second free w = Writing source p₀ recs₀ text₀ recs text (here p at second) free w
 
 abbrev μ-loop : tie.MeasureT-loop
-μ-loop source recs₀ text₀ p₀ free₀ w₀ recs text p free w = sizeOf source p
+μ-loop source recs₀ text₀ p₀ at₀ second₀ free₀ w₀ recs text p at second free w = sizeOf source (here p at second)
 
-one : (c : tie.After-known-told Inv-loop μ-loop) → One (c .before .r .given .0 .0) (c .before .r .given .0 .1 .0) ≡ foundOf (c .before .before .before .before .loop .free) (nextAt (now (c .before .before .before .before .before .before .before .before .args .source)) (c .before .before .before .before .loop .p))
-one c = sym (c .before .r .given .1) ∙ c .before .before .before .next-item .ensures
+quick-in : (c : tie.After-known-told Inv-loop μ-loop) → c .before .before .before .before .loop .w + 9 ≤ length (c .before .before .before .before .loop .recs)
+quick-in c = quick-room (now (c .before .before .before .before .before .before .before .before .args .source)) (c .before .before .before .before .before .before .before .before .args .position) (now (c .before .before .before .before .before .before .before .before .args .recs)) (now (c .before .before .before .before .before .before .before .before .args .text)) (c .before .before .before .before .before .before .before .before .pre .1 .0) (c .before .before .before .before .before .before .before .before .pre .1 .1) (c .before .before .before .before .loop .p) (c .before .before .before .before .loop .at) (c .before .before .before .before .loop .second) (c .before .before .before .before .loop .inv) (c .before .before .before .quick-item .result) (c .before .m .given .0 .0) (c .before .m .given .0 .1 .0) (c .before .m .given .0 .1 .1 .0) (c .before .m .given .1) (c .before .before .before .quick-item .ensures)
 
-fits : (c : tie.After-known-told Inv-loop μ-loop) → (c .before .before .before .before .loop .w + 9 ≤ length (c .before .before .before .before .loop .recs)) × (c .before .before .before .before .loop .free + length (bytesFor (now (c .before .before .before .before .before .before .before .before .args .source)) (c .before .r .given .0 .0)) ≤ length (c .before .before .before .before .loop .text))
-fits c = room (now (c .before .before .before .before .before .before .before .before .args .source)) (c .before .before .before .before .before .before .before .before .args .position) (now (c .before .before .before .before .before .before .before .before .args .recs)) (now (c .before .before .before .before .before .before .before .before .args .text)) (c .before .before .before .before .before .before .before .before .pre .1 .0) (c .before .before .before .before .before .before .before .before .pre .1 .1) (c .before .before .before .before .loop .inv) (c .before .r .given .0 .0) (c .before .r .given .0 .1 .0) (one c)
+quick-same : (c : tie.After-known-told Inv-loop μ-loop) → length (c .before .before .before .before .loop .recs) ≡ length (now (c .before .before .before .before .before .before .before .before .args .recs))
+quick-same c = recs-length (now (c .before .before .before .before .before .before .before .before .args .source)) (c .before .before .before .before .before .before .before .before .args .position) (now (c .before .before .before .before .before .before .before .before .args .recs)) (now (c .before .before .before .before .before .before .before .before .args .text)) (c .before .before .before .before .before .before .before .before .pre .1 .0) (c .before .before .before .before .before .before .before .before .pre .1 .1) (c .before .before .before .before .loop .inv)
 
-same : (c : tie.After-known-told Inv-loop μ-loop) → length (c .before .before .before .before .loop .recs) ≡ length (now (c .before .before .before .before .before .before .before .before .args .recs))
-same c = recs-length (now (c .before .before .before .before .before .before .before .before .args .source)) (c .before .before .before .before .before .before .before .before .args .position) (now (c .before .before .before .before .before .before .before .before .args .recs)) (now (c .before .before .before .before .before .before .before .before .args .text)) (c .before .before .before .before .before .before .before .before .pre .1 .0) (c .before .before .before .before .before .before .before .before .pre .1 .1) (c .before .before .before .before .loop .inv)
+one : (c : tie.After-known-told2 Inv-loop μ-loop) → One (c .before .r .given .0 .0) (c .before .r .given .0 .1 .0) ≡ foundOf (c .before .before .before .before .before .before .before .before .loop .free) (nextAt (now (c .before .before .before .before .before .before .before .before .before .before .before .before .args .source)) (here (c .before .before .before .before .before .before .before .before .loop .p) (c .before .before .before .before .before .before .before .before .loop .at) (c .before .before .before .before .before .before .before .before .loop .second)))
+one c = sym (c .before .r .given .1) ∙ c .before .before .before .next-item .ensures ∙ ap (λ (x : Position). foundOf (c .before .before .before .before .before .before .before .before .loop .free) (nextAt (now (c .before .before .before .before .before .before .before .before .before .before .before .before .args .source)) x)) (c .before .before .before .before .stand .ensures)
 
-small : (c : tie.After-known-told Inv-loop μ-loop) → length (c .before .before .before .before .loop .recs) < 2 ^ 63
-small c = omega (arith, same c)
+fits : (c : tie.After-known-told2 Inv-loop μ-loop) → (c .before .before .before .before .before .before .before .before .loop .w + 9 ≤ length (c .before .before .before .before .before .before .before .before .loop .recs)) × (c .before .before .before .before .before .before .before .before .loop .free + length (bytesFor (now (c .before .before .before .before .before .before .before .before .before .before .before .before .args .source)) (c .before .r .given .0 .0)) ≤ length (c .before .before .before .before .before .before .before .before .loop .text))
+fits c = room (now (c .before .before .before .before .before .before .before .before .before .before .before .before .args .source)) (c .before .before .before .before .before .before .before .before .before .before .before .before .args .position) (now (c .before .before .before .before .before .before .before .before .before .before .before .before .args .recs)) (now (c .before .before .before .before .before .before .before .before .before .before .before .before .args .text)) (c .before .before .before .before .before .before .before .before .before .before .before .before .pre .1 .0) (c .before .before .before .before .before .before .before .before .before .before .before .before .pre .1 .1) (c .before .before .before .before .before .before .before .before .loop .inv) (c .before .r .given .0 .0) (c .before .r .given .0 .1 .0) (one (c))
+
+same : (c : tie.After-known-told2 Inv-loop μ-loop) → length (c .before .before .before .before .before .before .before .before .loop .recs) ≡ length (now (c .before .before .before .before .before .before .before .before .before .before .before .before .args .recs))
+same c = recs-length (now (c .before .before .before .before .before .before .before .before .before .before .before .before .args .source)) (c .before .before .before .before .before .before .before .before .before .before .before .before .args .position) (now (c .before .before .before .before .before .before .before .before .before .before .before .before .args .recs)) (now (c .before .before .before .before .before .before .before .before .before .before .before .before .args .text)) (c .before .before .before .before .before .before .before .before .before .before .before .before .pre .1 .0) (c .before .before .before .before .before .before .before .before .before .before .before .before .pre .1 .1) (c .before .before .before .before .before .before .before .before .loop .inv)
+
+small : (c : tie.After-known-told2 Inv-loop μ-loop) → length (c .before .before .before .before .before .before .before .before .loop .recs) < 2 ^ 63
+small c = let good = c .before .before .before .before .before .before .before .before .before .before .before .before .good in omega (arith, same c)
 
 loop-holds : tie.Need-loop-holds Inv-loop μ-loop
 loop-holds c = writing (now (c .before .before .before .args .source)) (c .before .before .before .args .position) (now (c .before .before .before .args .recs)) (now (c .before .before .before .args .text)) (c .before .before .before .pre .1 .0) (c .before .before .before .pre .1 .1)
 
-next-item-requires : tie.Need-next-item-requires Inv-loop μ-loop
-next-item-requires c κs = (c .before .before .before .before .pre .0, c .loop .inv .going .behind)
+quick-item-requires : tie.Need-quick-item-requires Inv-loop μ-loop
+quick-item-requires c κs = c .before .before .before .before .pre .0
 
-enum-known-r : tie.Need-enum-known-r Inv-loop μ-loop
-enum-known-r c = search needs
+enum-known-m : tie.Need-enum-known-m Inv-loop μ-loop
+enum-known-m c = search needs
+
+cast-t17 : tie.Need-cast-t17 Inv-loop μ-loop
+cast-t17 c = omega (arith, quick-fits (now (c .before .before .before .before .before .before .before .before .args .source)) (c .before .before .before .before .before .before .before .before .args .position) (now (c .before .before .before .before .before .before .before .before .args .recs)) (now (c .before .before .before .before .before .before .before .before .args .text)) (c .before .before .before .before .before .before .before .before .pre .1 .0) (c .before .before .before .before .before .before .before .before .pre .1 .1) (c .before .before .before .before .loop .p) (c .before .before .before .before .loop .at) (c .before .before .before .before .loop .second) (c .before .before .before .before .loop .inv) (c .before .before .before .quick-item .result) (c .before .m .given .0 .0) (c .before .m .given .0 .1 .0) (c .before .m .given .0 .1 .1 .0) (c .before .m .given .1) (c .before .before .before .quick-item .ensures) (c .before .before .before .before .before .before .before .before .pre .0))
+
+cast-t18 : tie.Need-cast-t18 Inv-loop μ-loop
+cast-t18 c = omega (arith, quick-fits (now (c .before .before .before .before .before .before .before .before .args .source)) (c .before .before .before .before .before .before .before .before .args .position) (now (c .before .before .before .before .before .before .before .before .args .recs)) (now (c .before .before .before .before .before .before .before .before .args .text)) (c .before .before .before .before .before .before .before .before .pre .1 .0) (c .before .before .before .before .before .before .before .before .pre .1 .1) (c .before .before .before .before .loop .p) (c .before .before .before .before .loop .at) (c .before .before .before .before .loop .second) (c .before .before .before .before .loop .inv) (c .before .before .before .quick-item .result) (c .before .m .given .0 .0) (c .before .m .given .0 .1 .0) (c .before .m .given .0 .1 .1 .0) (c .before .m .given .1) (c .before .before .before .quick-item .ensures) (c .before .before .before .before .before .before .before .before .pre .0))
 
 mul-put : tie.Need-mul-put Inv-loop μ-loop
-mul-put c = omega (arith, fits c, same c)
+mul-put c = omega (arith, quick-in c, quick-same c)
 
 sub-put : tie.Need-sub-put Inv-loop μ-loop
-sub-put c = omega (arith, fits c)
+sub-put c = omega (arith, quick-in c)
 
 part-put-start : tie.Need-part-put-start Inv-loop μ-loop
-part-put-start c = omega (arith, fits c)
+part-put-start c = omega (arith, quick-in c)
 
 part-put-end : tie.Need-part-put-end Inv-loop μ-loop
 part-put-end c = omega arith
 
+record-of-requires : tie.Need-record-of-requires Inv-loop μ-loop
+record-of-requires c κs = quick-fits (now (c .before .before .before .before .before .before .before .before .before .args .source)) (c .before .before .before .before .before .before .before .before .before .args .position) (now (c .before .before .before .before .before .before .before .before .before .args .recs)) (now (c .before .before .before .before .before .before .before .before .before .args .text)) (c .before .before .before .before .before .before .before .before .before .pre .1 .0) (c .before .before .before .before .before .before .before .before .before .pre .1 .1) (c .before .before .before .before .before .loop .p) (c .before .before .before .before .before .loop .at) (c .before .before .before .before .before .loop .second) (c .before .before .before .before .before .loop .inv) (c .before .before .before .before .quick-item .result) (c .before .before .m .given .0 .0) (c .before .before .m .given .0 .1 .0) (c .before .before .m .given .0 .1 .1 .0) (c .before .before .m .given .1) (c .before .before .before .before .quick-item .ensures) (c .before .before .before .before .before .before .before .before .before .pre .0) .2
+
 put-requires : tie.Need-put-requires Inv-loop μ-loop
-put-requires c κs = let l = c .before .before .before .before .before .loop in omega (arith, fits (c .before), length-part (l .recs) (l .w))
+put-requires c κs = let l = c .before .before .before .before .before .before .loop in omega (arith, quick-in (c .before .before), length-part (l .recs) (l .w))
+
+add-w : tie.Need-add-w Inv-loop μ-loop
+add-w c = let good = c .before .before .before .before .before .before .before .before .before .before .before .before .before .good in omega (arith, quick-in (c .before .before .before .before .before), quick-same (c .before .before .before .before .before))
+
+loop-less : tie.Need-loop-less Inv-loop μ-loop
+loop-less c = quick-smaller (now (c .before .before .before .before .before .before .before .before .before .before .before .before .before .args .source)) (c .before .before .before .before .before .before .before .before .before .before .before .before .before .args .position) (now (c .before .before .before .before .before .before .before .before .before .before .before .before .before .args .recs)) (now (c .before .before .before .before .before .before .before .before .before .before .before .before .before .args .text)) (c .before .before .before .before .before .before .before .before .before .before .before .before .before .pre .1 .0) (c .before .before .before .before .before .before .before .before .before .before .before .before .before .pre .1 .1) (c .before .before .before .before .before .before .before .before .before .loop .p) (c .before .before .before .before .before .before .before .before .before .loop .at) (c .before .before .before .before .before .before .before .before .before .loop .second) (c .before .before .before .before .before .before .before .before .before .loop .inv) (c .before .before .before .before .before .before .before .before .quick-item .result) (c .before .before .before .before .before .before .m .given .0 .0) (c .before .before .before .before .before .before .m .given .0 .1 .0) (c .before .before .before .before .before .before .m .given .0 .1 .1 .0) (c .before .before .before .before .before .before .m .given .1) (c .before .before .before .before .before .before .before .before .quick-item .ensures)
+
+loop-again : tie.Need-loop-again Inv-loop μ-loop
+loop-again c =
+    quick-writes (now (c .before .before .before .before .before .before .before .before .before .before .before .before .before .args .source)) (c .before .before .before .before .before .before .before .before .before .before .before .before .before .args .position) (now (c .before .before .before .before .before .before .before .before .before .before .before .before .before .args .recs)) (now (c .before .before .before .before .before .before .before .before .before .before .before .before .before .args .text)) (c .before .before .before .before .before .before .before .before .before .before .before .before .before .pre .1 .0) (c .before .before .before .before .before .before .before .before .before .before .before .before .before .pre .1 .1) (c .before .before .before .before .before .before .before .before .before .loop .p) (c .before .before .before .before .before .before .before .before .before .loop .at) (c .before .before .before .before .before .before .before .before .before .loop .second) (c .before .before .before .before .before .before .before .before .before .loop .inv) (c .before .before .before .before .before .before .before .before .quick-item .result) (c .before .before .before .before .before .before .m .given .0 .0) (c .before .before .before .before .before .before .m .given .0 .1 .0) (c .before .before .before .before .before .before .m .given .0 .1 .1 .0) (c .before .before .before .before .before .before .m .given .1) (c .before .before .before .before .before .before .before .before .quick-item .ensures)
+    (c .before .before .put .ensures ∙ ap (λ (x : Record). written (wordsOf x) (take (length (c .before .before .before .before .before .before .before .before .before .loop .recs) - c .before .before .before .before .before .before .before .before .before .loop .w) (drop (c .before .before .before .before .before .before .before .before .before .loop .w) (c .before .before .before .before .before .before .before .before .before .loop .recs)))) (c .before .before .before .record-of .ensures))
+
+enum-told : tie.Need-enum-told Inv-loop μ-loop
+enum-told c = search needs
+
+stand-requires : tie.Need-stand-requires Inv-loop μ-loop
+stand-requires c κs = search needs
+
+next-item-requires : tie.Need-next-item-requires Inv-loop μ-loop
+next-item-requires c κs = (c .before .before .before .before .before .before .before .before .pre .0, subst (λ (x : Position). c .before .before .before .before .loop .free ≤ x .at) (sym (c .stand .ensures)) (c .before .before .before .before .loop .inv .going .behind))
+
+enum-known-r : tie.Need-enum-known-r Inv-loop μ-loop
+enum-known-r c = search needs
+
+mul-put-2 : tie.Need-mul-put-2 Inv-loop μ-loop
+mul-put-2 c = let good = c .before .before .before .before .before .before .before .before .before .before .before .before .good in omega (arith, fits c, same c)
+
+sub-put-2 : tie.Need-sub-put-2 Inv-loop μ-loop
+sub-put-2 c = omega (arith, fits c)
+
+part-put-start-2 : tie.Need-part-put-start-2 Inv-loop μ-loop
+part-put-start-2 c = omega (arith, fits c)
+
+part-put-end-2 : tie.Need-part-put-end-2 Inv-loop μ-loop
+part-put-end-2 c = omega arith
+
+put-requires-2 : tie.Need-put-requires-2 Inv-loop μ-loop
+put-requires-2 c κs = let l = c .before .before .before .before .before .before .before .before .before .loop in omega (arith, fits (c .before), length-part (l .recs) (l .w))
 
 sub-put-text : tie.Need-sub-put-text Inv-loop μ-loop
 sub-put-text c = omega (arith, fits (c .before .before .before .before))
@@ -65,33 +124,33 @@ part-put-text-end : tie.Need-part-put-text-end Inv-loop μ-loop
 part-put-text-end c = omega arith
 
 put-text-requires : tie.Need-put-text-requires Inv-loop μ-loop
-put-text-requires c κs = let l = c .before .before .before .before .before .before .before .before .before .loop in text-fits (now (c .before .before .before .before .before .before .before .before .before .before .before .before .before .args .source)) (c .before .before .before .before .before .before .before .before .before .before .before .before .before .args .position) (now (c .before .before .before .before .before .before .before .before .before .before .before .before .before .args .recs)) (now (c .before .before .before .before .before .before .before .before .before .before .before .before .before .args .text)) (c .before .before .before .before .before .before .before .before .before .before .before .before .before .pre .1 .0) (c .before .before .before .before .before .before .before .before .before .before .before .before .before .pre .1 .1) (l .inv) (c .before .before .before .before .before .before .r .given .0 .0) (c .before .before .before .before .before .before .r .given .0 .1 .0) (one (c .before .before .before .before .before)) (length (take (length (l .text) - l .free) (drop (l .free) (l .text)))) (omega (arith, fits (c .before .before .before .before .before), length-part (l .text) (l .free)))
+put-text-requires c κs = let l = c .before .before .before .before .before .before .before .before .before .before .before .before .before .loop in text-fits (now (c .before .before .before .before .before .before .before .before .before .before .before .before .before .before .before .before .before .args .source)) (c .before .before .before .before .before .before .before .before .before .before .before .before .before .before .before .before .before .args .position) (now (c .before .before .before .before .before .before .before .before .before .before .before .before .before .before .before .before .before .args .recs)) (now (c .before .before .before .before .before .before .before .before .before .before .before .before .before .before .before .before .before .args .text)) (c .before .before .before .before .before .before .before .before .before .before .before .before .before .before .before .before .before .pre .1 .0) (c .before .before .before .before .before .before .before .before .before .before .before .before .before .before .before .before .before .pre .1 .1) (c .before .before .before .before .before .before .before .before .before .before .before .before .before .loop .inv) (c .before .before .before .before .before .before .r .given .0 .0) (c .before .before .before .before .before .before .r .given .0 .1 .0) (one (c .before .before .before .before .before)) (length (take (length (l .text) - l .free) (drop (l .free) (l .text)))) (omega (arith, fits (c .before .before .before .before .before), length-part (l .text) (l .free)))
 
-add-w : tie.Need-add-w Inv-loop μ-loop
-add-w c = omega (arith, fits (c .before .before .before .before .before .before .before .before), small (c .before .before .before .before .before .before .before .before))
+add-w-2 : tie.Need-add-w-2 Inv-loop μ-loop
+add-w-2 c = omega (arith, fits (c .before .before .before .before .before .before .before .before), small (c .before .before .before .before .before .before .before .before))
 
 free-after-requires : tie.Need-free-after-requires Inv-loop μ-loop
 free-after-requires c κs = search needs
 
-loop-less : tie.Need-loop-less Inv-loop μ-loop
-loop-less c = has-moved (now (c .before .before .before .before .before .before .before .before .before .before .before .before .before .before .before .before .before .args .source)) (c .before .before .before .before .before .before .before .before .before .before .before .before .before .before .before .before .before .args .position) (now (c .before .before .before .before .before .before .before .before .before .before .before .before .before .before .before .before .before .args .recs)) (now (c .before .before .before .before .before .before .before .before .before .before .before .before .before .before .before .before .before .args .text)) (c .before .before .before .before .before .before .before .before .before .before .before .before .before .before .before .before .before .pre .1 .0) (c .before .before .before .before .before .before .before .before .before .before .before .before .before .before .before .before .before .pre .1 .1) (c .before .before .before .before .before .before .before .before .before .before .before .before .before .loop .inv) (c .before .before .before .before .before .before .before .before .before .before .r .given .0 .0) (c .before .before .before .before .before .before .before .before .before .before .r .given .0 .1 .0) (one (c .before .before .before .before .before .before .before .before .before)) .smaller
+loop-less-2 : tie.Need-loop-less-2 Inv-loop μ-loop
+loop-less-2 c = has-moved (now (c .before .before .before .before .before .before .before .before .before .before .before .before .before .before .before .before .before .before .before .before .before .args .source)) (c .before .before .before .before .before .before .before .before .before .before .before .before .before .before .before .before .before .before .before .before .before .args .position) (now (c .before .before .before .before .before .before .before .before .before .before .before .before .before .before .before .before .before .before .before .before .before .args .recs)) (now (c .before .before .before .before .before .before .before .before .before .before .before .before .before .before .before .before .before .before .before .before .before .args .text)) (c .before .before .before .before .before .before .before .before .before .before .before .before .before .before .before .before .before .before .before .before .before .pre .1 .0) (c .before .before .before .before .before .before .before .before .before .before .before .before .before .before .before .before .before .before .before .before .before .pre .1 .1) (c .before .before .before .before .before .before .before .before .before .before .before .before .before .before .before .before .before .loop .inv) (c .before .before .before .before .before .before .before .before .before .before .r .given .0 .0) (c .before .before .before .before .before .before .before .before .before .before .r .given .0 .1 .0) (one (c .before .before .before .before .before .before .before .before .before)) .smaller
 
-loop-again : tie.Need-loop-again Inv-loop μ-loop
-loop-again c = writing-on (now (c .before .before .before .before .before .before .before .before .before .before .before .before .before .before .before .before .before .args .source)) (c .before .before .before .before .before .before .before .before .before .before .before .before .before .before .before .before .before .args .position) (now (c .before .before .before .before .before .before .before .before .before .before .before .before .before .before .before .before .before .args .recs)) (now (c .before .before .before .before .before .before .before .before .before .before .before .before .before .before .before .before .before .args .text)) (c .before .before .before .before .before .before .before .before .before .before .before .before .before .before .before .before .before .pre .1 .0) (c .before .before .before .before .before .before .before .before .before .before .before .before .before .before .before .before .before .pre .1 .1) (c .before .before .before .before .before .before .before .before .before .before .before .before .before .loop .inv) (c .before .before .before .before .before .before .before .before .before .before .r .given .0 .0) (c .before .before .before .before .before .before .before .before .before .before .r .given .0 .1 .0) (one (c .before .before .before .before .before .before .before .before .before)) (c .free-after .result) (c .free-after .ensures) (c .before .before .before .before .before .before .before .put .ensures) (c .before .before .before .put-text .ensures)
+loop-again-2 : tie.Need-loop-again-2 Inv-loop μ-loop
+loop-again-2 c = writing-on (now (c .before .before .before .before .before .before .before .before .before .before .before .before .before .before .before .before .before .before .before .before .before .args .source)) (c .before .before .before .before .before .before .before .before .before .before .before .before .before .before .before .before .before .before .before .before .before .args .position) (now (c .before .before .before .before .before .before .before .before .before .before .before .before .before .before .before .before .before .before .before .before .before .args .recs)) (now (c .before .before .before .before .before .before .before .before .before .before .before .before .before .before .before .before .before .before .before .before .before .args .text)) (c .before .before .before .before .before .before .before .before .before .before .before .before .before .before .before .before .before .before .before .before .before .pre .1 .0) (c .before .before .before .before .before .before .before .before .before .before .before .before .before .before .before .before .before .before .before .before .before .pre .1 .1) (c .before .before .before .before .before .before .before .before .before .before .before .before .before .before .before .before .before .loop .inv) (c .before .before .before .before .before .before .before .before .before .before .r .given .0 .0) (c .before .before .before .before .before .before .before .before .before .before .r .given .0 .1 .0) (one (c .before .before .before .before .before .before .before .before .before)) (c .free-after .result) (c .free-after .ensures) (c .before .before .before .before .before .before .before .put2 .ensures) (c .before .before .before .put-text .ensures)
 
-enum-told : tie.Need-enum-told Inv-loop μ-loop
-enum-told c = search needs
+enum-told-2 : tie.Need-enum-told-2 Inv-loop μ-loop
+enum-told-2 c = search needs
 
 same-length : tie.Need-same-length Inv-loop μ-loop
-same-length c = recs-length (now (c .before .before .before .before .before .before .before .args .source)) (c .before .before .before .before .before .before .before .args .position) (now (c .before .before .before .before .before .before .before .args .recs)) (now (c .before .before .before .before .before .before .before .args .text)) (c .before .before .before .before .before .before .before .pre .1 .0) (c .before .before .before .before .before .before .before .pre .1 .1) (c .before .before .before .loop .inv)
+same-length c = recs-length (now (c .before .before .before .before .before .before .before .before .before .before .before .args .source)) (c .before .before .before .before .before .before .before .before .before .before .before .args .position) (now (c .before .before .before .before .before .before .before .before .before .before .before .args .recs)) (now (c .before .before .before .before .before .before .before .before .before .before .before .args .text)) (c .before .before .before .before .before .before .before .before .before .before .before .pre .1 .0) (c .before .before .before .before .before .before .before .before .before .before .before .pre .1 .1) (c .before .before .before .before .before .before .before .loop .inv)
 
 same-length-2 : tie.Need-same-length-2 Inv-loop μ-loop
-same-length-2 c = text-length (now (c .before .before .before .before .before .before .before .args .source)) (c .before .before .before .before .before .before .before .args .position) (now (c .before .before .before .before .before .before .before .args .recs)) (now (c .before .before .before .before .before .before .before .args .text)) (c .before .before .before .before .before .before .before .pre .1 .0) (c .before .before .before .before .before .before .before .pre .1 .1) (c .before .before .before .loop .inv)
+same-length-2 c = text-length (now (c .before .before .before .before .before .before .before .before .before .before .before .args .source)) (c .before .before .before .before .before .before .before .before .before .before .before .args .position) (now (c .before .before .before .before .before .before .before .before .before .before .before .args .recs)) (now (c .before .before .before .before .before .before .before .before .before .before .before .args .text)) (c .before .before .before .before .before .before .before .before .before .before .before .pre .1 .0) (c .before .before .before .before .before .before .before .before .before .before .before .pre .1 .1) (c .before .before .before .before .before .before .before .loop .inv)
 
 returns : tie.Need-returns Inv-loop μ-loop
 returns c =
-    let e = sym (c .enum-told .given .1) ∙ c .before .before .next-item .ensures in
-    (written-all (now (c .before .before .before .before .before .before .before .args .source)) (c .before .before .before .before .before .before .before .args .position) (now (c .before .before .before .before .before .before .before .args .recs)) (now (c .before .before .before .before .before .before .before .args .text)) (c .before .before .before .before .before .before .before .pre .1 .0) (c .before .before .before .before .before .before .before .pre .1 .1) (c .before .before .before .loop .inv) _ refl e, writing-end (now (c .before .before .before .before .before .before .before .args .source)) (c .before .before .before .before .before .before .before .args .position) (now (c .before .before .before .before .before .before .before .args .recs)) (now (c .before .before .before .before .before .before .before .args .text)) (c .before .before .before .before .before .before .before .pre .1 .0) (c .before .before .before .before .before .before .before .pre .1 .1) (c .before .before .before .loop .inv) e)
+    let e = sym (c .enum-told2 .given .1) ∙ c .before .before .next-item .ensures ∙ ap (λ (x : Position). foundOf (c .before .before .before .before .before .before .before .loop .free) (nextAt (now (c .before .before .before .before .before .before .before .before .before .before .before .args .source)) x)) (c .before .before .before .stand .ensures) in
+    (written-all (now (c .before .before .before .before .before .before .before .before .before .before .before .args .source)) (c .before .before .before .before .before .before .before .before .before .before .before .args .position) (now (c .before .before .before .before .before .before .before .before .before .before .before .args .recs)) (now (c .before .before .before .before .before .before .before .before .before .before .before .args .text)) (c .before .before .before .before .before .before .before .before .before .before .before .pre .1 .0) (c .before .before .before .before .before .before .before .before .before .before .before .pre .1 .1) (c .before .before .before .before .before .before .before .loop .inv) _ refl e, writing-end (now (c .before .before .before .before .before .before .before .before .before .before .before .args .source)) (c .before .before .before .before .before .before .before .before .before .before .before .args .position) (now (c .before .before .before .before .before .before .before .before .before .before .before .args .recs)) (now (c .before .before .before .before .before .before .before .before .before .before .before .args .text)) (c .before .before .before .before .before .before .before .before .before .before .before .pre .1 .0) (c .before .before .before .before .before .before .before .before .before .before .before .pre .1 .1) (c .before .before .before .before .before .before .before .loop .inv) e)
 
 pub write-spec : {M : Type 1} → statement M
 write-spec =
@@ -100,22 +159,37 @@ write-spec =
     Inv-loop
     μ-loop
     loop-holds
-    next-item-requires
-    enum-known-r
+    quick-item-requires
+    enum-known-m
+    cast-t17
+    cast-t18
     mul-put
     sub-put
     part-put-start
     part-put-end
+    record-of-requires
     put-requires
+    add-w
+    loop-less
+    loop-again
+    enum-told
+    stand-requires
+    next-item-requires
+    enum-known-r
+    mul-put-2
+    sub-put-2
+    part-put-start-2
+    part-put-end-2
+    put-requires-2
     sub-put-text
     part-put-text-start
     part-put-text-end
     put-text-requires
-    add-w
+    add-w-2
     free-after-requires
-    loop-less
-    loop-again
-    enum-told
+    loop-less-2
+    loop-again-2
+    enum-told-2
     same-length
     same-length-2
     returns)

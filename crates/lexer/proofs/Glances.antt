@@ -1,0 +1,132 @@
+-- An item that one look tells is the next item: the scan is the definition's reader there, and its one meaning gives its record.
+use Rattle.chars.specs.Utf8.{front, placed, chars}
+use Rattle.chars.specs.declared.Decoded.the-variants as decoded
+use Rattle.chars.specs.Blank.{isBlank}
+use Rattle.chars.specs.Encode.{width}
+use Rattle.items.specs.Kinds as kind
+use Rattle.items.specs.Classes.{firstOf}
+use Rattle.items.specs.Machine.{onFirst, scanOf}
+use Rattle.items.specs.Readers.{soFar}
+use Rattle.items.specs.Meaning.{meaningOf}
+use Rattle.items.specs.Items.{Place, range, placeOf, rangeAfter}
+use Rattle.items.specs.Whole.{limit}
+use Rattle.items.specs.declared.Outcome.{Outcome}
+use Rattle.items.specs.declared.Phase.{Phase}
+use Rattle.items.specs.declared.Record.{Record}
+use Rattle.steps.specs.Scan.{part, scanned, answer}
+use Rattle.steps.specs.declared.Scanned.{Scanned}
+use Rattle.steps.proofs.Kept.{ascii-found}
+use Rattle.meaning.specs.declared.Means.{Means}
+use Rattle.meaning.specs.declared.Range.{Range}
+use Rattle.meaning.specs.Meant.{means}
+use Rattle.meaning.specs.declared.Text.{Text}
+use Rattle.meaning.specs.declared.Text.the-variants.{Nowhere, Source, Decoded}
+use Rattle.meaning.specs.Places.{placeIn, rangeOf}
+use Rattle.meaning.specs.Records.{recordFor, TextFits}
+use Rattle.lexer.specs.Inner as inner
+use Rattle.lexer.specs.Inner.{ExtentFits, bytesFor, freeAfter}
+use Rattle.lexer.specs.Reading.{moved, turn, turnAt, turnOf, nextAt, startFrom, foundOf}
+use Rattle.lexer.specs.Glance.{Begins, Alone, Glanced, Undecoded}
+use Rattle.lexer.specs.declared.Position.{Position}
+use Rattle.lexer.specs.declared.Start.the-variants.{At}
+use Rattle.lexer.specs.declared.Found.{Found}
+use Rattle.lexer.specs.declared.Found.the-variants.{One}
+use Rattle.lexer.proofs.Here.{char-found}
+use Rattle.lexer.proofs.Starts.{start-solid}
+use Rattle.lexer.proofs.Turns.{Started, started, turn-started}
+use Rattle.lexer.proofs.Scans.{end-inside, scan-fits, found-is}
+use Rattle.lexer.proofs.Gives.{fits-one, found-one}
+use Rattle.lexer.proofs.Nexts.{found-gives, next-at-gives}
+use Prim.Native.Nat.{ℕ, _+_, _-_, _^_, _≤_, _<_}
+use mathlib.Core.Path.{_≡_, refl, sym, ap, _∙_, subst}
+use mathlib.Core.Bool.{Bool, true, false, _&&_}
+use mathlib.Core.List.{List, [], _∷_}
+use lib.Dec.{eqb, leb, ltb}
+use lib.ListN.{length, getD, take, drop, length-take, length-drop}
+use native.Mathlib.Omega.{arith}
+use borrow.Author.Tests.{lt-leb}
+
+-- a byte of ASCII that is no blank begins an item
+pub begins : (s : List ℕ) (at c : ℕ) (p : Phase) → at < length s → getD s at 0 ≡ c → c < 0x80 → isBlank c ≡ false → onFirst (firstOf c) ≡ p → Begins s at p
+begins s at c p h e k b f =
+    let here = char-found s at c (at + 1) (subst (λ (x : ℕ). decoded.Char x (at + 1) ≡ placed at (front (drop at s))) e (ascii-found s at h (omega arith))) in
+    record { c = c; first = record { first = here .first; on = here .on; solid = b }; stands = f }
+
+-- and reading on there starts with it
+start-first : (s : List ℕ) (a c n : ℕ) → inner.First s a c n → startFrom a (chars (drop a s)) ≡ At c a n
+unfolding startFrom
+start-first s a c n F = ap (startFrom a) (F .first) ∙ rw (F .solid) (ap (At c a) (sym (F .on)))
+
+-- an item with the next item's place and its meaning
+pub next-found : (s : List ℕ) (free : ℕ) (p : Position) (r : Record) (q : Position) → One r q ≡ foundOf free (turn s p)
+    → (p .skip && eqb (r .kind) kind.Comment) ≡ false → One r q ≡ foundOf free (nextAt s p)
+next-found s free p r q e b =
+    let g = found-gives free (turn s p) r q e in
+    e ∙ ap (foundOf free) (g .1 .0 ∙ sym (next-at-gives s p q (g .0) (g .1 .0) (ap (λ (x : Record). p .skip && eqb (x .kind) kind.Comment) (sym (g .1 .1)) ∙ b)))
+
+module _ (s : List ℕ) (report skip : Bool) (a e : ℕ) (m : Means) (G : Glanced s report skip a e m) where
+  abbrev x : Scanned
+  x = record { what = G .what; end = e }
+
+  abbrev F : inner.First s a (G .begins .c) (a + 1)
+  F = G .begins .first
+
+  scan-first : x ≡ scanned (scanOf report (onFirst (firstOf (G .begins .c))) (soFar (part s a (a + 1)) (a + 1)) (chars (drop (a + 1) s)))
+  scan-first = G .scan ∙ ap (λ (p : Phase). answer s report a p (a + 1)) (sym (G .begins .stands))
+
+  pub glance-inside : (a ≤ e) × (e ≤ length s)
+  glance-inside = end-inside s report a (G .begins .c) (a + 1) F x scan-first
+
+  ends-there : a + length (part s a e) ≡ e
+  ends-there = let i = glance-inside in omega (arith, length-take (e - a) (drop a s), length-drop a s)
+
+  abbrev extent : Range
+  extent = rangeOf (range a e)
+
+  pub glance-fits : (free : ℕ) → length s ≤ limit → free ≤ a → TextFits free (m .text)
+  glance-fits free h k =
+      fits-one free (meaningOf (G .what) a (a + length (part s a e)) (part s a e)) m (G .alone .means)
+      (scan-fits s report a (G .begins .c) (a + 1) F x scan-first free (omega arith) k .texts)
+
+  -- the place of an item that is no error is its extent
+  place-is : (last : Place) → placeOf false (m .kind) last (range a e) ≡ range a e
+  place-is last = rw (lt-leb kind.firstError (m .kind) (G .alone .fine))
+
+  abbrev made : ℕ → Position → Found
+  made free q = One (recordFor free m extent extent) q
+
+  turn-told : (free : ℕ) (p : Position) → p .report ≡ report
+      → made free (moved p e (placeIn (p .last)) false) ≡ foundOf free (turnAt p a (G .begins .c) (chars (drop (a + 1) s)))
+  turn-told free p u =
+      found-is s report a (G .begins .c) (a + 1) F x scan-first free p (made free (moved p e (placeIn (p .last)) false)) u
+      (found-one free p a (G .what) (part s a e) (p .last)
+      (sym (ap rangeOf (G .quiet (placeIn (p .last)) _)))
+      (made free (moved p e (placeIn (p .last)) false)) (moved p e (placeIn (p .last)) false) m (G .alone .means)
+      (rw ends-there (rw (place-is (placeIn (p .last)))))
+      (rw ends-there))
+
+  pub next-told : (free : ℕ) (p : Position) → p .report ≡ report → p .skip ≡ skip
+      → startFrom a (chars (drop a s)) ≡ startFrom (p .at) (chars (drop (p .at) s))
+      → made free (moved p e (placeIn (p .last)) false) ≡ foundOf free (nextAt s p)
+  next-told free p u v w =
+      let c = G .begins .c in
+      let S : Started s (p .at) (chars (drop (p .at) s)) c a (a + 1) = started s (chars (drop (p .at) s)) (p .at) refl c a (a + 1) (sym w ∙ start-first s a c (a + 1) F) in
+      next-found s free p (recordFor free m extent extent) (moved p e (placeIn (p .last)) false)
+      (turn-told free p u ∙ sym (ap (foundOf free) (turn-started s p c a (a + 1) S)))
+      (ap (λ (b : Bool). b && eqb (m .kind) kind.Comment) v ∙ G .kept)
+
+-- the record of an item without a decoded text takes nothing of the text memory
+pub bare-record : (s : List ℕ) (free : ℕ) (extent place : Range) (m : Means) → Undecoded (m .text)
+    → (freeAfter free (recordFor free m extent place) ≡ free) × (bytesFor s (recordFor free m extent place) ≡ [])
+bare-record s free extent place m h = go (m .text) h
+  where
+    go : (t : Text) → Undecoded t → (freeAfter free (recordFor free (means (m .kind) (m .detail) t) extent place) ≡ free) × (bytesFor s (recordFor free (means (m .kind) (m .detail) t) extent place) ≡ [])
+    go Nowhere k = (refl, refl)
+    go (Source a b) k = (refl, refl)
+    go (Decoded n) k = absurd k
+
+-- a place past blanks is no earlier
+pub glance-ahead : (s : List ℕ) (report skip : Bool) (at a e : ℕ) (m : Means) → Glanced s report skip a e m
+    → startFrom a (chars (drop a s)) ≡ startFrom at (chars (drop at s)) → at ≤ a
+glance-ahead s report skip at a e m G w =
+    started s (chars (drop at s)) at refl (G .begins .c) a (a + 1) (sym w ∙ start-first s a (G .begins .c) (a + 1) (G .begins .first)) .ahead

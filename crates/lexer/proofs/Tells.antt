@@ -1,0 +1,187 @@
+-- What one look at a first byte, and one at where its run ends, tell of the item there.
+use Rattle.chars.specs.Utf8.{chars}
+use Rattle.chars.specs.Blank.{isBlank}
+use Rattle.chars.proofs.Blanks.{between-blanks}
+use Rattle.items.specs.Kinds as kind
+use Rattle.items.specs.Classes.{number, wordy, startsRun, firstOf}
+use Rattle.items.specs.Machine.{onFirst}
+use Rattle.items.specs.Readers.{SoFar, soFar, comment, firstIs}
+use Rattle.items.specs.Meaning.{escaped, stringText, wordKind, wordMeans, runMeans}
+use Rattle.numbers.specs.Grammar.{parseNumber}
+use Rattle.numbers.specs.declared.Parts.{Parts}
+use Rattle.numbers.specs.declared.Parsed.the-variants as parsed
+use Rattle.items.specs.Items.{Place, rangeAfter}
+use Rattle.items.specs.Whole.{limit}
+use Rattle.items.specs.declared.Outcome.{Outcome}
+use Rattle.items.specs.declared.Outcome.the-variants.{Token, Str, Word, Run}
+use Rattle.items.specs.declared.Phase.{Phase}
+use Rattle.items.specs.declared.Phase.the-variants as ph
+use Rattle.laws.specs.Quoted.{code, codes, oneOf}
+use Rattle.steps.specs.Scan.{part, answer}
+use Rattle.steps.specs.Ended.{EndsAs}
+use Rattle.steps.specs.declared.Ending.the-variants as ending
+use Rattle.steps.proofs.Kept.{done-scan}
+use Rattle.steps.proofs.Characters.{upto, in-run}
+use Rattle.meaning.specs.Meant.{means}
+use Rattle.meaning.specs.declared.Means.{Means}
+use Rattle.meaning.specs.declared.Text.the-variants.{Nowhere, Source}
+use Rattle.lexer.specs.Inner.{ExtentFits}
+use Rattle.lexer.specs.Glance.{Begins, Alone, Tells, Glanced, GlanceAt, GlanceFrom}
+use Rattle.lexer.specs.Reading.{startFrom}
+use Rattle.lexer.specs.declared.Quick.{Quick}
+use Rattle.lexer.specs.declared.Quick.the-variants.{Item, Other}
+use Rattle.lexer.proofs.Scans.{inside, scan-fits, end-inside}
+use Rattle.lexer.proofs.Glances.{begins}
+use Prim.Native.Nat.{ℕ, _+_, _-_, _^_, _≤_, _<_}
+use mathlib.Core.Path.{_≡_, refl, sym, ap, _∙_, subst}
+use mathlib.Core.Bool.{Bool, true, false, _&&_}
+use mathlib.Core.List.{List, []}
+use mathlib.Core.Logic.{_⊎_, inl, inr, ⊎-elim}
+use lib.Dec.{eqb}
+use lib.ListN.{length, getD, drop, length-take, length-drop}
+use native.Mathlib.Omega.{arith}
+use borrow.Author.Tests.{ne-eqb}
+
+and-false : (b x : Bool) → x ≡ false → (b && x) ≡ false
+and-false true x e = e
+and-false false x e = refl
+
+-- ---- first bytes
+
+-- a small letter begins a word
+module _ (c : ℕ) (low : code "a" ≤ c) (high : c ≤ code "z") where
+  other : (k : ℕ) → (k < code "a") ⊎ (code "z" < k) → eqb c k ≡ false
+  other k d = ne-eqb c k (λ f. ⊎-elim (λ x. omega arith) (λ x. omega arith) d)
+
+  pub letter-solid : isBlank c ≡ false
+  letter-solid = between-blanks c (omega arith) (omega arith) (λ f. omega arith) (λ f. omega arith) (λ f. omega arith) (λ f. omega arith)
+
+  no-run : startsRun c ≡ false
+  unfolding startsRun
+  no-run = rw (other (code "+") (inl (omega arith)), other (code "-") (inl (omega arith)), other (code ".") (inl (omega arith)), other (code "0") (inl (omega arith)), other (code "1") (inl (omega arith)), other (code "2") (inl (omega arith)), other (code "3") (inl (omega arith)), other (code "4") (inl (omega arith)), other (code "5") (inl (omega arith)), other (code "6") (inl (omega arith)), other (code "7") (inl (omega arith)), other (code "8") (inl (omega arith)), other (code "9") (inl (omega arith)))
+
+  pub letter-first : onFirst (firstOf c) ≡ ph.InWord
+  unfolding firstOf
+  letter-first = rw (other (code ";") (inl (omega arith)), other (code "\"") (inl (omega arith)), other (code ",") (inl (omega arith)), other (code "#") (inl (omega arith)), other (code "(") (inl (omega arith)), other (code "[") (inl (omega arith)), other (code "{") (inr (omega arith)), other (code ")") (inl (omega arith)), other (code "]") (inl (omega arith)), other (code "}") (inr (omega arith)), other (code "'") (inl (omega arith)), other (code "`") (inl (omega arith)), no-run, other (code "|") (inr (omega arith)), other (code "\\") (inl (omega arith)))
+
+-- a digit begins a number run
+module _ (c : ℕ) (low : code "0" ≤ c) (high : c ≤ code "9") where
+  outside : (k : ℕ) → (k < code "0") ⊎ (code "9" < k) → eqb c k ≡ false
+  outside k d = ne-eqb c k (λ f. ⊎-elim (λ x. omega arith) (λ x. omega arith) d)
+
+  pub digit-solid : isBlank c ≡ false
+  digit-solid = between-blanks c (omega arith) (omega arith) (λ f. omega arith) (λ f. omega arith) (λ f. omega arith) (λ f. omega arith)
+
+  runs : startsRun c ≡ true
+  unfolding startsRun
+  runs = rw (outside (code "+") (inl (omega arith)), outside (code "-") (inl (omega arith)), outside (code ".") (inl (omega arith))) (in-run 10 0x30 c low (omega arith))
+
+  pub digit-first : onFirst (firstOf c) ≡ ph.InRun
+  unfolding firstOf
+  digit-first = rw (outside (code ";") (inr (omega arith)), outside (code "\"") (inl (omega arith)), outside (code ",") (inl (omega arith)), outside (code "#") (inl (omega arith)), outside (code "(") (inl (omega arith)), outside (code "[") (inr (omega arith)), outside (code "{") (inr (omega arith)), outside (code ")") (inl (omega arith)), outside (code "]") (inr (omega arith)), outside (code "}") (inr (omega arith)), outside (code "'") (inl (omega arith)), outside (code "`") (inr (omega arith)), runs)
+
+-- ---- a character that is an item of its own
+
+pub single-told : (s : List ℕ) (report skip : Bool) (at c k d : ℕ) → at < length s → getD s at 0 ≡ c → c < 0x80 → isBlank c ≡ false
+    → onFirst (firstOf c) ≡ ph.Done (Token k d) → k < kind.firstError → eqb k kind.Comment ≡ false
+    → GlanceAt s report skip at (Item (means k d Nowhere) at (at + 1))
+single-told s report skip at c k d h e l b f fine other = (
+  refl,
+  record {
+    what = Token k d;
+    phase = ph.Done (Token k d);
+    begins = begins s at c (ph.Done (Token k d)) h e l b f;
+    scan = done-scan report (Token k d) (soFar (part s at (at + 1)) (at + 1)) (chars (drop (at + 1) s));
+    quiet = λ last i. refl;
+    alone = record { means = refl; fine = fine; undecoded = tt };
+    kept = and-false skip (eqb k kind.Comment) other;
+  },
+)
+
+-- ---- an item that ends where its run does
+
+-- the byte that an item begins with lies in the source
+pub begins-inside : (s : List ℕ) (at : ℕ) (p : Phase) → Begins s at p → at + 1 ≤ length s
+begins-inside s at p B = inside s false at (B .c) (at + 1) (B .first) .1
+
+pub ends-here : (s : List ℕ) (report : Bool) (at : ℕ) (p : Phase) (o : Outcome) (e : ℕ) → EndsAs s report p o (at + 1) (ending.At e)
+    → record { what = o; end = e } ≡ answer s report at p (at + 1)
+ends-here s report at p o e h = sym (h at (omega arith))
+
+pub record Spans (s : List ℕ) (at e : ℕ) : Type 0 where
+  pub some : at < e
+  pub inside : e ≤ length s
+  pub long : at + length (part s at e) ≡ e
+
+module _ (s : List ℕ) (report : Bool) (at e : ℕ) (o : Outcome) (p : Phase) (B : Begins s at p)
+    (h : record { what = o; end = e } ≡ answer s report at p (at + 1)) where
+  first-scan : record { what = o; end = e } ≡ answer s report at (onFirst (firstOf (B .c))) (at + 1)
+  first-scan = h ∙ ap (λ (q : Phase). answer s report at q (at + 1)) (sym (B .stands))
+
+  pub spans : length s ≤ limit → Spans s at e
+  spans short =
+      let i = end-inside s report at (B .c) (at + 1) (B .first) (record { what = o; end = e }) first-scan in
+      let f = scan-fits s report at (B .c) (at + 1) (B .first) (record { what = o; end = e }) first-scan 0 (omega arith) (omega arith) in
+      let l : length (part s at e) ≡ e - at = length-take (e - at) (drop at s) ∙ omega (arith, length-drop at s) in
+      record { some = omega (arith, f .some); inside = i .1; long = omega arith }
+
+  pub ended-told : length s ≤ limit → ((last : Place) (i : SoFar) → rangeAfter last at o i ≡ last) → (q : Quick) → Tells o at (part s at e) q
+      → (skip : Bool) → GlanceAt s report skip at q
+  ended-told short quiet Other t skip = tt
+  ended-told short quiet (Item m a f) t skip =
+      let there : f ≡ e = t .1 ∙ spans short .long in (
+        t .0,
+        subst (λ (x : ℕ). Glanced s report skip at x m) (sym there) (record {
+          what = o;
+          phase = p;
+          begins = B;
+          scan = h;
+          quiet = quiet;
+          alone = t .3;
+          kept = and-false skip (eqb (m .kind) kind.Comment) (t .2);
+        }),
+      )
+
+-- a comment, where comments are kept
+pub line-told : (s : List ℕ) (report skip : Bool) (at e : ℕ) → skip ≡ false → Begins s at ph.InLine
+    → record { what = comment; end = e } ≡ answer s report at ph.InLine (at + 1) → GlanceAt s report skip at (Item (means kind.Comment 0 Nowhere) at e)
+line-told s report skip at e k B h = (
+  refl,
+  record {
+    what = comment;
+    phase = ph.InLine;
+    begins = B;
+    scan = h;
+    quiet = λ last i. refl;
+    alone = record { means = refl; fine = omega arith; undecoded = tt };
+    kept = rw k;
+  },
+)
+
+-- past blanks
+pub from-there : (s : List ℕ) (report skip : Bool) (from at : ℕ) → startFrom at (chars (drop at s)) ≡ startFrom from (chars (drop from s))
+    → (q : Quick) → GlanceAt s report skip at q → GlanceFrom s report skip from q
+from-there s report skip from at w Other t = tt
+from-there s report skip from at w (Item m a e) t =
+    subst (λ (x : ℕ). (startFrom x (chars (drop x s)) ≡ startFrom from (chars (drop from s))) × Glanced s report skip x e m) (sym (t .0)) (w, t .1)
+
+-- ---- what the bytes of an extent tell
+
+module _ (at e : ℕ) (raw : List ℕ) (long : e ≡ at + length raw) where
+  pub string-tells : escaped raw ≡ false → Tells Str at raw (Item (means kind.StringLiteral 0 (Source (at + 1) (e - 1))) at e)
+  unfolding stringText
+  string-tells f = (refl, long, refl, record { means = rw (long, f); fine = omega arith; undecoded = tt })
+
+  pub run-tells : (p : Parts) → parseNumber raw ≡ parsed.Is p → Tells Run at raw (Item (means kind.Number 0 Nowhere) at e)
+  unfolding runMeans
+  run-tells p f = (refl, long, refl, record { means = rw f; fine = omega arith; undecoded = tt })
+
+  pub identifier-tells : firstIs (code "+") raw ≡ false → wordKind raw ≡ kind.Identifier
+      → Tells Word at raw (Item (means kind.Identifier 0 (Source at e)) at e)
+  unfolding wordMeans
+  identifier-tells f k = (refl, long, refl, record { means = rw (long, k, f); fine = omega arith; undecoded = tt })
+
+  pub word-tells : (k : ℕ) → wordKind raw ≡ k → eqb k kind.Identifier ≡ false → k < kind.firstError → eqb k kind.Comment ≡ false
+      → Tells Word at raw (Item (means k 0 Nowhere) at e)
+  unfolding wordMeans
+  word-tells k f i fine other = (refl, long, other, record { means = rw (f, i); fine = fine; undecoded = tt })

@@ -1,0 +1,213 @@
+-- The arms are rows of `firstOf`; what each begins is told by its own function, or is one character (Tells).
+use borrow.Author.Needs.{needs}
+use native.Mathlib.Omega.{arith}
+use mathlib.Core.Path.{_≡_, refl, sym, subst}
+use Prim.Native.Nat.{_≤_}
+use denote.Ref.{now}
+use lib.ListN.{getD}
+use Rattle.laws.specs.Quoted.{code}
+use Rattle.chars.specs.Blank.{isBlank}
+use Rattle.items.specs.Kinds as kind
+use Rattle.items.specs.Classes.{startsRun, firstOf}
+use Rattle.items.specs.declared.Quotes.the-variants.{Double}
+use Rattle.items.specs.declared.Phase.the-variants as ph
+use Rattle.lexer.specs.Glance.{GlanceAt}
+use Rattle.lexer.specs.declared.Quick.{Quick}
+use Rattle.lexer.proofs.Glances.{begins}
+use Rattle.lexer.proofs.Tells.{single-told, letter-solid, letter-first, digit-solid, digit-first}
+use Rattle.lexer.proofs.glance.quick_at.Statement.{statement}
+use Rattle.lexer.proofs.glance.quick_at.Tie as tie
+
+shared-slice-read-match : tie.Need-shared-slice-read-match
+shared-slice-read-match c = search needs
+
+add-bare : tie.Need-add-bare
+add-bare c = search needs
+
+bare-requires : tie.Need-bare-requires
+bare-requires c κs = search needs
+
+add-bare-2 : tie.Need-add-bare-2
+add-bare-2 c = search needs
+
+bare-requires-2 : tie.Need-bare-requires-2
+bare-requires-2 c κs = search needs
+
+add-bare-3 : tie.Need-add-bare-3
+add-bare-3 c = search needs
+
+bare-requires-3 : tie.Need-bare-requires-3
+bare-requires-3 c κs = search needs
+
+add-bare-4 : tie.Need-add-bare-4
+add-bare-4 c = search needs
+
+bare-requires-4 : tie.Need-bare-requires-4
+bare-requires-4 c κs = search needs
+
+add-bare-5 : tie.Need-add-bare-5
+add-bare-5 c = search needs
+
+bare-requires-5 : tie.Need-bare-requires-5
+bare-requires-5 c κs = search needs
+
+add-bare-6 : tie.Need-add-bare-6
+add-bare-6 c = search needs
+
+bare-requires-6 : tie.Need-bare-requires-6
+bare-requires-6 c κs = search needs
+
+add-bare-7 : tie.Need-add-bare-7
+add-bare-7 c = search needs
+
+bare-requires-7 : tie.Need-bare-requires-7
+bare-requires-7 c κs = search needs
+
+add-bare-8 : tie.Need-add-bare-8
+add-bare-8 c = search needs
+
+bare-requires-8 : tie.Need-bare-requires-8
+bare-requires-8 c κs = search needs
+
+quick-string-requires : tie.Need-quick-string-requires
+unfolding firstOf startsRun isBlank
+quick-string-requires c κs = let a = c .before .before .before in (a .pre .0, begins (now (a .args .source)) (a .args .at) (code "\"") (ph.Quoted Double) (a .pre .1) (c .match .keys9) (omega arith) refl refl)
+
+quick-line-requires : tie.Need-quick-line-requires
+unfolding firstOf startsRun isBlank
+quick-line-requires c κs = let a = c .before .before .before in (a .pre .0, begins (now (a .args .source)) (a .args .at) (code ";") ph.InLine (a .pre .1) (c .match .keys10) (omega arith) refl refl)
+
+quick-run-requires : tie.Need-quick-run-requires
+quick-run-requires c κs =
+    let a = c .before .before .before .before .before in
+    let b = getD (now (a .args .source)) (a .args .at) 0 in
+    let low : code "0" ≤ b = omega (arith, c .before .if1 .left) in
+    let high : b ≤ code "9" = omega (arith, c .if2 .taken) in
+    (a .pre .0, begins (now (a .args .source)) (a .args .at) b ph.InRun (a .pre .1) refl (omega arith) (digit-solid b low high) (digit-first b low high))
+
+quick-word-requires : tie.Need-quick-word-requires
+quick-word-requires c κs =
+    let a = c .before .before .before .before .before .before .before in
+    let b = getD (now (a .args .source)) (a .args .at) 0 in
+    let other : b ≡ code "`" → ⊥ = c .before .before .before .before .match .rest .0 .0 .1 in
+    let low : code "a" ≤ b = omega (arith, c .before .if3 .left) in
+    let high : b ≤ code "z" = omega (arith, c .if4 .taken) in
+    (a .pre .0, begins (now (a .args .source)) (a .args .at) b ph.InWord (a .pre .1) refl (omega arith) (letter-solid b low high) (letter-first b low high))
+
+returns : tie.Need-returns
+unfolding firstOf startsRun isBlank
+returns c =
+    let a = c .before .before .before .before in
+    subst (λ (q : Quick). GlanceAt (now (a .args .source)) (a .args .report) (a .args .skip) (a .args .at) q) (sym (c .bare .ensures))
+    (single-told (now (a .args .source)) (a .args .report) (a .args .skip) (a .args .at) (code "(") kind.OpenParen kind.Round (a .pre .1) (c .before .match .keys1) (omega arith) refl refl (omega arith) refl)
+
+returns-2 : tie.Need-returns-2
+unfolding firstOf startsRun isBlank
+returns-2 c =
+    let a = c .before .before .before .before in
+    subst (λ (q : Quick). GlanceAt (now (a .args .source)) (a .args .report) (a .args .skip) (a .args .at) q) (sym (c .bare2 .ensures))
+    (single-told (now (a .args .source)) (a .args .report) (a .args .skip) (a .args .at) (code ")") kind.CloseParen kind.Round (a .pre .1) (c .before .match .keys2) (omega arith) refl refl (omega arith) refl)
+
+returns-3 : tie.Need-returns-3
+unfolding firstOf startsRun isBlank
+returns-3 c =
+    let a = c .before .before .before .before in
+    subst (λ (q : Quick). GlanceAt (now (a .args .source)) (a .args .report) (a .args .skip) (a .args .at) q) (sym (c .bare3 .ensures))
+    (single-told (now (a .args .source)) (a .args .report) (a .args .skip) (a .args .at) (code "[") kind.OpenParen kind.Square (a .pre .1) (c .before .match .keys3) (omega arith) refl refl (omega arith) refl)
+
+returns-4 : tie.Need-returns-4
+unfolding firstOf startsRun isBlank
+returns-4 c =
+    let a = c .before .before .before .before in
+    subst (λ (q : Quick). GlanceAt (now (a .args .source)) (a .args .report) (a .args .skip) (a .args .at) q) (sym (c .bare4 .ensures))
+    (single-told (now (a .args .source)) (a .args .report) (a .args .skip) (a .args .at) (code "]") kind.CloseParen kind.Square (a .pre .1) (c .before .match .keys4) (omega arith) refl refl (omega arith) refl)
+
+returns-5 : tie.Need-returns-5
+unfolding firstOf startsRun isBlank
+returns-5 c =
+    let a = c .before .before .before .before in
+    subst (λ (q : Quick). GlanceAt (now (a .args .source)) (a .args .report) (a .args .skip) (a .args .at) q) (sym (c .bare5 .ensures))
+    (single-told (now (a .args .source)) (a .args .report) (a .args .skip) (a .args .at) (code "{") kind.OpenParen kind.Curly (a .pre .1) (c .before .match .keys5) (omega arith) refl refl (omega arith) refl)
+
+returns-6 : tie.Need-returns-6
+unfolding firstOf startsRun isBlank
+returns-6 c =
+    let a = c .before .before .before .before in
+    subst (λ (q : Quick). GlanceAt (now (a .args .source)) (a .args .report) (a .args .skip) (a .args .at) q) (sym (c .bare6 .ensures))
+    (single-told (now (a .args .source)) (a .args .report) (a .args .skip) (a .args .at) (code "}") kind.CloseParen kind.Curly (a .pre .1) (c .before .match .keys6) (omega arith) refl refl (omega arith) refl)
+
+returns-7 : tie.Need-returns-7
+unfolding firstOf startsRun isBlank
+returns-7 c =
+    let a = c .before .before .before .before in
+    subst (λ (q : Quick). GlanceAt (now (a .args .source)) (a .args .report) (a .args .skip) (a .args .at) q) (sym (c .bare7 .ensures))
+    (single-told (now (a .args .source)) (a .args .report) (a .args .skip) (a .args .at) (code "'") kind.QuoteTick 0 (a .pre .1) (c .before .match .keys7) (omega arith) refl refl (omega arith) refl)
+
+returns-8 : tie.Need-returns-8
+unfolding firstOf startsRun isBlank
+returns-8 c =
+    let a = c .before .before .before .before in
+    subst (λ (q : Quick). GlanceAt (now (a .args .source)) (a .args .report) (a .args .skip) (a .args .at) q) (sym (c .bare8 .ensures))
+    (single-told (now (a .args .source)) (a .args .report) (a .args .skip) (a .args .at) (code "`") kind.QuasiQuote 0 (a .pre .1) (c .before .match .keys8) (omega arith) refl refl (omega arith) refl)
+
+returns-9 : tie.Need-returns-9
+returns-9 c = let a = c .before .before .before .before in c .quick-string .ensures (a .args .report) (a .args .skip)
+
+returns-10 : tie.Need-returns-10
+returns-10 c = let a = c .before .before .before .before in c .quick-line .ensures (a .args .report)
+
+returns-11 : tie.Need-returns-11
+returns-11 c = let a = c .before .before .before .before .before .before in c .quick-run .ensures (a .args .skip)
+
+returns-12 : tie.Need-returns-12
+returns-12 c = let a = c .before .before .before .before .before .before .before .before in c .quick-word .ensures (a .args .report) (a .args .skip)
+
+returns-13 : tie.Need-returns-13
+returns-13 c = tt
+
+returns-14 : tie.Need-returns-14
+returns-14 c = tt
+
+returns-15 : tie.Need-returns-15
+returns-15 c = tt
+
+pub quick-at-spec : {M : Type 1} → statement M
+quick-at-spec =
+    tie.close
+    (tie.spec
+    shared-slice-read-match
+    add-bare
+    bare-requires
+    add-bare-2
+    bare-requires-2
+    add-bare-3
+    bare-requires-3
+    add-bare-4
+    bare-requires-4
+    add-bare-5
+    bare-requires-5
+    add-bare-6
+    bare-requires-6
+    add-bare-7
+    bare-requires-7
+    add-bare-8
+    bare-requires-8
+    quick-string-requires
+    quick-line-requires
+    quick-run-requires
+    quick-word-requires
+    returns
+    returns-2
+    returns-3
+    returns-4
+    returns-5
+    returns-6
+    returns-7
+    returns-8
+    returns-9
+    returns-10
+    returns-11
+    returns-12
+    returns-13
+    returns-14
+    returns-15)

@@ -1,0 +1,68 @@
+-- Items that one look tells: what a quick answer says of the item that starts at a place.
+use Prim.Native.Nat.{ℕ, _+_, _<_}
+use mathlib.Core.Path.{_≡_}
+use mathlib.Core.Bool.{Bool, false, _&&_}
+use mathlib.Core.List.{List, [], _∷_}
+use lib.ListN.{length, drop}
+use lib.Dec.{eqb}
+use Rattle.chars.specs.Utf8.{chars}
+use Rattle.items.specs.Kinds as kind
+use Rattle.items.specs.Classes.{firstOf}
+use Rattle.items.specs.Machine.{onFirst}
+use Rattle.items.specs.Readers.{SoFar}
+use Rattle.items.specs.Meaning.{meaningOf}
+use Rattle.items.specs.Items.{Place, rangeAfter}
+use Rattle.items.specs.declared.Outcome.{Outcome}
+use Rattle.items.specs.declared.Phase.{Phase}
+use Rattle.steps.specs.Scan.{part, answer}
+use Rattle.meaning.specs.Meant.{sizedAll}
+use Rattle.meaning.specs.declared.Text.{Text}
+use Rattle.meaning.specs.declared.Text.the-variants.{Nowhere, Source, Decoded}
+use Rattle.meaning.specs.declared.Means.{Means}
+use Rattle.lexer.specs.Inner.{First}
+use Rattle.lexer.specs.Reading.{startFrom}
+use Rattle.lexer.specs.declared.Quick.{Quick}
+use Rattle.lexer.specs.declared.Quick.the-variants.{Item, Other}
+
+-- an item starts at a place with one byte, which leaves it in a phase
+pub record Begins (s : List ℕ) (at : ℕ) (p : Phase) : Type 0 where
+  pub c : ℕ
+  pub first : First s at c (at + 1)
+  pub stands : onFirst (firstOf c) ≡ p
+
+-- a text that is not in the text memory
+abbrev pub Undecoded : Text → Type 0
+Undecoded Nowhere = Unit
+Undecoded (Source a b) = Unit
+Undecoded (Decoded n) = ⊥
+
+-- the one meaning of an extent: no error, and with no decoded text
+pub record Alone (what : Outcome) (at : ℕ) (raw : List ℕ) (m : Means) : Type 0 where
+  pub means : m ∷ [] ≡ sizedAll (meaningOf what at (at + length raw) raw)
+  pub fine : m .kind < kind.firstError
+  pub undecoded : Undecoded (m .text)
+
+-- what the outcome and the bytes of an extent that is no comment tell quickly
+abbrev pub Tells : Outcome → ℕ → List ℕ → Quick → Type 0
+Tells what at raw (Item m a e) = (a ≡ at) × (e ≡ at + length raw) × (eqb (m .kind) kind.Comment ≡ false) × Alone what at raw m
+Tells what at raw Other = Unit
+
+-- from the place a to the place e stands an item with the meaning m, which is not skipped
+pub record Glanced (s : List ℕ) (report skip : Bool) (a e : ℕ) (m : Means) : Type 0 where
+  pub what : Outcome
+  pub phase : Phase
+  pub begins : Begins s a phase
+  pub scan : record { what = what; end = e } ≡ answer s report a phase (a + 1)
+  pub quiet : (last : Place) (i : SoFar) → rangeAfter last a what i ≡ last
+  pub alone : Alone what a (part s a e) m
+  pub kept : (skip && eqb (m .kind) kind.Comment) ≡ false
+
+abbrev pub GlanceAt : List ℕ → Bool → Bool → ℕ → Quick → Type 0
+GlanceAt s report skip at (Item m a e) = (a ≡ at) × Glanced s report skip at e m
+GlanceAt s report skip at Other = Unit
+
+-- the same past the blanks from a place on
+abbrev pub GlanceFrom : List ℕ → Bool → Bool → ℕ → Quick → Type 0
+GlanceFrom s report skip from (Item m a e) =
+    (startFrom a (chars (drop a s)) ≡ startFrom from (chars (drop from s))) × Glanced s report skip a e m
+GlanceFrom s report skip from Other = Unit

@@ -1,0 +1,178 @@
+// Items that one look tells: a bracket, a quote mark, and a word, a number, a string or a comment that the next bytes show to be no more
+// than that. Any other is for `next_item`, which reads them all.
+use crate::Quick;
+use crate::reading::past_blanks;
+use escapes::has_escape;
+use items::kinds;
+use meaning::Means;
+use meaning::Text;
+use numbers::is_plain;
+use steps::Ending;
+use steps::line_ending;
+use steps::run_ending;
+use steps::string_ending;
+use steps::word_ending;
+use words::word_kind;
+ghost use mathlib.Core.Path.{_≡_};
+ghost use mathlib.Core.Bool.{Bool};
+ghost use Prim.Native.Nat.{_+_, _≤_, _<_};
+ghost use lib.ListN.{length};
+ghost use Rattle.items.specs.Whole.{limit};
+ghost use Rattle.items.specs.declared.Outcome.the-variants.{Word, Run, Str};
+ghost use Rattle.items.specs.declared.Phase.the-variants.{InWord, InRun, InLine, Quoted};
+ghost use Rattle.items.specs.declared.Quotes.the-variants.{Double};
+ghost use Rattle.meaning.specs.Meant.{means};
+ghost use Rattle.meaning.specs.declared.Text.the-variants.{Nowhere};
+ghost use Rattle.lexer.specs.declared.Quick.the-variants.{Item};
+ghost use Rattle.lexer.specs.Glance.{Begins, Tells, GlanceAt, GlanceFrom};
+
+// How many bytes a quote is.
+const QUOTE: usize = 1;
+
+// An item without text.
+fn bare(kind: u32, detail: u32, at: usize, end: usize) -> Quick
+    ensures { λ r. ⌜ r ≡ Item (means kind detail Nowhere) at end ⌝ }
+{
+    let m = Means {
+        kind: kind,
+        detail: detail,
+        text: Text::Nowhere,
+    };
+    Quick::Item(m, at, end)
+}
+
+// An item with text of the source.
+fn named(kind: u32, at: usize, end: usize, from: usize, to: usize) -> Quick
+    ensures { λ r. ⌜ r ≡ Item (means kind 0 (Text.Source from to)) at end ⌝ }
+{
+    let m = Means {
+        kind: kind,
+        detail: kinds::NO_DETAIL,
+        text: Text::Source(from, to),
+    };
+    Quick::Item(m, at, end)
+}
+
+// What a word's bytes tell. One that begins with a plus may be two.
+fn tell_word(at: usize, end: usize, raw: &[u8]) -> Quick
+    requires { ⌜ (0 < length (now raw)) × (end ≡ at + length (now raw)) ⌝ }
+    ensures { λ r. ⌜ Tells Word at (now (raw .entry)) r ⌝ }
+{
+    if raw[0] == b'+' {
+        return Quick::Other;
+    }
+    let kind = word_kind(raw);
+    if kind == kinds::IDENTIFIER {
+        return named(kinds::IDENTIFIER, at, end, at, end);
+    }
+    if kinds::FIRST_ERROR <= kind {
+        return Quick::Other;
+    }
+    if kind == kinds::COMMENT {
+        return Quick::Other;
+    }
+    bare(kind, kinds::NO_DETAIL, at, end)
+}
+
+// What a number run's bytes tell.
+fn tell_run(at: usize, end: usize, raw: &[u8]) -> Quick
+    requires { ⌜ end ≡ at + length (now raw) ⌝ }
+    ensures { λ r. ⌜ Tells Run at (now (raw .entry)) r ⌝ }
+{
+    if is_plain(raw) {
+        return bare(kinds::NUMBER, kinds::NO_DETAIL, at, end);
+    }
+    Quick::Other
+}
+
+// What a string's bytes tell: its text lies in the source where it has no escape.
+fn tell_string(at: usize, end: usize, raw: &[u8]) -> Quick
+    requires { ⌜ (0 < length (now raw)) × (end ≡ at + length (now raw)) ⌝ }
+    ensures { λ r. ⌜ Tells Str at (now (raw .entry)) r ⌝ }
+{
+    if has_escape(raw) {
+        return Quick::Other;
+    }
+    named(kinds::STRING_LITERAL, at, end, at + QUOTE, end - QUOTE)
+}
+
+// A word that starts at a place.
+fn quick_word(source: &[u8], at: usize) -> Quick
+    requires { ⌜ (length (now source) ≤ limit) × Begins (now source) at InWord ⌝ }
+    ensures { λ r. ⌜ ((report skip : Bool) → GlanceAt (now (source .entry)) report skip at r) ⌝ }
+{
+    match word_ending(source, at + 1) {
+        Ending::At(end) => tell_word(at, end, &source[at..end]),
+        Ending::Unknown => Quick::Other,
+    }
+}
+
+// A number run that starts at a place.
+fn quick_run(source: &[u8], report: bool, at: usize) -> Quick
+    requires { ⌜ (length (now source) ≤ limit) × Begins (now source) at InRun ⌝ }
+    ensures { λ r. ⌜ ((skip : Bool) → GlanceAt (now (source .entry)) report skip at r) ⌝ }
+{
+    match run_ending(source, report, at + 1) {
+        Ending::At(end) => tell_run(at, end, &source[at..end]),
+        Ending::Unknown => Quick::Other,
+    }
+}
+
+// A string that starts at a place.
+fn quick_string(source: &[u8], at: usize) -> Quick
+    requires { ⌜ (length (now source) ≤ limit) × Begins (now source) at (Quoted Double) ⌝ }
+    ensures { λ r. ⌜ ((report skip : Bool) → GlanceAt (now (source .entry)) report skip at r) ⌝ }
+{
+    match string_ending(source, at + 1) {
+        Ending::At(end) => tell_string(at, end, &source[at..end]),
+        Ending::Unknown => Quick::Other,
+    }
+}
+
+// A comment to the end of its line that starts at a place, where comments are kept.
+fn quick_line(source: &[u8], skip: bool, at: usize) -> Quick
+    requires { ⌜ (length (now source) ≤ limit) × Begins (now source) at InLine ⌝ }
+    ensures { λ r. ⌜ ((report : Bool) → GlanceAt (now (source .entry)) report skip at r) ⌝ }
+{
+    if skip {
+        return Quick::Other;
+    }
+    match line_ending(source, at + 1) {
+        Ending::At(end) => bare(kinds::COMMENT, kinds::NO_DETAIL, at, end),
+        Ending::Unknown => Quick::Other,
+    }
+}
+
+// The item that starts at a place, by its first byte.
+fn quick_at(source: &[u8], report: bool, skip: bool, at: usize) -> Quick
+    requires { ⌜ (length (now source) ≤ limit) × (at < length (now source)) ⌝ }
+    ensures { λ r. ⌜ GlanceAt (now (source .entry)) report skip at r ⌝ }
+{
+    match source[at] {
+        b'(' => bare(kinds::OPEN_PAREN, kinds::ROUND, at, at + 1),
+        b')' => bare(kinds::CLOSE_PAREN, kinds::ROUND, at, at + 1),
+        b'[' => bare(kinds::OPEN_PAREN, kinds::SQUARE, at, at + 1),
+        b']' => bare(kinds::CLOSE_PAREN, kinds::SQUARE, at, at + 1),
+        b'{' => bare(kinds::OPEN_PAREN, kinds::CURLY, at, at + 1),
+        b'}' => bare(kinds::CLOSE_PAREN, kinds::CURLY, at, at + 1),
+        b'\'' => bare(kinds::QUOTE_TICK, kinds::NO_DETAIL, at, at + 1),
+        b'`' => bare(kinds::QUASI_QUOTE, kinds::NO_DETAIL, at, at + 1),
+        b'a'..=b'z' => quick_word(source, at),
+        b'0'..=b'9' => quick_run(source, report, at),
+        b'"' => quick_string(source, at),
+        b';' => quick_line(source, skip, at),
+        _ => Quick::Other,
+    }
+}
+
+// The next item from a place on.
+pub fn quick_item(source: &[u8], report: bool, skip: bool, from: usize) -> Quick
+    requires { ⌜ length (now source) ≤ limit ⌝ }
+    ensures { λ r. ⌜ GlanceFrom (now (source .entry)) report skip from r ⌝ }
+{
+    let at = past_blanks(source, from);
+    if source.len() <= at {
+        return Quick::Other;
+    }
+    quick_at(source, report, skip, at)
+}
