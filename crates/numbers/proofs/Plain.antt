@@ -1,5 +1,5 @@
--- A text of one of the plainest shapes is a number: it has no @, no second sign, no slash and no `i`, so that it is one real, and that is
--- an integer or a decimal, whose denominator is not zero for want of one.
+-- A text of one of the plainest shapes is a number: it has no @, no second sign and no `i`, so that it is one real, and that is an integer,
+-- a decimal, or a rational whose denominator does not begin with zero and so is not zero.
 use Rattle.numbers.specs.declared.Real.{Real}
 use Rattle.numbers.specs.declared.Real.the-variants.{Integer, Decimal, PosInf, NegInf, PosNan, NegNan}
 use Rattle.numbers.specs.declared.Parts.{Parts}
@@ -9,49 +9,63 @@ use Rattle.numbers.specs.declared.Parsed.the-variants.{Is}
 use Rattle.numbers.specs.declared.Suffix.the-variants.{Empty}
 use Rattle.numbers.specs.declared.MaybeReal.{MaybeReal}
 use Rattle.numbers.specs.declared.MaybeReal.the-variants.{AReal, NoReal}
-use Rattle.numbers.specs.Reals.{suffix, pointOf, dotted, undotted, decimal, infnan, integralOf, exact, orElse, ureal, real}
-use Rattle.numbers.specs.Grammar.{justOf, endsI, aloneOf, toSign, startsE, cut, rectangular, complex, zeroReal, zeroParts, judged, radixMark, prefix, parseNumber}
-use Rattle.numbers.specs.Plain.{fraction, unsignedPlain, plain}
+use Rattle.numbers.specs.Reals.{exponentMarker, suffix, pointOf, dotted, undotted, decimal, infnan, integralOf, rationalOf, denominator, exact, orElse, ureal, real}
+use Rattle.numbers.specs.Grammar.{justOf, endsI, aloneOf, toSign, startsE, cut, rectangular, complex, zeroInt, zeroReal, zeroParts, judged, radixMark, prefix, parseNumber}
+use Rattle.numbers.specs.Plain.{fraction, ratio, unsignedPlain, plain}
 use Rattle.laws.specs.Choice.{if_then_else_}
 use Rattle.laws.specs.Quoted.{code, codes, within}
 use Rattle.laws.specs.Texts.{span, before, starts, same}
 use Rattle.laws.proofs.Choice.{by-bool, if-all, and-true, within-is}
 use Rattle.digits.specs.declared.MaybeInt.{MaybeInt}
 use Rattle.digits.specs.declared.MaybeInt.the-variants.{AnInt, NoInt}
-use Rattle.digits.specs.Digits.{digitOf, digits, sign, negative, uinteger, wholeOf, spanAt}
-use Rattle.digits.proofs.Digits.{decimal-digit}
-use Prim.Native.Nat.{ℕ, zero, suc, _+_, _-_, _≤_, _<_}
+use Rattle.digits.specs.Digits.{digitOf, digits, sign, negative, uinteger, value, signed, top, wholeOf, integer}
+use Rattle.digits.proofs.Digits.{decimal-digit, digit-decimal}
+use Rattle.digits.proofs.Integers.{value-ge}
+use Rattle.laws.proofs.Compared.{starts-in}
+use Rattle.laws.proofs.Runs.{span-le}
+use Prim.Native.Nat.{ℕ, zero, suc, _+_, _-_, _*_, _≤_, _<_}
 use mathlib.Core.Path.{_≡_, refl, sym, ap, subst, _∙_}
 use mathlib.Core.Bool.{Bool, true, false, not, _&&_, _||_}
 use mathlib.Core.List.{List, [], _∷_}
 use mathlib.Core.Logic.{_⊎_, inl, inr}
 use lib.ListN.{length, getD, take, drop, length-drop}
-use lib.Seq.{drop-drop, drop-length}
+use lib.Seq.{drop-drop, drop-length, length-take-le}
 use lib.Dec.{eqb, ltb, leb}
 use native.Mathlib.Omega.{arith}
-use borrow.Author.Tests.{eq-eqb, ne-eqb, lt-ltb, le-ltb, eqb-true, ltb-true}
+use borrow.Author.Tests.{eq-eqb, ne-eqb, lt-ltb, le-ltb, le-leb, eqb-true, ltb-true}
 
--- a digit or a dot
+abbrev All : (ℕ → Type 0) → List ℕ → Type 0
+All P [] = Unit {0}
+All P (c ∷ s) = P c × All P s
+
+all-map : (P Q : ℕ → Type 0) → ((c : ℕ) → P c → Q c) → (s : List ℕ) → All P s → All Q s
+all-map P Q f [] h = tt
+all-map P Q f (c ∷ s) h = (f c (h .0), all-map P Q f s (h .1))
+
+-- a digit; a digit, a dot or a slash
+abbrev Digit : ℕ → Type 0
+Digit c = (code "0" ≤ c) × (c ≤ code "9")
+
 abbrev Numeral : ℕ → Type 0
-Numeral c = (code "." ≤ c) × ((c ≤ code "9") × (c ≡ code "/" → ⊥))
-
-abbrev Numerals : List ℕ → Type 0
-Numerals [] = Unit {0}
-Numerals (c ∷ s) = Numeral c × Numerals s
+Numeral c = (code "." ≤ c) × (c ≤ code "9")
 
 no : {A : Type 0} → false ≡ true → A
 no z = let w : _≡_ {A = ℕ} 0 1 = cc in absurd (omega arith)
 
-digit-numeral : (c : ℕ) → ltb (digitOf c) 10 ≡ true → Numeral c
-digit-numeral c h = let r = within-is _ _ _ (sym (decimal-digit c) ∙ h) in (omega arith, (omega arith, λ e. omega arith))
+digit-is : (c : ℕ) → ltb (digitOf c) 10 ≡ true → Digit c
+digit-is c h = within-is _ _ _ (sym (decimal-digit c) ∙ h)
+
+digit-within : (c : ℕ) → Digit c → within (code "0") (code "9") c ≡ true
+unfolding within
+digit-within c d = simp (le-leb (code "0") c (d .0), le-leb c (code "9") (d .1))
 
 -- ---- digits and nothing else
 
-digits-numerals : (s : List ℕ) → digits 10 s ≡ length s → Numerals s
+digits-all : (s : List ℕ) → digits 10 s ≡ length s → All Digit s
 unfolding span
-digits-numerals [] h = tt
-digits-numerals (c ∷ s) h = by-bool (ltb (digitOf c) 10)
-    (λ e. let k : suc (digits 10 s) ≡ suc (length s) = rw (e, span) at h in (digit-numeral c e, digits-numerals s (omega arith)))
+digits-all [] h = tt
+digits-all (c ∷ s) h = by-bool (ltb (digitOf c) 10)
+    (λ e. let k : suc (digits 10 s) ≡ suc (length s) = rw (e, span) at h in (digit-is c e, digits-all s (omega arith)))
     (λ e. let k : 0 ≡ suc (length s) = rw (e, span) at h in absurd (omega arith))
 
 module _ (s : List ℕ) (h : uinteger 10 s ≡ true) where
@@ -63,32 +77,53 @@ module _ (s : List ℕ) (h : uinteger 10 s ≡ true) where
   unfolding uinteger
   whole = eqb-true _ _ (rw (lt-ltb 0 (length s) some) at h)
 
-  uinteger-numerals : Numerals s
-  uinteger-numerals = digits-numerals s whole
+  uinteger-digits : All Digit s
+  uinteger-digits = digits-all s whole
 
--- digits, a dot, and digits
-fraction-numerals : (s : List ℕ) → fraction (drop (digits 10 s) s) ≡ true → Numerals s
-unfolding span starts
-fraction-numerals [] h = tt
-fraction-numerals (c ∷ s) h = by-bool (ltb (digitOf c) 10)
-    (λ e. let k : fraction (drop (digits 10 s) s) ≡ true = rw (e, span) at h in (digit-numeral c e, fraction-numerals s k))
-    (λ e. let k : (eqb c (code ".") && uinteger 10 s) ≡ true = rw (e, span) at h in
-    let a = and-true (eqb c (code ".")) (uinteger 10 s) k in
+  uinteger-numerals : All Numeral s
+  uinteger-numerals = all-map Digit Numeral (λ c d. (omega arith, d .1)) s uinteger-digits
+
+-- ---- digits and what is after them
+
+after-digits : (s : List ℕ) → All Numeral (drop (digits 10 s) s) → All Numeral s
+unfolding span
+after-digits [] h = tt
+after-digits (c ∷ s) h = by-bool (ltb (digitOf c) 10)
+    (λ e. let d = digit-is c e in ((omega arith, d .1), after-digits s (rw (e, span) at h)))
+    (λ e. rw (e, span) at h)
+
+fraction-numerals : (s : List ℕ) → fraction s ≡ true → All Numeral s
+unfolding starts
+fraction-numerals [] h = no h
+fraction-numerals (c ∷ s) h =
+    let a = and-true (eqb c (code ".")) (uinteger 10 s) h in
     let d = eqb-true c (code ".") (a .0) in
-    ((omega arith, (omega arith, λ g. omega arith)), uinteger-numerals s (a .1)))
+    ((omega arith, omega arith), uinteger-numerals s (a .1))
 
-plain-numerals : (s : List ℕ) → unsignedPlain s ≡ true → Numerals s
-plain-numerals s h = by-bool (uinteger 10 s) (λ e. uinteger-numerals s e) (λ e. fraction-numerals s (rw e at h))
+ratio-numerals : (s : List ℕ) → ratio s ≡ true → All Numeral s
+unfolding starts
+ratio-numerals [] h = no h
+ratio-numerals (c ∷ s) h =
+    let a = and-true (eqb c (code "/")) (ltb (code "0") (getD s 0 0) && uinteger 10 s) h in
+    let d = eqb-true c (code "/") (a .0) in
+    ((omega arith, omega arith), uinteger-numerals s (and-true (ltb (code "0") (getD s 0 0)) (uinteger 10 s) (a .1) .1))
+
+-- the three shapes
+by-shape : {A : Type 0} (s : List ℕ) → unsignedPlain s ≡ true → (uinteger 10 s ≡ true → A) → (fraction (drop (digits 10 s) s) ≡ true → A)
+    → (0 < digits 10 s → ratio (drop (digits 10 s) s) ≡ true → A) → A
+by-shape s h f g k = by-bool (uinteger 10 s) f
+    (λ e. let x = rw e at h in by-bool (fraction (drop (digits 10 s) s)) g
+    (λ i. let a = and-true (ltb 0 (digits 10 s)) (ratio (drop (digits 10 s) s)) (rw i at x) in k (ltb-true 0 (digits 10 s) (a .0)) (a .1)))
+
+plain-numerals : (s : List ℕ) → unsignedPlain s ≡ true → All Numeral s
+plain-numerals s h =
+    by-shape s h (λ e. uinteger-numerals s e) (λ e. after-digits s (fraction-numerals (drop (digits 10 s) s) e))
+    (λ _ e. after-digits s (ratio-numerals (drop (digits 10 s) s) e))
 
 -- ---- what numerals are not
 
 abbrev Avoids : ℕ → List ℕ → Type 0
-Avoids b [] = Unit {0}
-Avoids b (c ∷ s) = (c ≡ b → ⊥) × Avoids b s
-
-numerals-avoid : (b : ℕ) → ((c : ℕ) → Numeral c → c ≡ b → ⊥) → (s : List ℕ) → Numerals s → Avoids b s
-numerals-avoid b f [] h = tt
-numerals-avoid b f (c ∷ s) h = (f c (h .0), numerals-avoid b f s (h .1))
+Avoids b s = All (λ c. c ≡ b → ⊥) s
 
 before-all : (b : ℕ) (s : List ℕ) → Avoids b s → before b s ≡ length s
 unfolding span
@@ -111,20 +146,23 @@ avoids-start b (suc k) (c ∷ s) h = avoids-start b k s (h .1)
 
 -- ---- a first character, which may be a sign, and numerals are one real
 
-module _ (c : ℕ) (s : List ℕ) (l : code "+" ≤ c) (u : c ≤ code "9") (h : Numerals s) where
+module _ (c : ℕ) (s : List ℕ) (l : code "+" ≤ c) (u : c ≤ code "9") (h : All Numeral s) where
+  avoid : (b : ℕ) → ((d : ℕ) → Numeral d → d ≡ b → ⊥) → Avoids b s
+  avoid b f = all-map Numeral (λ d. d ≡ b → ⊥) f s h
+
   one-part : complex 10 0 (c ∷ s) ≡ rectangular 10 0 (c ∷ s)
   unfolding complex
   one-part =
-      simp (before-all (code "@") (c ∷ s) ((λ e. omega arith), numerals-avoid (code "@") (λ d n e. omega arith) s h), le-ltb (length (c ∷ s)) (length (c ∷ s)) (omega arith))
+      simp (before-all (code "@") (c ∷ s) ((λ e. omega arith), avoid (code "@") (λ d n e. omega arith)), le-ltb (length (c ∷ s)) (length (c ∷ s)) (omega arith))
 
   uncut : rectangular 10 0 (c ∷ s) ≡ aloneOf 10 0 (c ∷ s)
   unfolding rectangular
   uncut =
-      simp (sign-all (startsE (c ∷ s)) s (numerals-avoid (code "+") (λ d n e. omega arith) s h) (numerals-avoid (code "-") (λ d n e. omega arith) s h), le-ltb (1 + length s) (length (c ∷ s)) (omega arith))
+      simp (sign-all (startsE (c ∷ s)) s (avoid (code "+") (λ d n e. omega arith)) (avoid (code "-") (λ d n e. omega arith)), le-ltb (1 + length s) (length (c ∷ s)) (omega arith))
 
   alone : aloneOf 10 0 (c ∷ s) ≡ justOf (real 10 0 (c ∷ s))
   unfolding aloneOf endsI
-  alone = simp (avoids-start (code "i") (length (c ∷ s) - 1) (c ∷ s) ((λ e. omega arith), numerals-avoid (code "i") (λ d n e. omega arith) s h))
+  alone = simp (avoids-start (code "i") (length (c ∷ s) - 1) (c ∷ s) ((λ e. omega arith), avoid (code "i") (λ d n e. omega arith)))
 
   pub one-real : parseNumber (c ∷ s) ≡ judged (justOf (real 10 0 (c ∷ s)))
   unfolding parseNumber prefix
@@ -162,6 +200,58 @@ unfolding dotted suffix pointOf zeroReal
 dotted-good neg p w q s h =
     simp (whole s h, ne-eqb (w + length s) 0 (λ e. omega (arith, some s h)), drop-length s) refl
 
+-- ---- a rational: its parts are integers, and the denominator is not zero
+
+abbrev Whole : MaybeInt → Type 0
+Whole (AnInt n) = Unit {0}
+Whole NoInt = ⊥
+
+abbrev Nonzero : MaybeInt → Type 0
+Nonzero (AnInt n) = zeroInt n ≡ false
+Nonzero NoInt = ⊥
+
+rational-good : (n d : MaybeInt) → Whole n → Nonzero d → Good (rationalOf n d)
+unfolding rationalOf zeroReal
+rational-good (AnInt n) (AnInt d) h g = g
+rational-good (AnInt n) NoInt h g = absurd g
+rational-good NoInt d h g = absurd h
+
+whole-good : (neg : Bool) (p : ℕ) (s : List ℕ) → uinteger 10 s ≡ true → Whole (wholeOf 10 neg p s)
+unfolding wholeOf
+whole-good neg p s h = rw h tt
+
+before-slash : (s : List ℕ) → starts (code "/") (drop (digits 10 s) s) ≡ true → before (code "/") s ≡ digits 10 s
+unfolding span starts
+before-slash [] h = refl
+before-slash (c ∷ s) h = by-bool (ltb (digitOf c) 10)
+    (λ e. let d = digit-is c e in simp (e, ne-eqb c (code "/") (λ q. omega arith)) (ap suc (before-slash s (rw (e, span) at h))))
+    (λ e. let k : eqb c (code "/") ≡ true = rw (e, span) at h in simp (e, k))
+
+front-digits : (s : List ℕ) → digits 10 (take (digits 10 s) s) ≡ length (take (digits 10 s) s)
+unfolding span
+front-digits [] = refl
+front-digits (c ∷ s) = by-bool (ltb (digitOf c) 10) (λ e. simp e (ap suc (front-digits s))) (λ e. simp e)
+
+front-uinteger : (s : List ℕ) → 0 < digits 10 s → uinteger 10 (take (digits 10 s) s) ≡ true
+unfolding uinteger
+front-uinteger s h =
+    simp (lt-ltb 0 (length (take (digits 10 s) s)) (omega (arith, length-take-le (digits 10 s) s (span-le (λ c. ltb (digitOf c) 10) s))))
+    (eq-eqb _ _ (front-digits s))
+
+second : (s : List ℕ) → getD s 1 0 ≡ getD (drop 1 s) 0 0
+second [] = refl
+second (c ∷ s) = refl
+
+denominator-good : (q : ℕ) (s : List ℕ) → uinteger 10 s ≡ true → code "0" < getD s 0 0 → Nonzero (denominator 10 q s)
+unfolding denominator integer sign starts value zeroInt signed wholeOf
+denominator-good q [] h g = absurd (omega arith)
+denominator-good q (c ∷ s) h g =
+    let d = uinteger-digits (c ∷ s) h .0 in
+    let v : c - code "0" ≡ digitOf c = digit-decimal c (sym (digit-within c d)) in
+    simp (ne-eqb c (code "+") (λ e. omega arith), ne-eqb c (code "-") (λ e. omega arith), h)
+    (if-all (λ n. zeroInt n ≡ false) (ltb (value 10 0 (c ∷ s)) (top false))
+    (ne-eqb (value 10 (0 * 10 + digitOf c) s) 0 (λ e. omega (arith, value-ge 10 (omega arith) (0 * 10 + digitOf c) s))) refl)
+
 module _ (neg : Bool) (p : ℕ) (s : List ℕ) where
   -- digits alone are no decimal, for want of a dot
   no-decimal : uinteger 10 s ≡ true → decimal neg p s ≡ NoReal
@@ -171,7 +261,7 @@ module _ (neg : Bool) (p : ℕ) (s : List ℕ) where
   integer-good : uinteger 10 s ≡ true → Good (exact 10 neg p s)
   unfolding exact integralOf wholeOf zeroReal
   integer-good h =
-      simp (before-all (code "/") s (numerals-avoid (code "/") (λ d n. n .1 .1) s (uinteger-numerals s h)), le-ltb (length s) (length s) (omega arith), h) refl
+      simp (before-all (code "/") s (all-map Digit (λ d. d ≡ code "/" → ⊥) (λ d n e. omega arith) s (uinteger-digits s h)), le-ltb (length s) (length s) (omega arith), h) refl
 
   decimal-good : fraction (drop (digits 10 s) s) ≡ true → Good (decimal neg p s)
   unfolding decimal
@@ -180,11 +270,33 @@ module _ (neg : Bool) (p : ℕ) (s : List ℕ) where
       let a = and-true (starts (code ".") (drop n s)) (uinteger 10 (drop 1 (drop n s))) h in
       rw (a .0) (dotted-good neg p n (p + n + 1) (drop (n + 1) s) (ap (uinteger 10) (sym (drop-drop 1 n s)) ∙ a .1))
 
+  -- digits and a slash are no decimal either
+  ratio-decimal : ratio (drop (digits 10 s) s) ≡ true → decimal neg p s ≡ NoReal
+  unfolding decimal starts suffix undotted exponentMarker
+  ratio-decimal h = at-slash (drop (digits 10 s) s) (and-true (starts (code "/") (drop (digits 10 s) s)) _ h .0)
+    where
+      at-slash : (r : List ℕ) → starts (code "/") r ≡ true
+          → (if starts (code ".") r then dotted neg p (digits 10 s) (p + digits 10 s + 1) (drop (digits 10 s + 1) s) else undotted neg p (digits 10 s) (suffix (p + digits 10 s) r)) ≡ NoReal
+      at-slash [] e = no e
+      at-slash (c ∷ r) e = rw (eqb-true c (code "/") e)
+
+  ratio-good : 0 < digits 10 s → ratio (drop (digits 10 s) s) ≡ true → Good (exact 10 neg p s)
+  unfolding exact
+  ratio-good k h =
+      let n : ℕ = digits 10 s in
+      let a = and-true (starts (code "/") (drop n s)) (ltb (code "0") (getD (drop n s) 1 0) && uinteger 10 (drop 1 (drop n s))) h in
+      let b = and-true (ltb (code "0") (getD (drop n s) 1 0)) (uinteger 10 (drop 1 (drop n s))) (a .1) in
+      simp (before-slash s (a .0), lt-ltb n (length s) (starts-in (code "/") s n (sym (a .0))))
+      (rational-good (wholeOf 10 neg p (take n s)) (denominator 10 (p + n + 1) (drop (n + 1) s)) (whole-good neg p (take n s) (front-uinteger s k))
+      (rw (← drop-drop 1 n s) (denominator-good (p + n + 1) (drop 1 (drop n s)) (b .1) (rw (second (drop n s)) at (ltb-true (code "0") (getD (drop n s) 1 0) (b .0))))))
+
   ureal-good : unsignedPlain s ≡ true → Good (ureal 10 neg p s)
   unfolding ureal
-  ureal-good h = by-bool (uinteger 10 s)
+  ureal-good h =
+      by-shape s h
       (λ e. or-good (decimal neg p s) (exact 10 neg p s) (rw (no-decimal e) tt) (integer-good e))
-      (λ e. good-or (decimal neg p s) (exact 10 neg p s) (decimal-good (rw e at h)))
+      (λ e. good-or (decimal neg p s) (exact 10 neg p s) (decimal-good e))
+      (λ k e. or-good (decimal neg p s) (exact 10 neg p s) (rw (ratio-decimal e) tt) (ratio-good k e))
 
 real-good : (s : List ℕ) → plain s ≡ true → Good (real 10 0 s)
 unfolding real plain

@@ -1,5 +1,5 @@
 -- The plainest shapes from place to place of a text, as the code walks it.
-use Rattle.numbers.specs.Plain.{fraction, unsignedPlain, plain}
+use Rattle.numbers.specs.Plain.{fraction, ratio, unsignedPlain, plain}
 use Rattle.laws.specs.Quoted.{code}
 use Rattle.laws.specs.Texts.{span, starts}
 use Rattle.laws.proofs.Choice.{by-bool}
@@ -11,11 +11,15 @@ use mathlib.Core.Path.{_≡_, refl, sym, ap, _∙_}
 use mathlib.Core.Bool.{Bool, true, false, _&&_, _||_}
 use mathlib.Core.List.{List}
 use native.Mathlib.Nat.{zero-add}
-use lib.ListN.{length, drop}
-use lib.Seq.{drop-drop}
+use lib.ListN.{length, getD, drop}
+use lib.Seq.{drop-drop, getD-drop}
 use lib.Dec.{eqb, ltb}
 use native.Mathlib.Omega.{arith}
 use borrow.Author.Tests.{eq-eqb, ne-eqb, lt-ltb, le-ltb, ltb-true, ltb-false}
+
+and-no : (b : Bool) → (b && false) ≡ false
+and-no true = refl
+and-no false = refl
 
 module _ (t : List ℕ) (p : ℕ) where
   pub fraction-no : false ≡ starts (code ".") (drop p t) → false ≡ fraction (drop p t)
@@ -31,6 +35,23 @@ module _ (t : List ℕ) (p : ℕ) where
     pub fraction-run : (e : ℕ) → p + 1 < length t → e ≡ p + 1 + digits 10 (drop (p + 1) t) → eqb e (length t) ≡ fraction (drop p t)
     fraction-run e l k = uinteger-run 10 t (p + 1) e l k ∙ after-dot
 
+module _ (t : List ℕ) (p : ℕ) where
+  pub ratio-no : false ≡ starts (code "/") (drop p t) → false ≡ ratio (drop p t)
+  ratio-no h = simp (← h)
+
+  module _ (h : true ≡ starts (code "/") (drop p t)) where
+    after-slash : (ltb (code "0") (getD t (p + 1) 0) && uinteger 10 (drop (p + 1) t)) ≡ ratio (drop p t)
+    after-slash = simp (← h, drop-drop 1 p t, getD-drop p t 1 0)
+
+    pub ratio-short : length t ≤ p + 1 → false ≡ ratio (drop p t)
+    ratio-short l = sym (rw (sym (uinteger-past 10 t (p + 1) l)) at (sym after-slash) ∙ and-no (ltb (code "0") (getD t (p + 1) 0)))
+
+    pub ratio-zero : getD t (p + 1) 0 ≤ code "0" → false ≡ ratio (drop p t)
+    ratio-zero l = rw (le-ltb (code "0") (getD t (p + 1) 0) l) at after-slash
+
+    pub ratio-run : (e : ℕ) → p + 1 < length t → code "0" < getD t (p + 1) 0 → e ≡ p + 1 + digits 10 (drop (p + 1) t) → eqb e (length t) ≡ ratio (drop p t)
+    ratio-run e l z k = uinteger-run 10 t (p + 1) e l k ∙ rw (lt-ltb (code "0") (getD t (p + 1) 0) z) at after-slash
+
 module _ (t : List ℕ) (p e : ℕ) (s : p ≡ 0 + sign (drop 0 t)) (d : e ≡ p + digits 10 (drop p t)) where
   unsigned : plain t ≡ unsignedPlain (drop p t)
   unfolding plain
@@ -45,10 +66,26 @@ module _ (t : List ℕ) (p e : ℕ) (s : p ≡ 0 + sign (drop 0 t)) (d : e ≡ p
       (λ h. let l = ltb-false p (length t) h in
       le-ltb p e (omega arith) ∙ sym (unsigned ∙ rw (past t p l)))
 
-  pub plain-fraction : (r : Bool) → (e ≡ length t → ⊥) → r ≡ fraction (drop e t) → r ≡ plain t
-  plain-fraction r n h = h ∙ sym (unsigned ∙ simp (← uninteger, ← cut-at t p (digits 10 (drop p t)) e d))
-    where
-      uninteger : false ≡ uinteger 10 (drop p t)
-      uninteger = by-bool (ltb p (length t))
-          (λ h. sym (ne-eqb e (length t) n) ∙ uinteger-run 10 t p e (ltb-true p (length t) h) d)
-          (λ h. uinteger-past 10 t p (ltb-false p (length t) h))
+  module _ (n : e ≡ length t → ⊥) where
+    uninteger : false ≡ uinteger 10 (drop p t)
+    uninteger = by-bool (ltb p (length t))
+        (λ h. sym (ne-eqb e (length t) n) ∙ uinteger-run 10 t p e (ltb-true p (length t) h) d)
+        (λ h. uinteger-past 10 t p (ltb-false p (length t) h))
+
+    some-digits : ltb 0 (digits 10 (drop p t)) ≡ ltb p e
+    some-digits = by-bool (ltb p e)
+        (λ h. lt-ltb 0 (digits 10 (drop p t)) (omega (arith, ltb-true p e h)) ∙ sym h)
+        (λ h. le-ltb 0 (digits 10 (drop p t)) (omega (arith, ltb-false p e h)) ∙ sym h)
+
+    rest : plain t ≡ (fraction (drop e t) || (ltb p e && ratio (drop e t)))
+    rest = unsigned ∙ simp (← uninteger, ← cut-at t p (digits 10 (drop p t)) e d, some-digits)
+
+    pub plain-fraction : true ≡ fraction (drop e t) → true ≡ plain t
+    plain-fraction h = sym (rest ∙ rw (sym h))
+
+    module _ (f : false ≡ fraction (drop e t)) where
+      pub plain-ratio : (r : Bool) → p < e → r ≡ ratio (drop e t) → r ≡ plain t
+      plain-ratio r l h = h ∙ sym (rest ∙ rw (sym f, lt-ltb p e l))
+
+      pub plain-none : e ≤ p → false ≡ plain t
+      plain-none l = sym (rest ∙ rw (sym f, le-ltb p e l))

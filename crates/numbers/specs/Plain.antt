@@ -1,9 +1,10 @@
--- The plainest numbers: `14`, `-14` and `14.7`. Each is a number (proofs/Plain, plain-is), so a text of this shape need not be taken apart
--- to know that it is one.
+-- The plainest numbers: `14`, `-14`, `14.7` and `1/2`. Each is a number (proofs/Plain, plain-is), so a text of this shape need not be
+-- taken apart to know that it is one.
 use Prim.Native.Nat.{ℕ}
 use mathlib.Core.Bool.{Bool, _&&_, _||_}
 use mathlib.Core.List.{List}
-use lib.ListN.{drop}
+use lib.ListN.{getD, drop}
+use lib.Dec.{ltb}
 use Rattle.laws.specs.Quoted.{code}
 use Rattle.laws.specs.Texts.{starts}
 use Rattle.digits.specs.Digits.{digits, sign, uinteger}
@@ -12,9 +13,13 @@ use Rattle.digits.specs.Digits.{digits, sign, uinteger}
 abbrev pub fraction : List ℕ → Bool
 fraction s = starts (code ".") s && uinteger 10 (drop 1 s)
 
--- digits, or digits and a fraction
+-- a slash, and digits after it of which the first is not zero
+abbrev pub ratio : List ℕ → Bool
+ratio s = starts (code "/") s && (ltb (code "0") (getD s 1 0) && uinteger 10 (drop 1 s))
+
+-- digits, or digits with either after them
 abbrev pub unsignedPlain : List ℕ → Bool
-unsignedPlain s = uinteger 10 s || fraction (drop (digits 10 s) s)
+unsignedPlain s = uinteger 10 s || (fraction (drop (digits 10 s) s) || (ltb 0 (digits 10 s) && ratio (drop (digits 10 s) s)))
 
 unfoldable pub plain : List ℕ → Bool
 plain s = unsignedPlain (drop (sign s) s)

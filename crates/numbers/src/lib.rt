@@ -8,7 +8,7 @@ use digits::Span;
 ghost use mathlib.Core.Path.{_≡_};
 ghost use Rattle.numbers.specs.Grammar.{zeroInt, zeroReal, zeroParts, judged, radixMark, prefix, parseNumber};
 ghost use lib.ListN.{drop};
-ghost use Rattle.numbers.specs.Plain.{fraction, plain};
+ghost use Rattle.numbers.specs.Plain.{fraction, ratio, plain};
 ghost use Rattle.numbers.specs.Call.{answered, given, number};
 
 mod complexes;
@@ -226,7 +226,24 @@ fn fraction_at(t: &[u8], from: usize) -> bool
     false
 }
 
-// Whether a text is one of the plainest numbers, in one pass: 14, -14, 14.7. Internal: where this is enough no parts are needed.
+// Whether a slash and digits stand from a place on, the first of them not zero, and nothing else.
+fn ratio_at(t: &[u8], from: usize) -> bool
+    ensures { λ r. ⌜ r ≡ ratio (drop from (now (t .entry))) ⌝ }
+{
+    if texts::starts_at(t, from, b'/') {
+        let start = from + 1;
+        if t.len() <= start {
+            return false;
+        }
+        if t[start] <= b'0' {
+            return false;
+        }
+        return digits::decimal_end(t, start) == t.len();
+    }
+    false
+}
+
+// Whether a text is one of the plainest numbers, in one pass: 14, -14, 14.7, 1/2. Internal: where this is enough no parts are needed.
 pub fn is_plain(t: &[u8]) -> bool
     ensures { λ r. ⌜ r ≡ plain (now (t .entry)) ⌝ }
 {
@@ -235,7 +252,13 @@ pub fn is_plain(t: &[u8]) -> bool
     if end == t.len() {
         return from < end;
     }
-    fraction_at(t, end)
+    if fraction_at(t, end) {
+        return true;
+    }
+    if from < end {
+        return ratio_at(t, end);
+    }
+    false
 }
 
 // The answer to a text that is not refused.
