@@ -15,6 +15,8 @@ use Rattle.items.specs.Items.{Place, rangeAfter}
 use Rattle.items.specs.declared.Outcome.{Outcome}
 use Rattle.items.specs.declared.Phase.{Phase}
 use Rattle.steps.specs.Scan.{part, answer}
+use Rattle.steps.specs.declared.Ending.{Ending}
+use Rattle.steps.specs.declared.Ending.the-variants as ending
 use Rattle.meaning.specs.Meant.{sizedAll}
 use Rattle.meaning.specs.declared.Text.{Text}
 use Rattle.meaning.specs.declared.Text.the-variants.{Nowhere, Source, Decoded}
@@ -66,3 +68,14 @@ abbrev pub GlanceFrom : List ℕ → Bool → Bool → ℕ → Quick → Type 0
 GlanceFrom s report skip from (Item m a e) =
     (startFrom a (chars (drop a s)) ≡ startFrom from (chars (drop from s))) × Glanced s report skip a e m
 GlanceFrom s report skip from Other = Unit
+
+-- ---- where an item ends, whatever it means
+
+abbrev pub SkimAt : List ℕ → Bool → Bool → ℕ → Ending → Type 0
+SkimAt s report skip at (ending.At e) = (m : Means) × Glanced s report skip at e m
+SkimAt s report skip at ending.Unknown = Unit
+
+abbrev pub SkimFrom : List ℕ → Bool → Bool → ℕ → Ending → Type 0
+SkimFrom s report skip from (ending.At e) =
+    (a : ℕ) × ((m : Means) × ((startFrom a (chars (drop a s)) ≡ startFrom from (chars (drop from s))) × Glanced s report skip a e m))
+SkimFrom s report skip from ending.Unknown = Unit

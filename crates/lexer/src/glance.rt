@@ -24,7 +24,7 @@ ghost use Rattle.items.specs.declared.Quotes.the-variants.{Double};
 ghost use Rattle.meaning.specs.Meant.{means};
 ghost use Rattle.meaning.specs.declared.Text.the-variants.{Nowhere};
 ghost use Rattle.lexer.specs.declared.Quick.the-variants.{Item};
-ghost use Rattle.lexer.specs.Glance.{Begins, Tells, GlanceAt, GlanceFrom};
+ghost use Rattle.lexer.specs.Glance.{Begins, Tells, GlanceAt, GlanceFrom, SkimAt, SkimFrom};
 
 // How many bytes a quote is.
 const QUOTE: usize = 1;
@@ -175,4 +175,53 @@ pub fn quick_item(source: &[u8], report: bool, skip: bool, from: usize) -> Quick
         return Quick::Other;
     }
     quick_at(source, report, skip, at)
+}
+
+// The end of a number run that starts at a place, if it is a plain number.
+fn skim_run(source: &[u8], report: bool, at: usize) -> Ending
+    requires { ⌜ (length (now source) ≤ limit) × Begins (now source) at InRun ⌝ }
+    ensures { λ r. ⌜ ((skip : Bool) → SkimAt (now (source .entry)) report skip at r) ⌝ }
+{
+    match run_ending(source, report, at + 1) {
+        Ending::At(end) => {
+            if is_plain(&source[at..end]) {
+                return Ending::At(end);
+            }
+            Ending::Unknown
+        }
+        Ending::Unknown => Ending::Unknown,
+    }
+}
+
+// The end of the item that starts at a place, by its first byte: what it means is not asked for.
+fn skim_at(source: &[u8], report: bool, at: usize) -> Ending
+    requires { ⌜ (length (now source) ≤ limit) × (at < length (now source)) ⌝ }
+    ensures { λ r. ⌜ ((skip : Bool) → SkimAt (now (source .entry)) report skip at r) ⌝ }
+{
+    let next = at + 1;
+    match source[at] {
+        b'(' => Ending::At(next),
+        b')' => Ending::At(next),
+        b'[' => Ending::At(next),
+        b']' => Ending::At(next),
+        b'{' => Ending::At(next),
+        b'}' => Ending::At(next),
+        b'\'' => Ending::At(next),
+        b'`' => Ending::At(next),
+        b'a'..=b'z' => word_ending(source, next),
+        b'0'..=b'9' => skim_run(source, report, at),
+        _ => Ending::Unknown,
+    }
+}
+
+// The end of the next item from a place on, where one look tells and it has no decoded text.
+pub fn skim_item(source: &[u8], report: bool, from: usize) -> Ending
+    requires { ⌜ length (now source) ≤ limit ⌝ }
+    ensures { λ r. ⌜ ((skip : Bool) → SkimFrom (now (source .entry)) report skip from r) ⌝ }
+{
+    let at = past_blanks(source, from);
+    if source.len() <= at {
+        return Ending::Unknown;
+    }
+    skim_at(source, report, at)
 }

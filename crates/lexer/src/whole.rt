@@ -6,6 +6,7 @@ use crate::Position;
 use crate::Quick;
 use crate::ReadAnswer;
 use crate::glance::quick_item;
+use crate::glance::skim_item;
 use crate::opening::open;
 use crate::reading::next_item;
 use crate::reading::stand;
@@ -18,6 +19,7 @@ use meaning::records::IN_MEMORY;
 use meaning::records::WORDS;
 use meaning::records::put;
 use meaning::records::record_of;
+use steps::Ending;
 ghost use mathlib.Core.Path.{_≡_};
 ghost use Prim.Native.Nat.{_*_, _≤_, _<_};
 ghost use lib.ListN.{length};
@@ -69,21 +71,32 @@ fn count(source: &[u8], position: Position) -> Needed
     ensures { λ r. ⌜ r ≡ neededOf (allItems (now (source .entry)) position) ⌝ }
 {
     let mut p = position;
+    let mut at = position.at;
+    let mut second = position.second;
     let mut free: usize = 0;
     let mut n: usize = 0;
     loop {
-        match next_item(source, p, free) {
-            Found::One(r, q) => {
-                n = n + 1;
-                free = free_after(free, r);
-                p = q;
+        match skim_item(source, p.report, at) {
+            Ending::At(end) => {
+                n += 1;
+                at = end;
+                second = false;
             }
-            Found::End => {
-                return Needed {
-                    items: n,
-                    text: free,
-                };
-            }
+            Ending::Unknown => match next_item(source, stand(p, at, second), free) {
+                Found::One(r, q) => {
+                    n = n + 1;
+                    free = free_after(free, r);
+                    at = q.at;
+                    second = q.second;
+                    p = q;
+                }
+                Found::End => {
+                    return Needed {
+                        items: n,
+                        text: free,
+                    };
+                }
+            },
         }
     }
 }
