@@ -26,10 +26,16 @@ const ENOUGH: usize = 4096;
 
 const SHORT: usize = 4095;
 
-// Numbers that no bound allows.
+const PLAIN: u32 = 0;
+
+// What no bound allows: a mode, a place, a length of an item, and a stop.
+const NO_MODE: u32 = 2;
+
 const PAST_LIMIT: usize = 4_294_967_296;
 
 const PAST_LONGEST: usize = 4097;
+
+const NO_STOP: u32 = 22;
 
 // What a call answers, and the text memory after it.
 fn answer(a: Answer, text: &[u8]) -> State {
@@ -93,7 +99,7 @@ fn refused_short(name: &[u8], state: State) {
 
 // A plain state, comments kept.
 fn fresh() -> State {
-    let opened = open(0, false);
+    let opened = open(PLAIN, false);
     let state = opened.state;
     state
 }
@@ -101,7 +107,7 @@ fn fresh() -> State {
 // Opening in a mode that there is not: refused, with a plain state.
 fn no_mode() {
     print(b"mode 2\n");
-    let no = open(2, false);
+    let no = open(NO_MODE, false);
     let start = no.start;
     let state = no.state;
     match start {
@@ -257,14 +263,14 @@ fn outside() {
     print(b"states\n");
     let blank = on_piece(fresh(), b" ");
     let word = on_piece(fresh(), b"ab");
-    refused(b"27 mode", with_mode(word, 2));
+    refused(b"27 mode", with_mode(word, NO_MODE));
     refused(b"27 place", with_at(blank, PAST_LIMIT));
     refused(b"27 range", with_to(blank, PAST_LIMIT));
     refused(b"27 character begun", with_part(blank, full_part()));
     refused(b"27 length", with_len(blank, PAST_LONGEST));
     refused(b"27 start and length", with_len(word, 1));
-    refused(b"27 stop", with_stage(blank, Stage::Stopped(22, 0)));
-    refused_short(b"27 before 24", with_mode(word, 2));
+    refused(b"27 stop", with_stage(blank, Stage::Stopped(NO_STOP, 0)));
+    refused_short(b"27 before 24", with_mode(word, NO_MODE));
 }
 
 // All of them.

@@ -5,9 +5,14 @@ use cuttings::Cutting;
 // More bytes than a text here has.
 const REST: usize = 100;
 
+// A byte from the first of these up to the second continues a character.
+const CONTINUES: u8 = 0x80;
+
+const STARTS: u8 = 0xC0;
+
 // Whether a byte continues a character.
 fn continues(byte: u8) -> bool {
-    0x80 <= byte && byte < 0xC0
+    CONTINUES <= byte && byte < STARTS
 }
 
 // Reads a text in two pieces, cut at a place.

@@ -9,6 +9,12 @@ mod long;
 mod show;
 mod standing;
 
+// As many bytes as the longest text has, and more.
+const ALL: usize = 6000;
+
+// The largest of the small pieces.
+const SMALL: usize = 99;
+
 // Readings that must print the same under every cutting.
 fn read(name: &[u8], cutting: Cutting) {
     show::print(name);
@@ -33,15 +39,15 @@ fn main() {
         Cutting {
             first: 0,
             low: 0,
-            high: 99,
+            high: SMALL,
         },
     );
     read(
         b"== in one piece\n",
         Cutting {
-            first: 6000,
-            low: 6000,
-            high: 6000,
+            first: ALL,
+            low: ALL,
+            high: ALL,
         },
     );
     show::print(b"== cuts inside characters\n");

@@ -6,6 +6,8 @@ use cuttings::record_at;
 use items::Record;
 use libc::STDOUT_FILENO;
 
+const PLAIN: u32 = 0;
+
 // The words or bytes of the memories that a reading is written to.
 const ROOM: usize = 8192;
 
@@ -127,7 +129,7 @@ pub fn reading(source: &[u8], cutting: Cutting, skip: bool) {
     let r = cuttings::read(
         source,
         cutting,
-        0,
+        PLAIN,
         skip,
         &mut records,
         &mut counts,

@@ -17,18 +17,25 @@ const ROOM: usize = 8192;
 // The answer of a frame that tells no stop.
 const SERVED: u32 = 0;
 
+// The first byte of a character has at least this where the character has two, three and four bytes.
+const OF_TWO: u8 = 0xC0;
+
+const OF_THREE: u8 = 0xE0;
+
+const OF_FOUR: u8 = 0xF0;
+
 // The text source of an item with no text.
 const NO_TEXT: u32 = 0;
 
 // How many bytes a character has that starts with this byte.
 fn width(first: u8) -> usize {
-    if first < 0x80 {
+    if first < OF_TWO {
         return 1;
     }
-    if first < 0xE0 {
+    if first < OF_THREE {
         return 2;
     }
-    if first < 0xF0 {
+    if first < OF_FOUR {
         return 3;
     }
     4
