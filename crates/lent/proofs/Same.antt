@@ -14,7 +14,7 @@ use Rattle.pieces.proofs.Demand.{demand-3}
 use Rattle.piecewise.specs.Answers.{stateOf, pieceIn, endIn}
 use Rattle.lent.specs.declared.State.{State}
 use Rattle.lent.specs.Coding.{standing, coded, isCode}
-use Rattle.lent.specs.Calls.{Said, lent, worded, pieceFor, endFor, openFor}
+use Rattle.lent.specs.Calls.{Said, lend, worded, pieceFor, endFor, openFor}
 use Rattle.lent.specs.Drive.{Made, opened, pieced, ended, pieceCallsFor, endCallsFor, handOverFor, driveFor}
 use Rattle.lent.proofs.Back.{standing-coded}
 use Rattle.lent.proofs.Narrowness.{lean}
@@ -32,9 +32,6 @@ safe-full (waits e h) = h .kept .full
 safe-full (halted n p h) = h .kept .full
 
 -- ---- a state by value, lent
-
-abbrev pub lend : Held → State
-lend t = lent (coded (t .marks)) (t .buf)
 
 pub same-open : (mode : ℕ) (skip : Bool) (buf : List ℕ) → length buf ≡ longest → openFor mode skip buf ≡ worded (openOf mode skip)
 unfolding openFor

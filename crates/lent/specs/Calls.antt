@@ -7,12 +7,14 @@ use lib.ListN.{length}
 use lib.Dec.{eqb}
 use Rattle.laws.specs.Choice.{if_then_else_}
 use Rattle.pieces.specs.declared.Marks.{Marks}
+use Rattle.pieces.specs.declared.State.{State as Held}
 use Rattle.pieces.specs.declared.Pieced.{Pieced}
 use Rattle.pieces.specs.Calls.{What, refused, Reply, fresh, openOf}
 use Rattle.pieces.specs.Expected.{longest}
-use Rattle.piecewise.specs.Answers.{whatOf, pieceIn, endIn}
+use Rattle.piecewise.specs.Answers.{whatOf, startOf, pieceIn, endIn}
 use Rattle.lent.specs.declared.Words.{Words}
 use Rattle.lent.specs.declared.State.{State}
+use Rattle.lent.specs.declared.Fresh.{Fresh}
 use Rattle.lent.specs.declared.Told.{Told}
 use Rattle.lent.specs.declared.Taken.{Taken}
 use Rattle.lent.specs.Coding.{standing, coded, isCode}
@@ -26,9 +28,13 @@ pub record Said : Type 0 where
 abbrev pub lent : Words → List ℕ → State
 lent w buf = record { buf = buf; words = w }
 
+-- a state by value of crate `pieces`, as numbers
+abbrev pub lend : Held → State
+lend t = lent (coded (t .marks)) (t .buf)
+
 -- a reply of crate `pieces`, its state as words
 abbrev pub worded : Reply → Said
-worded r = record { taken = r .taken; what = r .what; state = lent (coded (r .state .marks)) (r .state .buf) }
+worded r = record { taken = r .taken; what = r .what; state = lend (r .state) }
 
 -- 27 takes nothing and leaves the state as it was
 abbrev pub outside : State → Said
@@ -56,6 +62,9 @@ said t buf text = record { taken = t .taken; what = whatOf (t .got) text; state 
 
 abbrev pub toldOf : Pieced → Told
 toldOf p = record { words = coded (p .marks); taken = p .taken; got = p .got }
+
+abbrev pub freshly : Fresh → Said
+freshly f = record { taken = 0; what = startOf (f .start); state = f .state }
 
 -- the same where the state is lent
 abbrev pub saidOf : Taken → State → List ℕ → Said

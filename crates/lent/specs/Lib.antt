@@ -1,3 +1,4 @@
 pub mod Coding
 pub mod Calls
 pub mod Drive
+pub mod Examples

@@ -4,6 +4,7 @@
 // specs/Coding says which words stand for which marks of crate `pieces`, specs/Calls what the calls do. docs/STATE.md lists the words.
 use pieces::Got;
 use pieces::Marks;
+use pieces::Start;
 
 pub mod calls;
 mod codes;
@@ -11,6 +12,7 @@ mod decoding;
 mod encoding;
 pub mod lending;
 mod limits;
+pub mod opening;
 
 // The marks of a state as numbers. A word that a stage does not use is 0.
 pub struct Words {
@@ -68,6 +70,12 @@ pub enum Seen {
 pub struct State {
     pub buf: [u8; 4096],
     pub words: Words,
+}
+
+// A fresh state to lend; a plain one where opening was refused.
+pub struct Fresh {
+    pub state: State,
+    pub start: Start,
 }
 
 // What a call answers where the buffer alone is lent: the words after it, how many bytes of the piece were taken, and what is given.
