@@ -74,7 +74,7 @@ fn blank_at(source: &[u8], at: usize) -> bool
 }
 
 // Past the blanks of ASCII from a place on: the first few byte by byte, since most runs are short, and the rest by blocks.
-pub fn past_blanks(source: &[u8], from: usize) -> usize
+fn past_more(source: &[u8], from: usize) -> usize
     ensures { λ r. ⌜ startFrom r (chars (drop r (now (source .entry)))) ≡ startFrom from (chars (drop from (now (source .entry)))) ⌝ }
 {
     let mut at = from;
@@ -88,6 +88,19 @@ pub fn past_blanks(source: &[u8], from: usize) -> usize
         }
     }
     blank_end(source, at)
+}
+
+// Past the blanks of ASCII from a place on. Most items have none before them, or one.
+pub fn past_blanks(source: &[u8], at: usize) -> usize
+    ensures { λ r. ⌜ startFrom r (chars (drop r (now (source .entry)))) ≡ startFrom at (chars (drop at (now (source .entry)))) ⌝ }
+{
+    if blank_at(source, at) {
+        if blank_at(source, at + 1) {
+            return past_more(source, at);
+        }
+        return at + 1;
+    }
+    at
 }
 
 // The first character from a place on that is no blank.
