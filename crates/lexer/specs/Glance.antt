@@ -38,15 +38,14 @@ Undecoded Nowhere = Unit
 Undecoded (Source a b) = Unit
 Undecoded (Decoded n) = ⊥
 
--- the one meaning of an extent: no error, and with no decoded text
+-- the one meaning of an extent, with no decoded text
 pub record Alone (what : Outcome) (at : ℕ) (raw : List ℕ) (m : Means) : Type 0 where
   pub means : m ∷ [] ≡ sizedAll (meaningOf what at (at + length raw) raw)
-  pub fine : m .kind < kind.firstError
   pub undecoded : Undecoded (m .text)
 
--- what the outcome and the bytes of an extent that is no comment tell quickly
+-- what the outcome and the bytes of an extent that is no comment and no error tell quickly
 abbrev pub Tells : Outcome → ℕ → List ℕ → Quick → Type 0
-Tells what at raw (Item m a e) = (a ≡ at) × (e ≡ at + length raw) × (eqb (m .kind) kind.Comment ≡ false) × Alone what at raw m
+Tells what at raw (Item m a e) = (a ≡ at) × (e ≡ at + length raw) × (eqb (m .kind) kind.Comment ≡ false) × (m .kind < kind.firstError) × Alone what at raw m
 Tells what at raw Other = Unit
 
 -- from the place a to the place e stands an item with the meaning m, which is not skipped
@@ -59,14 +58,15 @@ pub record Glanced (s : List ℕ) (report skip : Bool) (a e : ℕ) (m : Means) :
   pub alone : Alone what a (part s a e) m
   pub kept : (skip && eqb (m .kind) kind.Comment) ≡ false
 
+-- such an item, and no error
 abbrev pub GlanceAt : List ℕ → Bool → Bool → ℕ → Quick → Type 0
-GlanceAt s report skip at (Item m a e) = (a ≡ at) × Glanced s report skip at e m
+GlanceAt s report skip at (Item m a e) = (a ≡ at) × (m .kind < kind.firstError) × Glanced s report skip at e m
 GlanceAt s report skip at Other = Unit
 
 -- the same past the blanks from a place on
 abbrev pub GlanceFrom : List ℕ → Bool → Bool → ℕ → Quick → Type 0
 GlanceFrom s report skip from (Item m a e) =
-    (startFrom a (chars (drop a s)) ≡ startFrom from (chars (drop from s))) × Glanced s report skip a e m
+    (startFrom a (chars (drop a s)) ≡ startFrom from (chars (drop from s))) × (m .kind < kind.firstError) × Glanced s report skip a e m
 GlanceFrom s report skip from Other = Unit
 
 -- ---- where an item ends, whatever it means

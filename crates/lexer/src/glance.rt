@@ -177,26 +177,37 @@ pub fn quick_item(source: &[u8], report: bool, skip: bool, from: usize) -> Quick
     quick_at(source, report, skip, at)
 }
 
-// The end of a number run that starts at a place, if it is a plain number.
-fn skim_run(source: &[u8], report: bool, at: usize) -> Ending
-    requires { ⌜ (length (now source) ≤ limit) × Begins (now source) at InRun ⌝ }
-    ensures { λ r. ⌜ ((skip : Bool) → SkimAt (now (source .entry)) report skip at r) ⌝ }
+// The end of a string that starts at a place, if it has no escape.
+fn skim_string(source: &[u8], at: usize) -> Ending
+    requires { ⌜ (length (now source) ≤ limit) × Begins (now source) at (Quoted Double) ⌝ }
+    ensures { λ r. ⌜ ((report skip : Bool) → SkimAt (now (source .entry)) report skip at r) ⌝ }
 {
-    match run_ending(source, report, at + 1) {
+    match string_ending(source, at + 1) {
         Ending::At(end) => {
-            if is_plain(&source[at..end]) {
-                return Ending::At(end);
+            if has_escape(&source[at..end]) {
+                return Ending::Unknown;
             }
-            Ending::Unknown
+            Ending::At(end)
         }
         Ending::Unknown => Ending::Unknown,
     }
 }
 
+// The end of a comment to the end of its line that starts at a place, where comments are kept.
+fn skim_line(source: &[u8], skip: bool, at: usize) -> Ending
+    requires { ⌜ (length (now source) ≤ limit) × Begins (now source) at InLine ⌝ }
+    ensures { λ r. ⌜ ((report : Bool) → SkimAt (now (source .entry)) report skip at r) ⌝ }
+{
+    if skip {
+        return Ending::Unknown;
+    }
+    line_ending(source, at + 1)
+}
+
 // The end of the item that starts at a place, by its first byte: what it means is not asked for.
-fn skim_at(source: &[u8], report: bool, at: usize) -> Ending
+fn skim_at(source: &[u8], report: bool, skip: bool, at: usize) -> Ending
     requires { ⌜ (length (now source) ≤ limit) × (at < length (now source)) ⌝ }
-    ensures { λ r. ⌜ ((skip : Bool) → SkimAt (now (source .entry)) report skip at r) ⌝ }
+    ensures { λ r. ⌜ SkimAt (now (source .entry)) report skip at r ⌝ }
 {
     let next = at + 1;
     match source[at] {
@@ -209,19 +220,21 @@ fn skim_at(source: &[u8], report: bool, at: usize) -> Ending
         b'\'' => Ending::At(next),
         b'`' => Ending::At(next),
         b'a'..=b'z' => word_ending(source, next),
-        b'0'..=b'9' => skim_run(source, report, at),
+        b'0'..=b'9' => run_ending(source, report, next),
+        b'"' => skim_string(source, at),
+        b';' => skim_line(source, skip, at),
         _ => Ending::Unknown,
     }
 }
 
 // The end of the next item from a place on, where one look tells and it has no decoded text.
-pub fn skim_item(source: &[u8], report: bool, from: usize) -> Ending
+pub fn skim_item(source: &[u8], report: bool, skip: bool, from: usize) -> Ending
     requires { ⌜ length (now source) ≤ limit ⌝ }
-    ensures { λ r. ⌜ ((skip : Bool) → SkimFrom (now (source .entry)) report skip from r) ⌝ }
+    ensures { λ r. ⌜ SkimFrom (now (source .entry)) report skip from r ⌝ }
 {
     let at = past_blanks(source, from);
     if source.len() <= at {
         return Ending::Unknown;
     }
-    skim_at(source, report, at)
+    skim_at(source, report, skip, at)
 }

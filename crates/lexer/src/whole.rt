@@ -76,7 +76,7 @@ fn count(source: &[u8], position: Position) -> Needed
     let mut free: usize = 0;
     let mut n: usize = 0;
     loop {
-        match skim_item(source, p.report, at) {
+        match skim_item(source, p.report, p.skip, at) {
             Ending::At(end) => {
                 n += 1;
                 at = end;
