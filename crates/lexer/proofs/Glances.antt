@@ -8,7 +8,7 @@ use Rattle.items.specs.Classes.{firstOf}
 use Rattle.items.specs.Machine.{onFirst, scanOf}
 use Rattle.items.specs.Readers.{soFar}
 use Rattle.items.specs.Meaning.{meaningOf}
-use Rattle.items.specs.Items.{Place, range, placeOf, rangeAfter}
+use Rattle.items.specs.Items.{range, placeOf}
 use Rattle.items.specs.Whole.{limit}
 use Rattle.items.specs.declared.Outcome.{Outcome}
 use Rattle.items.specs.declared.Phase.{Phase}

@@ -3,17 +3,22 @@ use Prim.Native.Nat.{ℕ, _+_, _<_}
 use mathlib.Core.Path.{_≡_}
 use mathlib.Core.Bool.{Bool, false, _&&_}
 use mathlib.Core.List.{List, [], _∷_}
-use lib.ListN.{length, drop}
+use lib.ListN.{length, getD, drop}
 use lib.Dec.{eqb}
+use Rattle.laws.specs.Quoted.{code}
 use Rattle.chars.specs.Utf8.{chars}
 use Rattle.items.specs.Kinds as kind
-use Rattle.items.specs.Classes.{firstOf}
-use Rattle.items.specs.Machine.{onFirst}
-use Rattle.items.specs.Readers.{SoFar}
+use Rattle.items.specs.Classes.{firstOf, afterHash}
+use Rattle.items.specs.Machine.{onFirst, onAfterHash}
+use Rattle.items.specs.Readers.{SoFar, hashKind}
 use Rattle.items.specs.Meaning.{meaningOf}
 use Rattle.items.specs.Items.{Place, rangeAfter}
+use Rattle.items.specs.declared.HashKind.the-variants.{Decided}
+use Rattle.items.specs.declared.Next.the-variants.{Eat}
 use Rattle.items.specs.declared.Outcome.{Outcome}
+use Rattle.items.specs.declared.Outcome.the-variants.{Token}
 use Rattle.items.specs.declared.Phase.{Phase}
+use Rattle.items.specs.declared.Phase.the-variants as ph
 use Rattle.steps.specs.Scan.{part, answer}
 use Rattle.steps.specs.declared.Ending.{Ending}
 use Rattle.steps.specs.declared.Ending.the-variants as ending
@@ -31,6 +36,21 @@ pub record Begins (s : List ℕ) (at : ℕ) (p : Phase) : Type 0 where
   pub c : ℕ
   pub first : First s at c (at + 1)
   pub stands : onFirst (firstOf c) ≡ p
+
+-- a number sign stands at a place
+pub record Sharp (s : List ℕ) (at : ℕ) : Type 0 where
+  pub some : at < length s
+  pub sharp : getD s at 0 ≡ code "#"
+
+-- and a letter after it, which spells a boolean with it
+pub record Spells (s : List ℕ) (at v : ℕ) : Type 0 where
+  pub sign : Sharp s at
+  pub more : at + 1 < length s
+  pub letter : ℕ
+  pub stands : getD s (at + 1) 0 ≡ letter
+  pub small : letter < 0x80
+  pub stays : (raw : List ℕ) → onAfterHash (afterHash letter) raw letter ≡ Eat ph.InHash
+  pub boolean : hashKind (code "#" ∷ letter ∷ []) ≡ Decided (Token kind.BooleanLiteral v)
 
 -- a text that is not in the text memory
 abbrev pub Undecoded : Text → Type 0

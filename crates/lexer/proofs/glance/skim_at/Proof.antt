@@ -24,7 +24,7 @@ letter : (c : tie.Then4) → Begins (now (c .before .before .before .before .bef
 letter c =
     let a = c .before .before .before .before .before .before .before in
     let b = getD (now (a .args .source)) (a .args .at) 0 in
-    let other : b ≡ code "`" → ⊥ = c .before .before .before .before .match .rest .0 .0 .1 in
+    let other : b ≡ code "`" → ⊥ = c .before .before .before .before .match .rest .0 .0 .0 .1 in
     let low : code "a" ≤ b = omega (arith, c .before .if3 .left) in
     let high : b ≤ code "z" = omega (arith, c .if4 .taken) in
     begins (now (a .args .source)) (a .args .at) b ph.InWord (a .pre .1) refl (omega arith) (letter-solid b low high) (letter-first b low high)
@@ -50,6 +50,9 @@ skim-string-requires c κs = let a = c .before .before .before in (a .pre .0, be
 skim-line-requires : tie.Need-skim-line-requires
 unfolding firstOf startsRun isBlank
 skim-line-requires c κs = let a = c .before .before .before in (a .pre .0, begins (now (a .args .source)) (a .args .at) (code ";") ph.InLine (a .pre .1) (c .match .keys10) (omega arith) refl refl)
+
+skim-hash-requires : tie.Need-skim-hash-requires
+skim-hash-requires c κs = let a = c .before .before .before in (a .pre .0, record { some = a .pre .1; sharp = c .match .keys11 })
 
 run-ending-requires : tie.Need-run-ending-requires
 run-ending-requires c κs = omega (arith, c .before .before .before .before .before .pre .1)
@@ -112,25 +115,28 @@ returns-10 : tie.Need-returns-10
 returns-10 c = let a = c .before .before .before .before in c .skim-line .ensures (a .args .report)
 
 returns-11 : tie.Need-returns-11
-returns-11 c =
+returns-11 c = let a = c .before .before .before .before in c .skim-hash .ensures (a .args .report) (a .args .skip)
+
+returns-12 : tie.Need-returns-12
+returns-12 c =
     let a = c .before .before .before .before .before .before in
     let w = c .before in
     run-skims (now (a .args .source)) (a .args .report) (a .args .skip) (a .args .at) (a .pre .0) (digit w) (λ e. omega (arith, e, w .before .if1 .left)) (c .run-ending .result) (c .run-ending .ensures)
 
-returns-12 : tie.Need-returns-12
-returns-12 c =
+returns-13 : tie.Need-returns-13
+returns-13 c =
     let a = c .before .before .before .before .before .before .before .before in
     let w = c .before in
     word-skims (now (a .args .source)) (a .args .report) (a .args .skip) (a .args .at) (a .pre .0) (letter w) (λ e. omega (arith, e, w .before .if3 .left)) (c .word-ending .result) (c .word-ending .ensures (a .args .report))
-
-returns-13 : tie.Need-returns-13
-returns-13 c = tt
 
 returns-14 : tie.Need-returns-14
 returns-14 c = tt
 
 returns-15 : tie.Need-returns-15
 returns-15 c = tt
+
+returns-16 : tie.Need-returns-16
+returns-16 c = tt
 
 pub skim-at-spec : {M : Type 1} → statement M
 skim-at-spec =
@@ -140,6 +146,7 @@ skim-at-spec =
     shared-slice-read-match
     skim-string-requires
     skim-line-requires
+    skim-hash-requires
     run-ending-requires
     word-ending-requires
     returns
@@ -156,4 +163,5 @@ skim-at-spec =
     returns-12
     returns-13
     returns-14
-    returns-15)
+    returns-15
+    returns-16)

@@ -1,5 +1,4 @@
 -- The comment ends where its line does, and is kept (Skims).
-use borrow.Author.Needs.{needs}
 use native.Mathlib.Omega.{arith}
 use denote.Ref.{now}
 use Rattle.items.specs.declared.Phase.the-variants as ph
