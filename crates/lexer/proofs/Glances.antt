@@ -8,7 +8,7 @@ use Rattle.items.specs.Classes.{firstOf}
 use Rattle.items.specs.Machine.{onFirst, scanOf}
 use Rattle.items.specs.Readers.{soFar}
 use Rattle.items.specs.Meaning.{meaningOf}
-use Rattle.items.specs.Items.{Place, range, placeOf, rangeAfter}
+use Rattle.items.specs.Items.{range, placeOf}
 use Rattle.items.specs.Whole.{limit}
 use Rattle.items.specs.declared.Outcome.{Outcome}
 use Rattle.items.specs.declared.Phase.{Phase}
@@ -88,32 +88,36 @@ module _ (s : List ℕ) (report skip : Bool) (a e : ℕ) (m : Means) (G : Glance
       fits-one free (meaningOf (G .what) a (a + length (part s a e)) (part s a e)) m (G .alone .means)
       (scan-fits s report a (G .begins .c) (a + 1) F x scan-first free (omega arith) k .texts)
 
-  -- the place of an item that is no error is its extent
-  place-is : (last : Place) → placeOf false (m .kind) last (range a e) ≡ range a e
-  place-is last = rw (lt-leb kind.firstError (m .kind) (G .alone .fine))
+  -- the place of the item
+  abbrev pub spot : Position → Range
+  spot p = rangeOf (placeOf false (m .kind) (placeIn (p .last)) (range a e))
 
   abbrev made : ℕ → Position → Found
-  made free q = One (recordFor free m extent extent) q
+  made free p = One (recordFor free m extent (spot p)) (moved p e (placeIn (p .last)) false)
 
   turn-told : (free : ℕ) (p : Position) → p .report ≡ report
-      → made free (moved p e (placeIn (p .last)) false) ≡ foundOf free (turnAt p a (G .begins .c) (chars (drop (a + 1) s)))
+      → made free p ≡ foundOf free (turnAt p a (G .begins .c) (chars (drop (a + 1) s)))
   turn-told free p u =
-      found-is s report a (G .begins .c) (a + 1) F x scan-first free p (made free (moved p e (placeIn (p .last)) false)) u
+      found-is s report a (G .begins .c) (a + 1) F x scan-first free p (made free p) u
       (found-one free p a (G .what) (part s a e) (p .last)
       (sym (ap rangeOf (G .quiet (placeIn (p .last)) _)))
-      (made free (moved p e (placeIn (p .last)) false)) (moved p e (placeIn (p .last)) false) m (G .alone .means)
-      (rw ends-there (rw (place-is (placeIn (p .last)))))
+      (made free p) (moved p e (placeIn (p .last)) false) m (G .alone .means)
+      (rw ends-there)
       (rw ends-there))
 
   pub next-told : (free : ℕ) (p : Position) → p .report ≡ report → p .skip ≡ skip
       → startFrom a (chars (drop a s)) ≡ startFrom (p .at) (chars (drop (p .at) s))
-      → made free (moved p e (placeIn (p .last)) false) ≡ foundOf free (nextAt s p)
+      → made free p ≡ foundOf free (nextAt s p)
   next-told free p u v w =
       let c = G .begins .c in
       let S : Started s (p .at) (chars (drop (p .at) s)) c a (a + 1) = started s (chars (drop (p .at) s)) (p .at) refl c a (a + 1) (sym w ∙ start-first s a c (a + 1) F) in
-      next-found s free p (recordFor free m extent extent) (moved p e (placeIn (p .last)) false)
+      next-found s free p (recordFor free m extent (spot p)) (moved p e (placeIn (p .last)) false)
       (turn-told free p u ∙ sym (ap (foundOf free) (turn-started s p c a (a + 1) S)))
       (ap (λ (b : Bool). b && eqb (m .kind) kind.Comment) v ∙ G .kept)
+
+  -- the place of an item that is no error is its extent
+  pub spot-fine : m .kind < kind.firstError → (p : Position) → spot p ≡ extent
+  spot-fine fine p = rw (lt-leb kind.firstError (m .kind) fine)
 
 -- the record of an item without a decoded text takes nothing of the text memory
 pub bare-record : (s : List ℕ) (free : ℕ) (extent place : Range) (m : Means) → Undecoded (m .text)

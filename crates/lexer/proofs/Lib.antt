@@ -11,6 +11,7 @@ pub mod Scans
 pub mod Nexts
 pub mod Glances
 pub mod Tells
+pub mod Sharps
 pub mod Skims
 pub mod All
 pub mod Opens

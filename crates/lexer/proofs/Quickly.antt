@@ -13,7 +13,7 @@ use Rattle.lexer.specs.declared.Position.{Position}
 use Rattle.lexer.specs.declared.Quick.{Quick}
 use Rattle.lexer.specs.declared.Quick.the-variants.{Item}
 use Rattle.lexer.specs.declared.Found.the-variants.{One}
-use Rattle.lexer.proofs.Glances.{glance-inside, glance-fits, glance-ahead, next-told, bare-record}
+use Rattle.lexer.proofs.Glances.{glance-inside, glance-fits, glance-ahead, next-told, spot-fine, bare-record}
 use Rattle.lexer.proofs.Writing.{Writing, room, has-moved, writing-bare}
 use Prim.Native.Nat.{ℕ, _+_, _-_, _*_, _^_, _≤_, _<_}
 use mathlib.Core.Path.{_≡_, refl, subst}
@@ -35,13 +35,16 @@ module _ (s : List ℕ) (start : Position) (recs₀ text₀ : List ℕ) (fr : re
   there = subst (λ (x : Quick). GlanceFrom s (p .report) (p .skip) at x) told h
 
   abbrev G : Glanced s (p .report) (p .skip) a e m
-  G = there .1
+  G = there .2
 
   abbrev r : Record
   r = recordFor free m (rangeOf (range a e)) (rangeOf (range a e))
 
   next : One r (here p e false) ≡ foundOf free (nextAt s (here p at second))
-  next = next-told s (p .report) (p .skip) a e m G free (here p at second) refl refl (there .0)
+  next =
+      subst (λ (x : Range). One (recordFor free m (rangeOf (range a e)) x) (here p e false) ≡ foundOf free (nextAt s (here p at second)))
+      (spot-fine s (p .report) (p .skip) a e m G (there .1) (here p at second))
+      (next-told s (p .report) (p .skip) a e m G free (here p at second) refl refl (there .0))
 
   pub quick-fits : length s ≤ limit → (a < 2 ^ 32) × (e < 2 ^ 32) × TextFits free (m .text)
   quick-fits short =

@@ -1,19 +1,24 @@
--- An item that is skimmed has a meaning that one look would have told: a word that begins with a letter is of the table or an identifier.
+-- An item that is skimmed has one meaning and no decoded text, whatever it means: a word or a number run that does not begin with a plus
+-- is a word of the table, an identifier, a number or an error.
 use Rattle.chars.specs.Utf8.{chars}
 use Rattle.items.specs.Kinds as kind
-use Rattle.items.specs.Readers.{firstIs}
-use Rattle.items.specs.Meaning.{Row, lookup, words, wordKind}
-use Rattle.items.specs.Items.{Item}
+use Rattle.items.specs.Readers.{SoFar, comment, firstIs}
+use Rattle.items.specs.Meaning.{Row, lookup, words, wordKind, runMeans, escaped}
+use Rattle.items.specs.Items.{Item, Place, range, rangeAfter}
 use Rattle.items.specs.Whole.{limit}
-use Rattle.items.specs.declared.Outcome.the-variants.{Word, Run}
+use Rattle.items.specs.declared.Outcome.{Outcome}
+use Rattle.items.specs.declared.Outcome.the-variants.{Str, Word, Run}
+use Rattle.items.specs.declared.Phase.{Phase}
 use Rattle.items.specs.declared.Phase.the-variants as ph
+use Rattle.items.specs.declared.Quotes.the-variants.{Double}
 use Rattle.items.specs.declared.Record.{Record}
 use Rattle.laws.specs.Quoted.{code}
 use Rattle.laws.specs.Texts.{same}
 use Rattle.laws.proofs.Choice.{by-bool}
-use Rattle.numbers.specs.Plain.{plain}
-use Rattle.numbers.proofs.Plain.{plain-is}
-use Rattle.steps.specs.Scan.{part}
+use Rattle.numbers.specs.Grammar.{parseNumber}
+use Rattle.numbers.specs.declared.Parsed.{Parsed}
+use Rattle.numbers.specs.declared.Parsed.the-variants as parsed
+use Rattle.steps.specs.Scan.{part, answer}
 use Rattle.steps.specs.Ended.{EndsAs}
 use Rattle.steps.specs.declared.Ending.{Ending}
 use Rattle.steps.specs.declared.Ending.the-variants as ending
@@ -22,23 +27,21 @@ use Rattle.meaning.specs.declared.Means.{Means}
 use Rattle.meaning.specs.declared.Text.the-variants.{Nowhere, Source}
 use Rattle.meaning.specs.Places.{rangeOf}
 use Rattle.meaning.specs.Records.{recordFor}
-use Rattle.items.specs.Items.{range}
-use Rattle.lexer.specs.Glance.{Begins, Glanced, GlanceAt, SkimAt, SkimFrom, Tells}
+use Rattle.lexer.specs.Glance.{Begins, Alone, Glanced, SkimAt, SkimFrom}
 use Rattle.lexer.specs.Reading.{startFrom}
 use Rattle.lexer.specs.declared.Position.{Position}
-use Rattle.lexer.specs.declared.Quick.the-variants as quick
 use Rattle.lexer.specs.Reading.{nextAt, sizeOf, foundOf}
 use Rattle.lexer.specs.declared.Found.the-variants.{One}
-use Rattle.lexer.proofs.Glances.{next-told, bare-record}
+use Rattle.lexer.proofs.Glances.{next-told, spot, bare-record}
 use Rattle.lexer.proofs.Going.{Going, going-on, it, it-moved}
 use Rattle.lexer.proofs.Quickly.{here}
-use Rattle.lexer.proofs.Tells.{Spans, spans, ends-here, ended-told, single-told, identifier-tells, word-tells, run-tells}
+use Rattle.lexer.proofs.Tells.{and-false, spans, ends-here, line-told, string-tells, identifier-tells, word-tells, run-tells}
 use Prim.Native.Nat.{ℕ, _+_, _-_, _≤_, _<_}
 use mathlib.Core.Path.{_≡_, refl, sym, ap, _∙_, subst}
 use mathlib.Core.Bool.{Bool, true, false, not, _&&_}
 use mathlib.Core.List.{List, [], _∷_, _++_}
 use lib.Dec.{eqb, ltb}
-use lib.ListN.{length, getD, take, drop}
+use lib.ListN.{length, getD, drop}
 use lib.Seq.{getD-take, getD-drop}
 use native.Mathlib.Omega.{arith}
 use borrow.Author.Tests.{ltb-true, eqb-true, ne-eqb, not-true}
@@ -85,34 +88,61 @@ first-byte s at e h =
     let z : at + 0 ≡ at = omega arith in
     getD-take (e - at) (drop at s) 0 0 n ∙ getD-drop at s 0 0 ∙ ap (λ (i : ℕ). getD s i 0) z
 
+-- an extent has one meaning, without decoded text, and is no comment
+abbrev Sole : Outcome → ℕ → List ℕ → Type 0
+Sole what at raw = (m : Means) × (Alone what at raw m × (eqb (m .kind) kind.Comment ≡ false))
+
+module _ (at : ℕ) (raw : List ℕ) (n : firstIs (code "+") raw ≡ false) where
+  word-sole : Sole Word at raw
+  word-sole =
+      let k = kind-plain raw in
+      by-bool (eqb (wordKind raw) kind.Identifier)
+      (λ b. let t = identifier-tells at (at + length raw) raw refl n (eqb-true (wordKind raw) kind.Identifier b) in
+      (means kind.Identifier 0 (Source at (at + length raw)), (t .4, t .2)))
+      (λ b. let t = word-tells at (at + length raw) raw refl (wordKind raw) refl b (ltb-true (wordKind raw) kind.firstError (both-first _ _ k)) (not-true (eqb (wordKind raw) kind.Comment) (both-second (ltb (wordKind raw) kind.firstError) _ k)) in
+      (means (wordKind raw) 0 Nowhere, (t .4, t .2)))
+
+  run-sole : (p : Parsed) → parseNumber raw ≡ p → Sole Run at raw
+  unfolding runMeans
+  run-sole (parsed.Is q) f = let t = run-tells at (at + length raw) raw refl q f in (means kind.Number 0 Nowhere, (t .4, t .2))
+  run-sole parsed.NoNumber f =
+      let w = word-sole in
+      (w .0, (record { means = rw f (w .1 .0 .means); undecoded = w .1 .0 .undecoded }, w .1 .1))
+  run-sole parsed.ZeroDenominator f = (means (kind.firstError + kind.ZeroDenominator) 0 Nowhere, (record { means = rw f; undecoded = tt }, refl))
+
 module _ (s : List ℕ) (report skip : Bool) (at : ℕ) (short : length s ≤ limit) where
-  told : (e : ℕ) (m : Means) → e ≡ at + length (part s at e) → GlanceAt s report skip at (quick.Item m at (at + length (part s at e))) → SkimAt s report skip at (ending.At e)
-  told e m l g = (m, subst (λ (x : ℕ). Glanced s report skip at x m) (sym l) (g .1))
+  sole-skims : (o : Outcome) (p : Phase) (e : ℕ) → Begins s at p → record { what = o; end = e } ≡ answer s report at p (at + 1)
+      → ((last : Place) (i : SoFar) → rangeAfter last at o i ≡ last) → Sole o at (part s at e) → SkimAt s report skip at (ending.At e)
+  sole-skims o p e B h quiet S =
+      (S .0, record { what = o; phase = p; begins = B; scan = h; quiet = quiet; alone = S .1 .0; kept = and-false skip (eqb (S .0 .kind) kind.Comment) (S .1 .1) })
+
+  no-plus : (o : Outcome) (p : Phase) (e : ℕ) → Begins s at p → record { what = o; end = e } ≡ answer s report at p (at + 1)
+      → (getD s at 0 ≡ code "+" → ⊥) → firstIs (code "+") (part s at e) ≡ false
+  no-plus o p e B h n = rw (first-byte s at e (spans s report at e o p B h short .some)) (ne-eqb (getD s at 0) (code "+") n)
 
   pub word-skims : Begins s at ph.InWord → (getD s at 0 ≡ code "+" → ⊥) → (r : Ending) → EndsAs s report ph.InWord Word (at + 1) r → SkimAt s report skip at r
   word-skims B n ending.Unknown h = tt
   word-skims B n (ending.At e) h =
       let scan = ends-here s report at ph.InWord Word e h in
-      let S = spans s report at e Word ph.InWord B scan short in
-      let raw = part s at e in
-      let l : at + length raw ≡ e = S .long in
-      let f : firstIs (code "+") raw ≡ false = rw (first-byte s at e (S .some)) (ne-eqb (getD s at 0) (code "+") n) in
-      let k = kind-plain raw in
-      by-bool (eqb (wordKind raw) kind.Identifier)
-      (λ b. told e (means kind.Identifier 0 (Source at (at + length raw))) (sym l)
-      (ended-told s report at e Word ph.InWord B scan short (λ last i. refl) (quick.Item (means kind.Identifier 0 (Source at (at + length raw))) at (at + length raw)) (identifier-tells at (at + length raw) raw refl f (eqb-true (wordKind raw) kind.Identifier b)) skip))
-      (λ b. told e (means (wordKind raw) 0 Nowhere) (sym l)
-      (ended-told s report at e Word ph.InWord B scan short (λ last i. refl) (quick.Item (means (wordKind raw) 0 Nowhere) at (at + length raw))
-      (word-tells at (at + length raw) raw refl (wordKind raw) refl b (ltb-true (wordKind raw) kind.firstError (both-first _ _ k)) (not-true (eqb (wordKind raw) kind.Comment) (both-second (ltb (wordKind raw) kind.firstError) _ k))) skip))
+      sole-skims Word ph.InWord e B scan (λ last i. refl) (word-sole at (part s at e) (no-plus Word ph.InWord e B scan n))
 
-  pub run-skims : Begins s at ph.InRun → (e : ℕ) → EndsAs s report ph.InRun Run (at + 1) (ending.At e) → plain (part s at e) ≡ true → SkimAt s report skip at (ending.At e)
-  run-skims B e h p =
+  pub run-skims : Begins s at ph.InRun → (getD s at 0 ≡ code "+" → ⊥) → (r : Ending) → EndsAs s report ph.InRun Run (at + 1) r → SkimAt s report skip at r
+  run-skims B n ending.Unknown h = tt
+  run-skims B n (ending.At e) h =
       let scan = ends-here s report at ph.InRun Run e h in
+      sole-skims Run ph.InRun e B scan (λ last i. refl) (run-sole at (part s at e) (no-plus Run ph.InRun e B scan n) (parseNumber (part s at e)) refl)
+
+  pub string-skims : Begins s at (ph.Quoted Double) → (e : ℕ) → EndsAs s report (ph.Quoted Double) Str (at + 1) (ending.At e) → escaped (part s at e) ≡ false
+      → SkimAt s report skip at (ending.At e)
+  string-skims B e h f =
       let raw = part s at e in
-      let l : at + length raw ≡ e = spans s report at e Run ph.InRun B scan short .long in
-      let n = plain-is raw p in
-      told e (means kind.Number 0 Nowhere) (sym l)
-      (ended-told s report at e Run ph.InRun B scan short (λ last i. refl) (quick.Item (means kind.Number 0 Nowhere) at (at + length raw)) (run-tells at (at + length raw) raw refl (n .0) (n .1)) skip)
+      let t = string-tells at (at + length raw) raw refl f in
+      sole-skims Str (ph.Quoted Double) e B (ends-here s report at (ph.Quoted Double) Str e h) (λ last i. refl)
+      (means kind.StringLiteral 0 (Source (at + 1) (at + length raw - 1)), (t .4, t .2))
+
+  pub line-skims : skip ≡ false → Begins s at ph.InLine → (r : Ending) → EndsAs s report ph.InLine comment (at + 1) r → SkimAt s report skip at r
+  line-skims k B ending.Unknown h = tt
+  line-skims k B (ending.At e) h = (means kind.Comment 0 Nowhere, line-told s report skip at e k B (ends-here s report at ph.InLine comment e h) .2)
 
 -- past blanks
 pub skim-there : (s : List ℕ) (report skip : Bool) (from at : ℕ) → startFrom at (chars (drop at s)) ≡ startFrom from (chars (drop from s))
@@ -134,7 +164,7 @@ module _ (s : List ℕ) (start p : Position) (at : ℕ) (second : Bool) (free : 
   G = there .1 .1 .1
 
   abbrev pub written : Record
-  written = recordFor free m (rangeOf (range (there .0) e)) (rangeOf (range (there .0) e))
+  written = recordFor free m (rangeOf (range (there .0) e)) (spot s (p .report) (p .skip) (there .0) e m G (here p at second))
 
   pub next : One written (here p e false) ≡ foundOf free (nextAt s (here p at second))
   next = next-told s (p .report) (p .skip) (there .0) e m G free (here p at second) refl refl (there .1 .1 .0)
@@ -147,6 +177,6 @@ module _ (s : List ℕ) (start p : Position) (at : ℕ) (second : Bool) (free : 
 
   pub skim-on : Going s start (here p e false) free (done ++ (skimmed ∷ []))
   skim-on =
-      let b = bare-record s free (rangeOf (range (there .0) e)) (rangeOf (range (there .0) e)) m (G .alone .undecoded) in
+      let b = bare-record s free (rangeOf (range (there .0) e)) (spot s (p .report) (p .skip) (there .0) e m G (here p at second)) m (G .alone .undecoded) in
       subst (λ (k : ℕ). Going s start (here p e false) k (done ++ (skimmed ∷ []))) (b .0)
       (going-on s start (here p at second) free done g written (here p e false) next)

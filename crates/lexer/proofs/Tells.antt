@@ -42,7 +42,7 @@ use lib.ListN.{length, getD, drop, length-take, length-drop}
 use native.Mathlib.Omega.{arith}
 use borrow.Author.Tests.{ne-eqb}
 
-and-false : (b x : Bool) → x ≡ false → (b && x) ≡ false
+pub and-false : (b x : Bool) → x ≡ false → (b && x) ≡ false
 and-false true x e = e
 and-false false x e = refl
 
@@ -87,13 +87,14 @@ pub single-told : (s : List ℕ) (report skip : Bool) (at c k d : ℕ) → at < 
     → GlanceAt s report skip at (Item (means k d Nowhere) at (at + 1))
 single-told s report skip at c k d h e l b f fine other = (
   refl,
+  fine,
   record {
     what = Token k d;
     phase = ph.Done (Token k d);
     begins = begins s at c (ph.Done (Token k d)) h e l b f;
     scan = done-scan report (Token k d) (soFar (part s at (at + 1)) (at + 1)) (chars (drop (at + 1) s));
     quiet = λ last i. refl;
-    alone = record { means = refl; fine = fine; undecoded = tt };
+    alone = record { means = refl; undecoded = tt };
     kept = and-false skip (eqb k kind.Comment) other;
   },
 )
@@ -131,13 +132,14 @@ module _ (s : List ℕ) (report : Bool) (at e : ℕ) (o : Outcome) (p : Phase) (
   ended-told short quiet (Item m a f) t skip =
       let there : f ≡ e = t .1 ∙ spans short .long in (
         t .0,
+        t .3,
         subst (λ (x : ℕ). Glanced s report skip at x m) (sym there) (record {
           what = o;
           phase = p;
           begins = B;
           scan = h;
           quiet = quiet;
-          alone = t .3;
+          alone = t .4;
           kept = and-false skip (eqb (m .kind) kind.Comment) (t .2);
         }),
       )
@@ -147,13 +149,14 @@ pub line-told : (s : List ℕ) (report skip : Bool) (at e : ℕ) → skip ≡ fa
     → record { what = comment; end = e } ≡ answer s report at ph.InLine (at + 1) → GlanceAt s report skip at (Item (means kind.Comment 0 Nowhere) at e)
 line-told s report skip at e k B h = (
   refl,
+  omega arith,
   record {
     what = comment;
     phase = ph.InLine;
     begins = B;
     scan = h;
     quiet = λ last i. refl;
-    alone = record { means = refl; fine = omega arith; undecoded = tt };
+    alone = record { means = refl; undecoded = tt };
     kept = rw k;
   },
 )
@@ -163,25 +166,25 @@ pub from-there : (s : List ℕ) (report skip : Bool) (from at : ℕ) → startFr
     → (q : Quick) → GlanceAt s report skip at q → GlanceFrom s report skip from q
 from-there s report skip from at w Other t = tt
 from-there s report skip from at w (Item m a e) t =
-    subst (λ (x : ℕ). (startFrom x (chars (drop x s)) ≡ startFrom from (chars (drop from s))) × Glanced s report skip x e m) (sym (t .0)) (w, t .1)
+    subst (λ (x : ℕ). (startFrom x (chars (drop x s)) ≡ startFrom from (chars (drop from s))) × (m .kind < kind.firstError) × Glanced s report skip x e m) (sym (t .0)) (w, t .1, t .2)
 
 -- ---- what the bytes of an extent tell
 
 module _ (at e : ℕ) (raw : List ℕ) (long : e ≡ at + length raw) where
   pub string-tells : escaped raw ≡ false → Tells Str at raw (Item (means kind.StringLiteral 0 (Source (at + 1) (e - 1))) at e)
   unfolding stringText
-  string-tells f = (refl, long, refl, record { means = rw (long, f); fine = omega arith; undecoded = tt })
+  string-tells f = (refl, long, refl, omega arith, record { means = rw (long, f); undecoded = tt })
 
   pub run-tells : (p : Parts) → parseNumber raw ≡ parsed.Is p → Tells Run at raw (Item (means kind.Number 0 Nowhere) at e)
   unfolding runMeans
-  run-tells p f = (refl, long, refl, record { means = rw f; fine = omega arith; undecoded = tt })
+  run-tells p f = (refl, long, refl, omega arith, record { means = rw f; undecoded = tt })
 
   pub identifier-tells : firstIs (code "+") raw ≡ false → wordKind raw ≡ kind.Identifier
       → Tells Word at raw (Item (means kind.Identifier 0 (Source at e)) at e)
   unfolding wordMeans
-  identifier-tells f k = (refl, long, refl, record { means = rw (long, k, f); fine = omega arith; undecoded = tt })
+  identifier-tells f k = (refl, long, refl, omega arith, record { means = rw (long, k, f); undecoded = tt })
 
   pub word-tells : (k : ℕ) → wordKind raw ≡ k → eqb k kind.Identifier ≡ false → k < kind.firstError → eqb k kind.Comment ≡ false
       → Tells Word at raw (Item (means k 0 Nowhere) at e)
   unfolding wordMeans
-  word-tells k f i fine other = (refl, long, other, record { means = rw (f, i); fine = fine; undecoded = tt })
+  word-tells k f i fine other = (refl, long, other, fine, record { means = rw (f, i); undecoded = tt })

@@ -3,17 +3,22 @@ use Prim.Native.Nat.{ℕ, _+_, _<_}
 use mathlib.Core.Path.{_≡_}
 use mathlib.Core.Bool.{Bool, false, _&&_}
 use mathlib.Core.List.{List, [], _∷_}
-use lib.ListN.{length, drop}
+use lib.ListN.{length, getD, drop}
 use lib.Dec.{eqb}
+use Rattle.laws.specs.Quoted.{code}
 use Rattle.chars.specs.Utf8.{chars}
 use Rattle.items.specs.Kinds as kind
-use Rattle.items.specs.Classes.{firstOf}
-use Rattle.items.specs.Machine.{onFirst}
-use Rattle.items.specs.Readers.{SoFar}
+use Rattle.items.specs.Classes.{firstOf, afterHash}
+use Rattle.items.specs.Machine.{onFirst, onAfterHash}
+use Rattle.items.specs.Readers.{SoFar, hashKind}
 use Rattle.items.specs.Meaning.{meaningOf}
 use Rattle.items.specs.Items.{Place, rangeAfter}
+use Rattle.items.specs.declared.HashKind.the-variants.{Decided}
+use Rattle.items.specs.declared.Next.the-variants.{Eat}
 use Rattle.items.specs.declared.Outcome.{Outcome}
+use Rattle.items.specs.declared.Outcome.the-variants.{Token}
 use Rattle.items.specs.declared.Phase.{Phase}
+use Rattle.items.specs.declared.Phase.the-variants as ph
 use Rattle.steps.specs.Scan.{part, answer}
 use Rattle.steps.specs.declared.Ending.{Ending}
 use Rattle.steps.specs.declared.Ending.the-variants as ending
@@ -32,21 +37,35 @@ pub record Begins (s : List ℕ) (at : ℕ) (p : Phase) : Type 0 where
   pub first : First s at c (at + 1)
   pub stands : onFirst (firstOf c) ≡ p
 
+-- a number sign stands at a place
+pub record Sharp (s : List ℕ) (at : ℕ) : Type 0 where
+  pub some : at < length s
+  pub sharp : getD s at 0 ≡ code "#"
+
+-- and a letter after it, which spells a boolean with it
+pub record Spells (s : List ℕ) (at v : ℕ) : Type 0 where
+  pub sign : Sharp s at
+  pub more : at + 1 < length s
+  pub letter : ℕ
+  pub stands : getD s (at + 1) 0 ≡ letter
+  pub small : letter < 0x80
+  pub stays : (raw : List ℕ) → onAfterHash (afterHash letter) raw letter ≡ Eat ph.InHash
+  pub boolean : hashKind (code "#" ∷ letter ∷ []) ≡ Decided (Token kind.BooleanLiteral v)
+
 -- a text that is not in the text memory
 abbrev pub Undecoded : Text → Type 0
 Undecoded Nowhere = Unit
 Undecoded (Source a b) = Unit
 Undecoded (Decoded n) = ⊥
 
--- the one meaning of an extent: no error, and with no decoded text
+-- the one meaning of an extent, with no decoded text
 pub record Alone (what : Outcome) (at : ℕ) (raw : List ℕ) (m : Means) : Type 0 where
   pub means : m ∷ [] ≡ sizedAll (meaningOf what at (at + length raw) raw)
-  pub fine : m .kind < kind.firstError
   pub undecoded : Undecoded (m .text)
 
--- what the outcome and the bytes of an extent that is no comment tell quickly
+-- what the outcome and the bytes of an extent that is no comment and no error tell quickly
 abbrev pub Tells : Outcome → ℕ → List ℕ → Quick → Type 0
-Tells what at raw (Item m a e) = (a ≡ at) × (e ≡ at + length raw) × (eqb (m .kind) kind.Comment ≡ false) × Alone what at raw m
+Tells what at raw (Item m a e) = (a ≡ at) × (e ≡ at + length raw) × (eqb (m .kind) kind.Comment ≡ false) × (m .kind < kind.firstError) × Alone what at raw m
 Tells what at raw Other = Unit
 
 -- from the place a to the place e stands an item with the meaning m, which is not skipped
@@ -59,14 +78,15 @@ pub record Glanced (s : List ℕ) (report skip : Bool) (a e : ℕ) (m : Means) :
   pub alone : Alone what a (part s a e) m
   pub kept : (skip && eqb (m .kind) kind.Comment) ≡ false
 
+-- such an item, and no error
 abbrev pub GlanceAt : List ℕ → Bool → Bool → ℕ → Quick → Type 0
-GlanceAt s report skip at (Item m a e) = (a ≡ at) × Glanced s report skip at e m
+GlanceAt s report skip at (Item m a e) = (a ≡ at) × (m .kind < kind.firstError) × Glanced s report skip at e m
 GlanceAt s report skip at Other = Unit
 
 -- the same past the blanks from a place on
 abbrev pub GlanceFrom : List ℕ → Bool → Bool → ℕ → Quick → Type 0
 GlanceFrom s report skip from (Item m a e) =
-    (startFrom a (chars (drop a s)) ≡ startFrom from (chars (drop from s))) × Glanced s report skip a e m
+    (startFrom a (chars (drop a s)) ≡ startFrom from (chars (drop from s))) × (m .kind < kind.firstError) × Glanced s report skip a e m
 GlanceFrom s report skip from Other = Unit
 
 -- ---- where an item ends, whatever it means

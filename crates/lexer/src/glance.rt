@@ -14,9 +14,10 @@ use steps::string_ending;
 use steps::word_ending;
 use words::word_kind;
 ghost use mathlib.Core.Path.{_≡_};
-ghost use mathlib.Core.Bool.{Bool};
+ghost use mathlib.Core.Bool.{Bool, true};
 ghost use Prim.Native.Nat.{_+_, _≤_, _<_};
 ghost use lib.ListN.{length};
+ghost use Rattle.items.specs.Classes.{inHash, stopsHash};
 ghost use Rattle.items.specs.Whole.{limit};
 ghost use Rattle.items.specs.declared.Outcome.the-variants.{Word, Run, Str};
 ghost use Rattle.items.specs.declared.Phase.the-variants.{InWord, InRun, InLine, Quoted};
@@ -24,10 +25,13 @@ ghost use Rattle.items.specs.declared.Quotes.the-variants.{Double};
 ghost use Rattle.meaning.specs.Meant.{means};
 ghost use Rattle.meaning.specs.declared.Text.the-variants.{Nowhere};
 ghost use Rattle.lexer.specs.declared.Quick.the-variants.{Item};
-ghost use Rattle.lexer.specs.Glance.{Begins, Tells, GlanceAt, GlanceFrom, SkimAt, SkimFrom};
+ghost use Rattle.lexer.specs.Glance.{Begins, Sharp, Spells, Tells, GlanceAt, GlanceFrom, SkimAt, SkimFrom};
 
 // How many bytes a quote is.
 const QUOTE: usize = 1;
+
+// How many bytes a boolean of one letter is.
+const BOOLEAN: usize = 2;
 
 // An item without text.
 fn bare(kind: u32, detail: u32, at: usize, end: usize) -> Quick
@@ -143,6 +147,51 @@ fn quick_line(source: &[u8], skip: bool, at: usize) -> Quick
     }
 }
 
+// Whether a byte ends a boolean before it, of those that often do.
+fn ends_boolean(b: u8) -> bool
+    ensures { λ r. ⌜ (r ≡ true → (b < 0x80) × (inHash b ≡ stopsHash)) ⌝ }
+{
+    match b {
+        b')' => true,
+        b']' => true,
+        b' ' => true,
+        b'\n' => true,
+        _ => false,
+    }
+}
+
+// A boolean of one letter that starts at a place.
+fn quick_boolean(source: &[u8], value: u32, at: usize) -> Quick
+    requires { ⌜ (length (now source) ≤ limit) × Spells (now source) at value ⌝ }
+    ensures { λ r. ⌜ ((report skip : Bool) → GlanceAt (now (source .entry)) report skip at r) ⌝ }
+{
+    let end = at + BOOLEAN;
+    if source.len() <= end {
+        return Quick::Other;
+    }
+    if ends_boolean(source[end]) {
+        return bare(kinds::BOOLEAN_LITERAL, value, at, end);
+    }
+    Quick::Other
+}
+
+// What a number sign begins, by the byte after it.
+fn quick_hash(source: &[u8], at: usize) -> Quick
+    requires { ⌜ (length (now source) ≤ limit) × Sharp (now source) at ⌝ }
+    ensures { λ r. ⌜ ((report skip : Bool) → GlanceAt (now (source .entry)) report skip at r) ⌝ }
+{
+    let next = at + 1;
+    if source.len() <= next {
+        return Quick::Other;
+    }
+    match source[next] {
+        b'(' => bare(kinds::OPEN_PAREN, kinds::VECTOR, at, next + 1),
+        b't' => quick_boolean(source, kinds::TRUE, at),
+        b'f' => quick_boolean(source, kinds::FALSE, at),
+        _ => Quick::Other,
+    }
+}
+
 // The item that starts at a place, by its first byte.
 fn quick_at(source: &[u8], report: bool, skip: bool, at: usize) -> Quick
     requires { ⌜ (length (now source) ≤ limit) × (at < length (now source)) ⌝ }
@@ -161,6 +210,7 @@ fn quick_at(source: &[u8], report: bool, skip: bool, at: usize) -> Quick
         b'0'..=b'9' => quick_run(source, report, at),
         b'"' => quick_string(source, at),
         b';' => quick_line(source, skip, at),
+        b'#' => quick_hash(source, at),
         _ => Quick::Other,
     }
 }
@@ -177,26 +227,48 @@ pub fn quick_item(source: &[u8], report: bool, skip: bool, from: usize) -> Quick
     quick_at(source, report, skip, at)
 }
 
-// The end of a number run that starts at a place, if it is a plain number.
-fn skim_run(source: &[u8], report: bool, at: usize) -> Ending
-    requires { ⌜ (length (now source) ≤ limit) × Begins (now source) at InRun ⌝ }
-    ensures { λ r. ⌜ ((skip : Bool) → SkimAt (now (source .entry)) report skip at r) ⌝ }
+// The end of a string that starts at a place, if it has no escape.
+fn skim_string(source: &[u8], at: usize) -> Ending
+    requires { ⌜ (length (now source) ≤ limit) × Begins (now source) at (Quoted Double) ⌝ }
+    ensures { λ r. ⌜ ((report skip : Bool) → SkimAt (now (source .entry)) report skip at r) ⌝ }
 {
-    match run_ending(source, report, at + 1) {
+    match string_ending(source, at + 1) {
         Ending::At(end) => {
-            if is_plain(&source[at..end]) {
-                return Ending::At(end);
+            if has_escape(&source[at..end]) {
+                return Ending::Unknown;
             }
-            Ending::Unknown
+            Ending::At(end)
         }
         Ending::Unknown => Ending::Unknown,
     }
 }
 
+// The end of a comment to the end of its line that starts at a place, where comments are kept.
+fn skim_line(source: &[u8], skip: bool, at: usize) -> Ending
+    requires { ⌜ (length (now source) ≤ limit) × Begins (now source) at InLine ⌝ }
+    ensures { λ r. ⌜ ((report : Bool) → SkimAt (now (source .entry)) report skip at r) ⌝ }
+{
+    if skip {
+        return Ending::Unknown;
+    }
+    line_ending(source, at + 1)
+}
+
+// The end of what a number sign begins.
+fn skim_hash(source: &[u8], at: usize) -> Ending
+    requires { ⌜ (length (now source) ≤ limit) × Sharp (now source) at ⌝ }
+    ensures { λ r. ⌜ ((report skip : Bool) → SkimAt (now (source .entry)) report skip at r) ⌝ }
+{
+    match quick_hash(source, at) {
+        Quick::Item(_, _, end) => Ending::At(end),
+        Quick::Other => Ending::Unknown,
+    }
+}
+
 // The end of the item that starts at a place, by its first byte: what it means is not asked for.
-fn skim_at(source: &[u8], report: bool, at: usize) -> Ending
+fn skim_at(source: &[u8], report: bool, skip: bool, at: usize) -> Ending
     requires { ⌜ (length (now source) ≤ limit) × (at < length (now source)) ⌝ }
-    ensures { λ r. ⌜ ((skip : Bool) → SkimAt (now (source .entry)) report skip at r) ⌝ }
+    ensures { λ r. ⌜ SkimAt (now (source .entry)) report skip at r ⌝ }
 {
     let next = at + 1;
     match source[at] {
@@ -209,19 +281,22 @@ fn skim_at(source: &[u8], report: bool, at: usize) -> Ending
         b'\'' => Ending::At(next),
         b'`' => Ending::At(next),
         b'a'..=b'z' => word_ending(source, next),
-        b'0'..=b'9' => skim_run(source, report, at),
+        b'0'..=b'9' => run_ending(source, report, next),
+        b'"' => skim_string(source, at),
+        b';' => skim_line(source, skip, at),
+        b'#' => skim_hash(source, at),
         _ => Ending::Unknown,
     }
 }
 
 // The end of the next item from a place on, where one look tells and it has no decoded text.
-pub fn skim_item(source: &[u8], report: bool, from: usize) -> Ending
+pub fn skim_item(source: &[u8], report: bool, skip: bool, from: usize) -> Ending
     requires { ⌜ length (now source) ≤ limit ⌝ }
-    ensures { λ r. ⌜ ((skip : Bool) → SkimFrom (now (source .entry)) report skip from r) ⌝ }
+    ensures { λ r. ⌜ SkimFrom (now (source .entry)) report skip from r ⌝ }
 {
     let at = past_blanks(source, from);
     if source.len() <= at {
         return Ending::Unknown;
     }
-    skim_at(source, report, at)
+    skim_at(source, report, skip, at)
 }

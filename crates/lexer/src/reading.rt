@@ -95,10 +95,11 @@ pub fn past_blanks(source: &[u8], at: usize) -> usize
     ensures { λ r. ⌜ startFrom r (chars (drop r (now (source .entry)))) ≡ startFrom at (chars (drop at (now (source .entry)))) ⌝ }
 {
     if blank_at(source, at) {
-        if blank_at(source, at + 1) {
-            return past_more(source, at);
+        let next = at + 1;
+        if blank_at(source, next) {
+            return past_more(source, next + 1);
         }
-        return at + 1;
+        return next;
     }
     at
 }

@@ -14,6 +14,7 @@ use escapes::decode;
 use items::Quotes;
 use items::Record;
 use items::kinds::STRING_LITERAL;
+use meaning::Means;
 use meaning::Range;
 use meaning::records::IN_MEMORY;
 use meaning::records::WORDS;
@@ -21,11 +22,13 @@ use meaning::records::put;
 use meaning::records::record_of;
 use steps::Ending;
 ghost use mathlib.Core.Path.{_≡_};
-ghost use Prim.Native.Nat.{_*_, _≤_, _<_};
+ghost use Prim.Native.Nat.{_*_, _^_, _≤_, _<_};
 ghost use lib.ListN.{length};
 ghost use Rattle.laws.specs.Lent.{written};
-ghost use Rattle.items.specs.Items.{records, recordWords, texts};
+ghost use Rattle.items.specs.Items.{range, records, recordWords, texts};
 ghost use Rattle.items.specs.Whole.{call, deliver, limit, readOf};
+ghost use Rattle.meaning.specs.Places.{rangeOf};
+ghost use Rattle.meaning.specs.Records.{recordFor, TextFits};
 ghost use Rattle.lexer.specs.Reading.{allItems};
 ghost use Rattle.lexer.specs.Answers.{answerOf};
 ghost use Rattle.lexer.specs.Inner.{neededOf, quotesOf, bytesFor, freeAfter, Few};
@@ -76,7 +79,7 @@ fn count(source: &[u8], position: Position) -> Needed
     let mut free: usize = 0;
     let mut n: usize = 0;
     loop {
-        match skim_item(source, p.report, at) {
+        match skim_item(source, p.report, p.skip, at) {
             Ending::At(end) => {
                 n += 1;
                 at = end;
@@ -101,6 +104,18 @@ fn count(source: &[u8], position: Position) -> Needed
     }
 }
 
+// The record of an item that one look told: its place is its extent.
+fn record_at(m: Means, start: usize, end: usize, free: usize) -> Record
+    requires { ⌜ (start < 2 ^ 32) × (end < 2 ^ 32) × TextFits free (m .text) ⌝ }
+    ensures { λ r. ⌜ r ≡ recordFor free m (rangeOf (range start end)) (rangeOf (range start end)) ⌝ }
+{
+    let extent = Range {
+        from: start as u32,
+        to: end as u32,
+    };
+    record_of(m, extent, extent, free)
+}
+
 // Writes the records of the items from a position on, and their decoded texts; answers how many records and bytes those are.
 fn write(source: &[u8], position: Position, recs: &mut [u32], text: &mut [u8]) -> Needed
     requires { ⌜ length (now source) ≤ limit ⌝ }
@@ -118,11 +133,7 @@ fn write(source: &[u8], position: Position, recs: &mut [u32], text: &mut [u8]) -
     loop {
         match quick_item(source, p.report, p.skip, at) {
             Quick::Item(m, start, end) => {
-                let extent = Range {
-                    from: start as u32,
-                    to: end as u32,
-                };
-                put(&mut recs[w..], record_of(m, extent, extent, free));
+                put(&mut recs[w..], record_at(m, start, end, free));
                 w += WORDS;
                 at = end;
                 second = false;

@@ -77,6 +77,9 @@ quick-line-requires : tie.Need-quick-line-requires
 unfolding firstOf startsRun isBlank
 quick-line-requires c κs = let a = c .before .before .before in (a .pre .0, begins (now (a .args .source)) (a .args .at) (code ";") ph.InLine (a .pre .1) (c .match .keys10) (omega arith) refl refl)
 
+quick-hash-requires : tie.Need-quick-hash-requires
+quick-hash-requires c κs = let a = c .before .before .before in (a .pre .0, record { some = a .pre .1; sharp = c .match .keys11 })
+
 quick-run-requires : tie.Need-quick-run-requires
 quick-run-requires c κs =
     let a = c .before .before .before .before .before in
@@ -89,7 +92,7 @@ quick-word-requires : tie.Need-quick-word-requires
 quick-word-requires c κs =
     let a = c .before .before .before .before .before .before .before in
     let b = getD (now (a .args .source)) (a .args .at) 0 in
-    let other : b ≡ code "`" → ⊥ = c .before .before .before .before .match .rest .0 .0 .1 in
+    let other : b ≡ code "`" → ⊥ = c .before .before .before .before .match .rest .0 .0 .0 .1 in
     let low : code "a" ≤ b = omega (arith, c .before .if3 .left) in
     let high : b ≤ code "z" = omega (arith, c .if4 .taken) in
     (a .pre .0, begins (now (a .args .source)) (a .args .at) b ph.InWord (a .pre .1) refl (omega arith) (letter-solid b low high) (letter-first b low high))
@@ -157,19 +160,22 @@ returns-10 : tie.Need-returns-10
 returns-10 c = let a = c .before .before .before .before in c .quick-line .ensures (a .args .report)
 
 returns-11 : tie.Need-returns-11
-returns-11 c = let a = c .before .before .before .before .before .before in c .quick-run .ensures (a .args .skip)
+returns-11 c = let a = c .before .before .before .before in c .quick-hash .ensures (a .args .report) (a .args .skip)
 
 returns-12 : tie.Need-returns-12
-returns-12 c = let a = c .before .before .before .before .before .before .before .before in c .quick-word .ensures (a .args .report) (a .args .skip)
+returns-12 c = let a = c .before .before .before .before .before .before in c .quick-run .ensures (a .args .skip)
 
 returns-13 : tie.Need-returns-13
-returns-13 c = tt
+returns-13 c = let a = c .before .before .before .before .before .before .before .before in c .quick-word .ensures (a .args .report) (a .args .skip)
 
 returns-14 : tie.Need-returns-14
 returns-14 c = tt
 
 returns-15 : tie.Need-returns-15
 returns-15 c = tt
+
+returns-16 : tie.Need-returns-16
+returns-16 c = tt
 
 pub quick-at-spec : {M : Type 1} → statement M
 quick-at-spec =
@@ -194,6 +200,7 @@ quick-at-spec =
     bare-requires-8
     quick-string-requires
     quick-line-requires
+    quick-hash-requires
     quick-run-requires
     quick-word-requires
     returns
@@ -210,4 +217,5 @@ quick-at-spec =
     returns-12
     returns-13
     returns-14
-    returns-15)
+    returns-15
+    returns-16)

@@ -38,13 +38,13 @@ add-n : tie.Need-add-n Inv-loop μ-loop
 add-n c = omega (arith, c .before .before .before .before .loop .inv .1 .0 .few, c .before .before .before .before .loop .inv .1 .1, size-le (now (c .before .before .before .before .before .before .args .source)) (c .before .before .before .before .before .before .args .position), c .before .before .before .before .before .before .pre)
 
 loop-less : tie.Need-loop-less Inv-loop μ-loop
-loop-less c = skim-smaller (now (c .before .before .before .before .before .before .args .source)) (c .before .before .before .before .before .before .args .position) (c .before .before .before .before .loop .p) (c .before .before .before .before .loop .at) (c .before .before .before .before .loop .second) (c .before .before .before .before .loop .free) (c .before .before .before .before .loop .inv .0) (c .before .before .before .before .loop .inv .1 .0) (c .before .before .before .skim-item .result) (c .before .end .given .0 .0) (c .before .end .given .1) (c .before .before .before .skim-item .ensures (c .before .before .before .before .loop .p .skip))
+loop-less c = skim-smaller (now (c .before .before .before .before .before .before .args .source)) (c .before .before .before .before .before .before .args .position) (c .before .before .before .before .loop .p) (c .before .before .before .before .loop .at) (c .before .before .before .before .loop .second) (c .before .before .before .before .loop .free) (c .before .before .before .before .loop .inv .0) (c .before .before .before .before .loop .inv .1 .0) (c .before .before .before .skim-item .result) (c .before .end .given .0 .0) (c .before .end .given .1) (c .before .before .before .skim-item .ensures)
 
 loop-again : tie.Need-loop-again Inv-loop μ-loop
 loop-again c =
     let v = c .before .before .before .before .loop .inv in
-    let i = skimmed (now (c .before .before .before .before .before .before .args .source)) (c .before .before .before .before .before .before .args .position) (c .before .before .before .before .loop .p) (c .before .before .before .before .loop .at) (c .before .before .before .before .loop .second) (c .before .before .before .before .loop .free) (c .before .before .before .before .loop .inv .0) (c .before .before .before .before .loop .inv .1 .0) (c .before .before .before .skim-item .result) (c .before .end .given .0 .0) (c .before .end .given .1) (c .before .before .before .skim-item .ensures (c .before .before .before .before .loop .p .skip)) in
-    (v .0 ++ (i ∷ []), (skim-on (now (c .before .before .before .before .before .before .args .source)) (c .before .before .before .before .before .before .args .position) (c .before .before .before .before .loop .p) (c .before .before .before .before .loop .at) (c .before .before .before .before .loop .second) (c .before .before .before .before .loop .free) (c .before .before .before .before .loop .inv .0) (c .before .before .before .before .loop .inv .1 .0) (c .before .before .before .skim-item .result) (c .before .end .given .0 .0) (c .before .end .given .1) (c .before .before .before .skim-item .ensures (c .before .before .before .before .loop .p .skip)), length-append (v .0) (i ∷ []) ∙ omega (arith, v .1 .1)))
+    let i = skimmed (now (c .before .before .before .before .before .before .args .source)) (c .before .before .before .before .before .before .args .position) (c .before .before .before .before .loop .p) (c .before .before .before .before .loop .at) (c .before .before .before .before .loop .second) (c .before .before .before .before .loop .free) (c .before .before .before .before .loop .inv .0) (c .before .before .before .before .loop .inv .1 .0) (c .before .before .before .skim-item .result) (c .before .end .given .0 .0) (c .before .end .given .1) (c .before .before .before .skim-item .ensures) in
+    (v .0 ++ (i ∷ []), (skim-on (now (c .before .before .before .before .before .before .args .source)) (c .before .before .before .before .before .before .args .position) (c .before .before .before .before .loop .p) (c .before .before .before .before .loop .at) (c .before .before .before .before .loop .second) (c .before .before .before .before .loop .free) (c .before .before .before .before .loop .inv .0) (c .before .before .before .before .loop .inv .1 .0) (c .before .before .before .skim-item .result) (c .before .end .given .0 .0) (c .before .end .given .1) (c .before .before .before .skim-item .ensures), length-append (v .0) (i ∷ []) ∙ omega (arith, v .1 .1)))
 
 enum-told : tie.Need-enum-told Inv-loop μ-loop
 enum-told c = search needs

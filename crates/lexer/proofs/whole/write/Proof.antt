@@ -52,12 +52,6 @@ quick-item-requires c κs = c .before .before .before .before .pre .0
 enum-known-m : tie.Need-enum-known-m Inv-loop μ-loop
 enum-known-m c = search needs
 
-cast-t17 : tie.Need-cast-t17 Inv-loop μ-loop
-cast-t17 c = omega (arith, quick-fits (now (c .before .before .before .before .before .before .before .before .args .source)) (c .before .before .before .before .before .before .before .before .args .position) (now (c .before .before .before .before .before .before .before .before .args .recs)) (now (c .before .before .before .before .before .before .before .before .args .text)) (c .before .before .before .before .before .before .before .before .pre .1 .0) (c .before .before .before .before .before .before .before .before .pre .1 .1) (c .before .before .before .before .loop .p) (c .before .before .before .before .loop .at) (c .before .before .before .before .loop .second) (c .before .before .before .before .loop .inv) (c .before .before .before .quick-item .result) (c .before .m .given .0 .0) (c .before .m .given .0 .1 .0) (c .before .m .given .0 .1 .1 .0) (c .before .m .given .1) (c .before .before .before .quick-item .ensures) (c .before .before .before .before .before .before .before .before .pre .0))
-
-cast-t18 : tie.Need-cast-t18 Inv-loop μ-loop
-cast-t18 c = omega (arith, quick-fits (now (c .before .before .before .before .before .before .before .before .args .source)) (c .before .before .before .before .before .before .before .before .args .position) (now (c .before .before .before .before .before .before .before .before .args .recs)) (now (c .before .before .before .before .before .before .before .before .args .text)) (c .before .before .before .before .before .before .before .before .pre .1 .0) (c .before .before .before .before .before .before .before .before .pre .1 .1) (c .before .before .before .before .loop .p) (c .before .before .before .before .loop .at) (c .before .before .before .before .loop .second) (c .before .before .before .before .loop .inv) (c .before .before .before .quick-item .result) (c .before .m .given .0 .0) (c .before .m .given .0 .1 .0) (c .before .m .given .0 .1 .1 .0) (c .before .m .given .1) (c .before .before .before .quick-item .ensures) (c .before .before .before .before .before .before .before .before .pre .0))
-
 mul-put : tie.Need-mul-put Inv-loop μ-loop
 mul-put c = omega (arith, quick-in c, quick-same c)
 
@@ -70,8 +64,8 @@ part-put-start c = omega (arith, quick-in c)
 part-put-end : tie.Need-part-put-end Inv-loop μ-loop
 part-put-end c = omega arith
 
-record-of-requires : tie.Need-record-of-requires Inv-loop μ-loop
-record-of-requires c κs = quick-fits (now (c .before .before .before .before .before .before .before .before .before .args .source)) (c .before .before .before .before .before .before .before .before .before .args .position) (now (c .before .before .before .before .before .before .before .before .before .args .recs)) (now (c .before .before .before .before .before .before .before .before .before .args .text)) (c .before .before .before .before .before .before .before .before .before .pre .1 .0) (c .before .before .before .before .before .before .before .before .before .pre .1 .1) (c .before .before .before .before .before .loop .p) (c .before .before .before .before .before .loop .at) (c .before .before .before .before .before .loop .second) (c .before .before .before .before .before .loop .inv) (c .before .before .before .before .quick-item .result) (c .before .before .m .given .0 .0) (c .before .before .m .given .0 .1 .0) (c .before .before .m .given .0 .1 .1 .0) (c .before .before .m .given .1) (c .before .before .before .before .quick-item .ensures) (c .before .before .before .before .before .before .before .before .before .pre .0) .2
+record-at-requires : tie.Need-record-at-requires Inv-loop μ-loop
+record-at-requires c κs = quick-fits (now (c .before .before .before .before .before .before .before .before .before .args .source)) (c .before .before .before .before .before .before .before .before .before .args .position) (now (c .before .before .before .before .before .before .before .before .before .args .recs)) (now (c .before .before .before .before .before .before .before .before .before .args .text)) (c .before .before .before .before .before .before .before .before .before .pre .1 .0) (c .before .before .before .before .before .before .before .before .before .pre .1 .1) (c .before .before .before .before .before .loop .p) (c .before .before .before .before .before .loop .at) (c .before .before .before .before .before .loop .second) (c .before .before .before .before .before .loop .inv) (c .before .before .before .before .quick-item .result) (c .before .before .m .given .0 .0) (c .before .before .m .given .0 .1 .0) (c .before .before .m .given .0 .1 .1 .0) (c .before .before .m .given .1) (c .before .before .before .before .quick-item .ensures) (c .before .before .before .before .before .before .before .before .before .pre .0)
 
 put-requires : tie.Need-put-requires Inv-loop μ-loop
 put-requires c κs = let l = c .before .before .before .before .before .before .loop in omega (arith, quick-in (c .before .before), length-part (l .recs) (l .w))
@@ -85,7 +79,7 @@ loop-less c = quick-smaller (now (c .before .before .before .before .before .bef
 loop-again : tie.Need-loop-again Inv-loop μ-loop
 loop-again c =
     quick-writes (now (c .before .before .before .before .before .before .before .before .before .before .before .before .before .args .source)) (c .before .before .before .before .before .before .before .before .before .before .before .before .before .args .position) (now (c .before .before .before .before .before .before .before .before .before .before .before .before .before .args .recs)) (now (c .before .before .before .before .before .before .before .before .before .before .before .before .before .args .text)) (c .before .before .before .before .before .before .before .before .before .before .before .before .before .pre .1 .0) (c .before .before .before .before .before .before .before .before .before .before .before .before .before .pre .1 .1) (c .before .before .before .before .before .before .before .before .before .loop .p) (c .before .before .before .before .before .before .before .before .before .loop .at) (c .before .before .before .before .before .before .before .before .before .loop .second) (c .before .before .before .before .before .before .before .before .before .loop .inv) (c .before .before .before .before .before .before .before .before .quick-item .result) (c .before .before .before .before .before .before .m .given .0 .0) (c .before .before .before .before .before .before .m .given .0 .1 .0) (c .before .before .before .before .before .before .m .given .0 .1 .1 .0) (c .before .before .before .before .before .before .m .given .1) (c .before .before .before .before .before .before .before .before .quick-item .ensures)
-    (c .before .before .put .ensures ∙ ap (λ (x : Record). written (wordsOf x) (take (length (c .before .before .before .before .before .before .before .before .before .loop .recs) - c .before .before .before .before .before .before .before .before .before .loop .w) (drop (c .before .before .before .before .before .before .before .before .before .loop .w) (c .before .before .before .before .before .before .before .before .before .loop .recs)))) (c .before .before .before .record-of .ensures))
+    (c .before .before .put .ensures ∙ ap (λ (x : Record). written (wordsOf x) (take (length (c .before .before .before .before .before .before .before .before .before .loop .recs) - c .before .before .before .before .before .before .before .before .before .loop .w) (drop (c .before .before .before .before .before .before .before .before .before .loop .w) (c .before .before .before .before .before .before .before .before .before .loop .recs)))) (c .before .before .before .record-at .ensures))
 
 enum-told : tie.Need-enum-told Inv-loop μ-loop
 enum-told c = search needs
@@ -161,13 +155,11 @@ write-spec =
     loop-holds
     quick-item-requires
     enum-known-m
-    cast-t17
-    cast-t18
     mul-put
     sub-put
     part-put-start
     part-put-end
-    record-of-requires
+    record-at-requires
     put-requires
     add-w
     loop-less

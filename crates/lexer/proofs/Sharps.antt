@@ -1,0 +1,118 @@
+-- What a number sign begins, as far as the next bytes tell: the opening of a vector, and a boolean of one letter before a byte that ends
+-- it. The machine's two turns after the sign are taken one by one.
+use Rattle.laws.specs.Quoted.{code}
+use Rattle.laws.specs.Texts.{same, begins}
+use Rattle.laws.proofs.Places.{here}
+use Rattle.chars.specs.Blank.{isBlank}
+use Rattle.chars.specs.Encode.{bytesOf, utf8}
+use Rattle.chars.proofs.Chars.{CharAt, char-at}
+use Rattle.items.specs.Kinds as kind
+use Rattle.items.specs.Classes.{startsRun, firstOf, afterHash, endsHash, inHash, stopsHash}
+use Rattle.items.specs.Machine.{stepOf}
+use Rattle.items.specs.Readers.{soFar, hashKind, boolKind, quoteKind, formKind}
+use Rattle.items.specs.declared.HashKind.the-variants.{Decided, Bracket}
+use Rattle.items.specs.declared.Next.the-variants.{Eat, Stop}
+use Rattle.items.specs.declared.Outcome.{Outcome}
+use Rattle.items.specs.declared.Outcome.the-variants.{Token}
+use Rattle.items.specs.declared.Phase.the-variants as ph
+use Rattle.steps.specs.Scan.{part, answer}
+use Rattle.steps.proofs.Kept.{done-scan, ascii-found}
+use Rattle.steps.proofs.Turn.{turn-eat, turn-stop}
+use Rattle.meaning.specs.Meant.{means}
+use Rattle.meaning.specs.declared.Means.{Means}
+use Rattle.meaning.specs.declared.Text.the-variants.{Nowhere}
+use Rattle.lexer.specs.Glance.{Begins, Sharp, Spells, GlanceAt, SkimAt}
+use Rattle.lexer.specs.declared.Quick.{Quick}
+use Rattle.lexer.specs.declared.Quick.the-variants as quick
+use Rattle.lexer.proofs.Glances as glances
+use Rattle.lexer.proofs.Tells.{and-false}
+use Rattle.steps.specs.declared.Ending.the-variants as ending
+use Prim.Native.Nat.{ℕ, _+_, _-_, _<_}
+use mathlib.Core.Path.{_≡_, refl, sym, ap, _∙_, subst}
+use mathlib.Core.Bool.{Bool, false}
+use mathlib.Core.List.{List, [], _∷_}
+use lib.Dec.{eqb}
+use lib.ListN.{length, getD, take}
+use native.Mathlib.Omega.{arith}
+
+pub spells-true : (s : List ℕ) (at : ℕ) → Sharp s at → at + 1 < length s → getD s (at + 1) 0 ≡ code "t" → Spells s at 1
+unfolding afterHash inHash endsHash isBlank hashKind boolKind same bytesOf utf8
+spells-true s at S m e = record { sign = S; more = m; letter = code "t"; stands = e; small = omega arith; stays = λ raw. refl; boolean = refl }
+
+pub spells-false : (s : List ℕ) (at : ℕ) → Sharp s at → at + 1 < length s → getD s (at + 1) 0 ≡ code "f" → Spells s at 0
+unfolding afterHash inHash endsHash isBlank hashKind boolKind same bytesOf utf8
+spells-false s at S m e = record { sign = S; more = m; letter = code "f"; stands = e; small = omega arith; stays = λ raw. refl; boolean = refl }
+
+-- a character of ASCII stands at a place
+ascii-at : (s : List ℕ) (at c : ℕ) → at < length s → getD s at 0 ≡ c → c < 0x80 → CharAt s at c (at + 1)
+ascii-at s at c h e k = subst (λ (x : ℕ). CharAt s at x (at + 1)) e (char-at s at (getD s at 0) (at + 1) (ascii-found s at h (omega arith)) (omega arith))
+
+-- the kind of the bare sign
+sign-kind : hashKind (code "#" ∷ []) ≡ Bracket kind.Vector
+unfolding hashKind boolKind quoteKind formKind same begins bytesOf utf8
+sign-kind = refl
+
+vector-opens : (report : Bool) (raw : List ℕ) (n : ℕ) → raw ≡ code "#" ∷ [] → stepOf report ph.AfterHash (soFar raw n) (code "(") ≡ Eat (ph.Done (Token kind.OpenParen kind.Vector))
+unfolding afterHash inHash endsHash
+vector-opens report raw n e = rw (e, sign-kind)
+
+boolean-ends : (report : Bool) (raw : List ℕ) (n c : ℕ) (o : Outcome) → hashKind raw ≡ Decided o → inHash c ≡ stopsHash → stepOf report ph.InHash (soFar raw n) c ≡ Stop o
+boolean-ends report raw n c o e k = rw (k, e)
+
+module _ (s : List ℕ) (at : ℕ) (S : Sharp s at) where
+  sign-begins : Begins s at ph.AfterHash
+  unfolding firstOf startsRun isBlank
+  sign-begins = glances.begins s at (code "#") ph.AfterHash (S .some) (S .sharp) (omega arith) refl refl
+
+  sign-part : part s at (at + 1) ≡ code "#" ∷ []
+  sign-part =
+      let n : at + 1 - at ≡ 1 = omega arith in
+      rw n (ap (take 1) (here s at (S .some)) ∙ ap (λ (c : ℕ). c ∷ []) (S .sharp))
+
+  letter-part : (c : ℕ) → at + 1 < length s → getD s (at + 1) 0 ≡ c → part s at (at + 2) ≡ code "#" ∷ c ∷ []
+  letter-part c m e =
+      let n : at + 2 - at ≡ 2 = omega arith in
+      rw n (ap (take 2) (here s at (S .some) ∙ ap (λ (l : List ℕ). getD s at 0 ∷ l) (here s (at + 1) m)) ∙ ap (λ (x : ℕ). x ∷ getD s (at + 1) 0 ∷ []) (S .sharp) ∙ ap (λ (x : ℕ). code "#" ∷ x ∷ []) e)
+
+  -- an item without text of two bytes
+  two-told : (report skip : Bool) (k d : ℕ) → record { what = Token k d; end = at + 2 } ≡ answer s report at ph.AfterHash (at + 1)
+      → k < kind.firstError → eqb k kind.Comment ≡ false → GlanceAt s report skip at (quick.Item (means k d Nowhere) at (at + 2))
+  two-told report skip k d h fine other = (
+    refl,
+    fine,
+    record {
+      what = Token k d;
+      phase = ph.AfterHash;
+      begins = sign-begins;
+      scan = h;
+      quiet = λ last i. refl;
+      alone = record { means = refl; undecoded = tt };
+      kept = and-false skip (eqb k kind.Comment) other;
+    },
+  )
+
+  pub vector-told : (report skip : Bool) → at + 1 < length s → getD s (at + 1) 0 ≡ code "("
+      → GlanceAt s report skip at (quick.Item (means kind.OpenParen kind.Vector Nowhere) at (at + 1 + 1))
+  vector-told report skip m e =
+      let n : at + 1 + 1 ≡ at + 2 = omega arith in
+      let o = Token kind.OpenParen kind.Vector in
+      let k : CharAt s (at + 1) (code "(") (at + 2) = subst (CharAt s (at + 1) (code "(")) n (ascii-at s (at + 1) (code "(") m e (omega arith)) in
+      rw n
+      (two-told report skip kind.OpenParen kind.Vector
+      (sym (turn-eat s report at ph.AfterHash (at + 1) (code "(") (at + 2) k (ph.Done o) (omega arith) (vector-opens report (part s at (at + 1)) (at + 1) sign-part) ∙ sym (done-scan report o _ _)))
+      (omega arith) refl)
+
+pub boolean-told : (s : List ℕ) (at v : ℕ) → Spells s at v → (report skip : Bool) → at + 2 < length s → (c : ℕ) → getD s (at + 2) 0 ≡ c → (c < 0x80) × (inHash c ≡ stopsHash)
+    → GlanceAt s report skip at (quick.Item (means kind.BooleanLiteral v Nowhere) at (at + 2))
+boolean-told s at v B report skip m c e stop =
+    let n : at + 1 + 1 ≡ at + 2 = omega arith in
+    let o = Token kind.BooleanLiteral v in
+    let k : CharAt s (at + 1) (B .letter) (at + 2) = subst (CharAt s (at + 1) (B .letter)) n (ascii-at s (at + 1) (B .letter) (B .more) (B .stands) (B .small)) in
+    let l = ascii-at s (at + 2) c m e (stop .0) in
+    two-told s at (B .sign) report skip kind.BooleanLiteral v
+    (sym (turn-eat s report at ph.AfterHash (at + 1) (B .letter) (at + 2) k ph.InHash (omega arith) (B .stays (part s at (at + 1))) ∙ turn-stop s report at ph.InHash (at + 2) c (at + 2 + 1) l o (boolean-ends report (part s at (at + 2)) (at + 2) c o (ap hashKind (letter-part s at (B .sign) (B .letter) (B .more) (B .stands)) ∙ B .boolean) (stop .1))))
+    (omega arith) refl
+
+-- where only its end is asked for
+pub hash-skims : (s : List ℕ) (report skip : Bool) (at : ℕ) (q : Quick) → GlanceAt s report skip at q → (m : Means) (a e : ℕ) → q ≡ quick.Item m a e → SkimAt s report skip at (ending.At e)
+hash-skims s report skip at q g m a e h = let t = subst (GlanceAt s report skip at) h g in (m, t .2)

@@ -1,0 +1,67 @@
+-- The byte after the sign opens a vector, or is a letter that spells a boolean with it (Sharps).
+use borrow.Author.Needs.{needs}
+use native.Mathlib.Omega.{arith}
+use mathlib.Core.Path.{_≡_, sym, subst}
+use Prim.Native.Nat.{_+_}
+use denote.Ref.{now}
+use Rattle.lexer.specs.Glance.{GlanceAt}
+use Rattle.lexer.specs.declared.Quick.{Quick}
+use Rattle.lexer.proofs.Sharps.{spells-true, spells-false, vector-told}
+use Rattle.lexer.proofs.glance.quick_hash.Statement.{statement}
+use Rattle.lexer.proofs.glance.quick_hash.Tie as tie
+
+add-next : tie.Need-add-next
+add-next c = omega (arith, c .before .pre .0, c .before .pre .1 .some)
+
+returns : tie.Need-returns
+returns c report skip = tt
+
+shared-slice-read-match : tie.Need-shared-slice-read-match
+shared-slice-read-match c = search needs
+
+add-bare : tie.Need-add-bare
+add-bare c = omega (arith, c .before .before .before .before .pre .0, c .before .before .if1 .left)
+
+bare-requires : tie.Need-bare-requires
+bare-requires c κs = search needs
+
+quick-boolean-requires : tie.Need-quick-boolean-requires
+quick-boolean-requires c κs =
+    let a = c .before .before .before .before in
+    (a .pre .0, spells-true (now (a .args .source)) (a .args .at) (a .pre .1) (omega (arith, c .before .before .if1 .left)) (c .match .keys2))
+
+quick-boolean-requires-2 : tie.Need-quick-boolean-requires-2
+quick-boolean-requires-2 c κs =
+    let a = c .before .before .before .before in
+    (a .pre .0, spells-false (now (a .args .source)) (a .args .at) (a .pre .1) (omega (arith, c .before .before .if1 .left)) (c .match .keys3))
+
+returns-2 : tie.Need-returns-2
+returns-2 c report skip =
+    let a = c .before .before .before .before .before in
+    subst (λ (q : Quick). GlanceAt (now (a .args .source)) report skip (a .args .at) q) (sym (c .bare .ensures))
+    (vector-told (now (a .args .source)) (a .args .at) (a .pre .1) report skip (omega (arith, c .before .before .before .if1 .left)) (c .before .match .keys1))
+
+returns-3 : tie.Need-returns-3
+returns-3 c report skip = c .quick-boolean .ensures report skip
+
+returns-4 : tie.Need-returns-4
+returns-4 c report skip = c .quick-boolean2 .ensures report skip
+
+returns-5 : tie.Need-returns-5
+returns-5 c report skip = tt
+
+pub quick-hash-spec : {M : Type 1} → statement M
+quick-hash-spec =
+    tie.close
+    (tie.spec
+    add-next
+    returns
+    shared-slice-read-match
+    add-bare
+    bare-requires
+    quick-boolean-requires
+    quick-boolean-requires-2
+    returns-2
+    returns-3
+    returns-4
+    returns-5)
