@@ -4,7 +4,7 @@
  * and the decoded texts of those that have an escape. All memory is the caller's: the library allocates nothing, keeps nothing between
  * two calls, and writes only to the memory that a call is lent. Every call ends.
  *
- * Link with libexports.a, which `rt staticlib exports` writes to target/staticlib. Nothing else is needed.
+ * Link with libmihadrena.a, which `.ci/archive` writes to target/staticlib. Nothing else is needed.
  *
  * A pointer and the length after it are one slice. A pointer must not be NULL, not even where the length is 0, and memory that a call
  * writes to must overlap with no other memory that the same call is lent.

@@ -3,7 +3,7 @@
 //! The functions behind this crate are proved (crates/ of the repository): every call ends, touches only the memory that it is lent, and
 //! answers what the definitions say. This crate makes a safe interface of them: [`Items`] reads a whole text, [`PieceReader`] one that
 //! comes in pieces, and [`number`] takes a number apart. It allocates nothing and depends on nothing but the archive that
-//! `rt staticlib exports` writes; `build.rs` looks for it in the repository's target/staticlib, or in the folder that the environment
+//! `.ci/archive` writes; `build.rs` looks for it in the repository's target/staticlib, or in the folder that the environment
 //! variable `MIHADRENA_ARCHIVE` names.
 //!
 //! ```
