@@ -204,7 +204,8 @@ MIHADRENA_ASSERT(sizeof(mihadrena_told) == 8 * MIHADRENA_PIECE_VALUES, "these ar
 uint32_t mihadrena_open(uint32_t mode, bool skip_comments, uint8_t *bytes, size_t bytes_length, uint64_t *words, size_t words_length);
 
 /* Reads on in a piece: takes the fewest bytes from its front that make an item ready, or all of them. An item is ready once a character
- * behind it was read. Call it again with what was not taken, until it answers MIHADRENA_MORE.
+ * behind it was read. Call it again with what was not taken, until it answers MIHADRENA_MORE. A call costs a fixed part and what the
+ * bytes that it takes cost, however long the piece is: a text may be lent whole.
  *
  * MIHADRENA_ITEM: the item's record goes to `record`, its text, a number's digits too, to the front of `text` (MIHADRENA_IN_MEMORY); no
  * other byte of `text` changes. MIHADRENA_MORE changes neither. values[0] is how many bytes were taken, values[1] is 0.
