@@ -4,11 +4,11 @@ use Prim.Native.Nat.{ℕ, _+_}
 use mathlib.Core.Path.{_≡_, refl}
 use mathlib.Core.Bool.{true, false}
 use mathlib.Core.List.{List, [], _∷_, _++_}
-use lib.ListN.{replicate}
 use Rattle.laws.specs.Lent.{written}
 use Rattle.laws.specs.Texts.{same}
 use Rattle.chars.specs.Encode.{utf8, bytesOf, spelled}
 use Rattle.items.specs.Kinds as kind
+use Rattle.promises.specs.Shapes.{room}
 use Rattle.items.specs.Items.{range, unset, placeOf, wordsOf, extentItems, kept, texts}
 use Rattle.items.specs.Meaning.{lookup, words, wordKind, wordMeans, meaningOf}
 use Rattle.items.specs.declared.Outcome.the-variants.{Token, Word}
@@ -20,7 +20,7 @@ use Rattle.meaning.specs.declared.Text.the-variants.{Nowhere, Source, Decoded}
 
 -- the words of a record as `put` writes them at the front of lent memory that has a word more
 abbrev put : List ℕ → List ℕ
-put w = written w (replicate 10 7)
+put w = written w (room 10)
 
 pub record Rows : Type 0 where
   -- meaning: a word with a kind of its own; of `+foo` the second item's text starts after the plus

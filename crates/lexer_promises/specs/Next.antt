@@ -4,7 +4,7 @@ use Prim.Native.Nat.{ℕ, _+_, _<_}
 use mathlib.Core.Path.{_≡_, refl, ap, sym, _∙_}
 use mathlib.Core.Bool.{Bool, true, false}
 use mathlib.Core.List.{List, [], _∷_, _++_}
-use lib.ListN.{length, replicate, getD}
+use lib.ListN.{length, getD}
 use native.Mathlib.Omega.{arith}
 use borrow.Author.Tests.{lt-ltb}
 use Rattle.laws.specs.Texts.{span, starts, begins, same}
@@ -16,6 +16,7 @@ use Rattle.digits.specs.Digits.{digitOf, sign, uinteger, value, signed, wholeOf
 use Rattle.numbers.specs.Reals.{exponentMarker, exponent, suffix, pointOf, dotted, undotted, decimal, infnan, integralOf, rationalOf, denominator, exact, orElse, ureal, real}
 use Rattle.numbers.specs.Grammar.{justOf, complexOf, polarOf, endsI, imaginary, aloneOf, pairOf, toSign, startsE, rectangular, complex, zeroInt, zeroReal, zeroParts, judged, radixMark, prefix, parseNumber}
 use Rattle.items.specs.Kinds as kind
+use Rattle.promises.specs.Shapes.{room, bare, texted}
 use Rattle.items.specs.Classes.{startsRun, firstOf, inQuotes, afterBackslash, stopsHex, inHex, inTrim, breaksWord, inWord, staysRun, endsRun, inRun, afterHash, endsHash, inHash}
 use Rattle.items.specs.Readers.{readLine, linedOf, readWord, readRun, boolKind, quoteKind, formKind, hashKind, hashBracket, hashAt, hashComma, readHash, readItem, readQuoted, wordOn, hashOn}
 use Rattle.items.specs.Meaning.{lookup, words, wordKind, wordMeans, runMeans, escaped, stringText, linedText, charNames, spelledOut, characterOf, unescape}
@@ -25,10 +26,6 @@ use Rattle.meaning.specs.Places.{rangeOf}
 use Rattle.lexer.specs.Answers.{Reply, item, finished, refuses, Replied, replied, giveOf, nextOf}
 use Rattle.lexer.specs.Reading.{turnFrom, turn, nextFrom, nextAt}
 use Rattle.lexer.specs.declared.Position.{Position}
-
--- what lent memory holds before a call
-abbrev room : ℕ → List ℕ
-room n = replicate n 7
 
 -- a position in plain mode with no error range, comments kept
 abbrev at : ℕ → Position
@@ -44,13 +41,6 @@ skipping n = record { at = n; last = rangeOf unset; second = false; report = fal
 -- the same after an error that set a range
 abbrev after : ℕ → ℕ → ℕ → Position
 after a b n = record { at = n; last = rangeOf (range a b); second = false; report = false; skip = false }
-
--- a record: kind, detail, extent, place, text source, text places
-abbrev bare : ℕ → ℕ → ℕ → ℕ → List ℕ
-bare k d s e = k ∷ d ∷ s ∷ e ∷ s ∷ e ∷ 0 ∷ 0 ∷ 0 ∷ []
-
-abbrev texted : ℕ → ℕ → ℕ → ℕ → ℕ → ℕ → List ℕ
-texted k s e o f t = k ∷ 0 ∷ s ∷ e ∷ s ∷ e ∷ o ∷ f ∷ t ∷ []
 
 pub record Rows : Type 0 where
   -- the item at the position and the position after it; the end

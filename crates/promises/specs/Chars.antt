@@ -16,6 +16,7 @@ use Rattle.chars.specs.declared.Decoded.{Decoded}
 use Rattle.chars.specs.declared.Decoded.the-variants as decoded
 use Rattle.chars.specs.declared.Utf8.{Utf8}
 use Rattle.chars.specs.declared.Utf8.the-variants as utf8
+use Rattle.promises.specs.Shapes.{room}
 
 -- `decode_at`
 abbrev decodedAt : List ℕ → ℕ → Decoded
@@ -26,9 +27,6 @@ abbrev within-one : ℕ → ℕ → ℕ → ℕ → State
 within-one n lo hi c = record { need = n; low = lo; high = hi; code = c }
 
 -- `put_char` into n bytes of lent memory: the count that it answers, and the memory after it
-abbrev room : ℕ → List ℕ
-room n = replicate n 7
-
 abbrev put : ℕ → ℕ → List (List ℕ)
 put c n = (laid (encode c) (room n) ∷ []) ∷ lay (encode c) (room n) ∷ []
 

@@ -1,9 +1,9 @@
 -- The whole-text call: `lexer::read` ensures `call (answerOf r) records′ text′ ≡ readOf source mode skip records text`.
-use Prim.Native.Nat.{ℕ, _+_, _<_, _≤_}
+use Prim.Native.Nat.{ℕ, _<_, _≤_}
 use mathlib.Core.Path.{_≡_, refl, ap, sym, _∙_}
 use mathlib.Core.Bool.{Bool, true, false}
 use mathlib.Core.List.{List, [], _∷_, _++_}
-use lib.ListN.{length, replicate, getD}
+use lib.ListN.{length, getD}
 use native.Mathlib.Omega.{arith}
 use borrow.Author.Tests.{lt-ltb, le-ltb}
 use Rattle.laws.specs.Texts.{span, starts, begins, same}
@@ -21,22 +21,8 @@ use Rattle.items.specs.Classes.{startsRun, firstOf, inQuotes, afterBackslash, s
 use Rattle.items.specs.Readers.{readLine, linedOf, scalarOf, readWord, readRun, boolKind, quoteKind, formKind, hashKind, hashBracket, hashAt, hashComma, unreturned, endsWith, hereEnds, hereBody, hereDelim, afterAngle, readHash, readComma, readItem, readNest, readQuoted, wordOn, hashOn}
 use Rattle.items.specs.Meaning.{lookup, words, wordKind, wordMeans, runMeans, escaped, stringText, linedText, hereText, charNames, hexNamed, spelledOut, characterOf, unescape}
 use Rattle.items.specs.Items.{extentItems, itemsFrom, pastLine, afterPound, items, kept, records, texts}
+use Rattle.promises.specs.Shapes.{room, bare, texted, error}
 use Rattle.items.specs.Whole.{Answer, served, refused, Call, call, limit, itemsIn, deliver, readOf}
-
--- a record: kind, detail, extent, place, text source, text places; with no text, and with its text in the source or the text memory
-abbrev bare : ℕ → ℕ → ℕ → ℕ → List ℕ
-bare k d s e = k ∷ d ∷ s ∷ e ∷ s ∷ e ∷ 0 ∷ 0 ∷ 0 ∷ []
-
-abbrev texted : ℕ → ℕ → ℕ → ℕ → ℕ → ℕ → List ℕ
-texted k s e o f t = k ∷ 0 ∷ s ∷ e ∷ s ∷ e ∷ o ∷ f ∷ t ∷ []
-
--- an error: its number, its detail, its extent and its place
-abbrev error : ℕ → ℕ → ℕ → ℕ → ℕ → ℕ → List ℕ
-error n d s e a b = (kind.firstError + n) ∷ d ∷ s ∷ e ∷ a ∷ b ∷ 0 ∷ 0 ∷ 0 ∷ []
-
--- what lent memory holds before a call
-abbrev room : ℕ → List ℕ
-room n = replicate n 7
 
 -- the whole-text call in plain mode, comments kept
 abbrev plainly : List ℕ → ℕ → ℕ → Call

@@ -4,7 +4,7 @@ use Prim.Native.Nat.{ℕ}
 use mathlib.Core.Path.{_≡_, refl}
 use mathlib.Core.Bool.{true, false}
 use mathlib.Core.List.{List, [], _∷_, _++_, map}
-use lib.ListN.{length, drop, replicate}
+use lib.ListN.{length, drop}
 use Rattle.laws.specs.Texts.{same}
 use Rattle.laws.specs.Quoted.{code, codes, within}
 use Rattle.laws.specs.Lent.{written}
@@ -19,11 +19,9 @@ use Rattle.items.specs.Meaning.{lookup, words, wordKind, wordMeans, means, sour
 use Rattle.items.specs.declared.Quotes.{Quotes}
 use Rattle.items.specs.declared.Quotes.the-variants.{Double, Lines}
 use Rattle.items.specs.declared.CharValue.the-variants.{Scalar, Wrong}
+use Rattle.promises.specs.Shapes.{room}
 
 -- what `decode` leaves in n bytes of free memory: the text between quotes that stands in `raw` from a place on
-abbrev room : ℕ → List ℕ
-room n = replicate n 7
-
 abbrev decoded : List ℕ → ℕ → ℕ → List ℕ
 decoded raw from n = written (unescape Double (drop from raw)) (room n)
 
