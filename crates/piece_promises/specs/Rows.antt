@@ -31,6 +31,7 @@ use Rattle.pieces.specs.declared.Stage.the-variants.{Opening, Idle, Busy, Stopp
 use Rattle.pieces.specs.declared.State.{State}
 use Rattle.pieces.specs.Bounds.{inBounds}
 use Rattle.pieces.specs.Calls.{What, item, more, finished, refused, Reply, reply, fresh, whole, textAfter, turnOf, feedOf, pieceOf, endOf, openOf}
+use Rattle.pieces.specs.Due.{answer, answered}
 use Rattle.pieces.specs.Expected.{longest}
 use Rattle.pieces.specs.Given.{Given}
 
@@ -103,7 +104,8 @@ pub record Rows : Type 0 where
   -- a number's whole extent is copied
   pub number : pieceOf new (spelled "14.7 ") longest ≡ reply 5 (texted kind.Number 0 4 "14.7") (state false Idle 5 0 0 0 (buffer (spelled "14.7")))
   -- an item of 4,096 bytes is held; at the next byte 23 comes with its start, and the bytes after it are not taken
-  pub too-long : pieceOf nearlyFull (spelled "aaa") longest ≡ reply 2 (refused 23 0) (state false (Stopped 23 0) 4096 0 0 0 (replicate longest 97))
+  pub too-long : answered (pieceOf nearlyFull (spelled "aaa") longest) ≡ answer 2 (refused 23 0)
+  pub too-long-state : pieceOf nearlyFull (spelled "aaa") longest .state ≡ state false (Stopped 23 0) 4096 0 0 0 (replicate longest 97)
   -- a byte that begins no character is 21, which stands from then on
   pub stop : pieceOf new (0xFF ∷ []) longest ≡ reply 1 (refused 21 0) (state false (Stopped 21 0) 0 0 0 0 (buffer []))
   -- E10: the error's range is kept when its item is given, and is the place of the error after it
@@ -131,6 +133,7 @@ computed =
       unready-text = refl;
       number = refl;
       too-long = refl;
+      too-long-state = refl;
       stop = refl;
       ranged = refl;
       ranged-end = refl;
