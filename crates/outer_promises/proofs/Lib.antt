@@ -1,2 +1,4 @@
 pub mod Pieces
 pub mod Lent
+pub mod NeverLent
+pub mod NeverFlat
