@@ -2,3 +2,4 @@ pub mod Pieces
 pub mod Lent
 pub mod NeverLent
 pub mod NeverFlat
+pub mod NeverExports
