@@ -38,17 +38,17 @@ taken-back t s text = ap (λ (g : Got). record { taken = t .taken; got = g }) (g
 -- ---- opening
 
 -- `opening::open`
-pub one-open : (mode : ℕ) (skip : Bool) (a b : Fresh) → freshly a ≡ worded (openOf mode skip) → freshly b ≡ worded (openOf mode skip) → a ≡ b
-one-open mode skip a b p q = sym (fresh-back a) ∙ ap freshBy (p ∙ sym q) ∙ fresh-back b
+pub open-one-answer : (mode : ℕ) (skip : Bool) (a b : Fresh) → freshly a ≡ worded (openOf mode skip) → freshly b ≡ worded (openOf mode skip) → a ≡ b
+open-one-answer mode skip a b p q = sym (fresh-back a) ∙ ap freshBy (p ∙ sym q) ∙ fresh-back b
 
 one-told : (s : Said) (a b : Told) (buf buf′ t u : List ℕ) → said a buf t ≡ s → said b buf′ u ≡ s → (a ≡ b) × (buf ≡ buf′)
 one-told s a b buf buf′ t u p q =
     (sym (told-back a buf t) ∙ ap toldBy (p ∙ sym q) ∙ told-back b buf′ u, ap (λ (z : Said). z .state .buf) (p ∙ sym q))
 
 -- `calls::open_words`
-pub one-open-words : (mode : ℕ) (skip : Bool) (old : List ℕ) (a b : Told) (buf buf′ : List ℕ) → said a buf [] ≡ openFor mode skip old
+pub open-words-one-answer : (mode : ℕ) (skip : Bool) (old : List ℕ) (a b : Told) (buf buf′ : List ℕ) → said a buf [] ≡ openFor mode skip old
     → said b buf′ [] ≡ openFor mode skip old → (a ≡ b) × (buf ≡ buf′)
-one-open-words mode skip old a b buf buf′ = one-told (openFor mode skip old) a b buf buf′ [] []
+open-words-one-answer mode skip old a b buf buf′ = one-told (openFor mode skip old) a b buf buf′ [] []
 
 -- ---- pieces and the end, with words by value and the buffer lent
 
@@ -62,14 +62,14 @@ one-words s old a b buf buf′ t u p q =
     let z = one-told s a b buf buf′ t u (p .0) (q .0) in (z .0, z .1, p .1 ∙ sym (q .1))
 
 -- `calls::piece_words`
-pub one-piece-words : (s : State) (piece old : List ℕ) (a b : Told) (buf buf′ t u : List ℕ) → Permits (pieceFor s piece (length old)) old a buf t
+pub piece-words-one-answer : (s : State) (piece old : List ℕ) (a b : Told) (buf buf′ t u : List ℕ) → Permits (pieceFor s piece (length old)) old a buf t
     → Permits (pieceFor s piece (length old)) old b buf′ u → (a ≡ b) × (buf ≡ buf′) × (t ≡ u)
-one-piece-words s piece old = one-words (pieceFor s piece (length old)) old
+piece-words-one-answer s piece old = one-words (pieceFor s piece (length old)) old
 
 -- `calls::end_words`
-pub one-end-words : (s : State) (old : List ℕ) (a b : Told) (buf buf′ t u : List ℕ) → Permits (endFor s (length old)) old a buf t
+pub end-words-one-answer : (s : State) (old : List ℕ) (a b : Told) (buf buf′ t u : List ℕ) → Permits (endFor s (length old)) old a buf t
     → Permits (endFor s (length old)) old b buf′ u → (a ≡ b) × (buf ≡ buf′) × (t ≡ u)
-one-end-words s old = one-words (endFor s (length old)) old
+end-words-one-answer s old = one-words (endFor s (length old)) old
 
 -- ---- pieces and the end, with the state lent
 
@@ -85,11 +85,11 @@ one-lent s old a b z z′ t u p q = (
 )
 
 -- `lending::piece_mut`
-pub one-piece-mut : (s : State) (piece old : List ℕ) (a b : Taken) (z z′ : State) (t u : List ℕ) → PermitsLent (pieceFor s piece (length old)) old a z t
+pub piece-mut-one-answer : (s : State) (piece old : List ℕ) (a b : Taken) (z z′ : State) (t u : List ℕ) → PermitsLent (pieceFor s piece (length old)) old a z t
     → PermitsLent (pieceFor s piece (length old)) old b z′ u → (a ≡ b) × (z ≡ z′) × (t ≡ u)
-one-piece-mut s piece old = one-lent (pieceFor s piece (length old)) old
+piece-mut-one-answer s piece old = one-lent (pieceFor s piece (length old)) old
 
 -- `lending::end_mut`
-pub one-end-mut : (s : State) (old : List ℕ) (a b : Taken) (z z′ : State) (t u : List ℕ) → PermitsLent (endFor s (length old)) old a z t
+pub end-mut-one-answer : (s : State) (old : List ℕ) (a b : Taken) (z z′ : State) (t u : List ℕ) → PermitsLent (endFor s (length old)) old a z t
     → PermitsLent (endFor s (length old)) old b z′ u → (a ≡ b) × (z ≡ z′) × (t ≡ u)
-one-end-mut s old = one-lent (endFor s (length old)) old
+end-mut-one-answer s old = one-lent (endFor s (length old)) old

@@ -79,8 +79,8 @@ pieced-back p buf text = ap (λ (g : Got). record { marks = p .marks; taken = p 
 -- ---- the calls by value
 
 -- `opening::open`
-pub one-open : (mode : ℕ) (skip : Bool) (a b : Opened) → opened a ≡ openOf mode skip → opened b ≡ openOf mode skip → a ≡ b
-one-open mode skip a b p q = sym (opened-back a) ∙ ap openedBy (p ∙ sym q) ∙ opened-back b
+pub open-one-answer : (mode : ℕ) (skip : Bool) (a b : Opened) → opened a ≡ openOf mode skip → opened b ≡ openOf mode skip → a ≡ b
+open-one-answer mode skip a b p q = sym (opened-back a) ∙ ap openedBy (p ∙ sym q) ∙ opened-back b
 
 -- what a call by value may answer, with the text memory after it, where the definition says r and the text memory was `old`
 abbrev Permits : Reply → List ℕ → Answer → List ℕ → Type 0
@@ -90,14 +90,14 @@ one-answer : (r : Reply) (old : List ℕ) (a b : Answer) (t u : List ℕ) → Pe
 one-answer r old a b t u p q = (sym (answer-back a t) ∙ ap answerBy (p .0 ∙ sym (q .0)) ∙ answer-back b u, p .1 ∙ sym (q .1))
 
 -- `calls::piece`
-pub one-piece : (s : State) (piece old : List ℕ) (a b : Answer) (t u : List ℕ) → Permits (pieceOf s piece (length old)) old a t
+pub piece-one-answer : (s : State) (piece old : List ℕ) (a b : Answer) (t u : List ℕ) → Permits (pieceOf s piece (length old)) old a t
     → Permits (pieceOf s piece (length old)) old b u → (a ≡ b) × (t ≡ u)
-one-piece s piece old = one-answer (pieceOf s piece (length old)) old
+piece-one-answer s piece old = one-answer (pieceOf s piece (length old)) old
 
 -- `calls::end`
-pub one-end : (s : State) (old : List ℕ) (a b : Answer) (t u : List ℕ) → Permits (endOf s (length old)) old a t → Permits (endOf s (length old)) old b u
+pub end-one-answer : (s : State) (old : List ℕ) (a b : Answer) (t u : List ℕ) → Permits (endOf s (length old)) old a t → Permits (endOf s (length old)) old b u
     → (a ≡ b) × (t ≡ u)
-one-end s old = one-answer (endOf s (length old)) old
+end-one-answer s old = one-answer (endOf s (length old)) old
 
 -- ---- the calls with the buffer lent
 
@@ -114,15 +114,15 @@ one-lent r old a b buf buf′ t u p q = (
 )
 
 -- `calls::piece_call`
-pub one-piece-call : (m : Marks) (bytes piece old : List ℕ) (a b : Pieced) (buf buf′ t u : List ℕ)
+pub piece-call-one-answer : (m : Marks) (bytes piece old : List ℕ) (a b : Pieced) (buf buf′ t u : List ℕ)
     → PermitsIn (pieceIn m bytes piece (length old)) old a buf t → PermitsIn (pieceIn m bytes piece (length old)) old b buf′ u
     → (a ≡ b) × (buf ≡ buf′) × (t ≡ u)
-one-piece-call m bytes piece old = one-lent (pieceIn m bytes piece (length old)) old
+piece-call-one-answer m bytes piece old = one-lent (pieceIn m bytes piece (length old)) old
 
 -- `calls::end_call`
-pub one-end-call : (m : Marks) (bytes old : List ℕ) (a b : Pieced) (buf buf′ t u : List ℕ) → PermitsIn (endIn m bytes (length old)) old a buf t
+pub end-call-one-answer : (m : Marks) (bytes old : List ℕ) (a b : Pieced) (buf buf′ t u : List ℕ) → PermitsIn (endIn m bytes (length old)) old a buf t
     → PermitsIn (endIn m bytes (length old)) old b buf′ u → (a ≡ b) × (buf ≡ buf′) × (t ≡ u)
-one-end-call m bytes old = one-lent (endIn m bytes (length old)) old
+end-call-one-answer m bytes old = one-lent (endIn m bytes (length old)) old
 
 -- a buffer of another length than a state's is 27, whatever the piece, the marks and the text memory: nothing is taken, and all of it stays
 pub other-buffer : (m : Marks) (buf bs : List ℕ) (room : ℕ) → eqb (length buf) longest ≡ false

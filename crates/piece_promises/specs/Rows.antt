@@ -101,6 +101,8 @@ pub record Rows : Type 0 where
   -- with nothing ready the piece is taken whole, and the text memory keeps every byte
   pub unready : pieceOf inWordA (spelled "bc") longest ≡ reply 2 more (state false (Busy 1 ph.InWord) 4 0 0 3 (buffer (spelled "abc")))
   pub unready-text : lentAfter (pieceOf inWordA (spelled "bc") longest) ≡ lent
+  -- a comma is not given before it is known whether `@` follows
+  pub comma : pieceOf new (spelled ",") longest ≡ reply 1 more (state false (Busy 0 ph.AfterComma) 1 0 0 1 (buffer (spelled ",")))
   -- a number's whole extent is copied
   pub number : pieceOf new (spelled "14.7 ") longest ≡ reply 5 (texted kind.Number 0 4 "14.7") (state false Idle 5 0 0 0 (buffer (spelled "14.7")))
   -- an item of 4,096 bytes is held; at the next byte 23 comes with its start, and the bytes after it are not taken
@@ -131,6 +133,7 @@ computed =
       later-text = refl;
       unready = refl;
       unready-text = refl;
+      comma = refl;
       number = refl;
       too-long = refl;
       too-long-state = refl;
