@@ -130,7 +130,8 @@ MIHADRENA_ASSERT(sizeof(mihadrena_record) == 4 * MIHADRENA_RECORD_WORDS, "a reco
 
 /* -- Reading a whole text ----------------------------------------------------------------------------------------------------- */
 
-/* The modes. In report mode `;` and `"` also end a number: 14.7;gps is a number and a comment, where plain mode has an identifier. */
+/* The modes. In report mode `;`, `"` and `|` also end a number: 14.7;gps is a number and a comment, where plain mode has an identifier;
+ * 12|Birch| is a number and an identifier, where plain mode has an error. */
 #define MIHADRENA_PLAIN 0
 #define MIHADRENA_REPORT 1
 

@@ -1,5 +1,5 @@
 //! The whole-text call against the Rust: every word of every record, the parts of every number and the text memory, in both modes,
-//! with comments kept and skipped. Plain mode's judge is the Rust as it is; report mode's is the aid, with one line of it changed.
+//! with comments kept and skipped. Plain mode's judge is the Rust as it is; report mode's is the aid, with a number's ends changed in it.
 //!
 //! Each text is read into memory that is just large enough, into memory with one record or one byte too few (22), and under a mode
 //! that is none (25); a text that is not UTF-8 is refused (21). Memory that a call must leave alone is compared too.

@@ -84,6 +84,22 @@ table =
     -- E8, in both modes
     ∷ plain "14.7;gps" (sourced kind.Identifier 0 4 0 4 ∷ bare kind.Comment 0 4 8 ∷ []) []
     ∷ reported "14.7;gps" (bare kind.Number 0 0 4 ∷ bare kind.Comment 0 4 8 ∷ []) []
+    -- 02 (iii), in both modes: a vertical line ends a number run in report mode
+    ∷ plain "12|Birch|" (error kind.IncompleteIdentifier 0 0 9 0 9 ∷ []) []
+    ∷ reported "12|Birch|" (bare kind.Number 0 0 2 ∷ sourced kind.Identifier 2 9 3 8 ∷ []) []
+    ∷ reported "1||" (bare kind.Number 0 0 1 ∷ sourced kind.Identifier 1 3 2 2 ∷ []) []
+    ∷ reported "-|a|" (sourced kind.Identifier 0 1 0 1 ∷ sourced kind.Identifier 1 4 2 3 ∷ []) []
+    ∷ plain "+|a|" (sourced kind.Identifier 0 4 0 1 ∷ sourced kind.Identifier 0 4 1 4 ∷ []) []
+    ∷ reported "+|a|" (sourced kind.Identifier 0 1 0 1 ∷ sourced kind.Identifier 1 4 2 3 ∷ []) []
+    ∷ reported "-||" (sourced kind.Identifier 0 1 0 1 ∷ sourced kind.Identifier 1 3 2 2 ∷ []) []
+    ∷ reported "12|" (bare kind.Number 0 0 2 ∷ error kind.IncompleteIdentifier 0 2 3 2 3 ∷ []) []
+    ∷ reported "1/0|a|" (error kind.ZeroDenominator 0 0 3 0 3 ∷ sourced kind.Identifier 3 6 4 5 ∷ []) []
+    -- `#x` begins a number run too
+    ∷ reported "#x1F|a|" (bare kind.Number 0 0 4 ∷ sourced kind.Identifier 4 7 5 6 ∷ []) []
+    ∷ reported "12|a\\|" (bare kind.Number 0 0 2 ∷ decoded kind.Identifier 2 6 0 2 ∷ []) (spelled "a|")
+    ∷ reported "|a|12" (sourced kind.Identifier 0 3 1 2 ∷ bare kind.Number 0 3 5 ∷ []) []
+    -- a word still goes on there
+    ∷ reported "a|b|" (sourced kind.Identifier 0 4 0 4 ∷ []) []
     -- E9
     ∷ plain "|a\\|" (decoded kind.Identifier 0 4 0 2 ∷ []) (spelled "a|")
     -- E10
