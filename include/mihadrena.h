@@ -35,7 +35,8 @@ typedef struct mihadrena_record {
     uint32_t detail;      /* a character's code point; 0 or 1 of a boolean; a bracket; what an error comes with; else 0 */
     uint32_t start;       /* the extent: where the item stands in the source, in bytes */
     uint32_t end;
-    uint32_t place_start; /* the place: what an error points at; of any other item the extent */
+    uint32_t place_start; /* the place: what an error points at, of any other item the extent. In report mode it is the error's own; in plain
+                           * mode an error that sets none has that of the last error before it that set one */
     uint32_t place_end;
     uint32_t text_source; /* MIHADRENA_NO_TEXT, MIHADRENA_IN_SOURCE or MIHADRENA_IN_MEMORY */
     uint32_t text_start;  /* where the text lies there, in bytes */

@@ -20,7 +20,7 @@ use Rattle.numbers.specs.declared.Parsed.{Parsed}
 use Rattle.numbers.specs.declared.Parsed.the-variants as parsed
 use Rattle.items.specs.Readers.{firstIs}
 use Rattle.items.specs.Meaning.{Text, none, source, decoded, Meaning, meaningOf, wordMeans, wordKind, runMeans, escaped, unescape, stringText, linedText, hereText, characterOf, charInside, characterMeans}
-use Rattle.items.specs.Items.{Place, Item, itemOf, itemsOf, rangeAfter, extentItems}
+use Rattle.items.specs.Items.{Place, Item, itemOf, itemsOf, rangeAfter, standing, extentItems}
 use Rattle.meaning.specs.declared.Means.{Means}
 use Rattle.meaning.specs.declared.Meant.the-variants.{One, Two}
 use Rattle.meaning.specs.Meant.{sized, sizedAll, meant}
@@ -102,40 +102,40 @@ shown-as report last s e raw m x h q = ap (λ (y : Means). givenBy y last s e ra
 
 -- ---- the items of an extent
 
-module _ (s : State) (st : ℕ) (last : Place) (b : Beyond) where
+module _ (s : State) (st : ℕ) (set last : Place) (b : Beyond) where
   abbrev raw : List ℕ
   raw = itemSoFar s .bytes
 
   one-shown : (ms : List Meaning) (x : Means) → Shape st (s .marks .at) raw ms → QuotedAll raw ms → meant (One x) ≡ sizedAll ms
-      → oneGiven s st last b x ≡ gives s st last b (itemsOf (report s) last st (s .marks .at) ms)
+      → oneGiven s st set last b x ≡ gives s st last b (itemsOf (report s) set st (s .marks .at) ms)
   one-shown ms x (alone m) q h =
       let e : x ≡ sized m = cc in
-      let g = shown-as (report s) last st (s .marks .at) raw m x e (q .0) in
+      let g = shown-as (report s) set st (s .marks .at) raw m x e (q .0) in
       ap (λ (t : Given). if s .marks .skip && eqb (x .kind) kind.Comment then on (beyond s last b) else off (beyond s last b) (item t)) g
-      ∙ ap (λ (k : ℕ). if s .marks .skip && eqb k kind.Comment then on (beyond s last b) else off (beyond s last b) (item (given raw (itemOf (report s) last st (s .marks .at) m)))) (ap (λ (y : Means). y .kind) e)
+      ∙ ap (λ (k : ℕ). if s .marks .skip && eqb k kind.Comment then on (beyond s last b) else off (beyond s last b) (item (given raw (itemOf (report s) set st (s .marks .at) m)))) (ap (λ (y : Means). y .kind) e)
   one-shown ms x (pair two) q h = absurd (let z : _≡_ {A = ℕ} 1 2 = ap length h in omega arith)
 
   pair-shown : (ms : List Meaning) (x y : Means) → Shape st (s .marks .at) raw ms → QuotedAll raw ms → meant (Two x y) ≡ sizedAll ms
-      → pairGiven s st last b x ≡ gives s st last b (itemsOf (report s) last st (s .marks .at) ms)
+      → pairGiven s st set last b x ≡ gives s st last b (itemsOf (report s) set st (s .marks .at) ms)
   pair-shown ms x y (alone m) q h = absurd (let z : _≡_ {A = ℕ} 2 1 = ap length h in omega arith)
   pair-shown ms x y (pair two) q h =
       let e : x ≡ sized (record { kind = kind.Identifier; detail = 0; text = source st (st + 1) }) = cc in
       ap (λ (t : Given). off (becomes s (s .buf) (Waiting st b) (s .marks .at) (s .marks .len) last) (item t))
-      (shown-as (report s) last st (s .marks .at) raw (record { kind = kind.Identifier; detail = 0; text = source st (st + 1) }) x e tt)
+      (shown-as (report s) set st (s .marks .at) raw (record { kind = kind.Identifier; detail = 0; text = source st (st + 1) }) x e tt)
 
 module _ (s : State) (st : ℕ) (o : Outcome) (b : Beyond) (e : ℕ) (at : e ≡ s .marks .at) where
   pub ends-one : (x : Means) → meant (One x) ≡ sizedAll (meaningOf o st e (itemSoFar s .bytes))
-      → oneGiven s st (rangeAfter (lastOf s) st o (itemSoFar s)) b x ≡ ends s st o b
+      → oneGiven s st (rangeAfter (standing (report s) (lastOf s)) st o (itemSoFar s)) (rangeAfter (lastOf s) st o (itemSoFar s)) b x ≡ ends s st o b
   unfolding extentItems
   ends-one x h =
-      one-shown s st (rangeAfter (lastOf s) st o (itemSoFar s)) b (meaningOf o st (s .marks .at) (itemSoFar s .bytes)) x
+      one-shown s st (rangeAfter (standing (report s) (lastOf s)) st o (itemSoFar s)) (rangeAfter (lastOf s) st o (itemSoFar s)) b (meaningOf o st (s .marks .at) (itemSoFar s .bytes)) x
       (shape st (s .marks .at) (itemSoFar s .bytes) o) (quoted st (s .marks .at) (itemSoFar s .bytes) o)
       (h ∙ ap (λ (k : ℕ). sizedAll (meaningOf o st k (itemSoFar s .bytes))) at)
 
   pub ends-pair : (x y : Means) → meant (Two x y) ≡ sizedAll (meaningOf o st e (itemSoFar s .bytes))
-      → pairGiven s st (rangeAfter (lastOf s) st o (itemSoFar s)) b x ≡ ends s st o b
+      → pairGiven s st (rangeAfter (standing (report s) (lastOf s)) st o (itemSoFar s)) (rangeAfter (lastOf s) st o (itemSoFar s)) b x ≡ ends s st o b
   unfolding extentItems
   ends-pair x y h =
-      pair-shown s st (rangeAfter (lastOf s) st o (itemSoFar s)) b (meaningOf o st (s .marks .at) (itemSoFar s .bytes)) x y
+      pair-shown s st (rangeAfter (standing (report s) (lastOf s)) st o (itemSoFar s)) (rangeAfter (lastOf s) st o (itemSoFar s)) b (meaningOf o st (s .marks .at) (itemSoFar s .bytes)) x y
       (shape st (s .marks .at) (itemSoFar s .bytes) o) (quoted st (s .marks .at) (itemSoFar s .bytes) o)
       (h ∙ ap (λ (k : ℕ). sizedAll (meaningOf o st k (itemSoFar s .bytes))) at)

@@ -45,14 +45,14 @@ givenBy m last s e raw =
       text = text;
     }
 
--- ---- the items of an extent that starts at st, by the first of them
+-- ---- the items of an extent that starts at st, by the first of them; `set` is the range for its place, `last` the one that stands on
 
-abbrev pub oneGiven : State → ℕ → Place → Beyond → Means → Turn
-oneGiven s st last b m =
+abbrev pub oneGiven : State → ℕ → Place → Place → Beyond → Means → Turn
+oneGiven s st set last b m =
     if s .marks .skip && eqb (m .kind) kind.Comment
     then on (beyond s last b)
-    else off (beyond s last b) (item (givenBy m last st (s .marks .at) (itemSoFar s .bytes)))
+    else off (beyond s last b) (item (givenBy m set st (s .marks .at) (itemSoFar s .bytes)))
 
-abbrev pub pairGiven : State → ℕ → Place → Beyond → Means → Turn
-pairGiven s st last b m =
-    off (becomes s (s .buf) (Waiting st b) (s .marks .at) (s .marks .len) last) (item (givenBy m last st (s .marks .at) (itemSoFar s .bytes)))
+abbrev pub pairGiven : State → ℕ → Place → Place → Beyond → Means → Turn
+pairGiven s st set last b m =
+    off (becomes s (s .buf) (Waiting st b) (s .marks .at) (s .marks .len) last) (item (givenBy m set st (s .marks .at) (itemSoFar s .bytes)))

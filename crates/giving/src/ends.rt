@@ -2,6 +2,7 @@
 use crate::give::give;
 use crate::lay::lay;
 use crate::marks::marks_at;
+use bounds::limits::REPORT;
 use chars::char_width;
 use chars::is_blank;
 use items::Outcome;
@@ -13,6 +14,7 @@ use meaning::Range;
 use meaning::Text;
 use meaning::meaning;
 use meaning::places::range_after;
+use meaning::places::range_shown;
 use pieces::Beyond;
 use pieces::Got;
 use pieces::Marks;
@@ -26,9 +28,9 @@ ghost use lib.Dec.{eqb};
 ghost use lib.ListN.{length};
 ghost use Rattle.laws.specs.Lent.{written};
 ghost use Rattle.items.specs.Kinds as kind;
-ghost use Rattle.items.specs.Items.{range, rangeAfter};
+ghost use Rattle.items.specs.Items.{range, rangeAfter, standing};
 ghost use Rattle.items.specs.Readers.{soFar};
-ghost use Rattle.items.specs.Whole.{limit};
+ghost use Rattle.items.specs.Whole.{limit, inReport};
 ghost use Rattle.meaning.specs.Places.{placeIn, rangeOf};
 ghost use Rattle.pieces.specs.Calls as calls;
 ghost use Rattle.giving.specs.Answers.{stateOf, whatOf, turnIn, textTurned, goesOn, lastIn};
@@ -108,6 +110,20 @@ fn last_after(m: Marks, start: usize, what: Outcome, raw: &[u8]) -> Range
     range_after(extent(m.from, m.to), what, extent(start, m.at), raw)
 }
 
+// The range that an error's place is taken from: in report mode what the extent sets itself.
+fn shown_after(m: Marks, start: usize, what: Outcome, raw: &[u8]) -> Range
+    requires { ⌜ (start ≤ limit) × (m .at ≤ limit) × (m .from ≤ limit) × (m .to ≤ limit) × OutcomeFits what ⌝ }
+    ensures { λ r. ⌜ r ≡ rangeOf (rangeAfter (standing (inReport (m .mode)) (lastIn m)) start what (soFar (now (raw .entry)) (m .at))) ⌝ }
+{
+    range_shown(
+        m.mode == REPORT,
+        extent(m.from, m.to),
+        what,
+        extent(start, m.at),
+        raw,
+    )
+}
+
 // Whether an item is left out: a comment, where comments are skipped.
 fn skips(skip: bool, number: u32) -> bool
     ensures { λ r. ⌜ r ≡ (skip && eqb number kind.Comment) ⌝ }
@@ -124,19 +140,20 @@ fn give_one(
     buf: &mut [u8],
     text: &mut [u8],
     start: usize,
+    shown: Range,
     last: Range,
     one: Means,
     b: Beyond,
 ) -> Turned
     requires { ⌜ Held m (now buf) (now text) start × BeyondFits b (m .at) ⌝ }
-    ensures { λ r. ⌜ (turnIn r (now (buf .exit)) (now (text .exit)) ≡ oneGiven (stateOf m (now (buf .entry))) start (placeIn last) b one)
-        × (now (text .exit) ≡ textTurned (oneGiven (stateOf m (now (buf .entry))) start (placeIn last) b one) (now (text .entry))) ⌝ }
+    ensures { λ r. ⌜ (turnIn r (now (buf .exit)) (now (text .exit)) ≡ oneGiven (stateOf m (now (buf .entry))) start (placeIn shown) (placeIn last) b one)
+        × (now (text .exit) ≡ textTurned (oneGiven (stateOf m (now (buf .entry))) start (placeIn shown) (placeIn last) b one) (now (text .entry))) ⌝ }
 {
     let len = m.len;
     if skips(m.skip, one.kind) {
         return go_on(beyond(m, buf, last, b));
     }
-    let r = give(one, last, extent(start, m.at), &buf[..len], text);
+    let r = give(one, shown, extent(start, m.at), &buf[..len], text);
     let next = beyond(m, buf, last, b);
     Turned {
         marks: next,
@@ -150,16 +167,17 @@ fn give_pair(
     buf: &mut [u8],
     text: &mut [u8],
     start: usize,
+    shown: Range,
     last: Range,
     one: Means,
     b: Beyond,
 ) -> Turned
     requires { ⌜ Held m (now buf) (now text) start ⌝ }
-    ensures { λ r. ⌜ (turnIn r (now (buf .exit)) (now (text .exit)) ≡ pairGiven (stateOf m (now (buf .entry))) start (placeIn last) b one)
-        × (now (text .exit) ≡ textTurned (pairGiven (stateOf m (now (buf .entry))) start (placeIn last) b one) (now (text .entry))) ⌝ }
+    ensures { λ r. ⌜ (turnIn r (now (buf .exit)) (now (text .exit)) ≡ pairGiven (stateOf m (now (buf .entry))) start (placeIn shown) (placeIn last) b one)
+        × (now (text .exit) ≡ textTurned (pairGiven (stateOf m (now (buf .entry))) start (placeIn shown) (placeIn last) b one) (now (text .entry))) ⌝ }
 {
     let len = m.len;
-    let r = give(one, last, extent(start, m.at), &buf[..len], text);
+    let r = give(one, shown, extent(start, m.at), &buf[..len], text);
     let next = marks_at(
         m,
         Stage::Waiting(start, b),
@@ -188,10 +206,11 @@ pub fn ends(
         × (now (text .exit) ≡ textTurned (calls.ends (stateOf m (now (buf .entry))) start what b) (now (text .entry))) ⌝ }
 {
     let len = m.len;
+    let shown = shown_after(m, start, what, &buf[..len]);
     let last = last_after(m, start, what, &buf[..len]);
     match meaning(what, start, &buf[..len]) {
-        Meant::One(one) => give_one(m, buf, text, start, last, one, b),
-        Meant::Two(one, _two) => give_pair(m, buf, text, start, last, one, b),
+        Meant::One(one) => give_one(m, buf, text, start, shown, last, one, b),
+        Meant::Two(one, _two) => give_pair(m, buf, text, start, shown, last, one, b),
     }
 }
 

@@ -130,7 +130,7 @@ fn record_with(m: Means, extent: Range, place: Range, source: u32, past: u32) ->
     }
 }
 
-// Gives an item: its text in the text memory, and its record. `last` is the last error range, its own counted in.
+// Gives an item: its text in the text memory, and its record. `last` is the error range that stands, its own counted in.
 pub fn give(m: Means, last: Range, extent: Range, raw: &[u8], text: &mut [u8]) -> Record
     requires { ⌜ (0 < length (now raw)) × (length (now raw) ≤ 4096) × (4096 ≤ length (now text)) ⌝ }
     ensures { λ r. ⌜ (whatOf (Got.Item r) (now (text .exit)) ≡ item (givenBy m (placeIn last) (extent .from) (extent .to) (now (raw .entry))))

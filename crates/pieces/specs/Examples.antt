@@ -79,6 +79,8 @@ table =
     ∷ plain "\"\\x+41;\"" (texted kind.StringLiteral 0 8 "A" ∷ [])
     -- E10: an error's range stands on, also between pieces
     ∷ plain "\"\\xD800;\"" (error kind.InvalidHexCodePoint 0xD800 0 8 1 8 ∷ error kind.IncompleteString 0 8 9 1 8 ∷ [])
+    -- and in report mode it does not
+    ∷ example 1 false (bothWays (spelled "\"\\xD800;\"")) (error kind.InvalidHexCodePoint 0xD800 0 8 1 8 ∷ error kind.IncompleteString 0 8 9 8 9 ∷ []) finished
     -- a comma is not known before the next character
     ∷ plain ",@" (bare kind.UnquoteSplice 0 0 2 ∷ [])
     ∷ plain ",a" (bare kind.Unquote 0 0 1 ∷ texted kind.Identifier 1 2 "a" ∷ [])

@@ -34,7 +34,7 @@ use Rattle.items.specs.declared.Next.the-variants.{Eat, Stop}
 use Rattle.items.specs.Classes.{firstOf}
 use Rattle.items.specs.Readers.{SoFar}
 use Rattle.items.specs.Meaning.{characterOf, charInside, Meaning, meaningOf}
-use Rattle.items.specs.Items.{Place, range, rangeAfter, characterSets, itemsOf, extentItems}
+use Rattle.items.specs.Items.{Place, range, rangeAfter, standing, characterSets, itemsOf, extentItems}
 use Rattle.items.specs.Machine.{stepOf, finishOf, onFirst}
 use Rattle.items.specs.Whole.{limit}
 use Rattle.pieces.specs.declared.Beyond.the-variants.{Char}
@@ -251,7 +251,7 @@ module _ (s : State) (full : length (s .buf) ≡ longest) (k : Sane s) where
           laid (s .marks .len) h,
         ))
     sane-next st ends some (Stop o) z =
-        sane-gives st (rangeAfter (lastOf s) st o (itemSoFar s)) (rangeAfter (lastOf s) st o (itemSoFar s))
+        sane-gives st (rangeAfter (lastOf s) st o (itemSoFar s)) (rangeAfter (standing (report s) (lastOf s)) st o (itemSoFar s))
         (range-within (lastOf s) within-last st o (itemSoFar s) z (omega arith) (omega arith)) (report s)
         (meaningOf o st (s .marks .at) (take (s .marks .len) (s .buf))) (shape st (s .marks .at) (take (s .marks .len) (s .buf)) o)
 
