@@ -64,6 +64,10 @@ module _ (call : State → ℕ → Said) (meets : (s : State) (room : ℕ) → c
   pub never-finished : ((s : State) (room : ℕ) → call s room .what ≡ finished) → ⊥
   never-finished h = omega (arith, ap sort (h inWordA longest), ap (λ (r : Said). sort (r .what)) (meets inWordA longest ∙ computed .end))
 
+  -- it reads on with a stage that there is not
+  pub never-lets-unknown-through-end : (call unknown longest .what ≡ refused 27 0 → ⊥) → ⊥
+  never-lets-unknown-through-end h = h (ap (λ (r : Said). r .what) (meets unknown longest ∙ computed .unknown-stage-end))
+
   -- it serves without room for a text
   pub never-roomless : (call inWordA 4095 .what ≡ refused 24 0 → ⊥) → ⊥
   never-roomless h = h (ap (λ (r : Said). r .what) (meets inWordA 4095 ∙ computed .end-no-room))

@@ -121,6 +121,7 @@ pub record Rows : Type 0 where
   pub no-room : pieceOf new (spelled "a") 4095 ≡ reply 0 (refused 24 0) new
   pub end-no-room : endOf inWordA 4095 ≡ reply 0 (refused 24 0) inWordA
   pub after-end : pieceOf (endOf new longest .state) (spelled "a") longest ≡ reply 0 (refused 26 0) (endOf new longest .state)
+  pub number-given : pieceOf new (spelled "14.7 ") longest .what ≡ texted kind.Number 0 4 "14.7"
 
 pub computed : Rows
 unfolding within span starts begins same isScalar utf8 width encode bytesOf isBlank step first rest front digitOf sign uinteger value fit signed wholeOf integer hexDigits hexAfterPlus hexValue exponentMarker exponent suffix pointOf dotted undotted decimal infnan integralOf rationalOf denominator exact orElse ureal real justOf complexOf polarOf endsI imaginary aloneOf pairOf toSign startsE rectangular complex zeroInt zeroReal zeroParts judged radixMark prefix parseNumber startsRun firstOf inQuotes afterBackslash stopsHex inHex inTrim inNest breaksWord inWord staysRun endsRun inRun afterHash endsHash inHash inDelim linedOf scalarOf boolKind quoteKind formKind hashKind unreturned endsWith hereEnds lookup words wordKind wordMeans runMeans escaped stringText linedText hereText charNames hexNamed spelledOut characterOf unescape extentItems inBounds turnOf feedOf pieceOf endOf openOf
@@ -135,6 +136,7 @@ computed =
       unready-text = refl;
       comma = refl;
       number = refl;
+      number-given = refl;
       too-long = refl;
       too-long-state = refl;
       stop = refl;
