@@ -1,0 +1,4 @@
+pub mod Balanced
+pub mod Placed
+pub mod Deep
+pub mod Siblings
