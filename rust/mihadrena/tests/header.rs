@@ -64,6 +64,7 @@ fn rust_type(c: &str) -> &str {
         "size_t" => "usize",
         "bool" => "bool",
         "const uint8_t *" => "*const u8",
+        "const uint32_t *" => "*const u32",
         "uint8_t *" => "*mut u8",
         "uint32_t *" => "*mut u32",
         "uint64_t *" => "*mut u64",
@@ -154,6 +155,7 @@ fn every_struct_is_the_headers() {
         ("figure", "Figure"),
         ("real", "Real"),
         ("parts", "Parts"),
+        ("node", "Node"),
     ];
     for (c, rust) in structs {
         assert_eq!(header_fields(c), raw_fields(rust), "{rust}");
