@@ -25,7 +25,7 @@ use Rattle.lent.specs.declared.State.{State}
 use Rattle.lent.specs.Coding.{stageOf, standing, coded, narrow, sameRow, isCode}
 use Rattle.lent.specs.Calls.{lent, pieceFor, endFor, openFor}
 use Rattle.flat.specs.Piece.{listed, opened, openLeft, Memory, memory, Left, left, called, pieceLeft, endLeft, stateWords}
-use Rattle.outer_promises.specs.Lent.{words18, idle, new, inWordA, afterError}
+use Rattle.outer_promises.specs.Lent.{wordsWith, opening, idle, stopped, new, inWordA, afterError}
 
 -- slices of a state's lengths, whatever they held
 abbrev pub bytes : List ℕ
@@ -44,7 +44,7 @@ leaves n s text i values = left n (memory (s .buf) (listed (s .words)) text i va
 
 -- "finished" was said; 21 stands, which came at place 5
 abbrev pub done : State
-done = lent (words18 1 0 0 0 0 0 0 0) (buffer [])
+done = lent (wordsWith 1 opening 0 0 0 0 0 0) (buffer [])
 
 abbrev pub halted : State
 halted =
@@ -53,7 +53,7 @@ halted =
       mode = 0;
       skip = 0;
       ended = 0;
-      stage = 6;
+      stage = stopped;
       start = 5;
       which = 21;
       detail = 0;
@@ -82,7 +82,7 @@ pub record Rows : Type 0 where
       ≡ leaves 10 inWordA bytes (kind.OpenParen ∷ kind.Round ∷ 0 ∷ 1 ∷ 0 ∷ 1 ∷ 0 ∷ 0 ∷ 0 ∷ []) (2 ∷ 0 ∷ [])
   -- the words of a state have their order: the error's place is the range that they hold
   pub end-placed : endLeft (holding afterError)
-      ≡ leaves 10 (lent (words18 1 idle 0 0 9 1 8 0) (afterError .buf)) bytes ((kind.firstError + kind.IncompleteString) ∷ 0 ∷ 8 ∷ 9 ∷ 1 ∷ 8 ∷ 0 ∷ 0 ∷ 0 ∷ []) (0 ∷ 0 ∷ [])
+      ≡ leaves 10 (lent (wordsWith 1 idle 0 0 9 1 8 0) (afterError .buf)) bytes ((kind.firstError + kind.IncompleteString) ∷ 0 ∷ 8 ∷ 9 ∷ 1 ∷ 8 ∷ 0 ∷ 0 ∷ 0 ∷ []) (0 ∷ 0 ∷ [])
   pub end-record : endLeft (holding afterError) .memory .item ≡ (kind.firstError + kind.IncompleteString) ∷ 0 ∷ 8 ∷ 9 ∷ 1 ∷ 8 ∷ 0 ∷ 0 ∷ 0 ∷ []
   -- "finished" is 12
   pub finished : endLeft (holding new) ≡ leaves 12 done bytes (replicate 9 7) (0 ∷ 0 ∷ [])

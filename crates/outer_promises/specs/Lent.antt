@@ -50,8 +50,8 @@ abbrev pub noStage : ℕ
 noStage = 41
 
 -- whether the end is declared, the stage, where its item starts, its second word, the place, the last error range, and how many bytes are held
-abbrev pub words18 : ℕ → ℕ → ℕ → ℕ → ℕ → ℕ → ℕ → ℕ → Words
-words18 e stage start two at from to len =
+abbrev pub wordsWith : ℕ → ℕ → ℕ → ℕ → ℕ → ℕ → ℕ → ℕ → Words
+wordsWith e stage start two at from to len =
     record {
       mode = 0;
       skip = 0;
@@ -74,25 +74,25 @@ words18 e stage start two at from to len =
     }
 
 abbrev pub zeros : Words
-zeros = words18 0 opening 0 0 0 0 0 0
+zeros = wordsWith 0 opening 0 0 0 0 0 0
 
 abbrev pub new : State
 new = lent zeros (buffer [])
 
 -- "(a" was taken, and the bracket given
 abbrev pub inWordA : State
-inWordA = lent (words18 0 inWordStage 1 0 2 0 0 1) (buffer (spelled "a"))
+inWordA = lent (wordsWith 0 inWordStage 1 0 2 0 0 1) (buffer (spelled "a"))
 
 -- an error was given, and its range stands
 abbrev pub afterError : State
-afterError = lent (words18 0 quoted 8 0 9 1 8 1) (buffer (spelled "\"\\xD800;"))
+afterError = lent (wordsWith 0 quoted 8 0 9 1 8 1) (buffer (spelled "\"\\xD800;"))
 
 -- a word that the stage does not use is not 0; a stage that there is not
 abbrev pub unused : State
-unused = lent (words18 0 opening 0 1 0 0 0 0) (buffer [])
+unused = lent (wordsWith 0 opening 0 1 0 0 0 0) (buffer [])
 
 abbrev pub unknown : State
-unknown = lent (words18 0 noStage 0 0 0 0 0 0) (buffer [])
+unknown = lent (wordsWith 0 noStage 0 0 0 0 0 0) (buffer [])
 
 abbrev pub saying : ℕ → What → State → Said
 saying n w s = record { taken = n; what = w; state = s }
@@ -108,7 +108,7 @@ pub record Rows : Type 0 where
   -- the last error range is among the words
   pub ranged : pieceFor new (spelled "\"\\xD800;\"") longest ≡ saying 9 (error kind.InvalidHexCodePoint 0xD800 0 8 1 8) afterError
   -- the end is declared
-  pub end : endFor inWordA longest ≡ saying 0 (texted kind.Identifier 1 2 "a") (lent (words18 1 idle 0 0 2 0 0 0) (buffer (spelled "a")))
+  pub end : endFor inWordA longest ≡ saying 0 (texted kind.Identifier 1 2 "a") (lent (wordsWith 1 idle 0 0 2 0 0 0) (buffer (spelled "a")))
   pub end-no-room : endFor inWordA 4095 ≡ saying 0 (refused 24 0) inWordA
   -- words that are the code of no marks are 27, and stay
   pub unused-word : pieceFor unused (spelled "a") longest ≡ saying 0 (refused 27 0) unused
