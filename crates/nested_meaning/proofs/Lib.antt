@@ -2,3 +2,4 @@ pub mod Balanced
 pub mod Placed
 pub mod Deep
 pub mod Siblings
+pub mod Built
