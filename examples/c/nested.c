@@ -1,4 +1,4 @@
-/* Walks the nested lists of a plan: prints each stand, its outlines, and the corners of each.
+/* Walks the nested lists of a plan: prints the plan, its stands, the outlines of each, and the corners of each of these.
  *
  *     nested FILE
  */
@@ -85,9 +85,10 @@ static bool is_list_of(const plan *p, size_t node, const char *name)
     return text != NULL && length == strlen(name) && memcmp(text, name, length) == 0;
 }
 
-/* The extents of a list's data behind its name. */
-static void print_data(const plan *p, size_t list)
+/* Prints a list's name and those of its data that are no lists, as they stand in the source. */
+static void print_list(const plan *p, size_t list, int indent, const char *name)
 {
+    printf("%*s%s", indent, "", name);
     for (size_t node = list + 2; node < past(p, list); node = past(p, node)) {
         const mihadrena_record *record = &p->records[p->nodes[node].item];
         if (p->nodes[node].kind <= MIHADRENA_NODE_SYMBOL)
@@ -96,28 +97,26 @@ static void print_data(const plan *p, size_t list)
     printf("\n");
 }
 
-static void walk(const plan *p, size_t from, size_t to)
+/* Prints the stands of a plan, the outlines of a stand and the corners of an outline: the lists of the first name among the nodes from one
+ * place to another, and beneath each those of the next name. */
+static void walk(const plan *p, size_t from, size_t to, int indent, const char *const *names)
 {
-    for (size_t node = from; node < to; node = past(p, node)) {
-        if (is_list_of(p, node, "stand"))
-            printf("stand");
-        else if (is_list_of(p, node, "outline"))
-            printf("  outline");
-        else if (is_list_of(p, node, "corner"))
-            printf("    corner");
-        if (is_list_of(p, node, "stand") || is_list_of(p, node, "outline") || is_list_of(p, node, "corner"))
-            print_data(p, node);
-        walk(p, node + 1, past(p, node));
+    for (size_t node = from; node < to && *names != NULL; node = past(p, node)) {
+        if (!is_list_of(p, node, *names))
+            continue;
+        print_list(p, node, indent, *names);
+        walk(p, node + 1, past(p, node), indent + 2, names + 1);
     }
 }
 
 int main(int count, char **words)
 {
+    static const char *const NAMES[] = {"plan", "stand", "outline", "corner", NULL};
     plan p;
     if (count != 2)
         fail("usage: nested FILE, not words", (uint64_t)count);
     load(&p, words[1]);
     nest(&p);
-    walk(&p, 0, p.count);
+    walk(&p, 0, p.count, 0, NAMES);
     return EXIT_SUCCESS;
 }

@@ -18,5 +18,5 @@ pub built : (s memory : List ℕ) (n : ℕ) → nestedOf s memory .answer ≡ Bu
     → (ns : List Node) × Trees s 0 ns × (n ≡ length ns) × (nestedOf s memory .memory ≡ spliced 0 (wordsOf ns) memory) × (opens (itemsOf s) ≡ closes (itemsOf s))
 built s memory n h =
     let o = only s memory n h in
-    let r : Reading (itemsOf s) (o .0) = o .1 .0 in
-    (o .0, around s r, o .1 .1 .1, ap (λ (x : Outcome). x .memory) (served s memory (o .0) r (o .1 .1 .0)), balanced r)
+    let r : Reading (itemsOf s) (o .0) = o .1 in
+    (o .0, around s r, o .3, ap (λ (x : Outcome). x .memory) (served s memory (o .0) r (o .2)), balanced r)

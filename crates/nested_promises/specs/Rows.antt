@@ -8,10 +8,11 @@ use Rattle.laws.specs.Quoted.{within}
 use Rattle.chars.specs.Encode.{isScalar}
 use Rattle.items.specs.Kinds as kind
 use Rattle.items.specs.Items.{recordWords}
-use Rattle.nested.specs.Items.{lastError, boolean, number, character, string, symbol, plainList, dottedList, vector, byteList, abbreviation, hasDetail, sortOf, classOf, itemsFrom, itemsOf, countOf}
+use Rattle.nested.specs.Items.{Item, item, lastError, boolean, number, character, string, symbol, plainList, dottedList, vector, byteList, abbreviation, hasDetail, sortOf, classOf, itemsFrom, itemsOf, countOf}
 use Rattle.nested.specs.Grammar.{Node, node}
 use Rattle.nested.specs.Reader.{Result, Nodes, No, run, readOn, giveIn, start}
 use Rattle.nested.specs.Lent.{wordsOf, nestedOf, outcome, Outcome}
+use Rattle.nested.specs.declared.Class.the-variants.{Opens}
 use Rattle.nested.specs.declared.Nested.the-variants.{Built, Refused}
 
 -- a record by its kind and its detail; its other words are 0
@@ -183,6 +184,38 @@ wanted (rs gives r) = r
 pub computed : map read table ≡ map wanted table
 unfolding table wordsIn isScalar within hasDetail sortOf classOf itemsFrom readOn giveIn
 computed = refl
+
+-- ---- whole answers, with the memory
+
+-- (a a): what lies beneath the list is its two data
+pub list-row : nestedOf (wordsIn (opens ∷ a ∷ a ∷ closes ∷ [])) (replicate 9 7) ≡ outcome (Built 3) (plainList ∷ 0 ∷ 2 ∷ symbol ∷ 1 ∷ 0 ∷ symbol ∷ 2 ∷ 0 ∷ [])
+unfolding wordsIn isScalar within hasDetail sortOf classOf itemsFrom readOn giveIn nestedOf wordsOf
+list-row = refl
+
+-- #;#;a a a: two data are dropped
+pub dropped-row : nestedOf (wordsIn (drops ∷ drops ∷ a ∷ a ∷ a ∷ [])) (replicate 6 7) ≡ outcome (Built 1) (symbol ∷ 4 ∷ 0 ∷ 7 ∷ 7 ∷ 7 ∷ [])
+unfolding wordsIn isScalar within hasDetail sortOf classOf itemsFrom readOn giveIn nestedOf wordsOf
+dropped-row = refl
+
+-- (. a)
+pub dot-row : nestedOf (wordsIn (opens ∷ dot ∷ a ∷ closes ∷ [])) (replicate 6 7) ≡ outcome (Refused 42 1) (replicate 6 7)
+unfolding wordsIn isScalar within hasDetail sortOf classOf itemsFrom readOn giveIn nestedOf wordsOf
+dot-row = refl
+
+-- (a]
+pub square-row : nestedOf (wordsIn (opens ∷ a ∷ closeSquare ∷ [])) (replicate 6 7) ≡ outcome (Refused 41 2) (replicate 6 7)
+unfolding wordsIn isScalar within hasDetail sortOf classOf itemsFrom readOn giveIn nestedOf wordsOf
+square-row = refl
+
+-- so many open brackets, from a place on
+unfoldable pub levels : ℕ → ℕ → List Item
+levels zero p = []
+levels (suc n) p = item p (Opens kind.Round) ∷ levels n (suc p)
+
+-- 65 open brackets: the last is refused
+pub deep-row : readOn (levels 65 0) 65 start ≡ No 44 64
+unfolding levels readOn
+deep-row = refl
 
 -- (a) into seven words: six are written
 pub written : nestedOf (wordsIn (opens ∷ a ∷ closes ∷ [])) (7 ∷ 7 ∷ 7 ∷ 7 ∷ 7 ∷ 7 ∷ 7 ∷ []) ≡ outcome (Built 2) (plainList ∷ 0 ∷ 1 ∷ symbol ∷ 1 ∷ 0 ∷ 7 ∷ [])
