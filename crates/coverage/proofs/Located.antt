@@ -11,7 +11,7 @@ use Rattle.chars.proofs.Width.{width-utf8}
 use Rattle.coverage.proofs.Bytes.{bytes-append, passed}
 use Rattle.coverage.proofs.Extents.{Taken, taken}
 use Prim.Native.Nat.{ℕ, zero, suc, _+_}
-use mathlib.Core.Path.{_≡_, refl, sym, ap, subst, _∙_}
+use mathlib.Core.Path.{_≡_, sym, ap, subst, _∙_}
 use mathlib.Core.Bool.{Bool}
 use mathlib.Core.List.{List, [], _∷_}
 use lib.ListN.{length, drop}

@@ -6,7 +6,7 @@ use Rattle.items.specs.declared.Outcome.{Outcome}
 use Rattle.items.specs.declared.Outcome.the-variants.{Token, Str, HereStr, Word, Run, Lined, Keyword, Character, Error, ErrorAt}
 use Rattle.items.specs.Items.{Place, Item, itemsOf, rangeAfter, extentItems, items}
 use Rattle.items.specs.Kinds as kind
-use Rattle.items.specs.Meaning.{Text, none, Row, Meaning, lookup, words, wordKind, wordMeans, runMeans, characterOf, charInside, characterMeans, meaningOf}
+use Rattle.items.specs.Meaning.{none, Row, Meaning, lookup, words, wordKind, wordMeans, runMeans, characterOf, charInside, characterMeans, meaningOf}
 use Rattle.items.specs.Readers.{Read, readItem, firstIs}
 use Rattle.items.proofs.Every.{Every}
 use Rattle.numbers.specs.declared.Parsed.{Parsed}
@@ -18,7 +18,7 @@ use Rattle.laws.specs.Quoted.{code}
 use Rattle.laws.specs.Texts.{same}
 use Rattle.laws.proofs.Choice.{if-all, and-true}
 use Rattle.chars.specs.declared.Utf8.the-variants as verdicts
-use Rattle.chars.specs.Encode.{isScalar, bytesOf, spelled}
+use Rattle.chars.specs.Encode.{isScalar, bytesOf}
 use Rattle.chars.specs.Utf8.{firstBad}
 use Rattle.chars.proofs.Good.{Scalars, encoded-good}
 use Rattle.coverage.proofs.Bytes.{bytes-append}
@@ -30,7 +30,7 @@ use Prim.Native.Nat.{ℕ, _+_, _-_, _≤_}
 use mathlib.Core.Path.{_≡_, refl, sym, ap, subst, _∙_}
 use mathlib.Core.Bool.{Bool, true, false, not, _&&_, true≢false}
 use mathlib.Core.List.{List, [], _∷_, _++_}
-use lib.ListN.{length, take, drop, length-drop, length-append}
+use lib.ListN.{length, drop, length-drop, length-append}
 use lib.Seq.{take-append-seam}
 use lib.Dec.{eqb, ltb}
 use native.Mathlib.Omega.{arith}
