@@ -17,8 +17,8 @@ use Rattle.pieces.proofs.Clean.{clean-only}
 use Rattle.pieces.proofs.Demand.{demand-3}
 use Rattle.coverage.specs.Records.{rowsIn}
 use Rattle.coverage.proofs.Calls.{Rows, served-rows}
-use Rattle.coverage.proofs.Pieces.{Told, all, up-to, told}
 use Rattle.coverage.proofs.Records.{rowsFrom}
+use Rattle.coverage.proofs.Stops.{Told, all, up-to, told}
 use Rattle.itemparts.specs.Parts.{between, HasParts, RowHasParts, GivenHasParts}
 use Rattle.itemparts.proofs.Numbers.{NumberIn, number-items}
 use Prim.Native.Nat.{ℕ, _+_, _-_, _≤_, _<_}
