@@ -1,5 +1,5 @@
 -- What holds of the items of every extent, where it stands in the text, holds of all items of the text. D is what is known of a character.
-use Rattle.items.specs.Items.{Place, Item, unset, rangeAfter, extentItems, itemsFrom, itemsAt, pastLine, afterPound, items}
+use Rattle.items.specs.Items.{Place, Item, unset, extentItems, itemsFrom, itemsAt, pastLine, afterPound, items}
 use Rattle.items.specs.Readers.{Read, readItem}
 use Rattle.items.proofs.Every.{Every, every-append}
 use Rattle.items.proofs.Splits.{read-every}
@@ -44,7 +44,7 @@ module _ (report : Bool) (whole : List ℕ) (D : ℕ → Type 0) (P : Item → T
       (λ b. rw (b, itemsFrom) (every-from turns last (at + width c) cs (past-char at c cs e) (ds .1)))
       (λ b. let r : Read = readItem report at c cs in
       rw (b, itemsFrom) (every-append P (itemsThere report last at c cs) _ (extent last at c cs e ds)
-      (every-from turns (rangeAfter last at (r .what) (r .item)) (r .item .at) (r .rest) (past-item at c cs e) (read-every report D at c cs (ds .1)))))
+      (every-from turns _ (r .item .at) (r .rest) (past-item at c cs e) (read-every report D at c cs (ds .1)))))
 
   every-at : (at : ℕ) (cs : List ℕ) → drop at whole ≡ bytesOf cs → Every D cs → Every P (itemsAt report at cs)
   every-at at cs e ds = every-from (length cs) unset at cs e ds

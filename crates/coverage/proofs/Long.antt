@@ -3,7 +3,7 @@
 use Rattle.items.specs.declared.Next.{Next}
 use Rattle.items.specs.declared.Next.the-variants.{Eat, Stop}
 use Rattle.items.specs.declared.Phase.the-variants.{AfterHash}
-use Rattle.items.specs.Items.{Place, rangeAfter, items, byteCount}
+use Rattle.items.specs.Items.{Place, items, byteCount}
 use Rattle.items.specs.Machine.{stepOf}
 use Rattle.items.specs.Readers.{SoFar, soFar}
 use Rattle.items.specs.Run.{Mode, opening, pound, skipping, idle, busy, State, state, fresh, begin, pounded, onNext, Fed, feed, feedMode, advance}
@@ -54,7 +54,7 @@ module _ (report : Bool) where
   next-moved : (m : Mode) (s : ℕ) → startOf m ≡ from s → (n : Next) (last : Place) (i : SoFar) (c : ℕ)
       → Moved m (i .at + width c) (onNext report n last s i c .after)
   next-moved m s e (Eat q) last i c = record { was = λ k f l. e ∙ f; later = refl }
-  next-moved m s e (Stop o) last i c = begin-moved m (i .at) (rangeAfter last s o i) c
+  next-moved m s e (Stop o) last i c = begin-moved m (i .at) _ c
 
   feed-moved : (m : Mode) (at : ℕ) (last : Place) (c : ℕ) → (atStart m ≡ true → at ≡ 0) → Moved m (at + width c) (feedMode report m at last c .after)
   feed-moved opening at last c h = if-all (Moved opening (at + width c)) (eqb c (code "#"))

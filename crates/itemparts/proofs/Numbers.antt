@@ -4,7 +4,7 @@ use Rattle.items.specs.declared.CharValue.{CharValue}
 use Rattle.items.specs.declared.CharValue.the-variants.{Scalar, Wrong}
 use Rattle.items.specs.declared.Outcome.{Outcome}
 use Rattle.items.specs.declared.Outcome.the-variants.{Token, Str, HereStr, Word, Run, Lined, Keyword, Character, Error, ErrorAt}
-use Rattle.items.specs.Items.{Place, Item, itemsOf, rangeAfter, extentItems, items}
+use Rattle.items.specs.Items.{Place, Item, itemsOf, extentItems, items}
 use Rattle.items.specs.Kinds as kind
 use Rattle.items.specs.Meaning.{none, Row, Meaning, lookup, words, wordKind, wordMeans, runMeans, characterOf, charInside, characterMeans, meaningOf}
 use Rattle.items.specs.Readers.{Read, readItem, firstIs}
@@ -140,7 +140,7 @@ module _ (report : Bool) (whole : List ℕ) (short : length whole ≤ longest) w
       let room : length raw ≤ longest = omega (arith, ap length here, length-append raw (bytesOf (r .rest)), length-drop at whole) in
       let good : firstBad raw ≡ verdicts.Good
       = encoded-good (c ∷ k .more) (ds .0, scalars-of (k .more) (r .rest) (subst (Every (λ (c : ℕ). isScalar c ≡ true)) (k .whole) (ds .1))) in
-      items-meant report whole (rangeAfter last at (r .what) (r .item)) at (r .item .at) raw stands room good (meaningOf (r .what) at (r .item .at) (r .item .bytes))
+      items-meant report whole _ at (r .item .at) raw stands room good (meaningOf (r .what) at (r .item .at) (r .item .bytes))
       (rw (k .bytes) (all-meant at (r .item .at) raw (r .what) (read-other report at c cs)))
 
 -- of the items of a text
