@@ -5,7 +5,7 @@
 //!
 //! Before a stop the part of the text before the unfinished item must come out: up to the place of 23, and for 21 up to the start of the
 //! item in which the Rust's reading of the good bytes breaks off.
-use crate::lexer::{self, rust, Read};
+use crate::lexer::{self, rust, Read, MODES};
 use crate::pieces::{drive, Answer, Cutting, Lent, What, NOT_UTF8, TOO_BIG};
 use crate::tally::{shown, Count, Tally};
 use crate::Options;
@@ -19,18 +19,6 @@ const MOST: u64 = 250_000;
 const COMMENT: u32 = 25;
 const IDENTIFIER: u32 = 27;
 
-/// A mode, the proved whole-text call in it, and the Rust.
-struct Mode {
-    number: u32,
-    proved: Read,
-    rust: Read,
-}
-
-const MODES: [Mode; 2] = [
-    Mode { number: 0, proved: lexer::plain, rust: steel::read },
-    Mode { number: 1, proved: lexer::report, rust: steel_report::read },
-];
-
 pub fn judge(options: &Options) -> Count {
     let mut count = Count::default();
     let names: Vec<&str> = gen::FAMILIES.iter().map(|family| family.name).collect();
@@ -39,9 +27,9 @@ pub fn judge(options: &Options) -> Count {
         let mut random = Random::new(options.seed);
         options.each(name, MOST, &mut |text| {
             tally.text();
-            for mode in &MODES {
+            for (mode, judge) in MODES {
                 whole(&mut tally, mode, text);
-                pieces(&mut tally, mode, text, random.next());
+                pieces(&mut tally, mode, judge, text, random.next());
             }
         });
         count.add(tally.close());
@@ -51,20 +39,20 @@ pub fn judge(options: &Options) -> Count {
 
 // ---- the whole-text call
 
-fn whole(tally: &mut Tally, mode: &Mode, text: &[u8]) {
+fn whole(tally: &mut Tally, mode: u32, text: &[u8]) {
     let Ok(source) = str::from_utf8(text) else {
         return;
     };
     let read = |skip| {
         let mut reading = Reading::default();
-        (mode.proved)(source, skip, &mut reading);
+        lexer::whole(source, mode, skip, &mut reading);
         reading.items.iter().map(|item| item.record).collect::<Vec<Record>>()
     };
     let (kept, skipped) = (read(false), read(true));
     let all = put_back(&kept, &skipped, |record| *record);
-    covers(tally, text, &kept, || format!("mode {}, {}", mode.number, shown(text)));
-    covers(tally, text, &all, || format!("mode {}, skipped, {}", mode.number, shown(text)));
-    tally.same(&kept, &all, || format!("mode {}, put back, {}", mode.number, shown(text)));
+    covers(tally, text, &kept, || format!("mode {mode}, {}", shown(text)));
+    covers(tally, text, &all, || format!("mode {mode}, skipped, {}", shown(text)));
+    tally.same(&kept, &all, || format!("mode {mode}, put back, {}", shown(text)));
 }
 
 // ---- the piece calls
@@ -72,13 +60,13 @@ fn whole(tally: &mut Tally, mode: &Mode, text: &[u8]) {
 /// An item as a piece call gives it.
 type Given = (Record, Vec<u8>);
 
-fn pieces(tally: &mut Tally, mode: &Mode, text: &[u8], seed: u64) {
+fn pieces(tally: &mut Tally, mode: u32, judge: Read, text: &[u8], seed: u64) {
     for cutting in [Cutting::Whole, Cutting::Bytes, Cutting::Random] {
-        let input = |how: &str| format!("mode {}, {cutting:?}{how}, {}", mode.number, shown(text));
-        let (kept, last) = given(drive(&mut Lent::open(mode.number, false), text, cutting, seed));
-        let (skipped, same_last) = given(drive(&mut Lent::open(mode.number, true), text, cutting, seed));
+        let input = |how: &str| format!("mode {mode}, {cutting:?}{how}, {}", shown(text));
+        let (kept, last) = given(drive(&mut Lent::open(mode, false), text, cutting, seed));
+        let (skipped, same_last) = given(drive(&mut Lent::open(mode, true), text, cutting, seed));
         let all = put_back(&kept, &skipped, |given| given.0);
-        let Some(seen) = before_stop(mode, text, &last, tally) else {
+        let Some(seen) = before_stop(judge, text, &last, tally) else {
             continue;
         };
         covers(tally, seen, &records(&kept), || input(""));
@@ -102,12 +90,12 @@ fn records(items: &[Given]) -> Vec<Record> {
 }
 
 /// The part of a text that is covered when the calls ended with this word; none where the Rust panics.
-fn before_stop<'a>(mode: &Mode, text: &'a [u8], last: &What, tally: &mut Tally) -> Option<&'a [u8]> {
+fn before_stop<'a>(judge: Read, text: &'a [u8], last: &What, tally: &mut Tally) -> Option<&'a [u8]> {
     match *last {
         What::Refused(TOO_BIG, place) => text.get(..place),
         What::Refused(NOT_UTF8, place) => {
             let good = str::from_utf8(text.get(..place)?).ok()?;
-            let reading = rust(mode.rust, good, false, tally)?;
+            let reading = rust(judge, good, false, tally)?;
             let unfinished = reading.items.last().map(|item| extent(item.record)).filter(|(_, end)| *end == good.len());
             text.get(..unfinished.map_or(good.len(), |(start, _)| start))
         }
