@@ -14,6 +14,8 @@ ghost use Rattle.numbers.specs.Call.{answered, given, number};
 mod complexes;
 mod reals;
 
+pub use reals::one_decimal;
+
 // A decimal's exponent: whether it has a minus sign, and where its digits stand.
 pub struct Exponent {
     pub negative: bool,
@@ -94,6 +96,14 @@ pub enum Suffix {
 pub enum MaybeReal {
     AReal(Real),
     NoReal,
+}
+
+// What a text is that may be one decimal.
+pub enum MaybePoint {
+    // 1.5
+    APoint(Point),
+    // 15
+    NoPoint,
 }
 
 pub enum MaybeParts {
