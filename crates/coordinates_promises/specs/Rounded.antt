@@ -7,12 +7,15 @@ use lib.IntN.{pos, negsuc}
 use lib.Ieee.{Float, fin}
 use Rattle.coordinates.specs.Nearest.{Rounded, Nearest}
 
--- 0.1 is 7205759403792794 units of 2 ^ -56, the odd number of them halved
-tenth : Nearest false 1 10 (fin false 3602879701896397 (negsuc 54))
+-- 0.1 in units of 2 ^ -56
+abbrev tenthUnits : ℕ
+tenthUnits = 7205759403792794
+
+tenth : Nearest false 1 10 (fin false tenthUnits (negsuc 55))
 tenth = record {
   k = 0;
   l = 56;
-  q = 7205759403792794;
+  q = tenthUnits;
   least = lit≤ tt;
   below = lit< tt;
   value = (refl, refl);
@@ -20,12 +23,15 @@ tenth = record {
   tie = λ e. refl;
 }
 
--- 2 ^ 53 + 1 lies half way between two floats, and 2 ^ 52 units of 2 are the even one
-half-way : Nearest false 9007199254740993 1 (fin false 1 (pos 53))
+-- 2 ^ 53 + 1 lies half way between two floats: in units of 2, the even one of 2 ^ 52 and 2 ^ 52 + 1
+abbrev halfWayUnits : ℕ
+halfWayUnits = 4503599627370496
+
+half-way : Nearest false 9007199254740993 1 (fin false halfWayUnits (pos 1))
 half-way = record {
   k = 1;
   l = 0;
-  q = 4503599627370496;
+  q = halfWayUnits;
   least = lit≤ tt;
   below = lit< tt;
   value = (refl, refl);

@@ -5,7 +5,7 @@ use mathlib.Core.Bool.{true, false}
 use mathlib.Core.List.{List, [], _∷_}
 use lib.Dec.{eqb}
 use lib.IntN.{pos, negsuc}
-use lib.Ieee.{Float, fin, binary64, ofBits, round}
+use lib.Ieee.{nan, inf, fin, binary64, ofBits, round}
 use native.Mathlib.Omega.{arith}
 use Rattle.laws.specs.Choice.{if_then_else_}
 use Rattle.laws.specs.Quoted.{codes, within}
@@ -88,7 +88,8 @@ never-refused a n p h k = let e = largest-power in let z : _≡_ {A = ℕ} 0 1 =
 -- the significant bits of a float
 abbrev bits : Answer → ℕ
 bits (float (fin s m e)) = m
-bits (float x) = 0
+bits (float nan) = 0
+bits (float (inf s)) = 0
 bits (refused n p) = 0
 
 never-one : (a : CoordinateAnswer) → answered a ≡ coordinate (codes "1e22") → answered a ≡ coordinate (codes "-0.0") → ⊥
