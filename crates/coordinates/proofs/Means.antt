@@ -3,6 +3,7 @@ use mathlib.Core.Path.{_≡_, refl, ap, subst}
 use mathlib.Core.Bool.{Bool, true}
 use mathlib.Core.List.{List}
 use Prim.Native.Nat.{ℕ, suc, _≤_, _<_}
+use native.Mathlib.Omega.{arith}
 use lib.ListN.{length}
 use lib.Dec.{T, ltb, leb, lit<}
 use lib.IntN.{ℤ, pos, negsuc}
@@ -19,7 +20,7 @@ use Rattle.numbers.specs.declared.MaybePoint.the-variants.{APoint, NoPoint}
 use Rattle.numbers.specs.Call.{longest}
 use Rattle.numbers.specs.Reals.{oneDecimal}
 use Rattle.coordinates.specs.Answers.{Answer, float, refused}
-use Rattle.coordinates.specs.Coordinate.{allDigits, scale, mostDigits, mostScale, numerator, denominator, inRange, scaled, ofPoint, ofDecimal, checked, coordinate}
+use Rattle.coordinates.specs.Coordinate.{allDigits, scale, mostDigits, mostScale, numerator, denominator, inRange, scaled, outside, ofPoint, ofDecimal, checked, coordinate}
 use Rattle.coordinates.specs.Nearest.{Nearest}
 use Rattle.coordinates.specs.Means.{Means}
 use Rattle.coordinates.proofs.Floats.{ten-pos}
@@ -73,3 +74,29 @@ means-value s x l u f a =
     simp (le-ltb _ _ l, u, a .decimal, le-leb _ _ (a .digits), a .range)
     (ap float (only (a .point .negative) (numerator m t) (denominator t) (round binary64 (a .point .negative) (numerator m t) (denominator t)) x (den-pos t)
     (round-fits binary64 (a .point .negative) (numerator m t) (denominator t)) f (scaled-near (a .point .negative) m t (a .digits) (a .range)) (a .nearest)))
+
+-- a text that is not refused for its length or its bytes has a value or is outside
+abbrev GivenOrOutside : Answer → Type 0
+GivenOrOutside (float x) = Unit {0}
+GivenOrOutside (refused n p) = refused n p ≡ outside
+
+decimal-given : (s : List ℕ) (d : MaybePoint) → GivenOrOutside (ofDecimal s d)
+unfolding ofDecimal ofPoint scaled
+decimal-given s NoPoint = refl
+decimal-given s (APoint p) =
+    if-is GivenOrOutside (leb (allDigits s p) mostDigits) (λ _. if-is GivenOrOutside (inRange (scale s p)) (λ _. tt) (λ _. refl)) (λ _. refl)
+
+else-outside : (a : Answer) → GivenOrOutside a → ((x : Float) → a ≡ float x → ⊥) → a ≡ outside
+else-outside (float x) g n = absurd (n x refl)
+else-outside (refused k p) g n = g
+
+-- 28 exactly where no float is the text's value
+pub outside-exactly : (s : List ℕ) → length s ≤ longest → firstBad s ≡ utf8.Good → ((x : Float) → Means s x → ⊥) → coordinate s ≡ outside
+outside-exactly s l u n = else-outside (coordinate s) whole (λ x e. n x (value-means s x e))
+  where
+    whole : GivenOrOutside (coordinate s)
+    whole = unfold coordinate in (simp (le-ltb _ _ l, u) (decimal-given s (oneDecimal s)))
+
+pub means-not-outside : (s : List ℕ) (x : Float) → length s ≤ longest → firstBad s ≡ utf8.Good → T (fits binary64 x) → Means s x → coordinate s ≡ outside → ⊥
+means-not-outside s x l u f a e =
+    let g = means-value s x l u f a in let z : _≡_ {A = ℕ} 0 1 = cc in omega arith

@@ -30,6 +30,7 @@
 #[cfg(not(target_pointer_width = "64"))]
 compile_error!("the archive is for x86-64");
 
+mod coordinate;
 mod error;
 mod items;
 mod kind;
@@ -38,6 +39,7 @@ mod pieces;
 #[allow(missing_docs, clippy::unreadable_literal)]
 pub mod raw;
 
+pub use coordinate::{coordinate, record_coordinate, NoCoordinate};
 pub use error::{Error, HexError, Refusal};
 pub use items::{needed, Item, Items, Mode, Needed, Options};
 pub use kind::{Kind, Paren, ParenMod};
