@@ -18,7 +18,8 @@ use Rattle.coordinates.specs.Answers.{float}
 use Rattle.coordinates.specs.Coordinate.{scaled, outside}
 use Rattle.coordinates.specs.Inner.{tenTo}
 
-mul-value : (f : Format) (x y : Float) (s t : Bool) (a c b d : ℕ) → 0 < c → 0 < d → HasValue x s a c → HasValue y t b d → mul f x y ≡ round f (unlike s t) (a * b) (c * d)
+mul-value : (f : Format) (x y : Float) (s t : Bool) (a c b d : ℕ) → 0 < c → 0 < d → HasValue x s a c → HasValue y t b d
+    → mul f x y ≡ round f (unlike s t) (a * b) (c * d)
 unfolding mul
 mul-value f nan y s t a c b d C D h k = absurd h
 mul-value f (inf z) y s t a c b d C D h k = absurd h
@@ -28,7 +29,8 @@ mul-value f (fin z m e) (fin w n j) s t a c b d C D h k =
     ap (λ (v : Bool). round f (unlike v w) (m * up e * (n * up j)) (down e * down j)) (h .0)
     ∙ ap (λ (v : Bool). round f (unlike s v) (m * up e * (n * up j)) (down e * down j)) (k .0)
     ∙ round-same f (unlike s t) (m * up e * (n * up j)) (down e * down j) (a * b) (c * d) (mul-pos (down-pos e) (down-pos j)) (mul-pos C D)
-    (mul-mul-mul-comm (m * up e) (n * up j) c d ∙ ap (λ (v : ℕ). v * (n * up j * d)) (h .1) ∙ ap (λ (v : ℕ). a * down e * v) (k .1) ∙ mul-mul-mul-comm a (down e) b (down j))
+    (mul-mul-mul-comm (m * up e) (n * up j) c d ∙ ap (λ (v : ℕ). v * (n * up j * d)) (h .1) ∙ ap (λ (v : ℕ). a * down e * v) (k .1)
+    ∙ mul-mul-mul-comm a (down e) b (down j))
 
 pub no-zero : (u d b v : ℕ) → 0 < b → 0 < v → 0 * u * d ≡ b * v → ⊥
 no-zero u d b v B P e = lt-irrefl 0 (subst (λ (z : ℕ). 0 < z) (sym e ∙ ap (λ (z : ℕ). z * d) (zero-mul u) ∙ zero-mul d) (mul-pos B P))
@@ -44,7 +46,8 @@ cross x c a y z d b w h k =
 above : (n : ℕ) → suc n ≡ 0 → ⊥
 above n g = omega arith
 
-div-value : (f : Format) (x y : Float) (s t : Bool) (a c b d : ℕ) → 0 < c → 0 < b → HasValue x s a c → HasValue y t b d → div f x y ≡ round f (unlike s t) (a * d) (c * b)
+div-value : (f : Format) (x y : Float) (s t : Bool) (a c b d : ℕ) → 0 < c → 0 < b → HasValue x s a c → HasValue y t b d
+    → div f x y ≡ round f (unlike s t) (a * d) (c * b)
 unfolding div
 div-value f nan y s t a c b d C B h k = absurd h
 div-value f (inf z) y s t a c b d C B h k = absurd h
@@ -52,7 +55,8 @@ div-value f (fin z m e) nan s t a c b d C B h k = absurd k
 div-value f (fin z m e) (inf w) s t a c b d C B h k = absurd k
 div-value f (fin z m e) (fin w zero j) s t a c b d C B h k = absurd (no-zero (up j) d b (down j) B (down-pos j) (k .1))
 div-value f (fin z m e) (fin w (suc n) j) s t a c b d C B h k =
-    ap (λ (v : Bool). cond v (cond (eqb m 0) nan (inf (unlike z w))) (round f (unlike z w) (m * up e * down j) (suc n * up j * down e))) (ne-eqb (suc n) 0 (λ g. above n g))
+    ap (λ (v : Bool). cond v (cond (eqb m 0) nan (inf (unlike z w))) (round f (unlike z w) (m * up e * down j) (suc n * up j * down e)))
+    (ne-eqb (suc n) 0 (λ g. above n g))
     ∙ ap (λ (v : Bool). round f (unlike v w) (m * up e * down j) (suc n * up j * down e)) (h .0)
     ∙ ap (λ (v : Bool). round f (unlike s v) (m * up e * down j) (suc n * up j * down e)) (k .0)
     ∙ round-same f (unlike s t) (m * up e * down j) (suc n * up j * down e) (a * d) (c * b)
@@ -139,7 +143,8 @@ module _ (s : Bool) (m k : ℕ) (h : m ≤ 2 ^ 53) where
   pub down-in : k ≤ 22 → float (div binary64 (round binary64 s m 1) (tenTo k)) ≡ scaled s m (negℤ (pos k))
   down-in l = go k l quotient
     where
-      go : (k : ℕ) → k ≤ 22 → div binary64 (round binary64 s m 1) (tenTo k) ≡ round binary64 s m (10 ^ k) → float (div binary64 (round binary64 s m 1) (tenTo k)) ≡ scaled s m (negℤ (pos k))
+      go : (k : ℕ) → k ≤ 22 → div binary64 (round binary64 s m 1) (tenTo k) ≡ round binary64 s m (10 ^ k)
+          → float (div binary64 (round binary64 s m 1) (tenTo k)) ≡ scaled s m (negℤ (pos k))
       go zero l q = ap float (q ∙ ap (λ (v : ℕ). round binary64 s v 1) (sym (mul-one m))) ∙ open0
         where
           open0 : float (round binary64 s (m * 1) 1) ≡ scaled s m (pos 0)

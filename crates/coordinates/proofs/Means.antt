@@ -27,7 +27,8 @@ use Rattle.coordinates.proofs.Floats.{ten-pos}
 use Rattle.coordinates.proofs.Rounding.{up-nearest, down-nearest}
 use Rattle.coordinates.proofs.Only.{only}
 
-scaled-near : (neg : Bool) (m : ℕ) (t : ℤ) → m ≤ mostDigits → inRange t ≡ true → Nearest neg (numerator m t) (denominator t) (round binary64 neg (numerator m t) (denominator t))
+scaled-near : (neg : Bool) (m : ℕ) (t : ℤ) → m ≤ mostDigits → inRange t ≡ true
+    → Nearest neg (numerator m t) (denominator t) (round binary64 neg (numerator m t) (denominator t))
 scaled-near neg m (pos k) h r = up-nearest neg m k h (leb-true k mostScale r)
 scaled-near neg m (negsuc k) h r = down-nearest neg m (suc k) h (leb-true (suc k) mostScale r)
 
@@ -40,7 +41,14 @@ unfolding ofPoint scaled
 point-means s p e =
     if-is (MeansIf s) (leb (allDigits s p) mostDigits) (λ d.
     if-is (MeansIf s) (inRange (scale s p)) (λ r.
-    record { point = p; decimal = e; digits = leb-true _ _ d; range = r; nearest = scaled-near (p .negative) (allDigits s p) (scale s p) (leb-true _ _ d) r }) (λ _. tt)) (λ _. tt)
+    record {
+      point = p;
+      decimal = e;
+      digits = leb-true _ _ d;
+      range = r;
+      nearest = scaled-near (p .negative) (allDigits s p) (scale s p)
+          (leb-true _ _ d) r;
+    }) (λ _. tt)) (λ _. tt)
 
 text-means : (s : List ℕ) → MeansIf s (ofDecimal s (oneDecimal s))
 text-means s = go (oneDecimal s) refl
@@ -72,8 +80,10 @@ means-value s x l u f a =
     let m = allDigits s (a .point) in
     let t = scale s (a .point) in
     simp (le-ltb _ _ l, u, a .decimal, le-leb _ _ (a .digits), a .range)
-    (ap float (only (a .point .negative) (numerator m t) (denominator t) (round binary64 (a .point .negative) (numerator m t) (denominator t)) x (den-pos t)
-    (round-fits binary64 (a .point .negative) (numerator m t) (denominator t)) f (scaled-near (a .point .negative) m t (a .digits) (a .range)) (a .nearest)))
+    (ap float (only (a .point .negative) (numerator m t) (denominator t) (round binary64 (a .point .negative) (numerator m t) (denominator t)) x
+    (den-pos t)
+    (round-fits binary64 (a .point .negative) (numerator m t) (denominator t)) f (scaled-near (a .point .negative) m t (a .digits) (a .range))
+    (a .nearest)))
 
 -- a text that is not refused for its length or its bytes has a value or is outside
 abbrev GivenOrOutside : Answer → Type 0
@@ -97,6 +107,7 @@ outside-exactly s l u n = else-outside (coordinate s) whole (λ x e. n x (value-
     whole : GivenOrOutside (coordinate s)
     whole = unfold coordinate in (simp (le-ltb _ _ l, u) (decimal-given s (oneDecimal s)))
 
-pub means-not-outside : (s : List ℕ) (x : Float) → length s ≤ longest → firstBad s ≡ utf8.Good → T (fits binary64 x) → Means s x → coordinate s ≡ outside → ⊥
+pub means-not-outside : (s : List ℕ) (x : Float) → length s ≤ longest → firstBad s ≡ utf8.Good → T (fits binary64 x) → Means s x
+    → coordinate s ≡ outside → ⊥
 means-not-outside s x l u f a e =
     let g = means-value s x l u f a in let z : _≡_ {A = ℕ} 0 1 = cc in omega arith

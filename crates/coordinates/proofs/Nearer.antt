@@ -40,14 +40,16 @@ among n den k w q m h l = go (ltb w k) refl
     go true e =
         let a : m * (2 ^ w * den) ≤ 2 ^ 52 * (2 ^ k * den) =
         le-trans (mul-le-mul-right (2 ^ w * den) (le-of-lt l))
-        (le-trans (le-of-eq (mul-assoc (2 ^ 52) 2 (2 ^ w * den) ∙ ap (λ (z : ℕ). 2 ^ 52 * z) (sym (mul-assoc 2 (2 ^ w) den) ∙ ap (λ (z : ℕ). z * den) (sym (pow-succ' 2 w)))))
+        (le-trans (le-of-eq (mul-assoc (2 ^ 52) 2 (2 ^ w * den) ∙ ap (λ (z : ℕ). 2 ^ 52 * z)
+        (sym (mul-assoc 2 (2 ^ w) den) ∙ ap (λ (z : ℕ). z * den) (sym (pow-succ' 2 w)))))
         (mul-le-mul-left (2 ^ 52) (mul-le-mul-right den (pow-mono (ltb-true w k e))))) in
         le-trans (multiples n (2 ^ k * den) q (2 ^ 52) (h .2)) (farther n (2 ^ 52 * (2 ^ k * den)) (m * (2 ^ w * den)) a (h .0))
     go false e =
         let j = w - k in
         let i : w ≡ j + k = omega (arith, ltb-false w k e) in
         let a : m * 2 ^ j * (2 ^ k * den) ≡ m * (2 ^ w * den) =
-        mul-assoc m (2 ^ j) (2 ^ k * den) ∙ ap (λ (z : ℕ). m * z) (sym (mul-assoc (2 ^ j) (2 ^ k) den) ∙ ap (λ (z : ℕ). z * den) (sym (pow-add 2 j k) ∙ ap (λ (z : ℕ). 2 ^ z) (sym i))) in
+        mul-assoc m (2 ^ j) (2 ^ k * den) ∙ ap (λ (z : ℕ). m * z)
+        (sym (mul-assoc (2 ^ j) (2 ^ k) den) ∙ ap (λ (z : ℕ). z * den) (sym (pow-add 2 j k) ∙ ap (λ (z : ℕ). 2 ^ z) (sym i))) in
         le-trans (multiples n (2 ^ k * den) q (m * 2 ^ j) (h .2)) (le-of-eq (ap (distance n) a))
 
 pub none-nearer : {s : Bool} {num den : ℕ} {x : Float} (r : Rounded s num den x) → NoneNearer num den (r .q * 2 ^ (r .k)) (2 ^ (r .l))
@@ -58,9 +60,12 @@ none-nearer {s} {num} {den} r m i j h =
     let a : distance (num * 2 ^ l) (q * 2 ^ k * den) * 2 ^ j ≡ distance (num * 2 ^ (l + j)) (q * (2 ^ (k + j) * den)) =
     sym (distance-mul (num * 2 ^ l) (q * 2 ^ k * den) (2 ^ j))
     ∙ ap (λ (z : ℕ). distance z (q * 2 ^ k * den * 2 ^ j)) (mul-assoc num (2 ^ l) (2 ^ j) ∙ ap (λ (z : ℕ). num * z) (sym (pow-add 2 l j)))
-    ∙ ap (distance (num * 2 ^ (l + j))) (ap (λ (z : ℕ). z * 2 ^ j) (mul-assoc q (2 ^ k) den) ∙ mul-assoc q (2 ^ k * den) (2 ^ j) ∙ ap (λ (z : ℕ). q * z) (mul-right-comm (2 ^ k) den (2 ^ j) ∙ ap (λ (z : ℕ). z * den) (sym (pow-add 2 k j)))) in
+    ∙ ap (distance (num * 2 ^ (l + j))) (ap (λ (z : ℕ). z * 2 ^ j) (mul-assoc q (2 ^ k) den) ∙ mul-assoc q (2 ^ k * den) (2 ^ j) ∙ ap
+    (λ (z : ℕ). q * z) (mul-right-comm (2 ^ k) den (2 ^ j) ∙ ap (λ (z : ℕ). z * den) (sym (pow-add 2 k j)))) in
     let b : distance (num * 2 ^ j) (m * 2 ^ i * den) * 2 ^ l ≡ distance (num * 2 ^ (l + j)) (m * (2 ^ (i + l) * den)) =
     sym (distance-mul (num * 2 ^ j) (m * 2 ^ i * den) (2 ^ l))
-    ∙ ap (λ (z : ℕ). distance z (m * 2 ^ i * den * 2 ^ l)) (mul-right-comm num (2 ^ j) (2 ^ l) ∙ mul-assoc num (2 ^ l) (2 ^ j) ∙ ap (λ (z : ℕ). num * z) (sym (pow-add 2 l j)))
-    ∙ ap (distance (num * 2 ^ (l + j))) (ap (λ (z : ℕ). z * 2 ^ l) (mul-assoc m (2 ^ i) den) ∙ mul-assoc m (2 ^ i * den) (2 ^ l) ∙ ap (λ (z : ℕ). m * z) (mul-right-comm (2 ^ i) den (2 ^ l) ∙ ap (λ (z : ℕ). z * den) (sym (pow-add 2 i l)))) in
+    ∙ ap (λ (z : ℕ). distance z (m * 2 ^ i * den * 2 ^ l))
+    (mul-right-comm num (2 ^ j) (2 ^ l) ∙ mul-assoc num (2 ^ l) (2 ^ j) ∙ ap (λ (z : ℕ). num * z) (sym (pow-add 2 l j)))
+    ∙ ap (distance (num * 2 ^ (l + j))) (ap (λ (z : ℕ). z * 2 ^ l) (mul-assoc m (2 ^ i) den) ∙ mul-assoc m (2 ^ i * den) (2 ^ l) ∙ ap
+    (λ (z : ℕ). m * z) (mul-right-comm (2 ^ i) den (2 ^ l) ∙ ap (λ (z : ℕ). z * den) (sym (pow-add 2 i l)))) in
     le-trans (le-of-eq a) (le-trans (among (num * 2 ^ (l + j)) den (k + j) (i + l) q m (raised num den k l q j (at-of r)) h) (le-of-eq (sym b)))

@@ -22,8 +22,10 @@ even-odd m t o h = omega arith
 
 odd-pow : (m n a b : ℕ) → m % 2 ≡ 1 → n % 2 ≡ 1 → m * 2 ^ a ≡ n * 2 ^ b → (m ≡ n) × (a ≡ b)
 odd-pow m n zero zero o p h = (sym (mul-one m) ∙ h ∙ mul-one n, refl)
-odd-pow m n zero (suc b) o p h = absurd (even-odd m (n * 2 ^ b) o (sym (mul-one m) ∙ h ∙ ap (λ (x : ℕ). n * x) (pow-succ' 2 b) ∙ mul-left-comm n 2 (2 ^ b)))
-odd-pow m n (suc a) zero o p h = absurd (even-odd n (m * 2 ^ a) p (sym (mul-one n) ∙ sym h ∙ ap (λ (x : ℕ). m * x) (pow-succ' 2 a) ∙ mul-left-comm m 2 (2 ^ a)))
+odd-pow m n zero (suc b) o p h =
+    absurd (even-odd m (n * 2 ^ b) o (sym (mul-one m) ∙ h ∙ ap (λ (x : ℕ). n * x) (pow-succ' 2 b) ∙ mul-left-comm n 2 (2 ^ b)))
+odd-pow m n (suc a) zero o p h =
+    absurd (even-odd n (m * 2 ^ a) p (sym (mul-one n) ∙ sym h ∙ ap (λ (x : ℕ). m * x) (pow-succ' 2 a) ∙ mul-left-comm m 2 (2 ^ a)))
 odd-pow m n (suc a) (suc b) o p h =
     let r = odd-pow m n a b o p (eq-of-mul-eq-mul-right 2 (zero-lt-suc 1) (m * 2 ^ a) (n * 2 ^ b)
     (mul-assoc m (2 ^ a) 2 ∙ ap (λ (x : ℕ). m * x) (sym (pow-suc 2 a)) ∙ h ∙ ap (λ (x : ℕ). n * x) (pow-suc 2 b) ∙ sym (mul-assoc n (2 ^ b) 2))) in
@@ -32,7 +34,8 @@ odd-pow m n (suc a) (suc b) o p h =
 is-odd : (s : Bool) (m : ℕ) (e : ℤ) → T (fits binary64 (fin s (suc m) e)) → suc m % 2 ≡ 1
 unfolding fits
 is-odd s m e t =
-    eqb→eq (suc m % 2) 1 (and-l (eqb (suc m % 2) 1) (ltb (suc m) (2 ^ 53)) (and-l (eqb (suc m % 2) 1 && ltb (suc m) (2 ^ 53)) (leb (down e) (2 ^ 1074))
+    eqb→eq (suc m % 2) 1 (and-l (eqb (suc m % 2) 1) (ltb (suc m) (2 ^ 53))
+    (and-l (eqb (suc m % 2) 1 && ltb (suc m) (2 ^ 53)) (leb (down e) (2 ^ 1074))
     (and-l (eqb (suc m % 2) 1 && ltb (suc m) (2 ^ 53) && leb (down e) (2 ^ 1074)) (ltb (suc m * up e) (2 ^ 1024 * down e)) t)))
 
 abbrev rise : ℤ → ℕ
@@ -69,7 +72,8 @@ crossed x y a c p q C h k =
     eq-of-mul-eq-mul-right c C (x * q) (y * p)
     (mul-right-comm x q c ∙ ap (λ (z : ℕ). z * q) h ∙ mul-right-comm a p q ∙ ap (λ (z : ℕ). z * p) (sym k) ∙ mul-right-comm y c p)
 
-pub value-unique : (x y : Float) (s : Bool) (a c : ℕ) → 0 < a → 0 < c → T (fits binary64 x) → T (fits binary64 y) → HasValue x s a c → HasValue y s a c → x ≡ y
+pub value-unique : (x y : Float) (s : Bool) (a c : ℕ) → 0 < a → 0 < c → T (fits binary64 x) → T (fits binary64 y) → HasValue x s a c
+    → HasValue y s a c → x ≡ y
 value-unique nan y s a c A C p q v w = absurd v
 value-unique (inf t) y s a c A C p q v w = absurd v
 value-unique (fin t m e) nan s a c A C p q v w = absurd w
@@ -79,9 +83,11 @@ value-unique (fin t (suc m) e) (fin u zero g) s a c A C p q v w = absurd (no-zer
 value-unique (fin t (suc m) e) (fin u (suc n) g) s a c A C p q v w =
     let x : suc m * up e * down g ≡ suc n * up g * down e = crossed (suc m * up e) (suc n * up g) a c (down e) (down g) C (v .1) (w .1) in
     let z : suc m * 2 ^ (rise e + fall g) ≡ suc n * 2 ^ (rise g + fall e) =
-    ap (λ (z : ℕ). suc m * z) (pow-add 2 (rise e) (fall g) ∙ ap (λ (z : ℕ). z * 2 ^ fall g) (sym (rise-is e)) ∙ ap (λ (z : ℕ). up e * z) (sym (fall-is g)))
+    ap (λ (z : ℕ). suc m * z) (pow-add 2 (rise e) (fall g) ∙ ap (λ (z : ℕ). z * 2 ^ fall g) (sym (rise-is e)) ∙ ap (λ (z : ℕ). up e * z)
+    (sym (fall-is g)))
     ∙ sym (mul-assoc (suc m) (up e) (down g)) ∙ x ∙ mul-assoc (suc n) (up g) (down e)
-    ∙ ap (λ (z : ℕ). suc n * z) (ap (λ (z : ℕ). up g * z) (fall-is e) ∙ ap (λ (z : ℕ). z * 2 ^ fall e) (rise-is g) ∙ sym (pow-add 2 (rise g) (fall e))) in
+    ∙ ap (λ (z : ℕ). suc n * z) (ap (λ (z : ℕ). up g * z) (fall-is e) ∙ ap (λ (z : ℕ). z * 2 ^ fall e) (rise-is g) ∙ sym
+    (pow-add 2 (rise g) (fall e))) in
     let r = odd-pow (suc m) (suc n) (rise e + fall g) (rise g + fall e) (is-odd t m e p) (is-odd u n g q) z in
     λ i. fin ((v .0 ∙ sym (w .0)) i) (r .0 i) (same-exponent e g (r .1) i)
 
@@ -93,12 +99,15 @@ sub-mul : (a b c : ℕ) → (a - b) * c ≡ a * c - b * c
 sub-mul a b c = mul-comm (a - b) c ∙ mul-sub c a b ∙ ap (λ (z : ℕ). z - c * b) (mul-comm c a) ∙ ap (λ (z : ℕ). a * c - z) (mul-comm c b)
 
 pub distance-mul : (a b c : ℕ) → distance (a * c) (b * c) ≡ distance a b * c
-distance-mul a b c = ap (λ (z : ℕ). z + (b * c - a * c)) (sym (sub-mul a b c)) ∙ ap (λ (z : ℕ). (a - b) * c + z) (sym (sub-mul b a c)) ∙ sym (add-mul (a - b) (b - a) c)
+distance-mul a b c =
+    ap (λ (z : ℕ). z + (b * c - a * c)) (sym (sub-mul a b c)) ∙ ap (λ (z : ℕ). (a - b) * c + z) (sym (sub-mul b a c)) ∙ sym
+    (add-mul (a - b) (b - a) c)
 
 -- both sides times c
 at-scale : (n u q c : ℕ) → 0 < c → At n u q → At (n * c) (u * c) q
 at-scale n u q c C h =
-    let d : distance (n * c) (q * (u * c)) ≡ distance n (q * u) * c = ap (λ (z : ℕ). distance (n * c) z) (sym (mul-assoc q u c)) ∙ distance-mul n (q * u) c in
+    let d : distance (n * c) (q * (u * c)) ≡ distance n (q * u) * c = ap (λ (z : ℕ). distance (n * c) z) (sym (mul-assoc q u c)) ∙ distance-mul n
+    (q * u) c in
     let e : distance (n * c) (q * (u * c)) * 2 ≡ distance n (q * u) * 2 * c = ap (λ (z : ℕ). z * 2) d ∙ mul-right-comm (distance n (q * u)) c 2 in (
       le-trans (le-of-eq (sym (mul-assoc (2 ^ 52) u c))) (mul-le-mul-right c (h .0)),
       lt-of-lt-of-le (mul-lt-mul-of-pos-right (h .1) C) (le-of-eq (mul-assoc (2 ^ 53) u c)),
@@ -106,7 +115,8 @@ at-scale n u q c C h =
       λ k. h .3 (eq-of-mul-eq-mul-right c C (distance n (q * u) * 2) u (sym e ∙ k)),
     )
 
-close : (n u q r a b : ℕ) → q < r → a ≡ q * u → b ≡ r * u → (q + 1) * u ≤ b → distance n a * 2 ≤ u → distance n b * 2 ≤ u → a + u ≤ b → (b ≡ a + u) × (distance n a * 2 ≡ u) × (distance n b * 2 ≡ u)
+close : (n u q r a b : ℕ) → q < r → a ≡ q * u → b ≡ r * u → (q + 1) * u ≤ b → distance n a * 2 ≤ u → distance n b * 2 ≤ u → a + u ≤ b
+    → (b ≡ a + u) × (distance n a * 2 ≡ u) × (distance n b * 2 ≡ u)
 close n u q r a b l e f g h k j = (omega arith, omega arith, omega arith)
 
 parity : (q : ℕ) → q % 2 ≡ 0 → (q + 1) % 2 ≡ 0 → ⊥
@@ -169,22 +179,27 @@ revalue (inf t) s a c b d C e v = v
 revalue (fin t m g) s a c b d C e v = (
   v .0,
   eq-of-mul-eq-mul-right c C (m * up g * d) (b * down g)
-      (mul-right-comm (m * up g) d c ∙ ap (λ (z : ℕ). z * d) (v .1) ∙ mul-right-comm a (down g) d ∙ ap (λ (z : ℕ). z * down g) e ∙ mul-right-comm b c (down g)),
+      (mul-right-comm (m * up g) d c ∙ ap (λ (z : ℕ). z * d) (v .1) ∙ mul-right-comm a (down g) d ∙ ap (λ (z : ℕ). z * down g) e ∙ mul-right-comm b c
+      (down g)),
 )
 
-rounded-only : (s : Bool) (num den : ℕ) (x y : Float) → 0 < den → T (fits binary64 x) → T (fits binary64 y) → Rounded s num den x → Rounded s num den y → x ≡ y
+rounded-only : (s : Bool) (num den : ℕ) (x y : Float) → 0 < den → T (fits binary64 x) → T (fits binary64 y) → Rounded s num den x
+    → Rounded s num den y → x ≡ y
 rounded-only s num den x y D p q a b =
     let h = raised num den (a .k) (a .l) (a .q) (b .l) (at-of a) in
     let g = raised num den (b .k) (b .l) (b .q) (a .l) (at-of b) in
-    let z = at-unique (num * 2 ^ (a .l + b .l)) den (a .k + b .l) (b .k + a .l) (a .q) (b .q) D h (subst (λ (i : ℕ). At (num * 2 ^ i) (2 ^ (b .k + a .l) * den) (b .q)) (add-comm (b .l) (a .l)) g) in
+    let z = at-unique (num * 2 ^ (a .l + b .l)) den (a .k + b .l) (b .k + a .l) (a .q) (b .q) D h
+    (subst (λ (i : ℕ). At (num * 2 ^ i) (2 ^ (b .k + a .l) * den) (b .q)) (add-comm (b .l) (a .l)) g) in
     let e : b .q * 2 ^ (b .k) * 2 ^ (a .l) ≡ a .q * 2 ^ (a .k) * 2 ^ (b .l) =
     mul-assoc (b .q) (2 ^ (b .k)) (2 ^ (a .l)) ∙ ap (λ (i : ℕ). b .q * i) (sym (pow-add 2 (b .k) (a .l)))
     ∙ ap (λ (i : ℕ). i * 2 ^ (b .k + a .l)) (sym (z .1)) ∙ ap (λ (i : ℕ). a .q * 2 ^ i) (sym (z .0))
     ∙ ap (λ (i : ℕ). a .q * i) (pow-add 2 (a .k) (b .l)) ∙ sym (mul-assoc (a .q) (2 ^ (a .k)) (2 ^ (b .l))) in
     value-unique x y s (a .q * 2 ^ (a .k)) (2 ^ (a .l))
-    (mul-pos (some (num * 2 ^ (a .l)) (2 ^ (a .k) * den) (a .q) (mul-pos (pow-pos (a .k)) D) (at-of a)) (pow-pos (a .k))) (pow-pos (a .l)) p q (a .value)
+    (mul-pos (some (num * 2 ^ (a .l)) (2 ^ (a .k) * den) (a .q) (mul-pos (pow-pos (a .k)) D) (at-of a)) (pow-pos (a .k))) (pow-pos (a .l)) p q
+    (a .value)
     (revalue y s (b .q * 2 ^ (b .k)) (2 ^ (b .l)) (a .q * 2 ^ (a .k)) (2 ^ (a .l)) (pow-pos (b .l)) e (b .value))
 
-pub only : (s : Bool) (num den : ℕ) (x y : Float) → 0 < den → T (fits binary64 x) → T (fits binary64 y) → Nearest s num den x → Nearest s num den y → x ≡ y
+pub only : (s : Bool) (num den : ℕ) (x y : Float) → 0 < den → T (fits binary64 x) → T (fits binary64 y) → Nearest s num den x → Nearest s num den y
+    → x ≡ y
 only s zero den x y D p q a b = a ∙ sym b
 only s (suc n) den x y D p q a b = rounded-only s (suc n) den x y D p q a b

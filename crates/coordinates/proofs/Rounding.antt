@@ -54,7 +54,8 @@ near-by n u w r Ordering·lt c e l = low-near n u w r (w * u) refl e (omega arit
   where
     no : (a b : ℕ) → a < b → a ≡ b → ⊥
     no a b h k = omega arith
-near-by n u w r Ordering·gt c e l = high-near n u w r (suc w * u) refl (suc-mul w u ∙ up (w * u) e l) (omega arith) (omega arith) (λ g. absurd (no (r * 2) u c g))
+near-by n u w r Ordering·gt c e l =
+    high-near n u w r (suc w * u) refl (suc-mul w u ∙ up (w * u) e l) (omega arith) (omega arith) (λ g. absurd (no (r * 2) u c g))
   where
     no : (a b : ℕ) → b < a → a ≡ b → ⊥
     no a b h k = omega arith
@@ -68,7 +69,8 @@ near-by n u w r Ordering·eq c e l = go (even-or-odd w)
 
     go : ((w % 2 ≡ 0) × (w + w % 2 ≡ w)) ⊎ ((suc w % 2 ≡ 0) × (w + w % 2 ≡ suc w)) → Near n u (w + w % 2)
     go (inl h) = subst (Near n u) (sym (h .1)) (low-near n u w r (w * u) refl e (le-of-eq c) (λ g. h .0))
-    go (inr h) = subst (Near n u) (sym (h .1)) (high-near n u w r (suc w * u) refl (suc-mul w u ∙ up (w * u) e l) (omega arith) (le-of-eq (sym c)) (λ g. h .0))
+    go (inr h) =
+        subst (Near n u) (sym (h .1)) (high-near n u w r (suc w * u) refl (suc-mul w u ∙ up (w * u) e l) (omega arith) (le-of-eq (sym c)) (λ g. h .0))
 
 pub closest-near : (n u : ℕ) → 0 < u → Near n u (closest n u)
 closest-near n u h = near-by n u (n / u) (n % u) (compare (n % u * 2) u) (cmp (n % u * 2) u) (div-add-mod' n u) (mod-lt n h)
@@ -92,10 +94,12 @@ round-rounded s num den D normal few =
     let lo : 2 ^ (52 + k) * den ≤ n = le-div-iff-mul-le D .0 (size-reaches w (52 + k) (under z full)) in
     let hi : n < 2 ^ (53 + k) * den = div-lt-iff-lt-mul D .0 (subst (λ (x : ℕ). w < 2 ^ x) (sym (over z full)) (size-lt w)) in
     let top : z ≤ 1274 = size-le w 1274 (lt-of-le-of-lt (div-le-self n den) (shl-lt 200 1074 few)) in
-    let q-le : q ≤ 2 ^ 53 = le-trans (nearest-le (n / u) (compare (n % u * 2) u)) (subst (λ (x : ℕ). x < 2 ^ 53) (div-div-eq-div-mul n den (2 ^ k)) (kept-lt 53 w)) in
+    let q-le : q ≤ 2 ^ 53 = le-trans (nearest-le (n / u) (compare (n % u * 2) u))
+    (subst (λ (x : ℕ). x < 2 ^ 53) (div-div-eq-div-mul n den (2 ^ k)) (kept-lt 53 w)) in
     let fine : q * 2 ^ k < 2 ^ 2098 =
     lt-of-le-of-lt (mul-le-mul-right (2 ^ k) q-le)
-    (subst (λ (x : ℕ). x < 2 ^ 2098) (ap (λ (x : ℕ). 2 ^ x) (sym (over z full)) ∙ pow-add 2 53 k) (pow-lt {j = 2098} (lt-of-le-of-lt top (lit< tt)))) in
+    (subst (λ (x : ℕ). x < 2 ^ 2098) (ap (λ (x : ℕ). 2 ^ x) (sym (over z full)) ∙ pow-add 2 53 k)
+    (pow-lt {j = 2098} (lt-of-le-of-lt top (lit< tt)))) in
     let near = subst (λ (v : ℕ). Near n v q) (mul-comm den (2 ^ k)) (closest-near n u (mul-pos D (pow-pos k))) in
     record {
       k = k;
@@ -116,7 +120,8 @@ one-zero s = refl
 pub round-zero : (s : Bool) (den : ℕ) → 0 < den → round binary64 s 0 den ≡ fin s 0 (pos 0)
 round-zero s den D = round-same binary64 s 0 den 0 1 D (lit< tt) (zero-mul 1 ∙ sym (zero-mul den)) ∙ one-zero s
 
-pub nearest-of : (s : Bool) (num den : ℕ) → 0 < den → (0 < num → 2 ^ 52 * den ≤ num * 2 ^ 1074) → num < 2 ^ 200 → Nearest s num den (round binary64 s num den)
+pub nearest-of : (s : Bool) (num den : ℕ) → 0 < den → (0 < num → 2 ^ 52 * den ≤ num * 2 ^ 1074) → num < 2 ^ 200
+    → Nearest s num den (round binary64 s num den)
 nearest-of s zero den D normal few = round-zero s den D
 nearest-of s (suc n) den D normal few = round-rounded s (suc n) den D (normal (zero-lt-suc n)) few
 

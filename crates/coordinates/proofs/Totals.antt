@@ -47,10 +47,12 @@ value-app R n [] b = refl
 value-app R n (c ∷ a) b = value-app R _ a b
 
 module _ (s : List ℕ) (p : Point) where
-  pub all-in : (v : ℕ) (r : Amount) → Within v ≡ within (value 10 0 (slice (p .whole) s)) → r ≡ within (value 10 v (slice (p .fraction) s)) → r ≡ within (allDigits s p)
+  pub all-in : (v : ℕ) (r : Amount) → Within v ≡ within (value 10 0 (slice (p .whole) s)) → r ≡ within (value 10 v (slice (p .fraction) s))
+      → r ≡ within (allDigits s p)
   unfolding allDigits
   all-in v r h e =
-      e ∙ ap within (ap (λ (x : ℕ). value 10 x (slice (p .fraction) s)) (within-is _ _ h .0) ∙ sym (value-app 10 0 (slice (p .whole) s) (slice (p .fraction) s)))
+      e ∙ ap within (ap (λ (x : ℕ). value 10 x (slice (p .fraction) s)) (within-is _ _ h .0) ∙ sym
+      (value-app 10 0 (slice (p .whole) s) (slice (p .fraction) s)))
 
   pub all-out : Beyond ≡ within (value 10 0 (slice (p .whole) s)) → Beyond ≡ within (allDigits s p)
   unfolding allDigits
@@ -61,7 +63,8 @@ module _ (s : List ℕ) (p : Point) where
 
 -- a decimal
 module _ (s : List ℕ) (p : Point) where
-  pub point-in : (m e : ℕ) (r : Answer) → Within m ≡ within (allDigits s p) → Within e ≡ within (value 10 0 (slice (p .exponent .digits) s)) → r ≡ scaled (p .negative) m (signed (p .exponent .negative) e -ℤ pos (p .fraction .end - p .fraction .start)) → r ≡ ofPoint s p
+  pub point-in : (m e : ℕ) (r : Answer) → Within m ≡ within (allDigits s p) → Within e ≡ within (value 10 0 (slice (p .exponent .digits) s))
+      → r ≡ scaled (p .negative) m (signed (p .exponent .negative) e -ℤ pos (p .fraction .end - p .fraction .start)) → r ≡ ofPoint s p
   unfolding ofPoint scale
   point-in m e r h k q =
       let a = within-is _ _ h in
@@ -72,7 +75,8 @@ module _ (s : List ℕ) (p : Point) where
   unfolding ofPoint
   point-out h = simp (lt-leb _ _ (within-not _ h))
 
-  pub point-far : (m : ℕ) → Within m ≡ within (allDigits s p) → Beyond ≡ within (value 10 0 (slice (p .exponent .digits) s)) → p .fraction .end - p .fraction .start < 2 ^ 32 → outside ≡ ofPoint s p
+  pub point-far : (m : ℕ) → Within m ≡ within (allDigits s p) → Beyond ≡ within (value 10 0 (slice (p .exponent .digits) s))
+      → p .fraction .end - p .fraction .start < 2 ^ 32 → outside ≡ ofPoint s p
   unfolding ofPoint scale
   point-far m h k l =
       far (p .negative) (allDigits s p) (p .exponent .negative) _ _ (within-not _ k) l ∙ simp (le-leb _ _ (within-is _ _ h .1))

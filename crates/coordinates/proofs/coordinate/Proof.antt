@@ -16,7 +16,9 @@ enum-known-p : tie.Need-enum-known-p
 enum-known-p c = search needs
 
 of-point-requires : tie.Need-of-point-requires
-of-point-requires c κs = let l = c .before .before .before .before .if1 .left in (point-places _ _ (sym (c .before .p .given .1) ∙ c .before .before .before .one-decimal .ensures), omega arith)
+of-point-requires c κs =
+    let l = c .before .before .before .before .if1 .left in
+    (point-places _ _ (sym (c .before .p .given .1) ∙ c .before .before .before .one-decimal .ensures), omega arith)
 
 enum-told : tie.Need-enum-told
 enum-told c = search needs
@@ -31,13 +33,21 @@ enum-known-at : tie.Need-enum-known-at
 enum-known-at c = search needs
 
 returns-2 : tie.Need-returns-2
-returns-2 c = call-point _ (c .before .before .before .before .before .if1 .left) _ _ (sym (c .before .before .p .given .1) ∙ c .before .before .before .before .one-decimal .ensures) (c .of-point .ensures)
+returns-2 c =
+    call-point _ (c .before .before .before .before .before .if1 .left) _ _
+    (sym (c .before .before .p .given .1) ∙ c .before .before .before .before .one-decimal .ensures) (c .of-point .ensures)
 
 returns-3 : tie.Need-returns-3
-returns-3 c = call-none _ (c .before .before .before .before .before .before .if1 .left) (sym (c .before .before .before .enum-told .given .1) ∙ c .before .before .before .before .before .one-decimal .ensures) (sym (c .enum-told2 .given .1) ∙ c .before .before .first-bad .ensures)
+returns-3 c =
+    call-none _ (c .before .before .before .before .before .before .if1 .left)
+    (sym (c .before .before .before .enum-told .given .1) ∙ c .before .before .before .before .before .one-decimal .ensures)
+    (sym (c .enum-told2 .given .1) ∙ c .before .before .first-bad .ensures)
 
 returns-4 : tie.Need-returns-4
-returns-4 c = call-bad _ (c .before .before .before .before .before .before .before .if1 .left) (sym (c .before .before .before .before .enum-told .given .1) ∙ c .before .before .before .before .before .before .one-decimal .ensures) _ (sym (c .before .at .given .1) ∙ c .before .before .before .first-bad .ensures)
+returns-4 c =
+    call-bad _ (c .before .before .before .before .before .before .before .if1 .left)
+    (sym (c .before .before .before .before .enum-told .given .1) ∙ c .before .before .before .before .before .before .one-decimal .ensures) _
+    (sym (c .before .at .given .1) ∙ c .before .before .before .first-bad .ensures)
 
 pub coordinate-spec : {M : Type 1} → statement M
 coordinate-spec =

@@ -20,7 +20,9 @@ coordinate-requires : tie.Need-coordinate-requires
 coordinate-requires c κs = search needs
 
 returns-3 : tie.Need-returns-3
-returns-3 c = record-number _ _ _ _ (c .before .before .before .before .if1 .left) (c .before .before .before .if2 .left) (c .before .before .if3 .taken) _ (c .coordinate .ensures)
+returns-3 c =
+    record-number _ _ _ _ (c .before .before .before .before .if1 .left) (c .before .before .before .if2 .left) (c .before .before .if3 .taken) _
+    (c .coordinate .ensures)
 
 returns-4 : tie.Need-returns-4
 returns-4 c = record-other _ _ _ _ (c .before .before .if1 .left) (c .before .if2 .left) (c .if3 .left)

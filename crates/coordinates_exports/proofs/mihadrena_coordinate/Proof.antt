@@ -12,7 +12,9 @@ tell-requires : tie.Need-tell-requires
 tell-requires c κs = search needs
 
 returns : tie.Need-returns
-returns c = let e = c .before .before .before .coordinate .ensures in (c .tell .ensures .0 ∙ ap numberOf e, c .tell .ensures .1 ∙ ap (valueOr _) e, c .tell .ensures .2 ∙ ap (placeOr _) e)
+returns c =
+    let e = c .before .before .before .coordinate .ensures in
+    (c .tell .ensures .0 ∙ ap numberOf e, c .tell .ensures .1 ∙ ap (valueOr _) e, c .tell .ensures .2 ∙ ap (placeOr _) e)
 
 pub mihadrena-coordinate-spec : {M : Type 1} → statement M
 mihadrena-coordinate-spec = tie.close (tie.spec coordinate-requires tell-requires returns)

@@ -14,7 +14,9 @@ enum-known-v : tie.Need-enum-known-v
 enum-known-v c = search needs
 
 run-at-requires-2 : tie.Need-run-at-requires-2
-run-at-requires-2 c κs = let w = within-is _ _ (sym (c .before .v .given .1) ∙ c .before .before .before .run-at .ensures) in let x = w .0 in let y = w .1 in (omega arith, c .before .before .before .before .before .pre .1)
+run-at-requires-2 c κs =
+    let w = within-is _ _ (sym (c .before .v .given .1) ∙ c .before .before .before .run-at .ensures) in
+    (omega (arith, w .0, w .1), c .before .before .before .before .before .pre .1)
 
 enum-told : tie.Need-enum-told
 enum-told c = search needs

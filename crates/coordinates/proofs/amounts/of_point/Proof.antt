@@ -23,7 +23,11 @@ sub-f : tie.Need-sub-f
 sub-f c = let x = c .before .before .before .before .before .before .before .before .before .before .pre .0 .1 .0 in omega arith
 
 shifted-requires : tie.Need-shifted-requires
-shifted-requires c κs = let v = within-is _ _ (sym (c .before .before .before .before .before .before .m .given .1) ∙ c .before .before .before .before .before .before .before .before .all-digits .ensures) in let w = within-is _ _ (sym (c .before .before .e .given .1) ∙ c .before .before .before .before .run-at .ensures) in let x = v .0 in let y = v .1 in let z = w .0 in let t = w .1 in let p = c .before .before .before .before .before .before .before .before .before .before .pre in let f = p .0 .1 .1 in let l = p .1 in (omega arith, omega arith, omega arith)
+shifted-requires c κs =
+    let v = within-is _ _ (sym (c .before .before .before .before .before .before .m .given .1) ∙ c .before .before .before .before .before .before .before .before .all-digits .ensures) in
+    let w = within-is _ _ (sym (c .before .before .e .given .1) ∙ c .before .before .before .before .run-at .ensures) in
+    let p = c .before .before .before .before .before .before .before .before .before .before .pre in
+    (omega (arith, v .0, v .1), omega (arith, w .0, w .1), omega (arith, p .0 .1 .1, p .1))
 
 enum-told : tie.Need-enum-told
 enum-told c = search needs
@@ -32,10 +36,16 @@ enum-told-2 : tie.Need-enum-told-2
 enum-told-2 c = search needs
 
 returns : tie.Need-returns
-returns c = point-in _ _ _ _ _ (sym (c .before .before .before .before .before .before .before .m .given .1) ∙ c .before .before .before .before .before .before .before .before .before .all-digits .ensures) (sym (c .before .before .before .e .given .1) ∙ c .before .before .before .before .before .run-at .ensures) (c .shifted .ensures)
+returns c =
+    point-in _ _ _ _ _ (sym (c .before .before .before .before .before .before .before .m .given .1)
+    ∙ c .before .before .before .before .before .before .before .before .before .all-digits .ensures)
+    (sym (c .before .before .before .e .given .1) ∙ c .before .before .before .before .before .run-at .ensures) (c .shifted .ensures)
 
 returns-2 : tie.Need-returns-2
-returns-2 c = let p = c .before .before .before .before .before .before .before .before .pre in let f = p .0 .1 .1 in let l = p .1 in point-far _ _ _ (sym (c .before .before .before .before .m .given .1) ∙ c .before .before .before .before .before .before .all-digits .ensures) (sym (c .enum-told .given .1) ∙ c .before .before .run-at .ensures) (omega arith)
+returns-2 c =
+    let p = c .before .before .before .before .before .before .before .before .pre in
+    point-far _ _ _ (sym (c .before .before .before .before .m .given .1) ∙ c .before .before .before .before .before .before .all-digits .ensures) (sym (c .enum-told .given .1) ∙ c .before .before .run-at .ensures)
+    (omega (arith, p .0 .1 .1, p .1))
 
 returns-3 : tie.Need-returns-3
 returns-3 c = point-out _ _ (sym (c .enum-told2 .given .1) ∙ c .before .before .all-digits .ensures)

@@ -34,7 +34,9 @@ add-v : tie.Need-add-v Inv-loop μ-loop
 add-v c = let k : c .digit .result ≤ 16 = rw (c .digit .ensures) (digit-le _) in omega arith
 
 returns : tie.Need-returns Inv-loop μ-loop
-returns c = rw (c .before .before .before .before .loop .inv .0 ∙ value-more _ _ _ _ _ (c .before .before .before .loop-test .taken) (c .before .digit .ensures)) (within-out _ (lt-of-lt-of-le (c .if1 .taken) (value-ge 10 (omega arith) _ _)))
+returns c =
+    rw (c .before .before .before .before .loop .inv .0 ∙ value-more _ _ _ _ _ (c .before .before .before .loop-test .taken)
+    (c .before .digit .ensures)) (within-out _ (lt-of-lt-of-le (c .if1 .taken) (value-ge 10 (omega arith) _ _)))
 
 add-i : tie.Need-add-i Inv-loop μ-loop
 add-i c = omega arith
@@ -43,7 +45,11 @@ loop-less : tie.Need-loop-less Inv-loop μ-loop
 loop-less c = omega arith
 
 loop-again : tie.Need-loop-again Inv-loop μ-loop
-loop-again c = (c .before .before .before .before .loop .inv .0 ∙ value-more _ _ _ _ _ (c .before .before .before .loop-test .taken) (c .before .digit .ensures), c .if1 .left)
+loop-again c = (
+  c .before .before .before .before .loop .inv .0 ∙ value-more _ _ _ _ _ (c .before .before .before .loop-test .taken)
+      (c .before .digit .ensures),
+  c .if1 .left,
+)
 
 returns-2 : tie.Need-returns-2 Inv-loop μ-loop
 returns-2 c = rw (c .before .loop .inv .0 ∙ value-end _ _ _ _ (c .loop-test .left)) (within-in _ (c .before .loop .inv .1))
