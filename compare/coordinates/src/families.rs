@@ -120,7 +120,8 @@ fn ties(limits: &Limits, take: Take) {
 fn largest(limits: &Limits, take: Take) {
     let mut random = Random::new(limits, 3);
     for _ in 0..limits.count {
-        let digits = format!("{:0width$}", MOST_DIGITS - 500 + random.below(1_000), width = 16 + random.below(8) as usize);
+        let digits =
+            format!("{:0width$}", MOST_DIGITS - 500 + random.below(1_000), width = 16 + random.below(8) as usize);
         let (whole, fraction) = digits.split_at(random.below(digits.len() as u64 + 1) as usize);
         take(format!("{}{whole}.{fraction}{}", random.sign(), random.exponent(45)).as_bytes());
     }

@@ -1,5 +1,5 @@
 //! What a text's coordinate must be: the request's words, read anew, and Rust's `parse` for the value.
-use mihadrena::{coordinate, record_coordinate, raw, NoCoordinate, Record, Refusal};
+use mihadrena::{coordinate, raw, record_coordinate, NoCoordinate, Record, Refusal};
 use std::fmt;
 use std::str;
 
@@ -53,7 +53,11 @@ fn decimal(text: &[u8]) -> Option<(u128, i128)> {
                 return None;
             }
             let size = i128::try_from(number(digits)).expect("under 2^127");
-            if minus { -size } else { size }
+            if minus {
+                -size
+            } else {
+                size
+            }
         }
         _ => return None,
     };

@@ -82,7 +82,15 @@ pub fn record_coordinate<S: AsRef<[u8]> + ?Sized>(source: &S, record: &Record) -
     let (mut value, mut place) = (0.0, 0);
     // SAFETY: the pointer and the length are those of a slice, and both places are lent for the call.
     let answer = unsafe {
-        raw::mihadrena_record_coordinate(source.as_ptr(), source.len(), kind, start, end, &raw mut value, &raw mut place)
+        raw::mihadrena_record_coordinate(
+            source.as_ptr(),
+            source.len(),
+            kind,
+            start,
+            end,
+            &raw mut value,
+            &raw mut place,
+        )
     };
     told(answer, value, place)
 }
