@@ -42,6 +42,14 @@ place-absent n (x ∷ xs) f =
     (λ t. absurd (f 0 (omega arith) (same-is x n t)))
     (λ t. sym (if-no _ _ _ t (sym (ap suc (place-absent n xs (λ j g. f (suc j) (omega arith)))))))
 
+pub place-name : (n : Name) (l : List Name) → place n l < length l → getD l (place n l) [] ≡ n
+unfolding place
+place-name n [] h = absurd (omega arith)
+place-name n (y ∷ ys) h =
+    by-bool (same y n)
+    (λ t. rw t (same-is y n t))
+    (λ t. rw t (place-name n ys (let g = rw t at h in omega arith)))
+
 -- the names of a half
 module _ (w b : List ℕ) (p : ℕ) where
   pub length-first : (n : ℕ) → length (firstNames w b p n) ≡ n
@@ -164,6 +172,18 @@ module _ (w b : List ℕ) (t : Sound w b) where
         by-found (findOf w b p name)
         (λ n e. let r = find-in w b name p h e in found-at (r .party) (r .place) (r .there) (r .borne) ∙ ap At (sym (r .number)) ∙ sym e)
         (λ e. found-none (absent-all p h e) ∙ sym e)
+
+-- no name is in both halves
+pub names-apart : (w b : List ℕ) → Sound w b → (n : Name) → place n (namesOf w b 0) < length (namesOf w b 0) → place n (namesOf w b 1) ≡ length (namesOf w b 1)
+names-apart w b t n h =
+    let l = length-first w b 0 (count w 0) in
+    let k = place n (namesOf w b 0) in
+    let i : k < count w 0 = omega arith in
+    place-absent n (namesOf w b 1)
+    (λ j g e. let m : j < count w 1 = rw (length-first w b 1 (count w 1)) at g in
+    let x = t .single 0 k 1 j (omega arith) (omega arith) i m
+    (sym (first-at w b 0 (count w 0) k i) ∙ place-name n (namesOf w b 0) h ∙ sym e ∙ first-at w b 1 (count w 1) j m) .0 in
+    omega arith)
 
 -- one name more, in the book
 half-added : (x : Book) (p : ℕ) (n : Name) → half (added x p n) p ≡ half x p ++ (n ∷ [])

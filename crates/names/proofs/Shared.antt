@@ -17,6 +17,7 @@ use Rattle.names.specs.declared.Entered.the-variants.{Number, Refused}
 use Rattle.names.specs.declared.Found.the-variants.{At, Nothing}
 use Rattle.names.proofs.Gives.{by-found}
 use Rattle.names.proofs.Parts.{same-refl}
+use Rattle.names.proofs.Means.{place-name}
 
 -- places in a list that grows
 pub place-le : (n : Name) (l : List Name) → place n l ≤ length l
@@ -48,15 +49,7 @@ place-new n (y ∷ ys) h =
     (λ t. let g : 0 ≡ suc (length ys) = rw t at h in absurd (omega arith))
     (λ t. let g : suc (place n ys) ≡ suc (length ys) = rw t at h in rw t (ap suc (place-new n ys (omega arith))))
 
-pub place-name : (n : Name) (l : List Name) → place n l < length l → getD l (place n l) [] ≡ n
-unfolding place
-place-name n [] h = absurd (omega arith)
-place-name n (y ∷ ys) h =
-    by-bool (same y n)
-    (λ t. rw t (same-is y n t))
-    (λ t. rw t (place-name n ys (let g = rw t at h in omega arith)))
-
-length-more : (l : List Name) (x : Name) → length (l ++ (x ∷ [])) ≡ length l + 1
+pub length-more : (l : List Name) (x : Name) → length (l ++ (x ∷ [])) ≡ length l + 1
 length-more l x = length-append l (x ∷ [])
 
 -- where a name is
@@ -151,7 +144,7 @@ ways b p n two =
 
 -- ---- the request's sentences, in the book
 
-ask-stranger : (b : Book) (p : ℕ) (n : Name) → 2 ≤ p → ask b p n ≡ reply (Refused noParty) b
+pub ask-stranger : (b : Book) (p : ℕ) (n : Name) → 2 ≤ p → ask b p n ≡ reply (Refused noParty) b
 unfolding ask
 ask-stranger b p n h = sym (if-no _ _ _ (le-ltb p 2 h) refl)
 
@@ -160,7 +153,7 @@ unfolding ask
 ask-there b p n h e = sym (if-yes _ _ _ (lt-ltb p 2 h) (rw e))
 
 -- a call leaves the book as it was, or adds a name that is not there
-after-is : (b : Book) (p : ℕ) (n : Name) → (ask b p n .after ≡ b) ⊎ ((numberIn b n ≡ Nothing) × (p < 2) × (length (half b p) < halfNames) × (ask b p n .after ≡ added b p n))
+pub after-is : (b : Book) (p : ℕ) (n : Name) → (ask b p n .after ≡ b) ⊎ ((numberIn b n ≡ Nothing) × (p < 2) × (length (half b p) < halfNames) × (ask b p n .after ≡ added b p n))
 after-is b p n =
     by-bool (ltb p 2)
     (λ t. let two = ltb-true p 2 t in
