@@ -9,7 +9,7 @@ use lib.Dec.{eqb}
 use lib.ListN.{length, getD}
 use Rattle.laws.proofs.Choice.{by-bool, if-yes, if-no}
 use Rattle.names.specs.Layout.{count, used, slot, bears, inBounds, halfNames, halfBytes, firstBound, indexSlots, halfWords, tableNames}
-use Rattle.names.specs.Call.{slotOf, probe, probeOf, scan, scanned, lookupOf, orElse, findOf, laid, newWords, numbered, freeOf, Outcome, outcome, newOf, enterOf, outside, noParty, noRoom, looks}
+use Rattle.names.specs.Call.{slotOf, tagOf, proposes, probe, probeOf, scan, scanned, lookupOf, orElse, findOf, laid, newWords, numbered, freeOf, Outcome, outcome, newOf, enterOf, outside, noParty, noRoom, looks}
 use Rattle.names.specs.declared.Entered.the-variants.{Number, Refused}
 use Rattle.names.specs.declared.Proposal.{Proposal}
 use Rattle.names.specs.declared.Proposal.the-variants.{Entry, Free, Full}
@@ -90,7 +90,7 @@ module _ (w b : List ℕ) (name : List ℕ) where
   free-small p (suc n) s h =
       by-bool (eqb (slot w p s) 0)
       (λ t. rw (← probe-free w b p name (suc n) s refl (omega arith) (eqb-true _ _ t)) (omega arith))
-      (λ t. by-bool (bears w b p name (slot w p s - 1))
+      (λ t. by-bool (proposes w b p name (slot w p s))
       (λ g. rw (← probe-hit w b p name (suc n) s refl (omega arith) (eqb-false _ _ t) g) (omega arith))
       (λ g. let f : suc n - 1 ≡ n = omega arith in
       rw (← probe-miss w b p name (suc n) s refl (omega arith) (eqb-false _ _ t) g, f) (free-small p n ((s + 1) % indexSlots) (next-small s))))
@@ -127,7 +127,7 @@ module _ (w b : List ℕ) (p : ℕ) (name : List ℕ) where
       if-yes _ _ _ (lt-ltb (count w p) halfNames (omega arith)) (if-no _ _ _ (lt-leb (used w p + length name) halfBytes (omega arith)) refl)
 
   pub new-put : {n from s : ℕ} {v c : List ℕ} → n ≡ count w p → n < halfNames → from ≡ getD w (p * halfWords + firstBound + n) 0 → used w p ≤ halfBytes → length name ≤ halfBytes - from
-      → s ≡ freeOf (probeOf w b p name) → v ≡ newWords w p s (length name) → c ≡ laid (p * halfBytes + from) name b → outcome (Number (p * halfNames + n)) v c ≡ newOf w b p name
+      → s ≡ freeOf (probeOf w b p name) → v ≡ newWords w p s (tagOf name) (length name) → c ≡ laid (p * halfBytes + from) name b → outcome (Number (p * halfNames + n)) v c ≡ newOf w b p name
   unfolding newOf
   new-put {n} {from} {s} {v} {c} e h f u g i j k =
       let q : from ≡ used w p = f ∙ rw e in

@@ -8,45 +8,75 @@ use mathlib.Core.Path.{_≡_, refl, sym, ap, _∙_}
 use mathlib.Core.Bool.{Bool, true, false}
 use mathlib.Core.List.{List, [], _∷_, append-assoc}
 use lib.Dec.{eqb, ltb, leb}
-use lib.ListN.{length, getD, drop, take, set, replicate, drop-of-length-le, length-replicate, length-append, length-drop, replicate-append-replicate}
+use lib.ListN.{length, getD, drop, take, set, replicate, length-replicate, length-append, length-drop, replicate-append-replicate}
 use lib.Seq.{drop-cons, paste, take-length, set-at, length-take-le}
 use Rattle.laws.specs.Texts.{same}
 use Rattle.laws.specs.Lent.{written}
+use Rattle.laws.proofs.Places.{past, here}
 use Rattle.laws.proofs.Choice.{if-yes, if-no, by-bool}
 use Rattle.laws.specs.Choice.{if_then_else_}
 use Rattle.names.specs.Layout.{count, bound, used, slot, nameAt, bears, halfBounds, inBounds, halfNames, halfBytes, firstBound, firstSlot, indexSlots, halfWords, tableNames, tableBytes, tableWords, nowhere, placed, cut, placeAt}
-use Rattle.names.specs.Call.{mix, slotOf, probe, scan, scanned, laid, newWords, markOf, nameOf, outside, noNumber, factor, hashes, hashesASlot, openOf, opening, placeOf}
+use Rattle.names.specs.Call.{factor, hashes, hashesASlot, turn, four, rest, mix, hashOf, slotOf, tagOf, entryIn, tagIn, proposes, probe, scan, scanned, laid, newWords, markOf, nameOf, outside, noNumber, openOf, opening, placeOf}
 use Rattle.names.specs.declared.Place.{Place}
 use Rattle.names.specs.declared.Proposal.the-variants.{Entry, Free, Full}
 use Rattle.names.specs.declared.Found.the-variants.{At, Nothing}
 
 -- the hash
-pub mix-more : (h : ℕ) (s : List ℕ) (i : ℕ) → i < length s → mix h (drop i s) ≡ mix (((h + getD s i 0) * factor) % hashes) (drop (i + 1) s)
-unfolding mix
-mix-more h s i k = rw (drop-cons s i 0 k) (rw (add-one i))
+pub rest-more : (h : ℕ) (s : List ℕ) (i : ℕ) → i < length s → rest h (drop i s) ≡ rest (turn h (getD s i 0)) (drop (i + 1) s)
+unfolding rest
+rest-more h s i k = rw (here s i k)
 
-pub mix-all : (h : ℕ) (s : List ℕ) (i : ℕ) → length s ≤ i → mix h (drop i s) ≡ h
-unfolding mix
-mix-all h s i k = rw (drop-of-length-le s k)
+pub rest-all : (h : ℕ) (s : List ℕ) (i : ℕ) → length s ≤ i → rest h (drop i s) ≡ h
+unfolding rest
+rest-all h s i k = rw (past s i k)
 
-pub mod-small : (n : ℕ) → n % hashes < hashes
-mod-small n = mod-lt n (omega arith)
-
-pub mix-small : (h : ℕ) (s : List ℕ) → h < hashes → mix h s < hashes
+pub mix-more : (h : ℕ) (s : List ℕ) (i : ℕ) → i + 4 ≤ length s
+    → mix h (drop i s) ≡ mix (turn h (four (getD s i 0) (getD s (i + 1) 0) (getD s (i + 2) 0) (getD s (i + 3) 0))) (drop (i + 4) s)
 unfolding mix
+mix-more h s i k =
+    let two : i + 1 + 1 ≡ i + 2 = omega arith in
+    let three : i + 2 + 1 ≡ i + 3 = omega arith in
+    let all : i + 3 + 1 ≡ i + 4 = omega arith in
+    rw (here s i (omega arith), here s (i + 1) (omega arith), two, here s (i + 2) (omega arith), three, here s (i + 3) (omega arith), all)
+
+mix-few : (h : ℕ) (s : List ℕ) → length s < 4 → mix h s ≡ rest h s
+unfolding mix rest
+mix-few h [] k = refl
+mix-few h (a ∷ []) k = refl
+mix-few h (a ∷ b ∷ []) k = refl
+mix-few h (a ∷ b ∷ c ∷ []) k = refl
+mix-few h (a ∷ b ∷ c ∷ d ∷ s) k = absurd (omega arith)
+
+pub mix-rest : (h : ℕ) (s : List ℕ) (i : ℕ) → length s - i < 4 → mix h (drop i s) ≡ rest h (drop i s)
+mix-rest h s i k = mix-few h (drop i s) (rw (length-drop i s) k)
+
+turn-small : (h x : ℕ) → turn h x < hashes
+turn-small h x = mod-lt ((h + x) * factor) (omega arith)
+
+rest-small : (h : ℕ) (s : List ℕ) → h < hashes → rest h s < hashes
+unfolding rest
+rest-small h [] k = k
+rest-small h (c ∷ s) k = rest-small (turn h c) s (turn-small h c)
+
+mix-small : (h : ℕ) (s : List ℕ) → h < hashes → mix h s < hashes
+unfolding mix
+mix-small h (a ∷ b ∷ c ∷ d ∷ s) k = mix-small (turn h (four a b c d)) s (turn-small h (four a b c d))
+mix-small h (a ∷ b ∷ c ∷ []) k = rest-small h (a ∷ b ∷ c ∷ []) k
+mix-small h (a ∷ b ∷ []) k = rest-small h (a ∷ b ∷ []) k
+mix-small h (a ∷ []) k = rest-small h (a ∷ []) k
 mix-small h [] k = k
-mix-small h (c ∷ s) k = mix-small (((h + c) * factor) % hashes) s (mod-small ((h + c) * factor))
+
+pub hash-small : (s : List ℕ) → hashOf s < hashes
+hash-small s = mix-small 0 s (omega arith)
 
 pub slot-small : (s : List ℕ) → slotOf s < indexSlots
-unfolding slotOf
-slot-small s = let h = mix-small 0 s (omega arith) in div-lt-iff-lt-mul {k = hashesASlot} {x = mix 0 s} {y = indexSlots} (omega arith) .1 (omega arith)
+slot-small s = let h = hash-small s in div-lt-iff-lt-mul {k = hashesASlot} {x = hashOf s} {y = indexSlots} (omega arith) .1 (omega arith)
+
+pub tag-small : (s : List ℕ) → tagOf s < hashesASlot
+tag-small s = mod-lt (hashOf s) (omega arith)
 
 pub next-small : (s : ℕ) → (s + 1) % indexSlots < indexSlots
 next-small s = mod-lt (s + 1) (omega arith)
-
-pub hash-all : (h : ℕ) (s : List ℕ) (i : ℕ) → mix 0 s ≡ mix h (drop i s) → length s ≤ i → h / hashesASlot ≡ slotOf s
-unfolding slotOf
-hash-all h s i e k = rw (e, mix-all h s i k)
 
 -- the copy
 pub laid-all : (b : List ℕ) (at : ℕ) (name : List ℕ) (i : ℕ) {now : List ℕ} → now ≡ paste b at name i → i ≡ length name → now ≡ laid at name b
@@ -74,10 +104,10 @@ pub cleared-all : (n : ℕ) (w : List ℕ) → n ≡ tableWords → cleared n w 
 cleared-all n w e = rw e
 
 -- the words with one name more
-pub put-words : (w : List ℕ) (p s len : ℕ) {n from : ℕ} → n ≡ count w p → from ≡ used w p
-    → set (set (set w (p * halfWords + firstSlot + s) (n + 1)) (p * halfWords + firstBound + (n + 1)) (from + len)) (p * halfWords) (n + 1) ≡ newWords w p s len
+pub put-words : (w : List ℕ) (p s t len : ℕ) {n from : ℕ} → n ≡ count w p → from ≡ used w p
+    → set (set (set w (p * halfWords + firstSlot + s) (t * halfNames + n + 1)) (p * halfWords + firstBound + (n + 1)) (from + len)) (p * halfWords) (n + 1) ≡ newWords w p s t len
 unfolding newWords
-put-words w p s len e f = rw (e, f)
+put-words w p s t len e f = rw (e, f)
 
 -- the bounds
 pub half-over : (w : List ℕ) (p : ℕ) {n : ℕ} → n ≡ count w p → halfNames < n → false ≡ halfBounds w p
@@ -124,6 +154,10 @@ place-within w p k h =
     (λ u. rw (← place-past w p k refl refl up (leb-false (bound w p (k + 1)) halfBytes u)) (nowhere-within tableBytes)))
     (λ t. rw (← place-back w p k refl refl (leb-false (bound w p k) (bound w p (k + 1)) t)) (nowhere-within tableBytes))
 
+if-both : (t s : Bool) → (if t then s else false) ≡ true → (t ≡ true) × (s ≡ true)
+if-both true s e = (refl, e)
+if-both false s e = let y : _≡_ {A = ℕ} 0 1 = cc in absurd (omega arith)
+
 -- what an index or a reading finds is an entry that bears the name
 module _ (w b : List ℕ) (p : ℕ) (name : List ℕ) where
   pub bears-out : (k : ℕ) {n : ℕ} → n ≡ count w p → n ≤ k → false ≡ bears w b p name k
@@ -143,15 +177,30 @@ module _ (w b : List ℕ) (p : ℕ) (name : List ℕ) where
   probe-free zero s e h g = absurd (omega arith)
   probe-free (suc n) s e h g = if-yes _ _ _ (eq-eqb (slot w p s) 0 (omega arith)) refl
 
-  pub probe-hit : (n s : ℕ) {v : ℕ} → v ≡ slot w p s → 0 < n → (v ≡ 0 → ⊥) → bears w b p name (v - 1) ≡ true → Entry (v - 1) ≡ probe n w b p name s
+  -- a slot's word by its tag
+  pub proposes-not : (v : ℕ) {t : ℕ} → t ≡ tagOf name → (tagIn v ≡ t → ⊥) → false ≡ proposes w b p name v
+  unfolding proposes
+  proposes-not v e h = if-no _ _ _ (ne-eqb (tagIn v) (tagOf name) (λ z. h (z ∙ sym e))) refl
+
+  pub proposes-as : (v : ℕ) {t : ℕ} → t ≡ tagOf name → tagIn v ≡ t → bears w b p name (entryIn v) ≡ proposes w b p name v
+  unfolding proposes
+  proposes-as v e h = if-yes _ _ _ (eq-eqb (tagIn v) (tagOf name) (h ∙ e)) refl
+
+  pub proposes-is : (v : ℕ) → proposes w b p name v ≡ true → (tagIn v ≡ tagOf name) × (bears w b p name (entryIn v) ≡ true)
+  unfolding proposes
+  proposes-is v e = let f = if-both (eqb (tagIn v) (tagOf name)) (bears w b p name (entryIn v)) e in (eqb-true (tagIn v) (tagOf name) (f .0), f .1)
+
+  pub probe-hit : (n s : ℕ) {v : ℕ} → v ≡ slot w p s → 0 < n → (v ≡ 0 → ⊥) → proposes w b p name v ≡ true → Entry (entryIn v) ≡ probe n w b p name s
   unfolding probe
   probe-hit zero s e h g i = absurd (omega arith)
   probe-hit (suc n) s e h g i = if-no _ _ _ (ne-eqb (slot w p s) 0 (λ z. g (e ∙ z))) (if-yes _ _ _ (rw e at i) (rw e))
 
-  pub probe-miss : (n s : ℕ) {v : ℕ} → v ≡ slot w p s → 0 < n → (v ≡ 0 → ⊥) → bears w b p name (v - 1) ≡ false → probe (n - 1) w b p name ((s + 1) % indexSlots) ≡ probe n w b p name s
+  pub probe-miss : (n s : ℕ) {v : ℕ} → v ≡ slot w p s → 0 < n → (v ≡ 0 → ⊥) → proposes w b p name v ≡ false
+      → probe (n - 1) w b p name ((s + 1) % indexSlots) ≡ probe n w b p name s
   unfolding probe
   probe-miss zero s e h g i = absurd (omega arith)
-  probe-miss (suc n) s e h g i = let f : suc n - 1 ≡ n = omega arith in rw f (if-no _ _ _ (ne-eqb (slot w p s) 0 (λ z. g (e ∙ z))) (if-no _ _ _ (rw e at i) refl))
+  probe-miss (suc n) s e h g i =
+      let f : suc n - 1 ≡ n = omega arith in rw f (if-no _ _ _ (ne-eqb (slot w p s) 0 (λ z. g (e ∙ z))) (if-no _ _ _ (rw e at i) refl))
 
   pub probe-end : (n s : ℕ) → n ≡ 0 → Full ≡ probe n w b p name s
   unfolding probe
@@ -163,8 +212,9 @@ module _ (w b : List ℕ) (p : ℕ) (name : List ℕ) where
   probe-in (suc n) s {k} e =
       by-bool (eqb (slot w p s) 0)
       (λ h. let f = probe-free (suc n) s refl (omega arith) (eqb-true _ _ h) ∙ e in let y : _≡_ {A = ℕ} 0 1 = cc in absurd (omega arith))
-      (λ h. by-bool (bears w b p name (slot w p s - 1))
-      (λ g. let f = probe-hit (suc n) s refl (omega arith) (eqb-false _ _ h) g ∙ e in let x : slot w p s - 1 ≡ k = cc in rw (← x) g)
+      (λ h. by-bool (proposes w b p name (slot w p s))
+      (λ g. let f = probe-hit (suc n) s refl (omega arith) (eqb-false _ _ h) g ∙ e in
+      let x : entryIn (slot w p s) ≡ k = cc in rw (← x) (proposes-is (slot w p s) g .1))
       (λ g. probe-in n ((s + 1) % indexSlots) (let f : suc n - 1 ≡ n = omega arith in (rw f at (probe-miss (suc n) s refl (omega arith) (eqb-false _ _ h) g)) ∙ e)))
 
   pub scan-hit : (n k : ℕ) → k < n → bears w b p name k ≡ true → At (p * halfNames + k) ≡ scan (n - k) w b p name k
@@ -188,10 +238,6 @@ pub record Bounds (w b : List ℕ) : Type 0 where
   pub bytes : tableBytes ≤ length b
   pub few : (p : ℕ) → p < 2 → count w p ≤ halfNames
   pub short : (p : ℕ) → p < 2 → used w p ≤ halfBytes
-
-if-both : (t s : Bool) → (if t then s else false) ≡ true → (t ≡ true) × (s ≡ true)
-if-both true s e = (refl, e)
-if-both false s e = let y : _≡_ {A = ℕ} 0 1 = cc in absurd (omega arith)
 
 pub halves : (P : ℕ → Type 0) → P 0 → P 1 → (p : ℕ) → p < 2 → P p
 halves P x y zero h = x

@@ -13,7 +13,7 @@ use Rattle.laws.specs.Texts.{same}
 use Rattle.laws.proofs.Choice.{by-bool, if-yes, if-no}
 use Rattle.laws.proofs.Compared.{same-is}
 use Rattle.names.specs.Layout.{count, bound, used, nameAt, bears, halfNames, halfBytes, indexSlots, tableWords}
-use Rattle.names.specs.Call.{lookupOf, findOf, probeOf, slotOf, freeOf, newWords, laid, Outcome, newOf, enterOf, looks}
+use Rattle.names.specs.Call.{lookupOf, findOf, probeOf, slotOf, tagOf, freeOf, newWords, laid, Outcome, newOf, enterOf, looks}
 use Rattle.names.specs.Book.{Name, Book, half, place, size, numberIn, added, Reply, newIn, ask, firstNames, namesOf, bookOf}
 use Rattle.names.specs.declared.Found.the-variants.{At, Nothing}
 use Rattle.names.proofs.Laws.{slot-small, bears-in, bears-same, bounds, halves}
@@ -220,7 +220,7 @@ module _ (w b : List ℕ) (t : Sound w b) (p : ℕ) (two : p < 2) (name : Name) 
 
   module _ (few : count w p < halfNames) (fits : used w p + length name ≤ halfBytes) where
     abbrev v : List ℕ
-    v = newWords w p s (length name)
+    v = newWords w p s (tagOf name) (length name)
 
     abbrev c : List ℕ
     c = laid (p * halfBytes + used w p) name b
@@ -232,7 +232,7 @@ module _ (w b : List ℕ) (t : Sound w b) (p : ℕ) (two : p < 2) (name : Name) 
     unfolding firstNames
     names-own =
         rw (
-          new-count w p s (length name) room two few,
+          new-count w p s (tagOf name) (length name) room two few,
           add-one (count w p),
           entry-new w b name p s t two few fits small refl absent,
           first-same w b p v c (count w p) (λ k h. entry-old w b name p s t two few fits small refl absent p k two h),
@@ -240,7 +240,7 @@ module _ (w b : List ℕ) (t : Sound w b) (p : ℕ) (two : p < 2) (name : Name) 
 
     names-other : (q : ℕ) → q < 2 → (q ≡ p → ⊥) → namesOf v c q ≡ namesOf w b q
     names-other q h d =
-        rw (other-count w p s (length name) room two few q h d small)
+        rw (other-count w p s (tagOf name) (length name) room two few q h d small)
         (first-same w b q v c (count w q) (λ k g. entry-old w b name p s t two few fits small refl absent q k h g))
 
     meant-put : Meant w b (newOf w b p name) (newIn (bookOf w b) p name)

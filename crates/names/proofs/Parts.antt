@@ -12,7 +12,7 @@ use lib.Seq.{getD-set-same, getD-set-other, take-append-le, drop-append-add, dro
 use Rattle.laws.specs.Texts.{same}
 use Rattle.laws.proofs.Choice.{by-bool}
 use Rattle.names.specs.Layout.{count, bound, used, slot, halfNames, firstBound, firstSlot, indexSlots, halfWords, tableWords}
-use Rattle.names.specs.Call.{newWords, laid}
+use Rattle.names.specs.Call.{slotWord, newWords, laid}
 
 -- equal texts are equal
 pub same-refl : (s : List ℕ) → same s s ≡ true
@@ -82,46 +82,46 @@ module _ (w : List ℕ) (i a j b k c : ℕ) where
 pub apart : (a b : ℕ) → (a ≡ b → ⊥) → (a + 1 ≤ b) ⊎ (b + 1 ≤ a)
 apart a b f = by-bool (leb (a + 1) b) (λ t. inl (leb-true (a + 1) b t)) (λ t. inr (omega (arith, leb-false (a + 1) b t, f)))
 
-module _ (w : List ℕ) (p s n : ℕ) where
+module _ (w : List ℕ) (p s t n : ℕ) where
   pub word-other : (i : ℕ) → (i ≡ p * halfWords + firstSlot + s → ⊥) → (i ≡ p * halfWords + firstBound + (count w p + 1) → ⊥) → (i ≡ p * halfWords → ⊥)
-      → getD (newWords w p s n) i 0 ≡ getD w i 0
+      → getD (newWords w p s t n) i 0 ≡ getD w i 0
   unfolding newWords
   word-other i x y z = stores-other w _ _ _ _ _ _ i x y z
 
-  pub length-new : length (newWords w p s n) ≡ length w
+  pub length-new : length (newWords w p s t n) ≡ length w
   unfolding newWords
   length-new = simp length-set
 
   module _ (room : tableWords ≤ length w) (two : p < 2) (few : count w p < halfNames) where
-    pub new-count : count (newWords w p s n) p ≡ count w p + 1
+    pub new-count : count (newWords w p s t n) p ≡ count w p + 1
     unfolding newWords
     new-count = stores-last w _ _ _ _ (p * halfWords) _ (omega arith)
 
-    pub new-bound : bound (newWords w p s n) p (count w p + 1) ≡ used w p + n
+    pub new-bound : bound (newWords w p s t n) p (count w p + 1) ≡ used w p + n
     unfolding newWords
     new-bound = stores-second w _ _ (p * halfWords + firstBound + (count w p + 1)) _ (p * halfWords) _ (omega arith) (λ e. omega arith)
 
-    pub new-slot : s < indexSlots + 1 → slot (newWords w p s n) p s ≡ count w p + 1
+    pub new-slot : s < indexSlots + 1 → slot (newWords w p s t n) p s ≡ slotWord t (count w p)
     unfolding newWords
     new-slot h = stores-first w (p * halfWords + firstSlot + s) _ _ _ (p * halfWords) _ (omega arith) (λ e. omega arith) (λ e. omega arith)
 
-    pub old-slot : (i : ℕ) → i < indexSlots → (i ≡ s → ⊥) → slot (newWords w p s n) p i ≡ slot w p i
+    pub old-slot : (i : ℕ) → i < indexSlots → (i ≡ s → ⊥) → slot (newWords w p s t n) p i ≡ slot w p i
     old-slot i h d = word-other (p * halfWords + firstSlot + i) (λ e. d (omega arith)) (λ e. omega arith) (λ e. omega arith)
 
-    pub old-bound : (k : ℕ) → k ≤ count w p → bound (newWords w p s n) p k ≡ bound w p k
+    pub old-bound : (k : ℕ) → k ≤ count w p → bound (newWords w p s t n) p k ≡ bound w p k
     old-bound k h = word-other (p * halfWords + firstBound + k) (λ e. omega arith) (λ e. omega arith) (λ e. omega arith)
 
     -- a word of the other half, or past the table
-    pub other-word : (q i : ℕ) → q < 2 → (q ≡ p → ⊥) → s < indexSlots + 1 → i < halfWords → getD (newWords w p s n) (q * halfWords + i) 0 ≡ getD w (q * halfWords + i) 0
+    pub other-word : (q i : ℕ) → q < 2 → (q ≡ p → ⊥) → s < indexSlots + 1 → i < halfWords → getD (newWords w p s t n) (q * halfWords + i) 0 ≡ getD w (q * halfWords + i) 0
     other-word q i h g j l =
         ⊎-elim
         (λ d. word-other (q * halfWords + i) (λ e. omega arith) (λ e. omega arith) (λ e. omega arith))
         (λ d. word-other (q * halfWords + i) (λ e. omega arith) (λ e. omega arith) (λ e. omega arith))
         (apart q p g)
 
-    pub other-count : (q : ℕ) → q < 2 → (q ≡ p → ⊥) → s < indexSlots + 1 → count (newWords w p s n) q ≡ count w q
+    pub other-count : (q : ℕ) → q < 2 → (q ≡ p → ⊥) → s < indexSlots + 1 → count (newWords w p s t n) q ≡ count w q
     other-count q h g j = let e : q * halfWords ≡ q * halfWords + 0 = omega arith in rw e (other-word q 0 h g j (omega arith))
 
-    pub other-bound : (q k : ℕ) → q < 2 → (q ≡ p → ⊥) → s < indexSlots + 1 → k ≤ halfNames → bound (newWords w p s n) q k ≡ bound w q k
+    pub other-bound : (q k : ℕ) → q < 2 → (q ≡ p → ⊥) → s < indexSlots + 1 → k ≤ halfNames → bound (newWords w p s t n) q k ≡ bound w q k
     other-bound q k h g j i =
         let e : q * halfWords + firstBound + k ≡ q * halfWords + (firstBound + k) = omega arith in rw e (other-word q (firstBound + k) h g j (omega arith))

@@ -11,8 +11,8 @@ use lib.ListN.{length, take, drop}
 use Rattle.laws.specs.Texts.{same}
 use Rattle.laws.proofs.Choice.{by-bool, if-yes}
 use Rattle.names.specs.Layout.{count, bound, used, slot, nameAt, bears, halfBounds, inBounds, halfNames, halfBytes, firstSlot, indexSlots, halfWords, tableWords}
-use Rattle.names.specs.Call.{newWords, laid, probeOf, slotOf, freeOf, looks}
-use Rattle.names.proofs.Laws.{name-part, Bounds, bounds, length-laid, bears-in, bears-same, slot-small}
+use Rattle.names.specs.Call.{slotOf, tagOf, slotWord, entryIn, tagIn, proposes, newWords, laid, probeOf, freeOf, looks}
+use Rattle.names.proofs.Laws.{name-part, Bounds, bounds, length-laid, bears-in, bears-same, proposes-as, proposes-is, slot-small}
 use Rattle.names.proofs.Gives.{by-proposal}
 use Rattle.names.proofs.Index.{Reached, entry-free, full-free, free-empty, stays-reached, comes-reached}
 use Rattle.names.proofs.Parts.{part-before, part-behind, part-new, apart, length-new, new-count, new-bound, new-slot, old-slot, old-bound, other-word, other-count, other-bound, same-refl}
@@ -65,7 +65,7 @@ name-same w b v c q k e f up l g = sym (name-part v q k (sym e) (sym f) c up l) 
 module _ (w b name : List ℕ) (p s : ℕ) (t : Sound w b) (two : p < 2) (few : count w p < halfNames) (fits : used w p + length name ≤ halfBytes) (small : s < indexSlots + 1) (free : s ≡ freeOf (probeOf w b p name))
     (absent : (q k : ℕ) → q < 2 → k < count w q → nameAt w b q k ≡ name → ⊥) where
   abbrev v : List ℕ
-  v = newWords w p s (length name)
+  v = newWords w p s (tagOf name) (length name)
 
   abbrev c : List ℕ
   c = laid (p * halfBytes + used w p) name b
@@ -79,8 +79,8 @@ module _ (w b name : List ℕ) (p s : ℕ) (t : Sound w b) (two : p < 2) (few : 
   own-old : (k : ℕ) → k < count w p → nameAt v c p k ≡ nameAt w b p k
   own-old k h =
       name-same w b v c p k
-      (old-bound w p s (length name) room two few k (omega arith))
-      (old-bound w p s (length name) room two few (k + 1) (omega arith))
+      (old-bound w p s (tagOf name) (length name) room two few k (omega arith))
+      (old-bound w p s (tagOf name) (length name) room two few (k + 1) (omega arith))
       (t .rising p k two h)
       (below-all w b t p (k + 1) two (omega arith))
       (part-before (p * halfBytes + used w p) name b long (p * halfBytes + bound w p k) (p * halfBytes + bound w p (k + 1))
@@ -90,8 +90,8 @@ module _ (w b name : List ℕ) (p s : ℕ) (t : Sound w b) (two : p < 2) (few : 
   other-old : (q k : ℕ) → q < 2 → (q ≡ p → ⊥) → k < count w q → nameAt v c q k ≡ nameAt w b q k
   other-old q k h g i =
       name-same w b v c q k
-      (other-bound w p s (length name) room two few q k h g small (omega (arith, bounds w b (t .inside) .few q h)))
-      (other-bound w p s (length name) room two few q (k + 1) h g small (omega (arith, bounds w b (t .inside) .few q h)))
+      (other-bound w p s (tagOf name) (length name) room two few q k h g small (omega (arith, bounds w b (t .inside) .few q h)))
+      (other-bound w p s (tagOf name) (length name) room two few q (k + 1) h g small (omega (arith, bounds w b (t .inside) .few q h)))
       (t .rising q k h i)
       (below-all w b t q (k + 1) h (omega arith))
       (⊎-elim
@@ -106,8 +106,8 @@ module _ (w b name : List ℕ) (p s : ℕ) (t : Sound w b) (two : p < 2) (few : 
   pub entry-new : nameAt v c p (count w p) ≡ name
   entry-new =
       let e : (p * halfBytes + (used w p + length name)) - (p * halfBytes + used w p) ≡ length name = omega arith in
-      sym (name-part v p (count w p) (sym (old-bound w p s (length name) room two few (count w p) (omega arith)))
-      (sym (new-bound w p s (length name) room two few)) c (omega arith) fits)
+      sym (name-part v p (count w p) (sym (old-bound w p s (tagOf name) (length name) room two few (count w p) (omega arith)))
+      (sym (new-bound w p s (tagOf name) (length name) room two few)) c (omega arith) fits)
       ∙ rw e (part-new (p * halfBytes + used w p) name b long)
 
   pub entry-view : (q k : ℕ) → q < 2 → k < count v q
@@ -115,52 +115,52 @@ module _ (w b name : List ℕ) (p s : ℕ) (t : Sound w b) (two : p < 2) (few : 
   entry-view q k h g =
       by-bool (eqb q p)
       (λ x. let e = eqb-true q p x in
-      let n : count v q ≡ count w p + 1 = ap (count v) e ∙ new-count w p s (length name) room two few in
+      let n : count v q ≡ count w p + 1 = ap (count v) e ∙ new-count w p s (tagOf name) (length name) room two few in
       by-bool (eqb k (count w p))
       (λ y. let f = eqb-true k (count w p) y in inr (e, f, rw (e, f) entry-new))
       (λ y. let f = eqb-false k (count w p) y in let i : k < count w p = omega (arith, f) in inl (rw e i, rw e (own-old k i))))
       (λ x. let d = eqb-false q p x in
-      let n = other-count w p s (length name) room two few q h d small in
+      let n = other-count w p s (tagOf name) (length name) room two few q h d small in
       let i : k < count w q = omega arith in inl (i, other-old q k h d i))
 
   count-after : (q : ℕ) → q < 2 → count v q ≤ halfNames
   count-after q h =
       by-bool (eqb q p)
-      (λ x. rw (eqb-true q p x) (omega (arith, new-count w p s (length name) room two few)))
-      (λ x. omega (arith, other-count w p s (length name) room two few q h (eqb-false q p x) small, bounds w b (t .inside) .few q h))
+      (λ x. rw (eqb-true q p x) (omega (arith, new-count w p s (tagOf name) (length name) room two few)))
+      (λ x. omega (arith, other-count w p s (tagOf name) (length name) room two few q h (eqb-false q p x) small, bounds w b (t .inside) .few q h))
 
   used-after : (q : ℕ) → q < 2 → used v q ≤ halfBytes
   used-after q h =
       by-bool (eqb q p)
-      (λ x. rw (eqb-true q p x, new-count w p s (length name) room two few) (omega (arith, new-bound w p s (length name) room two few)))
-      (λ x. rw (other-count w p s (length name) room two few q h (eqb-false q p x) small)
-      (omega (arith, other-bound w p s (length name) room two few q (count w q) h (eqb-false q p x) small (bounds w b (t .inside) .few q h), bounds w b (t .inside) .short q h)))
+      (λ x. rw (eqb-true q p x, new-count w p s (tagOf name) (length name) room two few) (omega (arith, new-bound w p s (tagOf name) (length name) room two few)))
+      (λ x. rw (other-count w p s (tagOf name) (length name) room two few q h (eqb-false q p x) small)
+      (omega (arith, other-bound w p s (tagOf name) (length name) room two few q (count w q) h (eqb-false q p x) small (bounds w b (t .inside) .few q h), bounds w b (t .inside) .short q h)))
 
   first-after : (q : ℕ) → q < 2 → bound v q 0 ≡ 0
   first-after q h =
       by-bool (eqb q p)
-      (λ x. rw (eqb-true q p x) (old-bound w p s (length name) room two few 0 (omega arith) ∙ t .first p two))
-      (λ x. other-bound w p s (length name) room two few q 0 h (eqb-false q p x) small (omega arith) ∙ t .first q h)
+      (λ x. rw (eqb-true q p x) (old-bound w p s (tagOf name) (length name) room two few 0 (omega arith) ∙ t .first p two))
+      (λ x. other-bound w p s (tagOf name) (length name) room two few q 0 h (eqb-false q p x) small (omega arith) ∙ t .first q h)
 
   rising-own : (k : ℕ) → k < count v p → bound v p k ≤ bound v p (k + 1)
   rising-own k g =
-      let n = new-count w p s (length name) room two few in
+      let n = new-count w p s (tagOf name) (length name) room two few in
       by-bool (eqb k (count w p))
-      (λ y. rw (eqb-true k (count w p) y) (omega (arith, new-bound w p s (length name) room two few, old-bound w p s (length name) room two few (count w p) (omega arith))))
+      (λ y. rw (eqb-true k (count w p) y) (omega (arith, new-bound w p s (tagOf name) (length name) room two few, old-bound w p s (tagOf name) (length name) room two few (count w p) (omega arith))))
       (λ y. let f = eqb-false k (count w p) y in let i : k < count w p = omega (arith, f) in
-      omega (arith, old-bound w p s (length name) room two few k (omega arith), old-bound w p s (length name) room two few (k + 1) (omega arith), t .rising p k two i))
+      omega (arith, old-bound w p s (tagOf name) (length name) room two few k (omega arith), old-bound w p s (tagOf name) (length name) room two few (k + 1) (omega arith), t .rising p k two i))
 
   rising-after : (q k : ℕ) → q < 2 → k < count v q → bound v q k ≤ bound v q (k + 1)
   rising-after q k h g =
       by-bool (eqb q p)
       (λ x. let e = eqb-true q p x in rw e (rising-own k (rw e at g)))
       (λ x. let d = eqb-false q p x in
-      let n = other-count w p s (length name) room two few q h d small in
+      let n = other-count w p s (tagOf name) (length name) room two few q h d small in
       let i : k < count w q = omega arith in
       omega (
         arith,
-        other-bound w p s (length name) room two few q k h d small (omega (arith, bounds w b (t .inside) .few q h)),
-        other-bound w p s (length name) room two few q (k + 1) h d small (omega (arith, bounds w b (t .inside) .few q h)),
+        other-bound w p s (tagOf name) (length name) room two few q k h d small (omega (arith, bounds w b (t .inside) .few q h)),
+        other-bound w p s (tagOf name) (length name) room two few q (k + 1) h d small (omega (arith, bounds w b (t .inside) .few q h)),
         t .rising q k h i,
       ))
 
@@ -182,14 +182,18 @@ module _ (w b name : List ℕ) (p s : ℕ) (t : Sound w b) (two : p < 2) (few : 
   bears-after q n k h e =
       let i = bears-in w b q n k e in
       let m : k < count v q = by-bool (eqb q p)
-      (λ x. let y = eqb-true q p x in let a = ap (λ (z : ℕ). count w z) y in rw y (omega (arith, new-count w p s (length name) room two few)))
-      (λ x. omega (arith, other-count w p s (length name) room two few q h (eqb-false q p x) small)) in
+      (λ x. let y = eqb-true q p x in let a = ap (λ (z : ℕ). count w z) y in rw y (omega (arith, new-count w p s (tagOf name) (length name) room two few)))
+      (λ x. omega (arith, other-count w p s (tagOf name) (length name) room two few q h (eqb-false q p x) small)) in
       sym (bears-same v c q n k refl m) ∙ ap (λ (z : List ℕ). same z n) (entry-old q k h i) ∙ bears-same w b q n k refl i ∙ e
+
+  proposes-after : (q : ℕ) (n : List ℕ) (x : ℕ) → q < 2 → proposes w b q n x ≡ true → proposes v c q n x ≡ true
+  proposes-after q n x h e =
+      let f = proposes-is w b q n x e in sym (proposes-as v c q n x refl (f .0)) ∙ bears-after q n (entryIn x) h (f .1)
 
   -- the slot that is filled was empty
   slots-own : (i : ℕ) → i < indexSlots → (slot w p i ≡ 0 → ⊥) → slot v p i ≡ slot w p i
   slots-own i h d =
-      old-slot w p s (length name) room two few i h
+      old-slot w p s (tagOf name) (length name) room two few i h
       (λ e. by-proposal (probeOf w b p name)
       (λ k f. let g = free ∙ ap freeOf f in omega arith)
       (λ x f. let g : s ≡ x = free ∙ ap freeOf f in d (rw (e ∙ g) (free-empty w b p name looks (slotOf name) f)))
@@ -197,25 +201,30 @@ module _ (w b name : List ℕ) (p s : ℕ) (t : Sound w b) (two : p < 2) (few : 
 
   slots-other : (q i : ℕ) → q < 2 → (q ≡ p → ⊥) → i < indexSlots → slot v q i ≡ slot w q i
   slots-other q i h d l =
-      let e : q * halfWords + firstSlot + i ≡ q * halfWords + (firstSlot + i) = omega arith in rw e (other-word w p s (length name) room two few q (firstSlot + i) h d small (omega arith))
+      let e : q * halfWords + firstSlot + i ≡ q * halfWords + (firstSlot + i) = omega arith in rw e (other-word w p s (tagOf name) (length name) room two few q (firstSlot + i) h d small (omega arith))
 
   reached-old : (q : ℕ) (n : List ℕ) → q < 2 → Reached (probeOf w b q n) → Reached (probeOf v c q n)
   reached-old q n h f =
       stays-reached w b v c q n
       (λ i l d. by-bool (eqb q p) (λ x. let y = eqb-true q p x in rw y (slots-own i l (λ z. d (rw y z)))) (λ x. slots-other q i h (eqb-false q p x) l))
-      (λ k e. bears-after q n k h e) looks (slotOf n) (slot-small n) f
+      (λ x e. proposes-after q n x h e) looks (slotOf n) (slot-small n) f
+
+  -- and it proposes the new entry
+  proposes-new : proposes v c p name (slotWord (tagOf name) (count w p)) ≡ true
+  proposes-new =
+      let m : count w p < count v p = omega (arith, new-count w p s (tagOf name) (length name) room two few) in
+      let g : tagIn (slotWord (tagOf name) (count w p)) ≡ tagOf name = omega arith in
+      let k : entryIn (slotWord (tagOf name) (count w p)) ≡ count w p = omega arith in
+      sym (proposes-as v c p name (slotWord (tagOf name) (count w p)) refl g) ∙ rw k (sym (bears-same v c p name (count w p) refl m) ∙ rw entry-new (same-refl name))
 
   reached-new : Reached (probeOf v c p name)
   reached-new =
       by-proposal (probeOf w b p name)
       (λ k f. reached-old p name two (λ r e. entry-free (sym f ∙ e)))
       (λ x f. let g : s ≡ x = free ∙ ap freeOf f in
-      let a : slot v p x ≡ count w p + 1 = rw (sym g) (new-slot w p s (length name) room two few small) in
-      let m : count w p < count v p = omega (arith, new-count w p s (length name) room two few) in
-      let i : bears v c p name (count w p) ≡ true = sym (bears-same v c p name (count w p) refl m) ∙ rw entry-new (same-refl name) in
-      let y : count w p + 1 - 1 ≡ count w p = omega arith in
-      comes-reached w b v c p name (λ j l d. slots-own j l d) (λ k e. bears-after p name k two e) x looks (slotOf name)
-      (λ z. omega arith) (rw (a, y) i) (slot-small name) f)
+      let a : slot v p x ≡ slotWord (tagOf name) (count w p) = rw (sym g) (new-slot w p s (tagOf name) (length name) room two few small) in
+      comes-reached w b v c p name (λ j l d. slots-own j l d) (λ k e. proposes-after p name k two e) x looks (slotOf name)
+      (λ z. omega arith) (rw a proposes-new) (slot-small name) f)
       (λ f. reached-old p name two (λ r e. full-free (sym f ∙ e)))
 
   indexed-after : (q k : ℕ) → q < 2 → k < count v q → Reached (probeOf v c q (nameAt v c q k))
@@ -228,7 +237,7 @@ module _ (w b name : List ℕ) (p s : ℕ) (t : Sound w b) (two : p < 2) (few : 
   pub sound-after : Sound v c
   sound-after = record {
     inside = in-bounds v c (record {
-      words = rw (length-new w p s (length name)) room;
+      words = rw (length-new w p s (tagOf name) (length name)) room;
       bytes = rw (length-laid (p * halfBytes + used w p) name b long) (bounds w b (t .inside) .bytes);
       few = count-after;
       short = used-after;

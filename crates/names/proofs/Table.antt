@@ -11,7 +11,7 @@ use lib.ListN.{length, getD, take, drop, replicate, length-append, length-replic
 use lib.Seq.{getD-append-add, getD-take, getD-drop, length-take-le}
 use Rattle.laws.proofs.Choice.{by-bool}
 use Rattle.names.specs.Layout.{count, bound, used, nameAt, inBounds, halfNames, halfBytes, firstBound, halfWords, tableNames, tableBytes, tableWords}
-use Rattle.names.specs.Call.{findOf, probeOf, slotOf, freeOf, newWords, laid, Outcome, outcome, newOf, enterOf, openMark, openWords, markOf, nameOf, outside, noParty, noRoom, looks, Opening}
+use Rattle.names.specs.Call.{findOf, probeOf, slotOf, tagOf, freeOf, newWords, laid, Outcome, outcome, newOf, enterOf, openMark, openWords, markOf, nameOf, outside, noParty, noRoom, looks, Opening}
 use Rattle.names.specs.Book.{Name, Book, book, half, place, size, numberIn, Reply, ask, markIn, nameIn, Call, asks, firstNames, namesOf, bookOf, Memory, memory, calls}
 use Rattle.names.specs.declared.Entered.{Entered}
 use Rattle.names.specs.declared.Entered.the-variants.{Number, Refused}
@@ -194,13 +194,13 @@ module _ (w b : List ℕ) (p : ℕ) (name : Name) (r : Bounds w b) (two : p < 2)
   s = freeOf (probeOf w b p name)
 
   kept-put : count w p < halfNames → used w p + length name ≤ halfBytes
-      → Kept w b p (outcome (Number (p * halfNames + count w p)) (newWords w p s (length name)) (laid (p * halfBytes + used w p) name b))
+      → Kept w b p (outcome (Number (p * halfNames + count w p)) (newWords w p s (tagOf name) (length name)) (laid (p * halfBytes + used w p) name b))
   kept-put few fits =
       let small = free-small w b name p looks (slotOf name) (slot-small name) in
       record {
         words = λ i d. ⊎-elim
-            (λ x. word-other w p s (length name) i (λ e. omega arith) (λ e. omega arith) (λ e. omega arith))
-            (λ x. word-other w p s (length name) i (λ e. omega arith) (λ e. omega arith) (λ e. omega arith)) d;
+            (λ x. word-other w p s (tagOf name) (length name) i (λ e. omega arith) (λ e. omega arith) (λ e. omega arith))
+            (λ x. word-other w p s (tagOf name) (length name) i (λ e. omega arith) (λ e. omega arith) (λ e. omega arith)) d;
         bytes = λ i d. laid-outside (p * halfBytes + used w p) name b i (let g = r .bytes in omega arith)
             (⊎-elim (λ x. inl (omega arith)) (λ x. inr (omega arith)) d);
         refused = λ k e. absurd (refused-other e);

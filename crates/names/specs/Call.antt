@@ -1,5 +1,6 @@
 -- The calls on the table, each with its answer and the final contents of the lent memory.
 use Prim.Native.Nat.{ℕ, zero, suc, _+_, _-_, _*_, _/_, _%_}
+use mathlib.Core.Bool.{Bool, false}
 use mathlib.Core.List.{List, [], _∷_, _++_}
 use lib.Dec.{eqb, ltb, leb}
 use lib.ListN.{length, take, drop, set, replicate}
@@ -28,9 +29,10 @@ noRoom = 36
 abbrev pub noNumber : ℕ
 noNumber = 37
 
--- a name's slot: a product hash in 32 bits, of which the top ten count
+-- A name's hash: a product hash in 32 bits, four bytes a turn and the last ones one by one. Its top ten bits are the slot at which the
+-- search for the name begins, the other 22 its tag. Nothing that is promised rests on its being a good one.
 abbrev pub factor : ℕ
-factor = 2654435761
+factor = 1640531527
 
 abbrev pub hashes : ℕ
 hashes = 4294967296
@@ -38,12 +40,46 @@ hashes = 4294967296
 abbrev pub hashesASlot : ℕ
 hashesASlot = 4194304
 
-unfoldable pub mix : ℕ → List ℕ → ℕ
-mix h [] = h
-mix h (c ∷ s) = mix (((h + c) * factor) % hashes) s
+abbrev pub turn : ℕ → ℕ → ℕ
+turn h x = ((h + x) * factor) % hashes
 
-unfoldable pub slotOf : List ℕ → ℕ
-slotOf name = mix 0 name / hashesASlot
+-- four bytes as one number, the lowest first
+abbrev pub four : ℕ → ℕ → ℕ → ℕ → ℕ
+four a b c d = a + b * 256 + c * 65536 + d * 16777216
+
+unfoldable pub rest : ℕ → List ℕ → ℕ
+rest h [] = h
+rest h (c ∷ s) = rest (turn h c) s
+
+unfoldable pub mix : ℕ → List ℕ → ℕ
+mix h (a ∷ b ∷ c ∷ d ∷ s) = mix (turn h (four a b c d)) s
+mix h (a ∷ b ∷ c ∷ []) = rest h (a ∷ b ∷ c ∷ [])
+mix h (a ∷ b ∷ []) = rest h (a ∷ b ∷ [])
+mix h (a ∷ []) = rest h (a ∷ [])
+mix h [] = h
+
+abbrev pub hashOf : List ℕ → ℕ
+hashOf name = mix 0 name
+
+abbrev pub slotOf : List ℕ → ℕ
+slotOf name = hashOf name / hashesASlot
+
+abbrev pub tagOf : List ℕ → ℕ
+tagOf name = hashOf name % hashesASlot
+
+-- a slot's word that is not 0 is one more than an entry and a tag: the entry is looked at only if the tag is the name's
+abbrev pub slotWord : ℕ → ℕ → ℕ
+slotWord tag k = tag * halfNames + k + 1
+
+abbrev pub entryIn : ℕ → ℕ
+entryIn v = (v - 1) % halfNames
+
+abbrev pub tagIn : ℕ → ℕ
+tagIn v = (v - 1) / halfNames
+
+-- whether a slot's word proposes an entry that bears the name
+unfoldable pub proposes : List ℕ → List ℕ → ℕ → List ℕ → ℕ → Bool
+proposes w b p name v = if eqb (tagIn v) (tagOf name) then bears w b p name (entryIn v) else false
 
 -- so many slots of an index are asked for a name
 abbrev pub looks : ℕ
@@ -54,7 +90,7 @@ unfoldable pub probe : ℕ → List ℕ → List ℕ → ℕ → List ℕ → �
 probe zero w b p name s = Full
 probe (suc n) w b p name s =
     let more = probe n w b p name ((s + 1) % indexSlots) in
-    if eqb (slot w p s) 0 then Free s else if bears w b p name (slot w p s - 1) then Entry (slot w p s - 1) else more
+    if eqb (slot w p s) 0 then Free s else if proposes w b p name (slot w p s) then Entry (entryIn (slot w p s)) else more
 
 abbrev pub probeOf : List ℕ → List ℕ → ℕ → List ℕ → Proposal
 probeOf w b p name = probe looks w b p name (slotOf name)
@@ -100,11 +136,11 @@ freeOf (Entry k) = indexSlots
 freeOf (Free s) = s
 freeOf Full = indexSlots
 
--- the words with one name more, of n bytes, proposed at slot s
-unfoldable pub newWords : List ℕ → ℕ → ℕ → ℕ → List ℕ
-newWords w p s n =
+-- the words with one name more, of n bytes, proposed at slot s under a tag
+unfoldable pub newWords : List ℕ → ℕ → ℕ → ℕ → ℕ → List ℕ
+newWords w p s t n =
     set
-    (set (set w (p * halfWords + firstSlot + s) (count w p + 1)) (p * halfWords + firstBound + (count w p + 1)) (used w p + n))
+    (set (set w (p * halfWords + firstSlot + s) (slotWord t (count w p))) (p * halfWords + firstBound + (count w p + 1)) (used w p + n))
     (p * halfWords)
     (count w p + 1)
 
@@ -118,7 +154,7 @@ newOf w b p name =
     if ltb (count w p) halfNames
     then (if leb (used w p + length name) halfBytes
     then outcome (Number (p * halfNames + count w p))
-    (newWords w p (freeOf (probeOf w b p name)) (length name))
+    (newWords w p (freeOf (probeOf w b p name)) (tagOf name) (length name))
     (laid (p * halfBytes + used w p) name b)
     else outcome (Refused noRoom) w b)
     else outcome (Refused noRoom) w b

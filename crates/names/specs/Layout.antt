@@ -1,7 +1,7 @@
 -- How the name table lies in lent memory: `tableWords` words and `tableBytes` bytes, half of each for each party; memory may be longer.
 -- A half's words are the count of its names; the bounds of its names (the bytes of entry k lie from bound k to bound k + 1 of the half's
--- bytes), one more than it can have names; the slots of an index (0 empty, else one more than the entry proposed); and one slot behind
--- them that is never asked.
+-- bytes), one more than it can have names; the slots of an index (0 empty, else an entry and a tag of its name); and one slot behind them
+-- that is never asked.
 use Prim.Native.Nat.{ℕ, _+_, _-_, _*_}
 use mathlib.Core.Path.{_≡_, refl}
 use mathlib.Core.Bool.{Bool, false}

@@ -5,6 +5,7 @@ use crate::Proposal;
 use crate::finding::find;
 use crate::finding::hash;
 use crate::finding::probe;
+use crate::finding::tag_of;
 use crate::layout::FIRST_BOUND;
 use crate::layout::FIRST_SLOT;
 use crate::layout::HALF_BYTES;
@@ -20,7 +21,7 @@ ghost use Prim.Native.Nat.{_+_, _≤_, _<_};
 ghost use lib.ListN.{length, replicate};
 ghost use Rattle.laws.specs.Lent.{written};
 ghost use Rattle.names.specs.Layout.{halfNames, halfBytes, indexSlots, tableWords, tableBytes, count, used};
-ghost use Rattle.names.specs.Call.{freeOf, newWords, laid, outcome, newOf, enterOf, opening, openOf};
+ghost use Rattle.names.specs.Call.{hashesASlot, freeOf, newWords, laid, outcome, newOf, enterOf, opening, openOf};
 
 // How many parties there are.
 const PARTIES: u32 = 2;
@@ -47,19 +48,20 @@ fn copy(bytes: &mut [u8], at: usize, name: &[u8])
     }
 }
 
-// Writes the words of one entry more, of `len` bytes, which the index proposes at a slot.
-fn put(words: &mut [u32], party: usize, slot: usize, n: usize, from: usize, len: usize)
+// Writes the words of one entry more, of `len` bytes, which the index proposes at a slot under a tag.
+fn put(words: &mut [u32], party: usize, slot: usize, tag: usize, n: usize, from: usize, len: usize)
     requires { ⌜ tableWords ≤ length (now words) ⌝ }
     requires { ⌜ party < 2 ⌝ }
     requires { ⌜ slot < indexSlots + 1 ⌝ }
+    requires { ⌜ tag < hashesASlot ⌝ }
     requires { ⌜ n ≡ count (now words) party ⌝ }
     requires { ⌜ from ≡ used (now words) party ⌝ }
     requires { ⌜ n < halfNames ⌝ }
     requires { ⌜ from + len ≤ halfBytes ⌝ }
-    ensures { λ _. ⌜ now (words .exit) ≡ newWords (now (words .entry)) party slot len ⌝ }
+    ensures { λ _. ⌜ now (words .exit) ≡ newWords (now (words .entry)) party slot tag len ⌝ }
 {
     let base = party * HALF_WORDS;
-    words[base + FIRST_SLOT + slot] = (n + 1) as u32;
+    words[base + FIRST_SLOT + slot] = (tag * HALF_NAMES + n + 1) as u32;
     words[base + FIRST_BOUND + (n + 1)] = (from + len) as u32;
     words[base] = (n + 1) as u32;
 }
@@ -92,8 +94,9 @@ fn add(words: &mut [u32], bytes: &mut [u8], party: usize, name: &[u8]) -> Entere
     if HALF_BYTES - from < name.len() {
         return Entered::Refused(NO_ROOM);
     }
-    let slot = free_of(probe(words, bytes, party, name, hash(name)));
-    put(words, party, slot, n, from, name.len());
+    let h = hash(name);
+    let slot = free_of(probe(words, bytes, party, name, h));
+    put(words, party, slot, tag_of(h), n, from, name.len());
     copy(bytes, party * HALF_BYTES + from, name);
     Entered::Number((party * HALF_NAMES + n) as u32)
 }
