@@ -51,14 +51,11 @@ never-refused k w b h =
 
 -- nor does one that leaves the words as they were
 never-unwritten : (a : Entered) (b : List ℕ) → outcome a words b ≡ enterOf words bytes 0 (codes "a") → ⊥
+unfolding mix rest
 never-unwritten a b h =
     let e : getD words (firstSlot + slotOf (codes "a")) 0 ≡ slotWord (tagOf (codes "a")) 0 =
-      ap (λ (o : Outcome). getD (o .words) (firstSlot + slotOf (codes "a")) 0) h ∙ indexed in
-    differs e
-    where
-      differs : getD words (firstSlot + slotOf (codes "a")) 0 ≡ slotWord (tagOf (codes "a")) 0 → ⊥
-      unfolding mix rest
-      differs e = omega (arith, e)
+    ap (λ (o : Outcome). getD (o .words) (firstSlot + slotOf (codes "a")) 0) h ∙ indexed in
+    omega (arith, e)
 
 -- ---- in the book
 
