@@ -55,13 +55,14 @@ fn measured_map(map: &mut HashMap<Vec<u8>, u32>, names: &[Vec<u8>]) {
 /// Names such as `Betula-pendula`, of 14.5 bytes on the average.
 fn species(count: usize) -> Vec<Vec<u8>> {
     const GENERA: [&str; 25] = [
-        "Betula", "Quercus", "Fagus", "Pinus", "Picea", "Abies", "Larix", "Acer", "Alnus", "Salix", "Populus", "Tilia", "Ulmus",
-        "Carpinus", "Fraxinus", "Sorbus", "Prunus", "Malus", "Pyrus", "Juglans", "Corylus", "Ilex", "Taxus", "Robinia", "Castanea",
+        "Betula", "Quercus", "Fagus", "Pinus", "Picea", "Abies", "Larix", "Acer", "Alnus", "Salix", "Populus", "Tilia",
+        "Ulmus", "Carpinus", "Fraxinus", "Sorbus", "Prunus", "Malus", "Pyrus", "Juglans", "Corylus", "Ilex", "Taxus",
+        "Robinia", "Castanea",
     ];
     const KINDS: [&str; 25] = [
         "pendula", "pubescens", "robur", "petraea", "sylvatica", "sylvestris", "abies", "alba", "decidua", "campestre",
-        "pseudoplatanus", "glutinosa", "incana", "caprea", "tremula", "nigra", "cordata", "minor", "glabra", "betulus", "excelsior",
-        "aucuparia", "avium", "torminalis", "laevis",
+        "pseudoplatanus", "glutinosa", "incana", "caprea", "tremula", "nigra", "cordata", "minor", "glabra", "betulus",
+        "excelsior", "aucuparia", "avium", "torminalis", "laevis",
     ];
     let all = GENERA.iter().flat_map(|genus| KINDS.iter().map(move |kind| format!("{genus}-{kind}").into_bytes()));
     all.take(count).collect()
@@ -94,8 +95,7 @@ fn main() {
         "collide" => measured_table(&mut Table::new(0, &made), 0, &made[..NAMES], 0),
         "collide-new" => measured_table(&mut Table::new(0, &[]), 0, &made[..NAMES], 0),
         "map-there" => {
-            let mut map = HashMap::new();
-            names.iter().zip(0..).for_each(|(name, number)| drop(map.insert(name.clone(), number)));
+            let mut map: HashMap<Vec<u8>, u32> = names.iter().cloned().zip(0..).collect();
             measured_map(&mut map, &names);
         }
         "map-new" => measured_map(&mut HashMap::new(), &names),

@@ -1,15 +1,14 @@
 -- Isolation: its own half being given, the answer to a party depends on the other's half only where the party asks for a name that it has
 -- not entered itself, and there only on the number that this name has among the other's.
-use Prim.Native.Nat.{ℕ, zero, suc, _+_, _-_, _*_, _/_, _%_, _≤_, _<_}
+use Prim.Native.Nat.{ℕ, zero, suc, _+_, _-_, _*_, _/_, _≤_, _<_}
 use native.Mathlib.Omega.{arith}
-use borrow.Author.Tests.{lt-ltb, le-ltb, le-leb, lt-leb, ltb-true, ltb-false, eqb-true, eqb-false}
+use borrow.Author.Tests.{lt-ltb, le-leb, lt-leb, ltb-true, ltb-false, eqb-true, eqb-false}
 use mathlib.Core.Path.{_≡_, refl, sym, ap, _∙_}
-use mathlib.Core.Logic.{_⊎_, inl, inr, ⊎-elim}
+use mathlib.Core.Logic.{_⊎_, ⊎-elim}
 use mathlib.Core.Bool.{true, false}
 use mathlib.Core.List.{List, [], _∷_, _++_}
-use lib.Dec.{eqb, ltb, leb}
+use lib.Dec.{eqb, ltb}
 use lib.ListN.{length}
-use Rattle.laws.specs.Choice.{if_then_else_}
 use Rattle.laws.specs.Texts.{same}
 use Rattle.laws.proofs.Choice.{by-bool, if-yes, if-no}
 use Rattle.laws.proofs.Compared.{same-is}
@@ -25,7 +24,7 @@ use Rattle.names.proofs.Parts.{same-refl}
 use Rattle.names.proofs.Laws.{party-of, halves}
 use Rattle.names.proofs.Sound.{Sound}
 use Rattle.names.proofs.Means.{meant, half-of, names-apart}
-use Rattle.names.proofs.Shared.{place-le, place-not, length-more, number-planner, number-contractor, number-none, where-is, at-none, ways, ask-there, ask-stranger, after-is}
+use Rattle.names.proofs.Shared.{place-le, place-not, number-planner, number-contractor, number-none, where-is, at-none, ways, ask-there, ask-stranger, after-is}
 use Rattle.names.proofs.Table.{mark-means, name-means, opened}
 
 -- ---- in the book

@@ -20,5 +20,5 @@ abbrev pub marked : Entered → List ℕ → List ℕ → Marked
 marked (Number n) w b = entered 0 n w b
 marked (Refused k) w b = entered k 0 w b
 
-abbrev pub enteredOf : Outcome → Marked
+unfoldable pub enteredOf : Outcome → Marked
 enteredOf o = marked (o .answer) (o .words) (o .bytes)

@@ -93,9 +93,7 @@ impl<'a> Names<'a> {
     /// [`NoName::Outside`] for too little memory.
     pub fn open(words: &'a mut [u32], bytes: &'a mut [u8]) -> Result<Self, NoName> {
         // SAFETY: the slices are valid, and the words overlap with nothing else.
-        let mark = unsafe {
-            raw::mihadrena_names_open(words.as_mut_ptr(), words.len(), bytes.as_ptr(), bytes.len())
-        };
+        let mark = unsafe { raw::mihadrena_names_open(words.as_mut_ptr(), words.len(), bytes.as_ptr(), bytes.len()) };
         served(mark).map(|()| Self { words, bytes })
     }
 

@@ -5,10 +5,10 @@ use native.Mathlib.Omega.{arith}
 use native.Mathlib.Nat.{mod-lt}
 use mathlib.Core.Path.{ap, _∙_}
 use lib.ListN.{length}
+use borrow.Author.Needs.{needs}
 use Rattle.names.specs.Call.{hashesASlot, looks, slotOf, freeOf, newWords}
 use Rattle.names.proofs.Gives.{free-small, new-full, new-long, new-put, used-of}
 use Rattle.names.proofs.Laws.{slot-small}
-use borrow.Author.Needs.{needs}
 use Rattle.names.proofs.entering.add.Statement.{statement}
 use Rattle.names.proofs.entering.add.Tie as tie
 

@@ -1,4 +1,4 @@
--- `names::clear` meets its contract.
+-- After i turns the first i words are 0, and the others as they were.
 use denote.Ref.{now}
 use Prim.Native.Nat.{_-_, _≤_}
 use native.Mathlib.Omega.{arith}

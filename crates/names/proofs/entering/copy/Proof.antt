@@ -1,4 +1,4 @@
--- `names::copy` meets its contract.
+-- After i turns the first i bytes of the name are pasted at the place, and no others.
 use denote.Ref.{now}
 use Prim.Native.Nat.{_-_, _≤_}
 use native.Mathlib.Omega.{arith}

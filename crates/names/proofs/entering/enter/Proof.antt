@@ -1,4 +1,4 @@
--- `names::enter` meets its contract.
+-- Each return is one arm of `enterOf`; what is found bears the name, so that its number fits 32 bits.
 use native.Mathlib.Omega.{arith}
 use mathlib.Core.Path.{sym, _∙_}
 use borrow.Author.Needs.{needs}

@@ -1,4 +1,4 @@
--- `names::open_table` meets its contract.
+-- Both lengths are tested before a word is cleared, so that a refusal leaves all.
 use borrow.Author.Needs.{needs}
 use Rattle.names.proofs.Laws.{open-all, open-few, open-short}
 use Rattle.names.proofs.entering.open_table.Statement.{statement}

@@ -1,8 +1,8 @@
 -- The three stores are those of `newWords`.
 use native.Mathlib.Omega.{arith}
 use lib.ListN.{length-set}
-use Rattle.names.proofs.Laws.{put-words}
 use borrow.Author.Needs.{needs}
+use Rattle.names.proofs.Laws.{put-words}
 use Rattle.names.proofs.entering.put.Statement.{statement}
 use Rattle.names.proofs.entering.put.Tie as tie
 

@@ -1,4 +1,4 @@
--- `names::find` meets its contract.
+-- The own half is asked first, and the other one only where the own answers nothing, as `orElse` has it.
 use denote.Ref.{now}
 use Prim.Native.Nat.{_-_}
 use native.Mathlib.Omega.{arith}

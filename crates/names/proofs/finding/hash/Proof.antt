@@ -3,9 +3,9 @@ use Prim.Native.Nat.{_-_, _≤_, _<_}
 use native.Mathlib.Omega.{arith}
 use mathlib.Core.Path.{_≡_, refl, sym, _∙_}
 use lib.ListN.{length, drop}
+use borrow.Author.Needs.{needs}
 use Rattle.names.specs.Call.{hashes, mix, hashOf}
 use Rattle.names.proofs.Laws.{mix-more, mix-rest}
-use borrow.Author.Needs.{needs}
 use Rattle.names.proofs.finding.hash.Statement.{statement}
 use Rattle.names.proofs.finding.hash.Tie as tie
 

@@ -1,4 +1,4 @@
--- `names::lookup` meets its contract.
+-- The index's three answers are the three cases of `numbered`; an entry that it proposes is below the count, so its number fits.
 use denote.Ref.{now}
 use native.Mathlib.Omega.{arith}
 use mathlib.Core.Path.{sym, _∙_}

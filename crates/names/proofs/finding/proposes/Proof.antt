@@ -1,7 +1,7 @@
 -- The tag decides first: another tag proposes nothing, and under the name's own the entry decides.
 use mathlib.Core.Path.{_∙_}
-use Rattle.names.proofs.Laws.{proposes-not, proposes-as}
 use borrow.Author.Needs.{needs}
+use Rattle.names.proofs.Laws.{proposes-not, proposes-as}
 use Rattle.names.proofs.finding.proposes.Statement.{statement}
 use Rattle.names.proofs.finding.proposes.Tie as tie
 

@@ -3,9 +3,9 @@ use Prim.Native.Nat.{_-_, _≤_, _<_}
 use native.Mathlib.Omega.{arith}
 use mathlib.Core.Path.{_≡_, refl, sym, _∙_}
 use lib.ListN.{length, drop}
+use borrow.Author.Needs.{needs}
 use Rattle.names.specs.Call.{hashes, rest}
 use Rattle.names.proofs.Laws.{rest-more, rest-all}
-use borrow.Author.Needs.{needs}
 use Rattle.names.proofs.finding.rest.Statement.{statement}
 use Rattle.names.proofs.finding.rest.Tie as tie
 

@@ -1,4 +1,4 @@
--- `names::scan` meets its contract.
+-- What reading on from entry k finds stays what the whole reading finds, while no entry before k bears the name.
 use denote.Ref.{now}
 use Prim.Native.Nat.{_-_, _≤_}
 use native.Mathlib.Omega.{arith}

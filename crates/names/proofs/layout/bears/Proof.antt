@@ -1,4 +1,4 @@
--- `names::bears` meets its contract.
+-- An entry past the count bears nothing; one before it bears the name if its bytes are the name's.
 use native.Mathlib.Omega.{arith}
 use mathlib.Core.Path.{_∙_}
 use borrow.Author.Needs.{needs}

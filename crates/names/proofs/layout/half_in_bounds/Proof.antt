@@ -1,4 +1,4 @@
--- `names::half_in_bounds` meets its contract.
+-- The count decides first; only then is the bound at the count one of the half's own.
 use borrow.Author.Needs.{needs}
 use Rattle.names.proofs.Laws.{half-in, half-over}
 use Rattle.names.proofs.layout.half_in_bounds.Statement.{statement}

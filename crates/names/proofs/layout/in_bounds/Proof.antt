@@ -1,4 +1,4 @@
--- `names::in_bounds` meets its contract.
+-- The four tests are those of the definition, in its order.
 use mathlib.Core.Path.{refl, sym, _∙_}
 use borrow.Author.Needs.{needs}
 use borrow.Author.Tests.{le-leb, lt-leb}

@@ -2,10 +2,10 @@
 use denote.Ref.{now}
 use native.Mathlib.Omega.{arith}
 use mathlib.Core.Path.{ap}
+use borrow.Author.Needs.{needs}
 use Rattle.names.specs.Layout.{nameAt, cut}
 use Rattle.names.specs.declared.Place.{Place}
 use Rattle.names.proofs.Laws.{place-within}
-use borrow.Author.Needs.{needs}
 use Rattle.names.proofs.layout.name_at.Statement.{statement}
 use Rattle.names.proofs.layout.name_at.Tie as tie
 

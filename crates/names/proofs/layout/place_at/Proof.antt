@@ -1,7 +1,7 @@
 -- The two bounds decide: each of the three returns is one arm of `placeAt`.
 use mathlib.Core.Path.{_∙_}
-use Rattle.names.proofs.Laws.{place-back, place-past, place-part}
 use borrow.Author.Needs.{needs}
+use Rattle.names.proofs.Laws.{place-back, place-past, place-part}
 use Rattle.names.proofs.layout.place_at.Statement.{statement}
 use Rattle.names.proofs.layout.place_at.Tie as tie
 

@@ -1,4 +1,4 @@
--- `names::word` meets its contract.
+-- A word of 32 bits fits a size.
 use native.Mathlib.Omega.{arith}
 use borrow.Author.Needs.{needs}
 use Rattle.names.proofs.layout.word.Statement.{statement}

@@ -1,4 +1,4 @@
--- `names::name_mark` meets its contract.
+-- The four returns are the four arms of `markOf`.
 use native.Mathlib.Omega.{arith}
 use mathlib.Core.Path.{sym, _∙_}
 use borrow.Author.Needs.{needs}

@@ -2,11 +2,11 @@
 use denote.Ref.{now}
 use native.Mathlib.Omega.{arith}
 use mathlib.Core.Path.{ap}
+use borrow.Author.Needs.{needs}
 use Rattle.names.specs.Layout.{cut}
 use Rattle.names.specs.Call.{nameOf}
 use Rattle.names.specs.declared.Place.{Place}
 use Rattle.names.proofs.Laws.{place-inside}
-use borrow.Author.Needs.{needs}
 use Rattle.names.proofs.naming.name_of.Statement.{statement}
 use Rattle.names.proofs.naming.name_of.Tie as tie
 

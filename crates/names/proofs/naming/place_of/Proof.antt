@@ -1,7 +1,7 @@
 -- A number whose mark is 0 has an entry, and its place is that entry's; any other has none.
 use mathlib.Core.Path.{sym, _∙_}
-use Rattle.names.proofs.Laws.{bounds, mark-facts, party-of, place-of, place-none, place-there}
 use borrow.Author.Needs.{needs}
+use Rattle.names.proofs.Laws.{bounds, mark-facts, party-of, place-of, place-none, place-there}
 use Rattle.names.proofs.naming.place_of.Statement.{statement}
 use Rattle.names.proofs.naming.place_of.Tie as tie
 
