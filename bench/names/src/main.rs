@@ -1,5 +1,5 @@
-//! The name table beside Rust's `HashMap<Vec<u8>, u32>`, for a counter of instructions: `bench_names WHAT` fills a table, or a map, with 500
-//! names and then makes 500 calls in `measured_table` or `measured_map`, in which alone callgrind is to count (bench/names/run).
+//! The name table beside Rust's `HashMap<Vec<u8>, u32>`, for a counter of instructions: `bench_names WHAT` fills a table, or a map, and then
+//! makes 500 calls; `bench_names WHAT idle` does the same without these. bench/names/run counts both and prints the difference.
 //!
 //! there       a name that is there, in the own half        map-there    the same of the map
 //! other       a name that is there, in the other's half
@@ -10,9 +10,12 @@
 use proved::names::{enter, open, BYTES, WORDS};
 use std::collections::HashMap;
 use std::env;
+use std::hint::black_box;
 
 const NAMES: usize = 500;
 const HALF: usize = 512;
+const SERVED: u32 = 0;
+const NO_ROOM: u32 = 36;
 
 struct Table {
     words: Vec<u32>,
@@ -22,8 +25,8 @@ struct Table {
 impl Table {
     fn new(party: u32, names: &[Vec<u8>]) -> Self {
         let mut table = Table { words: vec![0; WORDS], bytes: vec![0; BYTES] };
-        assert_eq!(open(&mut table.words, &table.bytes), 0);
-        names.iter().for_each(|name| assert_eq!(table.ask(party, name), 0));
+        assert_eq!(open(&mut table.words, &table.bytes), SERVED);
+        names.iter().for_each(|name| assert_eq!(table.ask(party, name), SERVED));
         table
     }
 
@@ -33,22 +36,25 @@ impl Table {
     }
 }
 
-/// The calls that are counted: each must have this mark.
-#[no_mangle]
+/// The calls that are counted, by party 0: each must have this mark.
 #[inline(never)]
-fn measured_table(table: &mut Table, party: u32, names: &[Vec<u8>], mark: u32) {
-    names.iter().for_each(|name| assert_eq!(table.ask(party, name), mark));
+fn ask_table(table: &mut Table, names: &[Vec<u8>], mark: u32) {
+    names.iter().for_each(|name| assert_eq!(table.ask(0, name), mark));
 }
 
 /// The same of a map: the number of a name, or the next one.
-#[no_mangle]
 #[inline(never)]
-fn measured_map(map: &mut HashMap<Vec<u8>, u32>, names: &[Vec<u8>]) {
+fn ask_map(map: &mut HashMap<Vec<u8>, u32>, names: &[Vec<u8>]) {
     for name in names {
-        if map.get(name).is_none() {
-            let next = map.len() as u32;
-            map.insert(name.clone(), next);
-        }
+        let next = map.len() as u32;
+        let number = match map.get(name) {
+            Some(&number) => number,
+            None => {
+                map.insert(name.clone(), next);
+                next
+            }
+        };
+        black_box(number);
     }
 }
 
@@ -82,23 +88,22 @@ fn colliding(count: usize) -> Vec<Vec<u8>> {
 }
 
 fn main() {
-    let what = env::args().nth(1).expect("what is measured");
+    let words: Vec<String> = env::args().skip(1).collect();
+    let what = words.first().expect("what is measured");
+    let asked = if words.len() > 1 { 0 } else { NAMES };
     let names = species(NAMES);
-    let more: Vec<Vec<u8>> = names.iter().map(|name| [b"x-", name.as_slice()].concat()).collect();
+    let strange: Vec<Vec<u8>> = names.iter().map(|name| [b"x-", name.as_slice()].concat()).collect();
     let full: Vec<Vec<u8>> = (0..HALF).map(|number| format!("stand-{number}").into_bytes()).collect();
     let made = colliding(HALF);
     match what.as_str() {
-        "there" => measured_table(&mut Table::new(0, &names), 0, &names, 0),
-        "other" => measured_table(&mut Table::new(1, &names), 0, &names, 0),
-        "new" => measured_table(&mut Table::new(0, &[]), 0, &names, 0),
-        "refused" => measured_table(&mut Table::new(0, &full), 0, &more, 36),
-        "collide" => measured_table(&mut Table::new(0, &made), 0, &made[..NAMES], 0),
-        "collide-new" => measured_table(&mut Table::new(0, &[]), 0, &made[..NAMES], 0),
-        "map-there" => {
-            let mut map: HashMap<Vec<u8>, u32> = names.iter().cloned().zip(0..).collect();
-            measured_map(&mut map, &names);
-        }
-        "map-new" => measured_map(&mut HashMap::new(), &names),
+        "there" => ask_table(&mut Table::new(0, &names), &names[..asked], SERVED),
+        "other" => ask_table(&mut Table::new(1, &names), &names[..asked], SERVED),
+        "new" => ask_table(&mut Table::new(0, &[]), &names[..asked], SERVED),
+        "refused" => ask_table(&mut Table::new(0, &full), &strange[..asked], NO_ROOM),
+        "collide" => ask_table(&mut Table::new(0, &made), &made[..asked], SERVED),
+        "collide-new" => ask_table(&mut Table::new(0, &[]), &made[..asked], SERVED),
+        "map-there" => ask_map(&mut names.iter().cloned().zip(0..).collect(), &names[..asked]),
+        "map-new" => ask_map(&mut HashMap::new(), &names[..asked]),
         other => panic!("not measured: {other}"),
     }
 }
