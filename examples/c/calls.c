@@ -140,7 +140,7 @@ static void nest(void)
                             MIHADRENA_NEST_VALUES);
     expect(answer == MIHADRENA_BRACKET_OPEN && values[0] == 2, "mihadrena_nest, a bracket open");
     answer = mihadrena_nest((const uint32_t *)records, 3 * MIHADRENA_RECORD_WORDS, (uint32_t *)nodes, MIHADRENA_NODE_WORDS, values, 0);
-    expect(answer == MIHADRENA_NO_ROOM && values[0] == 2, "mihadrena_nest, no room");
+    expect(answer == MIHADRENA_FEW_NODES && values[0] == 2, "mihadrena_nest, few nodes");
 }
 
 int main(void)

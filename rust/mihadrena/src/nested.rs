@@ -63,7 +63,7 @@ pub enum NotNested {
     /// An error: `##`
     ErrorItem(usize),
     /// The nodes do not fit. As many as there are items always do.
-    NoRoom,
+    FewNodes,
 }
 
 impl NotNested {
@@ -76,7 +76,7 @@ impl NotNested {
             raw::MARK_WAITS => Self::MarkWaits(item),
             raw::TOO_DEEP => Self::TooDeep(item),
             raw::ERROR_ITEM => Self::ErrorItem(item),
-            raw::NO_ROOM => Self::NoRoom,
+            raw::FEW_NODES => Self::FewNodes,
             _ => unreachable!("the library's own records are refused for nothing else"),
         }
     }
@@ -91,7 +91,7 @@ impl fmt::Display for NotNested {
             Self::MarkWaits(item) => write!(f, "a mark has no datum, item {item}"),
             Self::TooDeep(item) => write!(f, "item {item} lies deeper than {} levels", raw::DEEPEST),
             Self::ErrorItem(item) => write!(f, "item {item} is an error"),
-            Self::NoRoom => write!(f, "too few nodes"),
+            Self::FewNodes => write!(f, "too few nodes"),
         }
     }
 }
@@ -143,7 +143,7 @@ impl core::error::Error for NotNested {}
 /// ```
 ///
 /// # Errors
-/// What rules a reading out, at its first item; last [`NotNested::NoRoom`].
+/// What rules a reading out, at its first item; last [`NotNested::FewNodes`].
 pub fn nest<'a>(items: &'a Items<'a>, nodes: &'a mut [raw::Node]) -> Result<Nodes<'a>, NotNested> {
     let records = items.records();
     let mut values = [0; raw::NEST_VALUES];
