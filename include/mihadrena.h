@@ -426,6 +426,53 @@ static inline uint32_t mihadrena_coordinate_of(const mihadrena_record *record, c
 {
     return mihadrena_record_coordinate(source, source_length, record->kind, record->start, record->end, value, place);
 }
+/* -- One name table for planner and contractor ---------------------------------------------------------------------------------- */
+
+/* A table gives each distinct name a number, the same for both parties. It lies in memory that the caller keeps: this many words and bytes,
+ * or more. docs/NAMES.md says what they hold, and outside which bounds they are refused: none that the calls made is. */
+#define MIHADRENA_NAMES_WORDS 3078
+#define MIHADRENA_NAMES_BYTES 32768
+
+/* The parties, and the first number of each: at most 512 names and 16,384 name bytes are first entered by each. */
+#define MIHADRENA_PLANNER 0
+#define MIHADRENA_CONTRACTOR 1
+#define MIHADRENA_PLANNERS_FIRST 0
+#define MIHADRENA_CONTRACTORS_FIRST 512
+
+/* The refusals of these calls, in their order; all come with 0, and the table stays as it was. */
+#define MIHADRENA_NAMES_OUTSIDE 27 /* the lent memory is outside the table's bounds */
+#define MIHADRENA_NO_PARTY 35      /* the party is neither of the two */
+#define MIHADRENA_NO_ROOM 36       /* the name is absent, and the party's own half lacks the entry or the bytes */
+#define MIHADRENA_NO_NAME 37       /* there is no such number */
+
+/* Opens a table: its words are cleared, and no byte is written. MIHADRENA_SERVED, or MIHADRENA_NAMES_OUTSIDE for too little memory.
+ *
+ *     static uint32_t words[MIHADRENA_NAMES_WORDS];
+ *     static uint8_t bytes[MIHADRENA_NAMES_BYTES];
+ *     mihadrena_names_open(words, MIHADRENA_NAMES_WORDS, bytes, MIHADRENA_NAMES_BYTES);  // MIHADRENA_SERVED
+ */
+uint32_t mihadrena_names_open(uint32_t *words, size_t words_length, const uint8_t *bytes, size_t bytes_length);
+
+/* A party asks for a name's number. A name that neither has entered is entered in the party's own half, with its next number.
+ * MIHADRENA_SERVED, or MIHADRENA_NAMES_OUTSIDE, MIHADRENA_NO_PARTY, MIHADRENA_NO_ROOM; `number` is then 0.
+ *
+ *     uint32_t number;
+ *     mihadrena_names_enter(words, MIHADRENA_NAMES_WORDS, bytes, MIHADRENA_NAMES_BYTES, MIHADRENA_CONTRACTOR,
+ *                           (const uint8_t *)"Fagus", 5, &number);  // MIHADRENA_SERVED, number == 512
+ *     mihadrena_names_enter(words, MIHADRENA_NAMES_WORDS, bytes, MIHADRENA_NAMES_BYTES, MIHADRENA_PLANNER,
+ *                           (const uint8_t *)"Fagus", 5, &number);  // MIHADRENA_SERVED, number == 512
+ */
+uint32_t mihadrena_names_enter(uint32_t *words, size_t words_length, uint8_t *bytes, size_t bytes_length, uint32_t party,
+                               const uint8_t *name, size_t name_length, uint32_t *number);
+
+/* Where a number's name lies in `bytes`. MIHADRENA_SERVED, or MIHADRENA_NAMES_OUTSIDE, MIHADRENA_NO_NAME; both places are then 0.
+ *
+ *     size_t start, end;
+ *     mihadrena_names_place(words, MIHADRENA_NAMES_WORDS, bytes, MIHADRENA_NAMES_BYTES, 512, &start, &end);  // MIHADRENA_SERVED
+ *     // end - start == 5, and `Fagus` is at bytes + start
+ */
+uint32_t mihadrena_names_place(const uint32_t *words, size_t words_length, const uint8_t *bytes, size_t bytes_length, uint32_t number,
+                               size_t *start, size_t *end);
 
 #ifdef __cplusplus
 }

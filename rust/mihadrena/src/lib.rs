@@ -34,6 +34,7 @@ mod coordinate;
 mod error;
 mod items;
 mod kind;
+mod names;
 mod number;
 mod pieces;
 #[allow(missing_docs, clippy::unreadable_literal)]
@@ -43,6 +44,7 @@ pub use coordinate::{coordinate, record_coordinate, NoCoordinate};
 pub use error::{Error, HexError, Refusal};
 pub use items::{needed, Item, Items, Mode, Needed, Options};
 pub use kind::{Kind, Paren, ParenMod};
+pub use names::{Names, NoName, Party};
 pub use number::{number, Decimal, Int, NotNumber, Number, Real, Sign};
 pub use pieces::PieceReader;
 pub use raw::Record;

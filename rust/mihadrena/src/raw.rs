@@ -238,3 +238,22 @@ extern "C" {
     pub fn mihadrena_coordinate(text: *const u8, text_length: usize, value: *mut f64, place: *mut u64) -> u32;
     pub fn mihadrena_record_coordinate(source: *const u8, source_length: usize, kind: u32, start: u32, end: u32, value: *mut f64, place: *mut u64) -> u32;
 }
+
+// The name table: what it takes, the parties, their first numbers, and the refusals of its calls.
+pub const NAMES_WORDS: usize = 3078;
+pub const NAMES_BYTES: usize = 32768;
+pub const PLANNER: u32 = 0;
+pub const CONTRACTOR: u32 = 1;
+pub const PLANNERS_FIRST: u32 = 0;
+pub const CONTRACTORS_FIRST: u32 = 512;
+pub const NAMES_OUTSIDE: u32 = 27;
+pub const NO_PARTY: u32 = 35;
+pub const NO_ROOM: u32 = 36;
+pub const NO_NAME: u32 = 37;
+
+#[rustfmt::skip]
+extern "C" {
+    pub fn mihadrena_names_open(words: *mut u32, words_length: usize, bytes: *const u8, bytes_length: usize) -> u32;
+    pub fn mihadrena_names_enter(words: *mut u32, words_length: usize, bytes: *mut u8, bytes_length: usize, party: u32, name: *const u8, name_length: usize, number: *mut u32) -> u32;
+    pub fn mihadrena_names_place(words: *const u32, words_length: usize, bytes: *const u8, bytes_length: usize, number: u32, start: *mut usize, end: *mut usize) -> u32;
+}

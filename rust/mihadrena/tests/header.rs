@@ -64,6 +64,8 @@ fn rust_type(c: &str) -> &str {
         "size_t" => "usize",
         "bool" => "bool",
         "const uint8_t *" => "*const u8",
+        "const uint32_t *" => "*const u32",
+        "size_t *" => "*mut usize",
         "uint8_t *" => "*mut u8",
         "uint32_t *" => "*mut u32",
         "uint64_t *" => "*mut u64",
