@@ -395,6 +395,37 @@ bool mihadrena_is_blank(uint32_t code);
  */
 size_t mihadrena_put_char(uint32_t code, uint8_t *text, size_t text_length);
 
+/* -- Coordinates -------------------------------------------------------------------------------------------------------------- */
+
+/* What the two calls answer beside MIHADRENA_SERVED, MIHADRENA_TOO_LONG and MIHADRENA_NOT_UTF8. */
+#define MIHADRENA_NO_EXTENT 27     /* the extent goes back or passes the source: 0 */
+#define MIHADRENA_NO_COORDINATE 28 /* no decimal, or too many digits or too large an exponent for one exact step: 0 */
+
+/* The coordinate of a text that is one decimal, such as 6892014.7: its exact value rounded once, to the nearest double, ties to even, the
+ * sign kept also on zero. The value goes to `value`; what a refusal comes with goes to `place`; the other keeps what it has.
+ *
+ * MIHADRENA_NO_COORDINATE exactly if the text is no decimal (12, #d1.5 and +inf.0 are none), or all its digits, without the dot, are a
+ * number over 9,007,199,254,740,992, or its exponent less the count of its digits behind the dot is not from -22 to 22. Up to 15 digits
+ * are always few enough; 17 or more, zeros in front not counted, are always too many. Read such a number with mihadrena_number.
+ *
+ *     double value;
+ *     uint64_t place;
+ *     mihadrena_coordinate((const uint8_t *)"6892014.7", 9, &value, &place);  // MIHADRENA_SERVED, value == 6892014.7
+ *     mihadrena_coordinate((const uint8_t *)"12", 2, &value, &place);         // MIHADRENA_NO_COORDINATE, place == 0
+ */
+uint32_t mihadrena_coordinate(const uint8_t *text, size_t text_length, double *value, uint64_t *place);
+
+/* The same for the extent of a record, by the record's kind and its extent: MIHADRENA_NO_EXTENT if the extent is no part of the source,
+ * MIHADRENA_NO_COORDINATE if the kind is not MIHADRENA_NUMBER. In pieces a number's text is copied: call mihadrena_coordinate on it. */
+uint32_t mihadrena_record_coordinate(const uint8_t *source, size_t source_length, uint32_t kind, uint32_t start, uint32_t end,
+                                     double *value, uint64_t *place);
+
+/* The same with the record itself. */
+static inline uint32_t mihadrena_coordinate_of(const mihadrena_record *record, const uint8_t *source, size_t source_length,
+                                               double *value, uint64_t *place)
+{
+    return mihadrena_record_coordinate(source, source_length, record->kind, record->start, record->end, value, place);
+}
 /* -- One name table for planner and contractor ---------------------------------------------------------------------------------- */
 
 /* A table gives each distinct name a number, the same for both parties. It lies in memory that the caller keeps: this many words and bytes,

@@ -218,6 +218,10 @@ const _: () = assert!(size_of::<State>() == STATE_SIZE && align_of::<State>() ==
 const _: () = assert!(size_of::<Told>() == PIECE_VALUES * size_of::<u64>());
 const _: () = assert!(size_of::<Parts>() == NUMBER_WORDS * size_of::<u64>());
 
+// What the coordinate calls answer beside `SERVED`, `TOO_LONG` and `NOT_UTF8`.
+pub const NO_EXTENT: u32 = 27;
+pub const NO_COORDINATE: u32 = 28;
+
 #[rustfmt::skip]
 extern "C" {
     pub fn mihadrena_read(source: *const u8, source_length: usize, mode: u32, skip_comments: bool, records: *mut u32, records_length: usize, text: *mut u8, text_length: usize, values: *mut u64, values_length: usize) -> u32;
@@ -231,6 +235,8 @@ extern "C" {
     pub fn mihadrena_next_at(text: *const u8, text_length: usize, at: usize) -> usize;
     pub fn mihadrena_is_blank(code: u32) -> bool;
     pub fn mihadrena_put_char(code: u32, text: *mut u8, text_length: usize) -> usize;
+    pub fn mihadrena_coordinate(text: *const u8, text_length: usize, value: *mut f64, place: *mut u64) -> u32;
+    pub fn mihadrena_record_coordinate(source: *const u8, source_length: usize, kind: u32, start: u32, end: u32, value: *mut f64, place: *mut u64) -> u32;
 }
 
 // The name table: what it takes, the parties, their first numbers, and the refusals of its calls.

@@ -69,6 +69,7 @@ fn rust_type(c: &str) -> &str {
         "uint8_t *" => "*mut u8",
         "uint32_t *" => "*mut u32",
         "uint64_t *" => "*mut u64",
+        "double *" => "*mut f64",
         "mihadrena_figure" => "Figure",
         "mihadrena_real" => "Real",
         other => panic!("a type that the header does not use: {other}"),
