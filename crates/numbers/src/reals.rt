@@ -13,7 +13,7 @@ ghost use lib.ListN.{drop};
 ghost use Rattle.numbers.specs.Reals.{exponentMarker, exponent, suffix, pointOf, dotted, undotted, decimal, infnan, integralOf, rationalOf, denominator, exact, ureal, real};
 
 // Whether a byte marks an exponent.
-pub(crate) fn is_marker(c: u8) -> bool
+pub fn is_marker(c: u8) -> bool
     ensures { λ r. ⌜ r ≡ exponentMarker c ⌝ }
 {
     if c == b'e' {
@@ -119,7 +119,7 @@ fn undotted(neg: bool, start: usize, end: usize, x: Suffix) -> MaybeReal
 }
 
 // The decimal from a place on, after its sign.
-fn decimal_at(t: &[u8], from: usize, neg: bool) -> MaybeReal
+pub fn decimal_at(t: &[u8], from: usize, neg: bool) -> MaybeReal
     ensures { λ r. ⌜ r ≡ decimal neg from (drop from (now (t .entry))) ⌝ }
 {
     let end = digits::run_end(t, from, DECIMAL);
@@ -150,7 +150,7 @@ fn infnan_at(t: &[u8], from: usize) -> MaybeReal
 }
 
 // An integer as a real.
-fn integral(n: MaybeInt) -> MaybeReal
+pub fn integral(n: MaybeInt) -> MaybeReal
     ensures { λ r. ⌜ r ≡ integralOf n ⌝ }
 {
     match n {
@@ -160,7 +160,7 @@ fn integral(n: MaybeInt) -> MaybeReal
 }
 
 // A rational of two integers.
-fn rational(n: MaybeInt, d: MaybeInt) -> MaybeReal
+pub fn rational(n: MaybeInt, d: MaybeInt) -> MaybeReal
     ensures { λ r. ⌜ r ≡ rationalOf n d ⌝ }
 {
     match n {
