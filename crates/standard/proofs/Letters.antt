@@ -28,8 +28,11 @@ module _ (c : ℕ) where
     unfolding lower
     lower-above h = simp (← within-from (code "A") (code "Z") c a, lt-leb c (code "Z") h)
 
-  -- a character whose lower case is x: x itself, or a letter in upper case
-  pub lower-is : (x : ℕ) → lower c ≡ x → (c ≡ x) ⊎ ((code "A" ≤ c) × (c ≤ code "Z") × (c + toLower ≡ x))
+  -- a character whose lower case is x: x itself, or that letter in upper case
+  abbrev pub UpperOf : ℕ → Type 0
+  UpperOf x = (code "A" ≤ c) × (c ≤ code "Z") × (c + toLower ≡ x)
+
+  pub lower-is : (x : ℕ) → lower c ≡ x → (c ≡ x) ⊎ UpperOf x
   unfolding lower
   lower-is x h =
       by-bool (within (code "A") (code "Z") c)
