@@ -67,18 +67,25 @@ judged-none : judged NoParts ≡ NoNumber
 unfolding judged
 judged-none = refl
 
--- one accepts and the other does not
-only-bought : (s : List ℕ) (a : Parts) → boughtParts s ≡ SomeParts a → numberParts s ≡ NoParts → parseNumber s ≡ parseStandard s → ⊥
-unfolding parseStandard
-only-bought s a p q e = judged-some a (sym (ap judged p) ∙ sym (number-bought s) ∙ e ∙ ap judged q ∙ judged-none)
+-- a reader that finds parts gives them, or error 8; one that finds none says "no number"
+bought-accepts : (s : List ℕ) (a : Parts) → boughtParts s ≡ SomeParts a → parseNumber s ≡ NoNumber → ⊥
+bought-accepts s a p e = judged-some a (sym (ap judged p) ∙ sym (number-bought s) ∙ e)
 
-only-standard : (s : List ℕ) (a : Parts) → boughtParts s ≡ NoParts → numberParts s ≡ SomeParts a → parseNumber s ≡ parseStandard s → ⊥
-unfolding parseStandard
-only-standard s a p q e = judged-some a (sym (ap judged q) ∙ sym e ∙ number-bought s ∙ ap judged p ∙ judged-none)
+bought-rejects : (s : List ℕ) → boughtParts s ≡ NoParts → parseNumber s ≡ NoNumber
+bought-rejects s p = number-bought s ∙ ap judged p ∙ judged-none
 
-same-parts : (s : List ℕ) → boughtParts s ≡ numberParts s → parseNumber s ≡ parseStandard s
+standard-accepts : (s : List ℕ) (a : Parts) → numberParts s ≡ SomeParts a → parseStandard s ≡ NoNumber → ⊥
 unfolding parseStandard
-same-parts s e = number-bought s ∙ ap judged e
+standard-accepts s a p e = judged-some a (sym (ap judged p) ∙ e)
+
+standard-rejects : (s : List ℕ) → numberParts s ≡ NoParts → parseStandard s ≡ NoNumber
+unfolding parseStandard
+standard-rejects s p = ap judged p ∙ judged-none
+
+-- with equal parts, or with none, the answers are equal
+equal-parts : (s : List ℕ) → boughtParts s ≡ numberParts s → parseNumber s ≡ parseStandard s
+unfolding parseStandard
+equal-parts s e = number-bought s ∙ ap judged e
 
 -- every text is a prefix and what follows it
 record Split (s : List ℕ) : Type 0 where
@@ -244,24 +251,34 @@ differ-met s n = go (boughtParts s) refl (numberParts s) refl
     go u p (SomeParts a) q = second (standard-only s (split s) a q)
       where
         second : (boughtParts s ≡ SomeParts a) ⊎ (Upper s ⊎ HexE s) → Condition s
-        second (inl e) = absurd (n (same-parts s (e ∙ sym q)))
+        second (inl e) = absurd (n (equal-parts s (e ∙ sym q)))
         second (inr e) = inr e
     go (SomeParts a) p NoParts q = inl (bought-only s (split s) a p q)
-    go NoParts p NoParts q = absurd (n (same-parts s (p ∙ sym q)))
+    go NoParts p NoParts q = absurd (n (equal-parts s (p ∙ sym q)))
 
--- a condition is met, so the answers differ
-below-differ : {s : List ℕ} → BelowSlash s → parseNumber s ≡ parseStandard s → ⊥
-below-differ (BelowSlash.polar {g = g} {a = a} {b = b} m x y w) = let u = side-bought m x y in only-bought (g ++ (a ++ code "@" ∷ b)) (u .0) (u .1) (side-standard m x y w)
+-- by the first condition the bought reader alone accepts the text
+abbrev pub BoughtAlone : List ℕ → Type 0
+BoughtAlone s = (parseNumber s ≡ NoNumber → ⊥) × (parseStandard s ≡ NoNumber)
 
-upper-differ : (s : List ℕ) → Upper s → parseNumber s ≡ parseStandard s → ⊥
-upper-differ s u = only-standard s (u .parts) (rejects (boughtParts s) refl) (parts-is (u .number))
+pub below-alone : {s : List ℕ} → BelowSlash s → BoughtAlone s
+below-alone (BelowSlash.polar {g = g} {a = a} {b = b} m x y w) =
+    let u = side-bought m x y in
+    (bought-accepts (g ++ (a ++ code "@" ∷ b)) (u .0) (u .1), standard-rejects (g ++ (a ++ code "@" ∷ b)) (side-standard m x y w))
+
+-- by the other two the second reader alone does
+abbrev pub StandardAlone : List ℕ → Type 0
+StandardAlone s = (parseStandard s ≡ NoNumber → ⊥) × (parseNumber s ≡ NoNumber)
+
+upper-alone : (s : List ℕ) → Upper s → StandardAlone s
+upper-alone s u = (standard-accepts s (u .parts) (parts-is (u .number)), bought-rejects s (rejects (boughtParts s) refl))
   where
     rejects : (v : MaybeParts) → boughtParts s ≡ v → boughtParts s ≡ NoParts
     rejects NoParts e = e
     rejects (SomeParts a) e = no (sym (u .upper) ∙ read-capital s (split s) a e)
 
-hex-differ : {s : List ℕ} → HexE s → parseNumber s ≡ parseStandard s → ⊥
-hex-differ (HexE.hexE {c = c} {s = t} {a = a} m n o) = only-standard (code "#" ∷ c ∷ t) a (rejects (boughtParts (code "#" ∷ c ∷ t)) refl) (parts-is n)
+hex-alone : {s : List ℕ} → HexE s → StandardAlone s
+hex-alone (HexE.hexE {c = c} {s = t} {a = a} m n o) =
+    (standard-accepts (code "#" ∷ c ∷ t) a (parts-is n), bought-rejects (code "#" ∷ c ∷ t) (rejects (boughtParts (code "#" ∷ c ∷ t)) refl))
   where
     hexed : Split (code "#" ∷ c ∷ t)
     hexed = record { R = 16; g = code "#" ∷ c ∷ []; t = t; mark = Prefix.hex m; text = refl; look = inr ((λ e. omega arith), prefix-hash c t ∙ prefix-mark (Prefix.hex m), refl, refl) }
@@ -270,11 +287,27 @@ hex-differ (HexE.hexE {c = c} {s = t} {a = a} m n o) = only-standard (code "#" �
     rejects NoParts e = e
     rejects (SomeParts b) e = no (sym o ∙ read-odd (code "#" ∷ c ∷ t) hexed b e refl)
 
+pub other-alone : (s : List ℕ) → Upper s ⊎ HexE s → StandardAlone s
+other-alone s (inl c) = upper-alone s c
+other-alone s (inr c) = hex-alone c
+
+-- a condition is met, so the answers differ
 met-differ : (s : List ℕ) → Condition s → parseNumber s ≡ parseStandard s → ⊥
-met-differ s (inl c) = below-differ c
-met-differ s (inr (inl c)) = upper-differ s c
-met-differ s (inr (inr c)) = hex-differ c
+met-differ s (inl c) e = let h = below-alone c in h .0 (e ∙ h .1)
+met-differ s (inr c) e = let h = other-alone s c in h .0 (sym e ∙ h .1)
 
 -- the two readers differ on a text exactly if it meets one of the three conditions
 pub differ : (s : List ℕ) → (parseNumber s ≡ parseStandard s → ⊥) ↔ Condition s
 differ s = (differ-met s, met-differ s)
+
+-- What both readers accept has the same parts, the same places and the same error 8.
+pub same-parts : (s : List ℕ) → (parseNumber s ≡ NoNumber → ⊥) → (parseStandard s ≡ NoNumber → ⊥) → parseNumber s ≡ parseStandard s
+same-parts s b n = go (numberParts s) refl
+  where
+    second : {a : Parts} → numberParts s ≡ SomeParts a → (boughtParts s ≡ SomeParts a) ⊎ (Upper s ⊎ HexE s) → parseNumber s ≡ parseStandard s
+    second q (inl e) = equal-parts s (e ∙ sym q)
+    second q (inr c) = absurd (b (other-alone s c .1))
+
+    go : (v : MaybeParts) → numberParts s ≡ v → parseNumber s ≡ parseStandard s
+    go (SomeParts a) q = second q (standard-only s (split s) a q)
+    go NoParts q = absurd (n (standard-rejects s q))

@@ -2,7 +2,7 @@
 use mathlib.Core.Bool.{Bool, false, true}
 use mathlib.Core.List.{List}
 use Prim.Native.Nat.{_+_, ℕ}
-use mathlib.Core.Logic.{_↔_, inl, inr}
+use mathlib.Core.Logic.{_⊎_, _↔_, inl, inr}
 use mathlib.Core.Path.{_≡_}
 use lib.ListN.{length}
 use Rattle.numbers.specs.declared.Exponent.{Exponent}
@@ -10,10 +10,10 @@ use Rattle.numbers.specs.declared.Parts.{Parts}
 use Rattle.numbers.specs.declared.Real.{Real}
 use Rattle.numbers.specs.Grammar.{parseNumber}
 use Rattle.standard.specs.Grammar.{parseStandard}
-use Rattle.difference.proofs.WithParts.{BelowSlash, Condition, HexE, Side}
+use Rattle.difference.proofs.WithParts.{BelowSlash, Condition, HexE, Side, Upper}
 use Rattle.difference.specs.R7rs.{ComplexAt, DecimalAt, ImaginaryAt, Infnan, Number, RealAt, SuffixAt, URealAt}
-use Rattle.difference.specs.Conditions.{ComplexText, DecimalText, Differs, ImaginaryText, InfnanText, NumberText, OddE, RealText, SideText, SignBelowSlash, SuffixText, URealText}
-use Rattle.difference.proofs.Compare.{differ}
+use Rattle.difference.specs.Conditions.{ComplexText, DecimalText, Differs, ImaginaryText, InfnanText, NumberText, OddE, RealText, SideText, SignBelowSlash, SuffixText, URealText, UpperCase}
+use Rattle.difference.proofs.Compare.{differ, BoughtAlone, below-alone, StandardAlone, other-alone}
 
 -- parts taken off
 tail : {p : ℕ} {s : List ℕ} {e : Exponent} → SuffixAt p s e → SuffixText s
@@ -119,6 +119,9 @@ shape-odd (HexE.hexE m n o) = OddE.odd m (number-text n) o
 odd-at : {s : List ℕ} → OddE s → HexE s
 odd-at (OddE.odd m n o) = HexE.hexE m (number-at n .1) o
 
+upper-at : {s : List ℕ} → UpperCase s → Upper s
+upper-at c = record { parts = number-at (c .number) .0; number = number-at (c .number) .1; upper = c .upper }
+
 shape : (s : List ℕ) → Condition s → Differs s
 shape s (inl c) = inl (shape-slash c)
 shape s (inr (inl c)) = inr (inl (record { number = number-text (c .number); upper = c .upper }))
@@ -126,9 +129,24 @@ shape s (inr (inr c)) = inr (inr (shape-odd c))
 
 shape-at : (s : List ℕ) → Differs s → Condition s
 shape-at s (inl c) = inl (slash-at c)
-shape-at s (inr (inl c)) = inr (inl (record { parts = number-at (c .number) .0; number = number-at (c .number) .1; upper = c .upper }))
+shape-at s (inr (inl c)) = inr (inl (upper-at c))
 shape-at s (inr (inr c)) = inr (inr (odd-at c))
 
 -- The two readers' answers differ on a text exactly if it meets one of the three conditions.
 pub differs : (s : List ℕ) → (parseNumber s ≡ parseStandard s → ⊥) ↔ Differs s
 differs s = ((λ h. shape s (differ s .0 h)), (λ c. differ s .1 (shape-at s c)))
+
+-- Which reader alone accepts the text: by the first condition the bought one, by the others the standard's.
+pub bought-alone : (s : List ℕ) → SignBelowSlash s → BoughtAlone s
+bought-alone s c = below-alone (slash-at c)
+
+pub standard-alone : (s : List ℕ) → UpperCase s ⊎ OddE s → StandardAlone s
+standard-alone s c = other-alone s (go c)
+  where
+    go : UpperCase s ⊎ OddE s → Upper s ⊎ HexE s
+    go (inl u) = inl (upper-at u)
+    go (inr o) = inr (odd-at o)
+
+-- So the first condition and the others exclude each other.
+pub exclusive : (s : List ℕ) → SignBelowSlash s → UpperCase s ⊎ OddE s → ⊥
+exclusive s c d = standard-alone s d .0 (bought-alone s c .1)

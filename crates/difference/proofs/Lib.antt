@@ -12,3 +12,5 @@ pub mod Bought
 pub mod Low
 pub mod Compare
 pub mod Differs
+pub mod Shown
+pub mod Call

@@ -5,13 +5,12 @@ use Rattle.laws.specs.Texts.{same}
 use Rattle.laws.proofs.Choice.{by-bool, within-below, within-from, within-is}
 use Rattle.laws.proofs.Places.{past, here}
 use Prim.Native.Nat.{ℕ, _+_, _≤_, _<_}
-use mathlib.Core.Path.{_≡_, refl, sym, _∙_}
-use mathlib.Core.Bool.{true, false}
+use mathlib.Core.Path.{_≡_}
+use mathlib.Core.Bool.{false}
 use mathlib.Core.List.{List, map}
 use mathlib.Core.Logic.{_⊎_, inl, inr}
 use lib.ListN.{length, getD, drop}
-use lib.Dec.{leb, eqb}
-use native.Mathlib.Omega.{arith}
+use lib.Dec.{leb}
 use borrow.Author.Tests.{eq-eqb, ne-eqb, le-leb, lt-leb, leb-true, leb-false}
 
 module _ (c : ℕ) where
