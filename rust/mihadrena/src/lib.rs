@@ -34,6 +34,7 @@ mod error;
 mod items;
 mod kind;
 mod number;
+mod number_by;
 mod pieces;
 #[allow(missing_docs, clippy::unreadable_literal)]
 pub mod raw;
@@ -42,5 +43,6 @@ pub use error::{Error, HexError, Refusal};
 pub use items::{needed, Item, Items, Mode, Needed, Options};
 pub use kind::{Kind, Paren, ParenMod};
 pub use number::{number, Decimal, Int, NotNumber, Number, Real, Sign};
+pub use number_by::{number_by, NumberReader};
 pub use pieces::PieceReader;
 pub use raw::Record;
