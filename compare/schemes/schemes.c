@@ -12,13 +12,13 @@
 
 #include "mihadrena.h"
 
-enum { LINE = 256, SHORT = 4, JOINED = 5, SHOWN = 20 };
+enum { LINE = 4096, SHORT = 4, JOINED = 5, SHOWN = 20 };
 
 static const char alphabet[] = "01+-.eE/iI@#xf";
 
 static const char *const parts[] = {"1",     "0",   "12",     "-2",     "+3",     "1/2",  "1/-2", "3/0",  ".5",   "1.5", "2.",  "1e5",
                                     "1E-5",  "2e+3", "+inf.0", "-nan.0", "+INF.0", "nAn.0", "inF.0", "e",    "ee",   "E",   "i",   "I",
-                                    "@",     "+",    "-",      "/",      ".",      "#x",    "#X",    "#b",   "#o",   "#d",  "#e",  "a",
+                                    "@",     "+",    "-",      "/",      ".",      "#x",    "#X",    "#b",   "#o",   "#d",  "a",
                                     "F",     "b",    "_",      "9f0",    "n",      "N",     "fA",    "10",   "-",    "+"};
 
 static const size_t part_count = sizeof parts / sizeof *parts;
@@ -102,32 +102,70 @@ static bool has(const char *text, const char *part)
     return false;
 }
 
-/* With old exponent markers read as e, old digits # as 0, and digits after nan.0 left out it is a number of the standard. */
-static bool older(const char *text, const char *letters, char instead)
+/* Whether a text is written like a number: one, or one with a zero denominator. */
+static bool is_number(const char *text)
+{
+    uint32_t answer = by_standard(text);
+    return answer == MIHADRENA_A_NUMBER || answer == MIHADRENA_ZERO;
+}
+
+/* Whether it is a number with the exponent markers of older reports read as e, and with their digit # read as 0 where hashes. */
+static bool is_older(const char *text, bool hashes)
 {
     char copy[LINE];
     snprintf(copy, sizeof copy, "%s", text);
-    for (char *c = copy + 1; copy[0] && *c; c++)
-        if (strchr(letters, tolower((unsigned char)*c)) && (isdigit((unsigned char)c[-1]) || c[-1] == '.'))
-            *c = instead;
-    return by_standard(copy) == MIHADRENA_A_NUMBER;
+    for (char *c = copy + 1; copy[0] && *c; c++) {
+        if (hashes && *c == '#' && (isxdigit((unsigned char)c[-1]) || c[-1] == '.'))
+            *c = '0';
+        else if (strchr("sfdl", tolower((unsigned char)*c)) && (isdigit((unsigned char)c[-1]) || c[-1] == '.'))
+            *c = 'e';
+    }
+    return is_number(copy);
 }
 
-static bool longer_nan(const char *text)
+/* Whether it is a number without the digits after a nan.0. */
+static bool is_longer_nan(const char *text)
 {
     char copy[LINE];
-    char *to = copy;
-    for (const char *c = text; *c && to < copy + LINE - 1; c++) {
-        bool after = to - copy >= 5 && has(to - 5, "nan.0") && to[-1] == '0' && isdigit((unsigned char)*c);
-        *to = *c;
-        to[1] = '\0';
-        if (!after)
-            to++;
-        else
-            *to = '\0';
+    size_t n = 0;
+    for (const char *c = text; *c; c++) {
+        copy[n] = '\0';
+        if (n >= 5 && has(copy + n - 5, "nan.0") && isdigit((unsigned char)*c))
+            continue;
+        copy[n++] = *c;
     }
-    *to = '\0';
-    return by_standard(copy) == MIHADRENA_A_NUMBER;
+    copy[n] = '\0';
+    return is_number(copy);
+}
+
+static bool begins(const char *text, const char *radices)
+{
+    return text[0] == '#' && text[1] && strchr(radices, tolower((unsigned char)text[1]));
+}
+
+/* Whether an exponent marker, today's or an older one, stands after a digit, from a place on; in radix 16 only after a digit #. */
+static bool has_marker(const char *text, const char *from)
+{
+    for (const char *c = from; *c; c++)
+        if (c > text && strchr("esfdl", tolower((unsigned char)*c)) &&
+            (c[-1] == '#' || (isdigit((unsigned char)c[-1]) && !begins(text, "x"))))
+            return true;
+    return false;
+}
+
+/* Whether an exponent has three digits or more. */
+static bool has_long_exponent(const char *text)
+{
+    for (; *text; text++) {
+        const char *c = text + 1;
+        if (tolower((unsigned char)*text) != 'e')
+            continue;
+        if (*c == '+' || *c == '-')
+            c++;
+        if (isdigit((unsigned char)c[0]) && isdigit((unsigned char)c[1]) && isdigit((unsigned char)c[2]))
+            return true;
+    }
+    return false;
 }
 
 typedef struct reason {
@@ -136,14 +174,16 @@ typedef struct reason {
     char example[LINE];
 } reason;
 
-enum { ZERO, MARKER, HASH, NAN_DIGITS, MINUS_NAN, RADIX_POINT, RATIO_EXPONENT, REASONS };
+enum { ZERO, EXACTNESS, MARKER, HASH, NAN_DIGITS, MINUS_NAN, LONG_EXPONENT, RADIX_POINT, RATIO_EXPONENT, REASONS };
 
 static reason reasons[REASONS] = {
-    {"a zero denominator: error 8 here", 0, ""},
+    {"a zero denominator refused: error 8 here", 0, ""},
+    {"an exactness prefix: left out here", 0, ""},
     {"an exponent marker of older reports (s, f, d, l)", 0, ""},
     {"a # for a digit, as in older reports", 0, ""},
     {"digits after nan.", 0, ""},
     {"-nan.0 refused", 0, ""},
+    {"an exponent of three digits or more refused", 0, ""},
     {"a dot or an exponent in another radix than 10", 0, ""},
     {"an exponent after a ratio", 0, ""},
 };
@@ -151,20 +191,22 @@ static reason reasons[REASONS] = {
 /* Why a Scheme may differ on a text, or REASONS. */
 static int why(const char *text, uint32_t answer, bool taken)
 {
-    bool prefixed = text[0] == '#' && strchr("xXoObB", text[1]);
+    const char *slash = strchr(text, '/');
     if (answer == MIHADRENA_ZERO)
-        return ZERO;
+        return taken ? REASONS : ZERO;
     if (!taken)
-        return has(text, "-nan.0") ? MINUS_NAN : REASONS;
-    if (older(text, "sfdl", 'e'))
+        return has(text, "-nan.0") ? MINUS_NAN : has_long_exponent(text) ? LONG_EXPONENT : REASONS;
+    if (is_older(text, false))
         return MARKER;
-    if (older(text, "#", '0'))
+    if (is_older(text, true))
         return HASH;
-    if (longer_nan(text))
+    if (has(text, "#e") || has(text, "#i"))
+        return EXACTNESS;
+    if (is_longer_nan(text))
         return NAN_DIGITS;
-    if (prefixed && strchr(text, '.'))
+    if (begins(text, "xob") && (strchr(text, '.') || has_marker(text, text)))
         return RADIX_POINT;
-    if (strchr(text, '/') && has(text, "e"))
+    if (slash && has_marker(text, slash))
         return RATIO_EXPONENT;
     return REASONS;
 }

@@ -1,16 +1,17 @@
 -- A text for each condition, which meets that one and no other: no condition implies another.
 use Prim.Native.Nat.{ℕ, _<_}
 use mathlib.Core.Path.{_≡_, refl, sym}
-use mathlib.Core.Bool.{true}
+use mathlib.Core.Bool.{true, false}
 use mathlib.Core.List.{List, [], _∷_}
 use mathlib.Core.Logic.{inl, inr}
 use lib.Dec.{lit<}
+use lib.ListN.{drop}
 use Rattle.laws.specs.Quoted.{code, codes, within}
 use Rattle.laws.specs.Texts.{starts}
 use Rattle.digits.specs.Digits.{digitOf}
 use Rattle.standard.specs.Characters.{lower, isSign}
 use Rattle.difference.specs.Productions.{Letter, Digits, UInteger, Sign, Prefix}
-use Rattle.difference.specs.Conditions.{URealText, RealText, ImaginaryText, ComplexText, NumberText, somewhere, isCapital, isN, signAfter, oddE, SignedBelow, SideText, SignBelowSlash, UpperCase, OddE}
+use Rattle.difference.specs.Conditions.{URealText, RealText, ImaginaryText, ComplexText, NumberText, somewhere, isCapital, isN, signAfter, oddE, signAfterOddE, SignedBelow, SideText, SignBelowSlash, UpperCase, OddE}
 use Rattle.difference.proofs.Runs.{no}
 use Rattle.difference.proofs.Differs.{exclusive}
 
@@ -58,3 +59,20 @@ only-2 = ((λ c. exclusive (codes "+I") c (inl shows-2)), (λ c. no (sym (odd-ha
 pub only-3 : (SignBelowSlash (codes "#xe+1i") → ⊥) × (UpperCase (codes "#xe+1i") → ⊥)
 unfolding somewhere isCapital isN
 only-3 = ((λ c. exclusive (codes "#xe+1i") c (inr shows-3)), (λ c. no (sym (c .upper))))
+
+-- what meets the third has such a sign after its prefix
+odd-sign : {s : List ℕ} → OddE s → signAfterOddE false (drop 2 s) ≡ true
+odd-sign (OddE.odd m n o) = o
+
+-- after an even number of e's the third is not met: `#xee+1i`
+pub even-e : OddE (codes "#xee+1i") → ⊥
+unfolding somewhere signAfter oddE isSign
+even-e c = no (sym (odd-sign c))
+
+-- an A right after an n counts: `+nAn.0` meets the second
+pub upper-nan : UpperCase (codes "+nAn.0")
+unfolding lower within somewhere isCapital isN
+upper-nan = record {
+  number = NumberText.num Prefix.empty (ComplexText.real (RealText.infnan (inr (inr (inl refl)))));
+  upper = refl;
+}
