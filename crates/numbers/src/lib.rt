@@ -14,6 +14,8 @@ ghost use Rattle.numbers.specs.Call.{answered, given, number};
 mod complexes;
 mod reals;
 
+pub use reals::one_decimal;
+
 // What the second reader (crate standard) has in common with this one. Internal.
 pub use complexes::complex;
 pub use complexes::just;
@@ -104,6 +106,14 @@ pub enum Suffix {
 pub enum MaybeReal {
     AReal(Real),
     NoReal,
+}
+
+// What a text is that may be one decimal.
+pub enum MaybePoint {
+    // 1.5
+    APoint(Point),
+    // 15
+    NoPoint,
 }
 
 pub enum MaybeParts {
