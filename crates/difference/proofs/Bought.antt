@@ -34,7 +34,7 @@ use Rattle.difference.proofs.WithParts.{Side}
 use Rattle.difference.specs.Conditions.{SignedBelow, capital, isCapital, isN, oddE, signAfter, signAfterOddE, somewhere}
 use Rattle.difference.proofs.Runs.{before-split, no}
 use Rattle.difference.proofs.Odd.{below-cut, below-odd, imaginary-odd, mark-facts, odd-hit, odd-next, real-odd, toSign-odd}
-use Rattle.difference.proofs.Somewhere.{cap-hit, cap-next, plain-capital, reset-back, reset-join}
+use Rattle.difference.proofs.Somewhere.{Mark, cap-hit, cap-next, plain-capital, reset-back, reset-join}
 use Rattle.difference.proofs.Sound.{real-imaginary}
 use Rattle.difference.proofs.Walk.{sign-marker}
 use Rattle.numbers.specs.Reals as bought
@@ -75,14 +75,14 @@ unfolding joint
 joint-ten s = refl
 
 -- capitals in parts
-pub sign-43 : (c : ℕ) → isSign c ≡ true → (c ≡ code "+") ⊎ ((c ≡ code "-") ⊎ ((c ≡ code "/") ⊎ ((c ≡ code "@") ⊎ (c ≡ code "i"))))
+pub sign-mark : (c : ℕ) → isSign c ≡ true → Mark c
 unfolding isSign
-sign-43 c h = by-bool (eqb c (code "+")) (λ e. inl (eqb-true c (code "+") e)) (λ e. inr (inl (eqb-true c (code "-") (rw e at h))))
+sign-mark c h = by-bool (eqb c (code "+")) (λ e. inl (eqb-true c (code "+") e)) (λ e. inr (inl (eqb-true c (code "-") (rw e at h))))
 
-pub cap-join : (x : ℕ) → (x ≡ code "+") ⊎ ((x ≡ code "-") ⊎ ((x ≡ code "/") ⊎ ((x ≡ code "@") ⊎ (x ≡ code "i")))) → (a b : List ℕ) → capital false a ≡ false → capital false b ≡ false → capital false (a ++ x ∷ b) ≡ false
+pub cap-join : (x : ℕ) → Mark x → (a b : List ℕ) → capital false a ≡ false → capital false b ≡ false → capital false (a ++ x ∷ b) ≡ false
 cap-join x h a b p q = reset-join isCapital isN x (cap-hit x h) (cap-next x h) false a b p q
 
-pub cap-back : (x : ℕ) → (x ≡ code "+") ⊎ ((x ≡ code "-") ⊎ ((x ≡ code "/") ⊎ ((x ≡ code "@") ⊎ (x ≡ code "i")))) → (a b : List ℕ) → capital false (a ++ x ∷ b) ≡ false → capital false b ≡ false
+pub cap-back : (x : ℕ) → Mark x → (a b : List ℕ) → capital false (a ++ x ∷ b) ≡ false → capital false b ≡ false
 cap-back x h a b p = reset-back isCapital isN x (cap-hit x h) (cap-next x h) false a b p
 
 pub cap-nil : capital false [] ≡ false
@@ -232,7 +232,7 @@ module _ (R p : ℕ) (s : List ℕ) (a : Parts) (l : R ≤ 16) (m : cut s < leng
         let w : s ≡ take (cut s) s ++ g .0 ∷ g .1 = sym (take-append-drop (cut s) s) ∙ ap (λ (y : List ℕ). take (cut s) s ++ y) (g .2) in
         let u : capital false (g .0 ∷ g .1) ≡ false = ap (capital false) (sym (g .2) ∙ last) ∙ cap-i (init (drop (cut s) s)) (e .1) in (
           subst (λ (x : List ℕ). ComplexAt R p x a) q c,
-          ap (capital false) w ∙ cap-join (g .0) (sign-43 (g .0) (g .3)) (take (cut s) s) (g .1) (d .1) (cap-back (g .0) (sign-43 (g .0) (g .3)) [] (g .1) u),
+          ap (capital false) w ∙ cap-join (g .0) (sign-mark (g .0) (g .3)) (take (cut s) s) (g .1) (d .1) (cap-back (g .0) (sign-mark (g .0) (g .3)) [] (g .1) u),
           λ h. pair-odd s m (real-odd h (d .0)) (ap (signAfterOddE false) last ∙ odd-i (init (drop (cut s) s)) (imaginary-odd h (e .0))),
         )
     pair-fine x y z (inr d) e =

@@ -25,7 +25,7 @@ use Rattle.difference.specs.R7rs.{ComplexAt, ImaginaryAt}
 use Rattle.difference.specs.Productions.{Letter}
 use Rattle.difference.proofs.Walk.{Radix, Signed, all-nil, foreign-at, free, i-other, imaginary-joint, imaginary-other, imaginary-signed, joint-cons, other, radix-le, real-joint, real-other, sign-marker, signed-sign, signed-walk, walk, walk-hex, walk-i, walk-ten}
 use Rattle.difference.proofs.Runs.{all, all-append, all-cons, before-here, before-none, no, span-full}
-use Rattle.difference.proofs.Bought.{cap-back, cap-join, cap-nil, endsI-no, endsI-snoc, imaginary-low, sign-43}
+use Rattle.difference.proofs.Bought.{cap-back, cap-join, cap-nil, endsI-no, endsI-snoc, imaginary-low, sign-mark}
 use Rattle.difference.specs.Conditions.{capital, isCapital, isN, oddE, signAfter, signAfterOddE, somewhere}
 use Rattle.difference.proofs.Whole.{ends-not, init-snoc}
 use Rattle.difference.proofs.Odd.{free-walk, toSign-span}
@@ -64,9 +64,9 @@ rest-walk {R} {p} {b} {c} h d m =
     let j : joint R (g .0 ∷ (g .1 ++ c ∷ [])) ≡ suc (length (g .1)) + walk R false (c ∷ []) = subst (λ (y : List ℕ). joint R (y ++ c ∷ []) ≡ length y + walk R false (c ∷ [])) (g .2) (imaginary-joint (c ∷ []) h d) in
     rw (g .2) (rest-of R (g .0) (g .1) h (g .3) m j)
 
-cap-73 : (g : Bool) → isCapital g (code "I") ≡ true
+capital-i : (g : Bool) → isCapital g (code "I") ≡ true
 unfolding isCapital
-cap-73 g = refl
+capital-i g = refl
 
 low-i : {c : ℕ} (s : List ℕ) → Letter "i" c → capital false (s ++ c ∷ []) ≡ false → c ≡ code "i"
 unfolding isCapital
@@ -74,13 +74,13 @@ low-i {c} s (Letter.letter m) h = go (lower-is c (code "i") m)
   where
     go : (c ≡ code "i") ⊎ UpperOf c (code "i") → c ≡ code "i"
     go (inl e) = e
-    go (inr e) = let z : c ≡ code "I" = omega arith in let k = some-last isCapital isN false s c h in no (sym (cap-73 (k .0)) ∙ ap (isCapital (k .0)) (sym z) ∙ k .1)
+    go (inr e) = let z : c ≡ code "I" = omega arith in let k = some-last isCapital isN false s c h in no (sym (capital-i (k .0)) ∙ ap (isCapital (k .0)) (sym z) ∙ k .1)
 
 cap-part : (a b x : List ℕ) → Signed b → capital false (a ++ (b ++ x)) ≡ false → capital false b ≡ false
 cap-part a b x g k =
     let k′ : capital false (a ++ g .0 ∷ (g .1 ++ x)) ≡ false = subst (λ (y : List ℕ). capital false (a ++ (y ++ x)) ≡ false) (g .2) k in
-    let t : capital false (g .1) ≡ false = some-front isCapital isN false (g .1) x (cap-back (g .0) (sign-43 (g .0) (g .3)) a (g .1 ++ x) k′) in
-    ap (capital false) (g .2) ∙ cap-join (g .0) (sign-43 (g .0) (g .3)) [] (g .1) cap-nil t
+    let t : capital false (g .1) ≡ false = some-front isCapital isN false (g .1) x (cap-back (g .0) (sign-mark (g .0) (g .3)) a (g .1 ++ x) k′) in
+    ap (capital false) (g .2) ∙ cap-join (g .0) (sign-mark (g .0) (g .3)) [] (g .1) cap-nil t
 
 pub complex-low : {R p : ℕ} {s : List ℕ} {a : Parts} → Radix R → ComplexAt R p s a → capital false s ≡ false → (R ≡ 16 → signAfterOddE false s ≡ false) → bought-grammar.complex R p s ≡ SomeParts a
 unfolding bought-grammar.complex bought-grammar.rectangular bought-grammar.aloneOf bought-grammar.pairOf justOf polarOf complexOf

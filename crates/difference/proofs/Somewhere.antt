@@ -45,8 +45,12 @@ module _ (hit next : Bool → ℕ → Bool) where
   some-last f [] c h = (f, by-bool (hit f c) (λ e. no (rw e at h)) (λ e. e))
   some-last f (x ∷ a) c h = some-last (next f x) a c (by-bool (hit f x) (λ e. no (rw e at h)) (λ e. rw e at h))
 
--- the marks between parts, for capitals
-pub cap-hit : (x : ℕ) → (x ≡ code "+") ⊎ ((x ≡ code "-") ⊎ ((x ≡ code "/") ⊎ ((x ≡ code "@") ⊎ (x ≡ code "i")))) → (f : Bool) → isCapital f x ≡ false
+-- the marks between parts and after them
+abbrev pub Mark : ℕ → Type 0
+Mark x = (x ≡ code "+") ⊎ ((x ≡ code "-") ⊎ ((x ≡ code "/") ⊎ ((x ≡ code "@") ⊎ (x ≡ code "i"))))
+
+-- no mark is a capital, or an n
+pub cap-hit : (x : ℕ) → Mark x → (f : Bool) → isCapital f x ≡ false
 unfolding isCapital
 cap-hit x (inl e) true = rw e
 cap-hit x (inl e) false = rw e
@@ -59,7 +63,7 @@ cap-hit x (inr (inr (inr (inl e)))) false = rw e
 cap-hit x (inr (inr (inr (inr e)))) true = rw e
 cap-hit x (inr (inr (inr (inr e)))) false = rw e
 
-pub cap-next : (x : ℕ) → (x ≡ code "+") ⊎ ((x ≡ code "-") ⊎ ((x ≡ code "/") ⊎ ((x ≡ code "@") ⊎ (x ≡ code "i")))) → (f : Bool) → isN f x ≡ false
+pub cap-next : (x : ℕ) → Mark x → (f : Bool) → isN f x ≡ false
 unfolding isN
 cap-next x (inl e) f = rw e
 cap-next x (inr (inl e)) f = rw e
