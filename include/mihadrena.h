@@ -395,6 +395,24 @@ bool mihadrena_is_blank(uint32_t code);
  */
 size_t mihadrena_put_char(uint32_t code, uint8_t *text, size_t text_length);
 
+/* -- The parts of a number by a choice of reader ------------------------------------------------------------------------------- */
+
+/* The readers. They differ on the texts of docs/DIFFERENCES.md's three conditions alone. */
+#define MIHADRENA_BOUGHT 0   /* as mihadrena_number reads, and the items' Number: 1@1/-2 is a number, +I and #xe+1i are none */
+#define MIHADRENA_STANDARD 1 /* by the number grammar of R7RS 7.1.1: +I and #xe+1i are numbers, 1@1/-2 is none */
+
+/* Refused: the choice is neither; comes with 0, before MIHADRENA_TOO_LONG and MIHADRENA_NOT_UTF8. */
+#define MIHADRENA_NO_CHOICE 39
+
+/* What a text is as a number by the reader of a choice; else as mihadrena_number.
+ *
+ *     mihadrena_parts parts;
+ *     uint32_t answer =
+ *         mihadrena_number_by(MIHADRENA_STANDARD, (const uint8_t *)"#xe+1i", 6, (uint64_t *)&parts, MIHADRENA_NUMBER_WORDS);
+ *     // answer == MIHADRENA_A_NUMBER, parts.form == MIHADRENA_COMPLEX,
+ *     // parts.one.one is { MIHADRENA_VALUE, 0, 14, 0 }, parts.two.one is { MIHADRENA_VALUE, 0, 1, 0 }
+ */
+uint32_t mihadrena_number_by(uint32_t choice, const uint8_t *text, size_t text_length, uint64_t *words, size_t words_length);
 /* -- Coordinates -------------------------------------------------------------------------------------------------------------- */
 
 /* What the two calls answer beside MIHADRENA_SERVED, MIHADRENA_TOO_LONG and MIHADRENA_NOT_UTF8. */

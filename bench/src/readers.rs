@@ -55,6 +55,7 @@ pub const CHECKS: &[Reader] = &[
 /// The number calls, on each number of a text; their items are the numbers.
 pub const NUMBERS: &[Reader] = &[
     Reader { name: "number", title: "number call", inside: &["mihadrena_number"], ready: number },
+    Reader { name: "by-standard", title: "by the standard", inside: &["mihadrena_number_by"], ready: by_standard },
     Reader { name: "rust-number", title: "the Rust's", inside: &["rust_number"], ready: rust_numbers },
 ];
 
@@ -173,6 +174,17 @@ fn number(text: &str) -> Run<'_> {
     let mut words = [0; proved::NUMBER_WORDS];
     Box::new(move || {
         numbers.iter().for_each(|number| assert_eq!(proved::number(number.as_bytes(), &mut words), proved::A_NUMBER));
+        Some(numbers.len() as u64)
+    })
+}
+
+fn by_standard(text: &str) -> Run<'_> {
+    let numbers = numbers_of(text);
+    let mut words = [0; proved::NUMBER_WORDS];
+    Box::new(move || {
+        for number in &numbers {
+            assert_eq!(proved::number_by(proved::STANDARD, number.as_bytes(), &mut words), proved::A_NUMBER);
+        }
         Some(numbers.len() as u64)
     })
 }

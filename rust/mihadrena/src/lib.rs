@@ -36,6 +36,7 @@ mod items;
 mod kind;
 mod names;
 mod number;
+mod number_by;
 mod pieces;
 #[allow(missing_docs, clippy::unreadable_literal)]
 pub mod raw;
@@ -46,5 +47,6 @@ pub use items::{needed, Item, Items, Mode, Needed, Options};
 pub use kind::{Kind, Paren, ParenMod};
 pub use names::{Names, NoName, Party};
 pub use number::{number, Decimal, Int, NotNumber, Number, Real, Sign};
+pub use number_by::{number_by, NumberReader};
 pub use pieces::PieceReader;
 pub use raw::Record;

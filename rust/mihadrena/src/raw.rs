@@ -213,6 +213,11 @@ pub const CODE_BAD: u32 = 0x110000;
 pub const CODE_CUT: u32 = 0x110001;
 pub const CODE_END: u32 = 0x110002;
 
+// The readers of `mihadrena_number_by`, and its refusal of any other.
+pub const BOUGHT: u32 = 0;
+pub const STANDARD: u32 = 1;
+pub const NO_CHOICE: u32 = 39;
+
 const _: () = assert!(size_of::<Record>() == RECORD_WORDS * size_of::<u32>());
 const _: () = assert!(size_of::<State>() == STATE_SIZE && align_of::<State>() == STATE_ALIGN);
 const _: () = assert!(size_of::<Told>() == PIECE_VALUES * size_of::<u64>());
@@ -235,6 +240,7 @@ extern "C" {
     pub fn mihadrena_next_at(text: *const u8, text_length: usize, at: usize) -> usize;
     pub fn mihadrena_is_blank(code: u32) -> bool;
     pub fn mihadrena_put_char(code: u32, text: *mut u8, text_length: usize) -> usize;
+    pub fn mihadrena_number_by(choice: u32, text: *const u8, text_length: usize, words: *mut u64, words_length: usize) -> u32;
     pub fn mihadrena_coordinate(text: *const u8, text_length: usize, value: *mut f64, place: *mut u64) -> u32;
     pub fn mihadrena_record_coordinate(source: *const u8, source_length: usize, kind: u32, start: u32, end: u32, value: *mut f64, place: *mut u64) -> u32;
 }
