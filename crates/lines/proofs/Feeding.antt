@@ -22,7 +22,7 @@ use Rattle.lines.specs.Pieces.{Fed, fed, movedOf, stoppedOf, stepOf, not
 use Rattle.lines.specs.declared.State.{State}
 use Rattle.lines.specs.declared.Answer.the-variants.{Served, Refused}
 use Rattle.lines.proofs.Tests.{by-less, by-equal}
-use Rattle.laws.proofs.Choice.{by-bool}
+use Rattle.laws.proofs.Choice.{by-bool, if-all}
 
 module _ (t : State) (b : ℕ) where
   pub step-stands : t .stop ≡ tooLong → stepOf t b ≡ t
@@ -66,6 +66,9 @@ pub fed-at : (s : List ℕ) (t : State) (m : List ℕ) (i : ℕ) → i < length 
 unfolding fedOf
 fed-at s t m i h = rw (drop-cons s i 0 h, add-one i)
 
+noted-length : (t next : State) (m : List ℕ) → length (noted t next m) ≡ length m
+noted-length t next m = if-all (λ (l : List ℕ). length l ≡ length m) (ltb (t .lines) (next .lines)) (length-set m (next .lines) (next .at)) refl
+
 pub record Feeding (st : State) (s old : List ℕ) (t : State) (m : List ℕ) (i : ℕ) : Type 0 where
   pub inside : i ≤ length s
   pub low : t .lines ≤ t .at
@@ -77,20 +80,12 @@ feeding-start st s old h = record { inside = omega arith; low = h; size = refl; 
 
 module _ (st : State) (s old : List ℕ) (t : State) (m : List ℕ) (i : ℕ) (g : Feeding st s old t m i) where
   module _ {next : State} (h : i < length s) (e : next ≡ stepOf t (getD s i 0)) where
-    pub feeding-hit : {now : List ℕ} → t .lines < next .lines → now ≡ set m (next .lines) (next .at) → Feeding st s old next now (i + 1)
-    feeding-hit l w = record {
+    pub feeding-next : {now : List ℕ} → now ≡ noted t next m → Feeding st s old next now (i + 1)
+    feeding-next w = record {
       inside = omega arith;
       low = rw e (step-low t (getD s i 0) (g .low));
-      size = ap length w ∙ length-set m (next .lines) (next .at) ∙ g .size;
-      rest = g .rest ∙ fed-at s t m i h ∙ rw (← e, lt-ltb (t .lines) (next .lines) l, w);
-    }
-
-    pub feeding-miss : next .lines ≤ t .lines → Feeding st s old next m (i + 1)
-    feeding-miss l = record {
-      inside = omega arith;
-      low = rw e (step-low t (getD s i 0) (g .low));
-      size = g .size;
-      rest = g .rest ∙ fed-at s t m i h ∙ rw (← e, le-ltb (t .lines) (next .lines) l);
+      size = ap length w ∙ noted-length t next m ∙ g .size;
+      rest = g .rest ∙ fed-at s t m i h ∙ rw (← e, w);
     }
 
   pub feeding-end : length s ≤ i → fed t m ≡ fedOf st s old

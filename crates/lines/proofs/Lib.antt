@@ -5,3 +5,4 @@ pub mod Columns
 pub mod Feeding
 pub mod Joined
 pub mod Held
+pub mod Index
