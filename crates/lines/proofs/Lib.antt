@@ -6,3 +6,5 @@ pub mod Feeding
 pub mod Joined
 pub mod Held
 pub mod Index
+pub mod Back
+pub mod Between

@@ -21,9 +21,6 @@ returns-2 : tie.Need-returns-2
 unfolding endOf
 returns-2 c = search (lt-ltb, le-ltb, eq-eqb, ne-eqb)
 
-cast-t6 : tie.Need-cast-t6
-cast-t6 c = search needs
-
 returns-3 : tie.Need-returns-3
 unfolding endOf
 returns-3 c = search (lt-ltb, le-ltb, eq-eqb, ne-eqb)
@@ -34,6 +31,9 @@ cast-t7 c = search needs
 returns-4 : tie.Need-returns-4
 unfolding endOf
 returns-4 c = search (lt-ltb, le-ltb, eq-eqb, ne-eqb)
+
+cast-t8 : tie.Need-cast-t8
+cast-t8 c = search needs
 
 cast-n : tie.Need-cast-n
 cast-n c = search needs
@@ -54,9 +54,9 @@ end-spec =
     returns
     cast-t6
     returns-2
-    cast-t6
-    returns-3
     cast-t7
+    returns-3
+    cast-t8
     returns-4
     cast-n
     add-n
