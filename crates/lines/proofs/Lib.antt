@@ -8,3 +8,5 @@ pub mod Held
 pub mod Index
 pub mod Back
 pub mod Between
+pub mod Words
+pub mod Once

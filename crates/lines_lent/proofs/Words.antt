@@ -14,7 +14,7 @@ use Rattle.lines.specs.Pieces.{Fed, fed, fresh, openOf, pieceOf, endOf}
 use Rattle.lines.specs.declared.State.{State}
 use Rattle.lines.specs.declared.Answer.{Answer}
 use Rattle.lines.specs.declared.Answer.the-variants.{Refused}
-use Rattle.lines_lent.specs.Words.{stateWords, listed, stateIn, isByte, isState, Left, left, kept, openLeft, pieceLeft, endFor}
+use Rattle.lines.specs.Words.{stateWords, listed, stateIn, isByte, isState, Left, left, kept, openLeft, pieceLeft, endFor}
 
 -- ---- which words are a state's
 

@@ -1,7 +1,7 @@
 // The index of a text that comes in pieces, with a state that the caller keeps: WORDS words that a call reads, hands to the step by value,
 // and writes anew. The state is numbers alone, so it can stand in the memory of a program in any language.
 //
-// specs/Words says which words stand for which state and what the calls leave; docs/STATE.md lists the words.
+// The crate lines, specs/Words, says which words stand for which state and what the calls leave; docs/STATE.md lists the words.
 use chars::State as Begun;
 use lines::Answer;
 use lines::State;
@@ -9,7 +9,7 @@ ghost use mathlib.Core.Path.{_≡_};
 ghost use mathlib.Core.Bool.{true};
 ghost use lib.ListN.{length};
 ghost use Rattle.laws.specs.Lent.{written};
-ghost use Rattle.lines_lent.specs.Words.{stateWords, listed, stateIn, isState, left, openLeft, pieceLeft, endFor};
+ghost use Rattle.lines.specs.Words.{stateWords, listed, stateIn, isState, left, openLeft, pieceLeft, endFor};
 
 // How many words a state has.
 const WORDS: usize = 8;

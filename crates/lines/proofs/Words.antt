@@ -18,13 +18,13 @@ use Rattle.chars.specs.declared.State as begun
 use Rattle.chars.specs.declared.Step.{Step}
 use Rattle.chars.specs.declared.Step.the-variants as steps
 use Rattle.items.specs.Whole.{limit}
 use Rattle.lines.specs.Refusals.{tooLong, notUtf8}
 use Rattle.lines.specs.Starts.{starts, buildOf}
 use Rattle.lines.specs.Pieces.{Fed, fed, fresh, openOf, movedOf, stoppedOf, stepOf, noted, fedOf, pieceOf, endOf, pieces, joined, before, laid}
 use Rattle.lines.specs.declared.State.{State}
 use Rattle.lines.proofs.Joined.{cut, same-answer}
 use Rattle.lines.proofs.Held.{held}
-use Rattle.lines_lent.specs.Words.{stateWords, listed, stateIn, isState, Left, left, kept, openLeft, pieceLeft, endFor, calls}
+use Rattle.lines.specs.Words.{stateWords, listed, stateIn, isState, Left, left, kept, openLeft, pieceLeft, endFor, calls}
 
 -- ---- the states that calls produce have bytes where the words ask for bytes
 
