@@ -33,6 +33,7 @@ compile_error!("the archive is for x86-64");
 mod error;
 mod items;
 mod kind;
+mod lines;
 mod number;
 mod pieces;
 #[allow(missing_docs, clippy::unreadable_literal)]
@@ -41,6 +42,7 @@ pub mod raw;
 pub use error::{Error, HexError, Refusal};
 pub use items::{needed, Item, Items, Mode, Needed, Options};
 pub use kind::{Kind, Paren, ParenMod};
+pub use lines::{LineIndex, LinePieces, LineRefusal, Position};
 pub use number::{number, Decimal, Int, NotNumber, Number, Real, Sign};
 pub use pieces::PieceReader;
 pub use raw::Record;

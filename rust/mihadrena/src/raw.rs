@@ -213,6 +213,13 @@ pub const CODE_BAD: u32 = 0x110000;
 pub const CODE_CUT: u32 = 0x110001;
 pub const CODE_END: u32 = 0x110002;
 
+// Line and column.
+pub const NO_ROOM: u32 = 33;
+pub const NO_PLACE: u32 = 34;
+pub const NOT_ITS_INDEX: u32 = 48;
+pub const LINES_VALUES: usize = 2;
+pub const LINES_STATE_WORDS: usize = 8;
+
 const _: () = assert!(size_of::<Record>() == RECORD_WORDS * size_of::<u32>());
 const _: () = assert!(size_of::<State>() == STATE_SIZE && align_of::<State>() == STATE_ALIGN);
 const _: () = assert!(size_of::<Told>() == PIECE_VALUES * size_of::<u64>());
@@ -231,4 +238,10 @@ extern "C" {
     pub fn mihadrena_next_at(text: *const u8, text_length: usize, at: usize) -> usize;
     pub fn mihadrena_is_blank(code: u32) -> bool;
     pub fn mihadrena_put_char(code: u32, text: *mut u8, text_length: usize) -> usize;
+    pub fn mihadrena_lines(text: *const u8, text_length: usize, index: *mut u32, index_length: usize, values: *mut u64, values_length: usize) -> u32;
+    pub fn mihadrena_locate(text: *const u8, text_length: usize, index: *const u32, index_length: usize, place: usize, values: *mut u64, values_length: usize) -> u32;
+    pub fn mihadrena_locate_all(text: *const u8, text_length: usize, index: *const u32, index_length: usize, places: *const u32, places_length: usize, found: *mut usize, found_length: usize, values: *mut u64, values_length: usize) -> u32;
+    pub fn mihadrena_lines_open(state: *mut u32, state_length: usize, index: *mut u32, index_length: usize);
+    pub fn mihadrena_lines_piece(state: *mut u32, state_length: usize, piece: *const u8, piece_length: usize, index: *mut u32, index_length: usize);
+    pub fn mihadrena_lines_end(state: *const u32, state_length: usize, index: *const u32, index_length: usize, values: *mut u64, values_length: usize) -> u32;
 }

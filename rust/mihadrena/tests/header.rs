@@ -64,9 +64,11 @@ fn rust_type(c: &str) -> &str {
         "size_t" => "usize",
         "bool" => "bool",
         "const uint8_t *" => "*const u8",
+        "const uint32_t *" => "*const u32",
         "uint8_t *" => "*mut u8",
         "uint32_t *" => "*mut u32",
         "uint64_t *" => "*mut u64",
+        "size_t *" => "*mut usize",
         "mihadrena_figure" => "Figure",
         "mihadrena_real" => "Real",
         other => panic!("a type that the header does not use: {other}"),
@@ -109,7 +111,8 @@ fn header_functions() -> Declared {
         };
         let inside = &declaration[paren + 1..declaration.len() - 1];
         let parameters: Vec<String> = inside.split(',').map(rust_parameter).collect();
-        functions.insert(name.to_string(), format!("({}) -> {}", parameters.join(", "), rust_type(result)));
+        let answers = if result == "void" { String::new() } else { format!(" -> {}", rust_type(result)) };
+        functions.insert(name.to_string(), format!("({}){answers}", parameters.join(", ")));
     }
     functions
 }
