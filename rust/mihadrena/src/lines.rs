@@ -96,7 +96,14 @@ impl<'a> LineIndex<'a> {
         let mut values = [0; raw::LINES_VALUES];
         // SAFETY: each pointer and length is those of a slice, and the mutable ones are borrowed as such.
         let answer = unsafe {
-            raw::mihadrena_lines(text.as_ptr(), text.len(), memory.as_mut_ptr(), memory.len(), values.as_mut_ptr(), values.len())
+            raw::mihadrena_lines(
+                text.as_ptr(),
+                text.len(),
+                memory.as_mut_ptr(),
+                memory.len(),
+                values.as_mut_ptr(),
+                values.len(),
+            )
         };
         match answer {
             raw::SERVED => Ok(Self { text, starts: &memory[..values[0] as usize] }),
