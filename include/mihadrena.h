@@ -35,7 +35,8 @@ typedef struct mihadrena_record {
     uint32_t detail;      /* a character's code point; 0 or 1 of a boolean; a bracket; what an error comes with; else 0 */
     uint32_t start;       /* the extent: where the item stands in the source, in bytes */
     uint32_t end;
-    uint32_t place_start; /* the place: what an error points at; of any other item the extent */
+    uint32_t place_start; /* the place: what an error points at, of any other item the extent. In report mode it is the error's own; in plain
+                           * mode an error that sets none has that of the last error before it that set one */
     uint32_t place_end;
     uint32_t text_source; /* MIHADRENA_NO_TEXT, MIHADRENA_IN_SOURCE or MIHADRENA_IN_MEMORY */
     uint32_t text_start;  /* where the text lies there, in bytes */
@@ -130,7 +131,8 @@ MIHADRENA_ASSERT(sizeof(mihadrena_record) == 4 * MIHADRENA_RECORD_WORDS, "a reco
 
 /* -- Reading a whole text ----------------------------------------------------------------------------------------------------- */
 
-/* The modes. In report mode `;` and `"` also end a number: 14.7;gps is a number and a comment, where plain mode has an identifier. */
+/* The modes. In report mode `;`, `"` and `|` also end a number: 14.7;gps is a number and a comment, where plain mode has an identifier;
+ * 12|Birch| is a number and an identifier, where plain mode has an error. */
 #define MIHADRENA_PLAIN 0
 #define MIHADRENA_REPORT 1
 
@@ -204,7 +206,8 @@ MIHADRENA_ASSERT(sizeof(mihadrena_told) == 8 * MIHADRENA_PIECE_VALUES, "these ar
 uint32_t mihadrena_open(uint32_t mode, bool skip_comments, uint8_t *bytes, size_t bytes_length, uint64_t *words, size_t words_length);
 
 /* Reads on in a piece: takes the fewest bytes from its front that make an item ready, or all of them. An item is ready once a character
- * behind it was read. Call it again with what was not taken, until it answers MIHADRENA_MORE.
+ * behind it was read. Call it again with what was not taken, until it answers MIHADRENA_MORE. A call costs a fixed part and what the
+ * bytes that it takes cost, however long the piece is: a text may be lent whole.
  *
  * MIHADRENA_ITEM: the item's record goes to `record`, its text, a number's digits too, to the front of `text` (MIHADRENA_IN_MEMORY); no
  * other byte of `text` changes. MIHADRENA_MORE changes neither. values[0] is how many bytes were taken, values[1] is 0.

@@ -1,8 +1,8 @@
 //! How fast the proved calls are, and the Rust beside them on the same texts in the same run.
 //!
 //! `bench [--bytes N] [--growth M,..] [TEXT..]` prints tables in the form of docs/SPEED.md: instructions a byte, MB/s and ns an item of
-//! each text (of all, with 1,048,576 bytes), the number call, and how the plan's cost grows (1, 4, 16 and 64 MB; `--growth 0` leaves
-//! it out). Every figure comes from a process of its own, so that no reading finds names that another one interned.
+//! each text (of all, with 1,048,576 bytes), the number call, and how cost grows: the plan's, and that of texts lent as one piece (1, 4,
+//! 16 and 64 MB; `--growth 0` leaves both out). Every figure comes from a process of its own, so that no reading finds names that another one interned.
 //!
 //! `bench once READER FILE` and `bench time READER FILE` are those processes: one reading, or the first time and the best of several.
 mod measure;

@@ -42,6 +42,10 @@ pub const READERS: &[Reader] = &[
     },
 ];
 
+/// The piece calls, each lent all that is left of the text.
+pub const ONE_PIECE: Reader =
+    Reader { name: "one-piece", title: "one piece", inside: PIECES, ready: |text| pieces(text, text.len()) };
+
 /// The checks for UTF-8; none has items.
 pub const CHECKS: &[Reader] = &[
     Reader { name: "check", title: "UTF-8 check", inside: &["mihadrena_good_bytes"], ready: check },
@@ -67,7 +71,7 @@ pub const LINES: &[Reader] = &[
 ];
 
 pub fn named(name: &str) -> Option<&'static Reader> {
-    [READERS, CHECKS, NUMBERS, LINES].into_iter().flatten().find(|reader| reader.name == name)
+    [READERS, CHECKS, NUMBERS, LINES, &[ONE_PIECE]].into_iter().flatten().find(|reader| reader.name == name)
 }
 
 const PLAIN: u32 = 0;

@@ -1,7 +1,7 @@
 //! The tables, in the form of docs/SPEED.md. A row is printed as soon as it is measured.
 use crate::measure::{instructions, times, Times};
-use crate::readers::{self, Reader, CHECKS, LINES, NUMBERS, READERS};
-use crate::texts::{Text, MEGABYTE, TEXTS};
+use crate::readers::{self, Reader, CHECKS, LINES, NUMBERS, ONE_PIECE, READERS};
+use crate::texts::{in_one_piece, Text, MEGABYTE, TEXTS};
 use crate::Wanted;
 use std::fs;
 use std::path::PathBuf;
@@ -25,6 +25,7 @@ pub fn print(wanted: &Wanted) {
     texts.iter().for_each(|text| counts(text, &indexers));
     if !wanted.growth.is_empty() {
         growth(&wanted.growth);
+        one_piece(&wanted.growth);
     }
 }
 
@@ -129,6 +130,25 @@ fn growth(sizes: &[usize]) {
     head(&["MB", "bytes", "items"], &readers);
     for size in sizes {
         counts(&Written::of(&TEXTS[0], size.to_string(), size * MEGABYTE), &readers);
+    }
+}
+
+/// The instructions a byte of texts lent as one piece, by their size in megabytes: what a call costs that is lent much.
+fn one_piece(sizes: &[usize]) {
+    println!("\n## How cost grows: the text in one piece, instructions a byte\n");
+    let texts = in_one_piece();
+    println!("| MB | {} |", texts.iter().map(|text| text.name).collect::<Vec<_>>().join(" | "));
+    println!("|---|{}", "---|".repeat(texts.len()));
+    for size in sizes {
+        let row: String = texts
+            .iter()
+            .map(|text| {
+                let text = Written::of(text, text.name, size * MEGABYTE);
+                let found = instructions(&ONE_PIECE, &text.file).expect("items of 4,096 bytes at most");
+                format!(" {:.1} |", found.count as f64 / text.text.len() as f64)
+            })
+            .collect();
+        println!("| {size} |{row}");
     }
 }
 

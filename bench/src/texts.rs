@@ -27,6 +27,14 @@ pub const TEXTS: &[Text] = &[
     text("letters-of-two-bytes", |n| format!("\"{}\"", "é".repeat(n / 2 - 1))),
 ];
 
+/// A first line that is passed over.
+const FIRST_LINE: &Text = &text("first-line", |n| format!("#!{}\n", "x".repeat(n - 3)));
+
+/// The texts that are lent as one piece.
+pub fn in_one_piece() -> Vec<&'static Text> {
+    ["plan", "blanks", "line-comments"].into_iter().filter_map(named).chain([FIRST_LINE]).collect()
+}
+
 pub fn named(name: &str) -> Option<&'static Text> {
     TEXTS.iter().find(|text| text.name == name)
 }

@@ -1,6 +1,7 @@
 //! Document 01's examples E1 to E16 and its sample of `lexlist`, written down from the document and compared
 //! with the Rust and with the proved call.
 use crate::lexer::{self, Read};
+use crate::report;
 use crate::tally::{shown, Count, Tally};
 use crate::Options;
 use item::{Reading, Record};
@@ -47,8 +48,8 @@ const LEXLIST: (&str, &str) = ("(a 14.7;gps\n", "0 0 1\n27 1 2\n27 3 7\n25 7 12\
 
 pub fn judge(_: &Options) -> Count {
     let mut count = Count::default();
-    count.add(all("the Rust", steel::read, steel_report::read));
-    count.add(all("proved", lexer::plain, lexer::report));
+    count.add(all("the Rust", steel::read, report::read));
+    count.add(all("proved", lexer::plain, lexer::in_report));
     count
 }
 

@@ -1,9 +1,10 @@
 //! The whole-text call against the Rust: every word of every record, the parts of every number and the text memory, in both modes,
-//! with comments kept and skipped. Plain mode's judge is the Rust as it is; report mode's is the aid, with one line of it changed.
+//! with comments kept and skipped. Plain mode's judge is the Rust as it is; report mode's is the aid (`report`), with a number's ends and the places of errors changed.
 //!
 //! Each text is read into memory that is just large enough, into memory with one record or one byte too few (22), and under a mode
 //! that is none (25); a text that is not UTF-8 is refused (21). Memory that a call must leave alone is compared too.
 use crate::numbers;
+use crate::report;
 use crate::tally::{shown, Count, Tally};
 use crate::Options;
 use item::{Item, Reading, WORDS};
@@ -29,7 +30,7 @@ const PLAIN: u32 = 0;
 const REPORT: u32 = 1;
 const NO_MODE: u32 = 2;
 /// Each mode, and who judges it.
-pub const MODES: [(u32, Read); 2] = [(PLAIN, steel::read), (REPORT, steel_report::read)];
+pub const MODES: [(u32, Read); 2] = [(PLAIN, steel::read), (REPORT, report::read)];
 
 pub fn judge(options: &Options) -> Count {
     let mut count = Count::default();
@@ -159,7 +160,7 @@ pub fn plain(text: &str, skip: bool, out: &mut Reading) -> u64 {
     whole(text, PLAIN, skip, out)
 }
 
-pub fn report(text: &str, skip: bool, out: &mut Reading) -> u64 {
+pub fn in_report(text: &str, skip: bool, out: &mut Reading) -> u64 {
     whole(text, REPORT, skip, out)
 }
 

@@ -16,6 +16,7 @@ mod huge;
 mod lexer;
 mod numbers;
 mod pieces;
+mod report;
 mod scale;
 mod tally;
 

@@ -1,7 +1,7 @@
 //! `oracle [--report] [--skip] [--number] [--framed]` prints what the Rust reads standard input as: a line for each item,
 //! with its nine words, its text in hex (`-` for none, else behind an `x`) and a number's parts; then `end` and the count.
 //!
-//! --report   with report mode's line changed (steel_report/lexer.diff): an aid, not the Rust's own word
+//! --report   with report mode's lines changed (steel_report/lexer.diff): an aid, not the Rust's own word
 //! --skip     comments are skipped
 //! --number   the number call instead, on the whole text: the number's parts, `no number`, or error 8 as `108`
 //! --framed   input is many texts, each behind its length (four bytes, the lowest first), as `gen` writes them

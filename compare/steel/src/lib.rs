@@ -1,8 +1,8 @@
 //! The Rust, unchanged: `lexer.rs`, `tokens.rs`, `span.rs` and `interner.rs` are compiled from the folder that build.rs found,
 //! and of `parser.rs` only the type `SourceId` is supplied. `items` puts what they answer into document 01's words.
 //!
-//! The crate `steel_report` is this one with report mode's line changed (steel_report/lexer.diff). It is an aid to test report
-//! mode and no judge: that line is ours and not the Rust's. `steel_bare` is this one with both interners keeping nothing (interner.diff,
+//! The crate `steel_report` is this one with report mode's lines changed (steel_report/lexer.diff). It is an aid to test report
+//! mode and no judge: those lines are ours and not the Rust's. `steel_bare` is this one with both interners keeping nothing (interner.diff,
 //! tokens.diff there): an aid to measure the Rust without them.
 extern crate alloc;
 

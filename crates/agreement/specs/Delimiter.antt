@@ -10,7 +10,7 @@ use mathlib.Core.Bool.{Bool, true, false}
 use mathlib.Core.List.{List, [], _∷_}
 use Rattle.laws.specs.Quoted.{codes, oneOf}
 
--- Departure: the Rust ends no token at a vertical line. `a|b|` is one identifier there
+-- Departure: the Rust ends no token at a vertical line. `a|b|` is one identifier there, in report mode too
 abbrev pub delimiters : List ℕ
 delimiters = codes " \t\n\r()\";"
 
@@ -18,9 +18,10 @@ delimiters = codes " \t\n\r()\";"
 abbrev pub hashDelimiters : List ℕ
 hashDelimiters = codes " \t\n\r()"
 
--- Departure: in plain mode a number ends at neither of them. `1;c` is an identifier and a comment
+-- In report mode a number ends at every <delimiter>. Departure: in plain mode it ends at none of `|`, `"` and `;`. `1;c` is an identifier
+-- and a comment
 abbrev pub numberDelimiters : Bool → List ℕ
-numberDelimiters true = delimiters
+numberDelimiters true = codes " \t\n\r|()\";"
 numberDelimiters false = hashDelimiters
 
 -- the rest of a text that ends a token: nothing, or one of these characters and whatever follows it

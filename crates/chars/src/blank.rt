@@ -2,57 +2,48 @@
 ghost use mathlib.Core.Path.{_≡_};
 ghost use Rattle.chars.specs.Blank.{isBlank};
 
-const TAB: u32 = 0x09;
+const ROWS: usize = 25;
 
-const CARRIAGE_RETURN: u32 = 0x0D;
+// White_Space as Unicode's PropList.txt lists it, in its order.
+const BLANKS: [u32; ROWS] = [
+    0x0009, // tab
+    0x000A, // line feed
+    0x000B, // line tabulation
+    0x000C, // form feed
+    0x000D, // carriage return
+    0x0020, // space
+    0x0085, // next line
+    0x00A0, // no-break space
+    0x1680, // ogham space mark
+    0x2000, // en quad
+    0x2001, // em quad
+    0x2002, // en space
+    0x2003, // em space
+    0x2004, // three-per-em space
+    0x2005, // four-per-em space
+    0x2006, // six-per-em space
+    0x2007, // figure space
+    0x2008, // punctuation space
+    0x2009, // thin space
+    0x200A, // hair space
+    0x2028, // line separator
+    0x2029, // paragraph separator
+    0x202F, // narrow no-break space
+    0x205F, // medium mathematical space
+    0x3000, // ideographic space
+];
 
-const SPACE: u32 = 0x20;
-
-const NEXT_LINE: u32 = 0x85;
-
-const NO_BREAK_SPACE: u32 = 0xA0;
-
-const OGHAM_SPACE_MARK: u32 = 0x1680;
-
-const EN_QUAD: u32 = 0x2000;
-
-const HAIR_SPACE: u32 = 0x200A;
-
-const LINE_SEPARATOR: u32 = 0x2028;
-
-const PARAGRAPH_SEPARATOR: u32 = 0x2029;
-
-const NARROW_NO_BREAK_SPACE: u32 = 0x202F;
-
-const MEDIUM_MATHEMATICAL_SPACE: u32 = 0x205F;
-
-const IDEOGRAPHIC_SPACE: u32 = 0x3000;
-
-// Whether a character is blank.
+// Whether a character is blank: whether the table has it.
 pub fn is_blank(c: u32) -> bool
     ensures { λ r. ⌜ r ≡ isBlank c ⌝ }
 {
-    if c < TAB {
-        return false;
-    }
-    if c <= CARRIAGE_RETURN {
-        return true;
-    }
-    match c {
-        SPACE => true,
-        NEXT_LINE => true,
-        NO_BREAK_SPACE => true,
-        OGHAM_SPACE_MARK => true,
-        LINE_SEPARATOR => true,
-        PARAGRAPH_SEPARATOR => true,
-        NARROW_NO_BREAK_SPACE => true,
-        MEDIUM_MATHEMATICAL_SPACE => true,
-        IDEOGRAPHIC_SPACE => true,
-        _ => {
-            if c < EN_QUAD {
-                return false;
-            }
-            c <= HAIR_SPACE
+    let table = BLANKS;
+    let mut row = 0;
+    while row < ROWS {
+        if table[row] == c {
+            return true;
         }
+        row += 1;
     }
+    false
 }

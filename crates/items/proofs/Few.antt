@@ -4,7 +4,7 @@ use Rattle.items.specs.declared.Outcome.{Outcome}
 use Rattle.items.specs.declared.Outcome.the-variants.{Token, Str, HereStr, Word, Run, Lined, Keyword, Character, Error, ErrorAt}
 use Rattle.items.specs.declared.CharValue.{CharValue}
 use Rattle.items.specs.declared.CharValue.the-variants.{Scalar, Wrong}
-use Rattle.items.specs.Items.{rangeAfter, itemsOf, extentItems, Place}
+use Rattle.items.specs.Items.{rangeAfter, standing, itemsOf, extentItems, Place}
 use Rattle.items.specs.Meaning.{wordKind, wordMeans, runMeans, characterOf, charInside, characterMeans, meaningOf, Meaning}
 use Rattle.items.specs.Readers.{firstIs, SoFar}
 use Rattle.items.proofs.Order.{items-length}
@@ -63,5 +63,5 @@ unfolding extentItems
 few-items report last s o i =
     let ms : List Meaning = meaningOf o s (i .at) (i .bytes) in
     let few : OneOrTwo ms = few-meanings o s (i .at) (i .bytes) in
-    let e : length (itemsOf report (rangeAfter last s o i) s (i .at) ms) ≡ length ms = items-length report s (i .at) (rangeAfter last s o i) ms in
+    let e : length (itemsOf report (rangeAfter (standing report last) s o i) s (i .at) ms) ≡ length ms = items-length report s (i .at) (rangeAfter (standing report last) s o i) ms in
     (omega arith, omega arith)

@@ -13,3 +13,6 @@ pub mod Order
 pub mod Skipped
 pub mod Fit
 pub mod Few
+pub mod Places
+pub mod Own
+pub mod Pointed

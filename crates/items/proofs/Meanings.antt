@@ -79,7 +79,7 @@ lookup-le n (r ∷ rs) raw other h o =
     if-all (λ (k : ℕ). k ≤ n) (same raw (r .text)) (leb-true (r .number) n (and-left (leb (r .number) n) (allBelow n rs) h))
     (lookup-le n rs raw other (and-right (leb (r .number) n) (allBelow n rs) h) o)
 
-word-le : (raw : List ℕ) → wordKind raw ≤ kind.Dot
+pub word-le : (raw : List ℕ) → wordKind raw ≤ kind.Dot
 unfolding wordKind words
 word-le raw = lookup-le kind.Dot words raw kind.Identifier refl (omega arith)
 

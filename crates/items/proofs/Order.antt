@@ -5,7 +5,7 @@ use Rattle.items.specs.declared.Outcome.{Outcome}
 use Rattle.items.specs.declared.Outcome.the-variants.{Token, Str, HereStr, Word, Run, Lined, Keyword, Character, Error, ErrorAt}
 use Rattle.items.specs.declared.CharValue.{CharValue}
 use Rattle.items.specs.declared.CharValue.the-variants.{Scalar, Wrong}
-use Rattle.items.specs.Items.{range, unset, characterSets, rangeAfter, placeOf, itemOf, itemsOf, extentItems, itemsFrom, itemsAt}
+use Rattle.items.specs.Items.{range, unset, characterSets, rangeAfter, standing, placeOf, itemOf, itemsOf, extentItems, itemsFrom, itemsAt}
 use Rattle.items.specs.Items.{pastLine, afterPound, items, memoryOf, texts, byteCount, Place, Item}
 use Rattle.items.specs.Meaning.{characterOf, charInside, meaningOf, Meaning}
 use Rattle.items.specs.Readers.{readItem, SoFar, Read}
@@ -21,7 +21,7 @@ use Rattle.chars.specs.Blank.{isBlank}
 use Rattle.chars.specs.Encode.{width}
 use Prim.Native.Nat.{ℕ, zero, suc, _+_, _^_, _≤_, _<_}
 use mathlib.Core.Path.{_≡_, refl, ap, _∙_}
-use mathlib.Core.Bool.{Bool, _&&_}
+use mathlib.Core.Bool.{Bool, true, false, _&&_}
 use mathlib.Core.List.{List, [], _∷_, _++_}
 use mathlib.Core.Logic.{_⊎_, inl, inr}
 use lib.ListN.{length, length-append}
@@ -125,6 +125,11 @@ module _ (report : Bool) (s e : ℕ) (last : Place) where
 
 -- ---- all items
 
+standing-ranged : (n : ℕ) (report : Bool) (last : Place) → Ranged n (last .from) (last .to)
+    → Ranged n (standing report last .from) (standing report last .to)
+standing-ranged n true last h = (omega arith, omega arith)
+standing-ranged n false last h = h
+
 module _ (D : ℕ → Type 0) (small : (d : ℕ) → d < 2 ^ 32 → D d) (report : Bool) where
   -- the last range lies in the text
   range-ranged : (n : ℕ) (last : Place) (s : ℕ) (o : Outcome) (i : SoFar) → Fine D n (i .bytes) o → Ranged n (last .from) (last .to)
@@ -151,20 +156,29 @@ module _ (D : ℕ → Type 0) (small : (d : ℕ) → d < 2 ^ 32 → D d) (report
     abbrev pub it : Read
     it = readItem report at c cs
 
+    -- the range after it, with one that was set before it or none
+    ranged-with : (l : Place) → Ranged n (l .from) (l .to)
+        → Ranged n (rangeAfter l at (it .what) (it .item) .from) (rangeAfter l at (it .what) (it .item) .to)
+    ranged-with l h =
+        range-ranged n l at (it .what) (it .item) (read-fine D small n report at c cs room ds) h
+        (omega (arith, read-forward report at c cs), omega (arith, read-end report at c cs))
+
     abbrev pub after : Place
     after = rangeAfter last at (it .what) (it .item)
 
     pub after-ranged : Ranged n (after .from) (after .to)
-    after-ranged =
-        range-ranged n last at (it .what) (it .item) (read-fine D small n report at c cs room ds) ranged
-        (omega (arith, read-forward report at c cs), omega (arith, read-end report at c cs))
+    after-ranged = ranged-with last ranged
+
+    shown-ranged : Ranged n (standing report last .from) (standing report last .to)
+    shown-ranged = standing-ranged n report last ranged
 
     pub item-laws : (ys : List Item) → Laws D n (it .item .at) ys → Laws D n at (extentItems report last at (it .what) (it .item) ++ ys)
     unfolding extentItems
     item-laws ys l =
         let e : it .item .at ≡ at + length (it .item .bytes) = read-at report at c cs in
         let long : at < it .item .at = read-forward report at c cs in
-        extent-laws report at (it .item .at) after D n long (omega (arith, read-end report at c cs)) after-ranged
+        extent-laws report at (it .item .at) (rangeAfter (standing report last) at (it .what) (it .item)) D n long
+        (omega (arith, read-end report at c cs)) (ranged-with (standing report last) shown-ranged)
         (meaningOf (it .what) at (it .item .at) (it .item .bytes)) ys
         (made D small at (it .item .at) (it .item .bytes) e (omega arith) n (it .what) (read-fine D small n report at c cs room ds))
         l

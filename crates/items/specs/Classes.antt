@@ -141,12 +141,12 @@ pub data InRun : Type 0 where
 unfoldable pub staysRun : ℕ → Bool
 staysRun c = oneOf (codes "+-./@0123456789aAbBcCdDeEfFin") c
 
--- Which characters end a number run, so that it may be a number: round and square brackets and blanks; in report mode `;` and `"`
--- too, as R7RS's delimiters do (E8). At any other character the run goes on as a word: E16, `12,5`
+-- Which characters end a number run, so that it may be a number: round and square brackets and blanks; in report mode `;`, `"` and `|`
+-- too, as R7RS's delimiters do (E8; 02 (iii), `12|Birch|`). At any other character the run goes on as a word: E16, `12,5`
 unfoldable pub endsRun : Bool → ℕ → Bool
 endsRun report c =
     if oneOf (codes "()[]") c then true
-    else if oneOf (codes ";\"") c then report
+    else if oneOf (codes ";\"|") c then report
     else isBlank c
 
 unfoldable pub inRun : Bool → ℕ → InRun

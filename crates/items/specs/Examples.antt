@@ -84,10 +84,37 @@ table =
     -- E8, in both modes
     ∷ plain "14.7;gps" (sourced kind.Identifier 0 4 0 4 ∷ bare kind.Comment 0 4 8 ∷ []) []
     ∷ reported "14.7;gps" (bare kind.Number 0 0 4 ∷ bare kind.Comment 0 4 8 ∷ []) []
+    -- 02 (iii), in both modes: a vertical line ends a number run in report mode
+    ∷ plain "12|Birch|" (error kind.IncompleteIdentifier 0 0 9 0 9 ∷ []) []
+    ∷ reported "12|Birch|" (bare kind.Number 0 0 2 ∷ sourced kind.Identifier 2 9 3 8 ∷ []) []
+    ∷ reported "1||" (bare kind.Number 0 0 1 ∷ sourced kind.Identifier 1 3 2 2 ∷ []) []
+    ∷ reported "-|a|" (sourced kind.Identifier 0 1 0 1 ∷ sourced kind.Identifier 1 4 2 3 ∷ []) []
+    ∷ plain "+|a|" (sourced kind.Identifier 0 4 0 1 ∷ sourced kind.Identifier 0 4 1 4 ∷ []) []
+    ∷ reported "+|a|" (sourced kind.Identifier 0 1 0 1 ∷ sourced kind.Identifier 1 4 2 3 ∷ []) []
+    ∷ reported "-||" (sourced kind.Identifier 0 1 0 1 ∷ sourced kind.Identifier 1 3 2 2 ∷ []) []
+    ∷ reported "12|" (bare kind.Number 0 0 2 ∷ error kind.IncompleteIdentifier 0 2 3 2 3 ∷ []) []
+    ∷ reported "1/0|a|" (error kind.ZeroDenominator 0 0 3 0 3 ∷ sourced kind.Identifier 3 6 4 5 ∷ []) []
+    -- `#x` begins a number run too
+    ∷ reported "#x1F|a|" (bare kind.Number 0 0 4 ∷ sourced kind.Identifier 4 7 5 6 ∷ []) []
+    ∷ reported "12|a\\|" (bare kind.Number 0 0 2 ∷ decoded kind.Identifier 2 6 0 2 ∷ []) (spelled "a|")
+    ∷ reported "|a|12" (sourced kind.Identifier 0 3 1 2 ∷ bare kind.Number 0 3 5 ∷ []) []
+    -- a word still goes on there
+    ∷ reported "a|b|" (sourced kind.Identifier 0 4 0 4 ∷ []) []
     -- E9
     ∷ plain "|a\\|" (decoded kind.Identifier 0 4 0 2 ∷ []) (spelled "a|")
     -- E10
     ∷ plain "\"\\xD800;\"" (error kind.InvalidHexCodePoint 0xD800 0 8 1 8 ∷ error kind.IncompleteString 0 8 9 1 8 ∷ []) []
+    -- and in report mode, 02 (ii): an error that sets no range of its own has its extent as place
+    ∷ reported "\"\\xD800;\"" (error kind.InvalidHexCodePoint 0xD800 0 8 1 8 ∷ error kind.IncompleteString 0 8 9 8 9 ∷ []) []
+    ∷ plain "\"\\q\" ##" (error kind.InvalidStringEscape (code "q") 0 2 1 3 ∷ sourced kind.Identifier 2 3 2 3 ∷ error kind.IncompleteString 0 3 7 1 3 ∷ []) []
+    ∷ reported "\"\\q\" ##" (error kind.InvalidStringEscape (code "q") 0 2 1 3 ∷ sourced kind.Identifier 2 3 2 3 ∷ error kind.IncompleteString 0 3 7 3 7 ∷ []) []
+    ∷ plain "\"\\ x\"" (error kind.InvalidWhitespace 0 0 3 3 4 ∷ sourced kind.Identifier 3 4 3 4 ∷ error kind.IncompleteString 0 4 5 3 4 ∷ []) []
+    ∷ reported "\"\\ x\"" (error kind.InvalidWhitespace 0 0 3 3 4 ∷ sourced kind.Identifier 3 4 3 4 ∷ error kind.IncompleteString 0 4 5 4 5 ∷ []) []
+    ∷ reported "\"\\q\" \"abc" (error kind.InvalidStringEscape (code "q") 0 2 1 3 ∷ sourced kind.Identifier 2 3 2 3 ∷ sourced kind.StringLiteral 3 6 4 5 ∷ sourced kind.Identifier 6 9 6 9 ∷ []) []
+    ∷ plain "#\\xD800 1/0" (error kind.InvalidHexCodePoint 0xD800 0 7 0 7 ∷ error kind.ZeroDenominator 0 8 11 0 7 ∷ []) []
+    ∷ reported "#\\xD800 1/0" (error kind.InvalidHexCodePoint 0xD800 0 7 0 7 ∷ error kind.ZeroDenominator 0 8 11 8 11 ∷ []) []
+    ∷ reported "#\\ab #\\cd" (error kind.InvalidCharName 0 0 4 0 4 ∷ error kind.InvalidCharName 0 5 9 5 9 ∷ []) []
+    ∷ reported "1/0 #\\ab" (error kind.ZeroDenominator 0 0 3 0 3 ∷ error kind.InvalidCharName 0 4 8 4 8 ∷ []) []
     -- E11
     ∷ plain "\"\\x+41;\"" (decoded kind.StringLiteral 0 8 0 1 ∷ []) (spelled "A")
     -- E12

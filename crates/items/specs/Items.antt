@@ -48,8 +48,14 @@ rangeAfter last s Character i = characterSets (characterOf (charInside (i .bytes
 rangeAfter last s (Error n d) i = last
 rangeAfter last s (ErrorAt n d a b) i = range a b
 
+-- The range that an item finds set: in plain mode the last one since the start of the text; in report mode none, so that an error points
+-- at its own place (02 (ii))
+abbrev pub standing : Bool → Place → Place
+standing true last = unset
+standing false last = last
+
 -- 01: place equals extent except for errors; an error's "is the last `error` range set since the start of the text, or its extent if
--- none was set". `last` is that range, the item's own counted in (E10). It is so in both modes
+-- none was set" (E10). `last` is that range, the item's own counted in; in report mode it is the item's own alone
 abbrev pub placeOf : Bool → ℕ → Place → Place → Place
 placeOf report k last extent = if leb kind.firstError k && ltb (last .from) (last .to) then last else extent
 
@@ -72,7 +78,7 @@ itemsOf report last s e (m ∷ ms) = itemOf report last s e m ∷ itemsOf report
 
 -- the items of one extent, which starts at s
 unfoldable pub extentItems : Bool → Place → ℕ → Outcome → SoFar → List Item
-extentItems report last s o i = itemsOf report (rangeAfter last s o i) s (i .at) (meaningOf o s (i .at) (i .bytes))
+extentItems report last s o i = itemsOf report (rangeAfter (standing report last) s o i) s (i .at) (meaningOf o s (i .at) (i .bytes))
 
 -- The items of the characters from the place `at` on. A blank is passed over; else an item is read, and reading goes on after its
 -- extent. Each turn takes a character or more, so as many turns as there are characters are enough

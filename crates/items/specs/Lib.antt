@@ -3,6 +3,7 @@ pub mod Classes
 pub mod Readers
 pub mod Meaning
 pub mod Items
+pub mod Points
 pub mod Whole
 pub mod Machine
 pub mod Run

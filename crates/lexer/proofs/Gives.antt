@@ -2,7 +2,7 @@
 -- meaning is the record of its item.
 use Rattle.items.specs.Readers.{soFar}
 use Rattle.items.specs.Meaning.{Text, none, source, decoded, Meaning, means, meaningOf}
-use Rattle.items.specs.Items.{Place, range, placeOf, Item, itemOf, itemsOf, rangeAfter, extentItems}
+use Rattle.items.specs.Items.{Place, range, placeOf, Item, itemOf, itemsOf, rangeAfter, standing, extentItems}
 use Rattle.items.specs.declared.Outcome.{Outcome}
 use Rattle.items.specs.declared.Record.{Record}
 use Rattle.meaning.specs.declared.Range.{Range}
@@ -56,6 +56,10 @@ module _ (free : ℕ) (p : Position) (start : ℕ) (what : Outcome) (raw : List 
   abbrev after : Place
   after = rangeAfter (placeIn (p .last)) start what (soFar raw end)
 
+  -- the range that an error's place is taken from
+  abbrev shown : Place
+  shown = rangeAfter (standing (p .report) (placeIn (p .last))) start what (soFar raw end)
+
   abbrev extent : Range
   extent = rangeOf (range start end)
 
@@ -63,43 +67,43 @@ module _ (free : ℕ) (p : Position) (start : ℕ) (what : Outcome) (raw : List 
   abbrev made : Means → Range → Position → Found
   made m last q = One (recordFor free m extent (rangeOf (placeOf false (m .kind) (placeIn last) (placeIn extent)))) q
 
-  made-is : (x : Meaning) (m : Means) (last : Range) (q : Position) → sized x ≡ m → last ≡ rangeOf after
-      → made m last q ≡ One (packed free (itemOf (p .report) after start end x)) q
+  made-is : (x : Meaning) (m : Means) (last : Range) (q : Position) → sized x ≡ m → last ≡ rangeOf shown
+      → made m last q ≡ One (packed free (itemOf (p .report) shown start end x)) q
   made-is x m last q g l =
       ap (λ (y : Means). made y last q) (sym g)
       ∙ ap (λ (y : Range). made (sized x) y q) l
-      ∙ ap (λ (y : Record). One y q) (packed-is free (p .report) after start end (x .kind) (x .detail) (x .text))
+      ∙ ap (λ (y : Record). One y q) (packed-is free (p .report) shown start end (x .kind) (x .detail) (x .text))
 
   abbrev item : Meaning → Item
-  item x = itemOf (p .report) after start end x
+  item x = itemOf (p .report) shown start end x
 
   abbrev picked : List Meaning → Turn
-  picked l = pick (p .second) (moved p start (placeIn (p .last)) true) (moved p end after false) (itemsOf (p .report) after start end l)
+  picked l = pick (p .second) (moved p start (placeIn (p .last)) true) (moved p end after false) (itemsOf (p .report) shown start end l)
 
   turn-of : (l : List Meaning) → meaningOf what start end raw ≡ l → turnOf p start what (soFar raw end) ≡ picked l
   unfolding extentItems
   turn-of l f = ap picked f
 
-  module _ (last : Range) (l : last ≡ rangeOf after) (r : Found) (q : Position) where
-    pub found-one : (m : Means) → m ∷ [] ≡ sizedAll (meaningOf what start end raw) → r ≡ made m last q → q ≡ moved p end (placeIn last) false
+  module _ (set last : Range) (g : set ≡ rangeOf shown) (l : last ≡ rangeOf after) (r : Found) (q : Position) where
+    pub found-one : (m : Means) → m ∷ [] ≡ sizedAll (meaningOf what start end raw) → r ≡ made m set q → q ≡ moved p end (placeIn last) false
         → r ≡ foundOf free (turnOf p start what (soFar raw end))
     found-one m e h u =
         let x = one-meant (meaningOf what start end raw) m e in
         let v : q ≡ moved p end after false = u ∙ ap (λ (y : Range). moved p end (placeIn y) false) l in
-        h ∙ made-is (x .0) m last q (x .1 .1) l ∙ ap (One (packed free (item (x .0)))) v ∙ sym (ap (foundOf free) (turn-of (x .0 ∷ []) (x .1 .0)))
+        h ∙ made-is (x .0) m set q (x .1 .1) g ∙ ap (One (packed free (item (x .0)))) v ∙ sym (ap (foundOf free) (turn-of (x .0 ∷ []) (x .1 .0)))
 
     module _ (m n : Means) (e : m ∷ n ∷ [] ≡ sizedAll (meaningOf what start end raw)) where
-      pub found-second : p .second ≡ true → r ≡ made n last q → q ≡ moved p end (placeIn last) false → r ≡ foundOf free (turnOf p start what (soFar raw end))
+      pub found-second : p .second ≡ true → r ≡ made n set q → q ≡ moved p end (placeIn last) false → r ≡ foundOf free (turnOf p start what (soFar raw end))
       found-second b h u =
           let x = two-meant (meaningOf what start end raw) m n e in
           let v : q ≡ moved p end after false = u ∙ ap (λ (y : Range). moved p end (placeIn y) false) l in
           let t : picked (x .0 ∷ x .1 .0 ∷ []) ≡ gives (item (x .1 .0)) (moved p end after false) = rw b in
-          h ∙ made-is (x .1 .0) n last q (x .1 .1 .1 .1) l ∙ ap (One (packed free (item (x .1 .0)))) v
+          h ∙ made-is (x .1 .0) n set q (x .1 .1 .1 .1) g ∙ ap (One (packed free (item (x .1 .0)))) v
           ∙ sym (ap (foundOf free) (turn-of (x .0 ∷ x .1 .0 ∷ []) (x .1 .1 .0) ∙ t))
 
-      pub found-first : p .second ≡ false → r ≡ made m last q → q ≡ moved p start (placeIn (p .last)) true → r ≡ foundOf free (turnOf p start what (soFar raw end))
+      pub found-first : p .second ≡ false → r ≡ made m set q → q ≡ moved p start (placeIn (p .last)) true → r ≡ foundOf free (turnOf p start what (soFar raw end))
       found-first b h u =
           let x = two-meant (meaningOf what start end raw) m n e in
           let t : picked (x .0 ∷ x .1 .0 ∷ []) ≡ gives (item (x .0)) (moved p start (placeIn (p .last)) true) = rw b in
-          h ∙ made-is (x .0) m last q (x .1 .1 .1 .0) l ∙ ap (One (packed free (item (x .0)))) u
+          h ∙ made-is (x .0) m set q (x .1 .1 .1 .0) g ∙ ap (One (packed free (item (x .0)))) u
           ∙ sym (ap (foundOf free) (turn-of (x .0 ∷ x .1 .0 ∷ []) (x .1 .1 .0) ∙ t))

@@ -8,7 +8,7 @@ use Rattle.items.specs.Classes.{firstOf}
 use Rattle.items.specs.Machine.{onFirst, scanOf}
 use Rattle.items.specs.Readers.{soFar}
 use Rattle.items.specs.Meaning.{meaningOf}
-use Rattle.items.specs.Items.{range, placeOf}
+use Rattle.items.specs.Items.{range, standing, placeOf}
 use Rattle.items.specs.Whole.{limit}
 use Rattle.items.specs.declared.Outcome.{Outcome}
 use Rattle.items.specs.declared.Phase.{Phase}
@@ -90,7 +90,7 @@ module _ (s : List ℕ) (report skip : Bool) (a e : ℕ) (m : Means) (G : Glance
 
   -- the place of the item
   abbrev pub spot : Position → Range
-  spot p = rangeOf (placeOf false (m .kind) (placeIn (p .last)) (range a e))
+  spot p = rangeOf (placeOf false (m .kind) (standing (p .report) (placeIn (p .last))) (range a e))
 
   abbrev made : ℕ → Position → Found
   made free p = One (recordFor free m extent (spot p)) (moved p e (placeIn (p .last)) false)
@@ -99,7 +99,8 @@ module _ (s : List ℕ) (report skip : Bool) (a e : ℕ) (m : Means) (G : Glance
       → made free p ≡ foundOf free (turnAt p a (G .begins .c) (chars (drop (a + 1) s)))
   turn-told free p u =
       found-is s report a (G .begins .c) (a + 1) F x scan-first free p (made free p) u
-      (found-one free p a (G .what) (part s a e) (p .last)
+      (found-one free p a (G .what) (part s a e) (rangeOf (standing (p .report) (placeIn (p .last)))) (p .last)
+      (sym (ap rangeOf (G .quiet (standing (p .report) (placeIn (p .last))) _)))
       (sym (ap rangeOf (G .quiet (placeIn (p .last)) _)))
       (made free p) (moved p e (placeIn (p .last)) false) m (G .alone .means)
       (rw ends-there)

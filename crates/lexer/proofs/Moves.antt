@@ -3,7 +3,7 @@
 use Rattle.chars.specs.Utf8.{chars}
 use Rattle.items.specs.Readers.{Read, SoFar, readItem}
 use Rattle.items.specs.Meaning.{Text, none, source, decoded, Meaning, meaningOf}
-use Rattle.items.specs.Items.{Place, Item, itemsOf, rangeAfter, extentItems, memoryOf}
+use Rattle.items.specs.Items.{Place, Item, itemsOf, rangeAfter, standing, extentItems, memoryOf}
 use Rattle.items.specs.declared.Outcome.{Outcome}
 use Rattle.items.proofs.Every.{Every}
 use Rattle.items.proofs.Meanings.{Inside, Meant}
@@ -52,7 +52,7 @@ module _ (s : List ℕ) (report : Bool) (last : Place) (at c : ℕ) (cs : List �
   r = readItem report at c cs
 
   abbrev after : Place
-  after = rangeAfter last at (r .what) (r .item)
+  after = rangeAfter (standing report last) at (r .what) (r .item)
 
   wholes : (ms : List Meaning) → Every (Meant Any at (r .item .at)) ms → Every (Spelled (r .item .bytes)) ms
       → Every (Whole s) (itemsOf report after at (r .item .at) ms)
@@ -82,7 +82,7 @@ module _ (report : Bool) (last : Place) (s : ℕ) (what : Outcome) (i : SoFar) w
 
   pub extent-ends : Every (λ (x : Item). (x .start ≡ s) × (x .end ≡ i .at)) (extentItems report last s what i)
   unfolding extentItems
-  extent-ends = same-ends (meaningOf what s (i .at) (i .bytes)) (rangeAfter last s what i)
+  extent-ends = same-ends (meaningOf what s (i .at) (i .bytes)) (rangeAfter (standing report last) s what i)
 
 -- ---- a turn
 

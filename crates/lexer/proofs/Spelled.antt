@@ -2,7 +2,7 @@
 use Rattle.items.specs.Kinds as kind
 use Rattle.items.specs.Meaning.{Text, none, source, decoded, Meaning, escaped, unescape, wordKind, wordMeans, runMeans, stringText, linedText, hereText, characterMeans, characterOf, charInside, meaningOf}
 use Rattle.items.specs.Readers.{SoFar, firstIs}
-use Rattle.items.specs.Items.{Place, Item, itemsOf, rangeAfter, extentItems, memoryOf}
+use Rattle.items.specs.Items.{Place, Item, itemsOf, rangeAfter, standing, extentItems, memoryOf}
 use Rattle.items.specs.declared.Outcome.{Outcome}
 use Rattle.items.specs.declared.Outcome.the-variants.{Token, Str, HereStr, Word, Run, Lined, Keyword, Character, Error, ErrorAt}
 use Rattle.items.specs.declared.CharValue.{CharValue}
@@ -117,4 +117,4 @@ bare-items report last s e (m ∷ n ∷ ms) h = h
 pub front-bare : (report : Bool) (last : Place) (s : ℕ) (o : Outcome) (i : SoFar) {x y : Item} → extentItems report last s o i ≡ x ∷ y ∷ [] → memoryOf (x .text) ≡ []
 unfolding extentItems
 front-bare report last s o i e =
-    subst FrontBare e (bare-items report (rangeAfter last s o i) s (i .at) (meaningOf o s (i .at) (i .bytes)) (fronts s (i .at) (i .bytes) o))
+    subst FrontBare e (bare-items report (rangeAfter (standing report last) s o i) s (i .at) (meaningOf o s (i .at) (i .bytes)) (fronts s (i .at) (i .bytes) o))

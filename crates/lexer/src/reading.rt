@@ -13,6 +13,7 @@ use meaning::Range;
 use meaning::meaning;
 use meaning::places::place;
 use meaning::places::range_after;
+use meaning::places::range_shown;
 use meaning::records::record_of;
 use steps::first_phase;
 use steps::scan;
@@ -180,14 +181,15 @@ fn found(p: Position, free: usize, start: usize, what: Outcome, raw: &[u8]) -> F
         to: end as u32,
     };
     let before = p.last;
+    let shown = range_shown(p.report, before, what, extent, raw);
     let last = range_after(before, what, extent, raw);
     match meaning(what, start, raw) {
-        Meant::One(m) => one(m, extent, last, free, past(p, end, last)),
+        Meant::One(m) => one(m, extent, shown, free, past(p, end, last)),
         Meant::Two(m, n) => {
             if p.second {
-                one(n, extent, last, free, past(p, end, last))
+                one(n, extent, shown, free, past(p, end, last))
             } else {
-                one(m, extent, last, free, stand(p, start, true))
+                one(m, extent, shown, free, stand(p, start, true))
             }
         }
     }

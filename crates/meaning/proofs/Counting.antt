@@ -13,7 +13,7 @@ use Rattle.items.specs.Kinds as kind
 use Rattle.items.specs.Readers.{SoFar, firstIs, soFar}
 use Rattle.items.specs.Meaning.{Meaning, Row, Text, none, source, decoded, one, lookup, words, wordKind, wordMeans, runMeans, stringText, linedText, hereText}
 use Rattle.items.specs.Meaning.{characterOf, charInside, characterMeans, escaped, unescape, meaningOf}
-use Rattle.items.specs.Items.{Item, Place, unset, memoryOf, kept, texts, itemsOf, extentItems, rangeAfter}
+use Rattle.items.specs.Items.{Item, Place, unset, memoryOf, kept, texts, itemsOf, extentItems, rangeAfter, standing}
 use Rattle.items.specs.declared.Quotes.the-variants.{Lines}
 use Rattle.items.specs.declared.Outcome.{Outcome}
 use Rattle.items.specs.declared.Outcome.the-variants.{Token, Str, HereStr, Word, Run, Lined, Keyword, Character, Error, ErrorAt}
@@ -153,7 +153,7 @@ meaning-weighed (ErrorAt n d a b) skip s e raw = error-weighed skip n d
 extent-weighed : (report skip : Bool) (last : Place) (s : ℕ) (o : Outcome) (i : SoFar) → counted (kept skip (extentItems report last s o i)) ≡ weight o skip (i .bytes)
 unfolding extentItems
 extent-weighed report skip last s o i =
-    weighed report skip (rangeAfter last s o i) s (i .at) (meaningOf o s (i .at) (i .bytes)) ∙ meaning-weighed o skip s (i .at) (i .bytes)
+    weighed report skip (rangeAfter (standing report last) s o i) s (i .at) (meaningOf o s (i .at) (i .bytes)) ∙ meaning-weighed o skip s (i .at) (i .bytes)
 
 pub count-is : (o : Outcome) (skip : Bool) (raw : List ℕ) → weight o skip raw ≡ countOf o skip raw
 unfolding countOf

@@ -1,4 +1,5 @@
-// The place of an error: document 01, "the last `error` range set since the start of the text, or its extent if none was set".
+// The place of an error: document 01, "the last `error` range set since the start of the text, or its extent if none was set"; in report
+// mode its own range, or its extent if it sets none.
 use crate::CHARACTER_MARK;
 use crate::Range;
 use crate::quoted::rest;
@@ -11,10 +12,10 @@ ghost use mathlib.Core.Bool.{false};
 ghost use Prim.Native.Nat.{_<_, _^_};
 ghost use Rattle.items.specs.Meaning.{characterOf, charInside};
 ghost use Rattle.items.specs.Readers.{soFar};
-ghost use Rattle.items.specs.Items.{placeOf, characterSets, rangeAfter};
+ghost use Rattle.items.specs.Items.{placeOf, characterSets, rangeAfter, standing};
 ghost use Rattle.meaning.specs.Places.{placeIn, rangeOf, reach, reachFrom};
 
-// An item's place: its extent, but an error's is the last range, if one was set. It is so in both modes.
+// An item's place: its extent, but an error's is the last range, if one was set.
 pub fn place(kind: u32, last: Range, extent: Range) -> Range
     ensures { λ r. ⌜ r ≡ rangeOf (placeOf false kind (placeIn last) (placeIn extent)) ⌝ }
 {
@@ -57,4 +58,15 @@ pub fn range_after(last: Range, what: Outcome, extent: Range, raw: &[u8]) -> Ran
             to: to as u32,
         },
     }
+}
+
+// The range that an error's place is taken from: as above, but in report mode no range was set before the extent.
+pub fn range_shown(report: bool, last: Range, what: Outcome, extent: Range, raw: &[u8]) -> Range
+    requires { ⌜ (reachFrom what < 2 ^ 32) × (reach what < 2 ^ 32) ⌝ }
+    ensures { λ r. ⌜ r ≡ rangeOf (rangeAfter (standing report (placeIn last)) (extent .from) what (soFar (now (raw .entry)) (extent .to))) ⌝ }
+{
+    if report {
+        return range_after(Range { from: 0, to: 0 }, what, extent, raw);
+    }
+    range_after(last, what, extent, raw)
 }

@@ -1,6 +1,8 @@
 -- The digit places of a number lie in its text: each production gives places from the start of its part to the part's end.
 use Rattle.numbers.specs.declared.Point.{Point}
-use Rattle.numbers.specs.declared.Real.the-variants.{Decimal, ImpliedZero}
+use Rattle.numbers.specs.declared.Real.the-variants.{Integer, Rational, Decimal, PosInf, NegInf, PosNan, NegNan, ImpliedZero, ImpliedOne}
+use Rattle.numbers.specs.declared.MaybePoint.{MaybePoint}
+use Rattle.numbers.specs.declared.MaybePoint.the-variants.{APoint, NoPoint}
 use Rattle.numbers.specs.declared.Parts.{Parts}
 use Rattle.numbers.specs.declared.Parsed.the-variants.{Is, ZeroDenominator}
 use Rattle.numbers.specs.declared.Suffix.{Suffix}
@@ -11,7 +13,7 @@ use Rattle.numbers.specs.declared.MaybeParts.{MaybeParts}
 use Rattle.numbers.specs.declared.MaybeParts.the-variants.{SomeParts, NoParts}
 use Rattle.numbers.specs.Grammar.{justOf, complexOf, polarOf, endsI, init, imaginary, aloneOf, pairOf, toSign, cut, rectangular, complex, zeroParts, judged, prefix, parseNumber}
 use Rattle.numbers.specs.Inside.{InSpan, InInt, InPoint, InReal, InParts}
-use Rattle.numbers.specs.Reals.{exponentMarker, exponent, suffix, pointOf, dotted, undotted, decimal, infnan, integralOf, rationalOf, denominator, exact, orElse, ureal, real}
+use Rattle.numbers.specs.Reals.{exponentMarker, exponent, suffix, pointOf, dotted, undotted, decimal, pointIn, oneDecimal, infnan, integralOf, rationalOf, denominator, exact, orElse, ureal, real}
 use Rattle.numbers.proofs.Judged.{prefix-short}
 use Rattle.laws.specs.Choice.{if_then_else_}
 use Rattle.laws.specs.Quoted.{codes, code}
@@ -47,6 +49,10 @@ module _ (n : ℕ) where
   abbrev SomeReal : MaybeReal → Type 0
   SomeReal (AReal a) = InReal n a
   SomeReal NoReal = Unit {0}
+
+  abbrev SomePoint : MaybePoint → Type 0
+  SomePoint (APoint d) = InPoint n d
+  SomePoint NoPoint = Unit {0}
 
   abbrev InMaybe : MaybeParts → Type 0
   InMaybe (SomeParts p) = InParts n p
@@ -127,6 +133,19 @@ module _ (n : ℕ) where
       dotted-in neg p (digits 10 s) (p + digits 10 s + 1) (drop (digits 10 s + 1) s) (omega arith) (rw (length-drop (digits 10 s + 1) s) (omega arith)))
       (λ _. undotted-in neg p (digits 10 s) (suffix (p + digits 10 s) (drop (digits 10 s) s)) (omega arith)
       (suffix-in (p + digits 10 s) (drop (digits 10 s) s) (rest-in p (digits 10 s) s d h)))
+
+  told-in : (r : MaybeReal) → SomeReal n r → SomePoint n (pointIn r)
+  unfolding pointIn
+  told-in (AReal (Integer a)) h = tt
+  told-in (AReal (Rational a b)) h = tt
+  told-in (AReal (Decimal d)) h = h
+  told-in (AReal PosInf) h = tt
+  told-in (AReal NegInf) h = tt
+  told-in (AReal PosNan) h = tt
+  told-in (AReal NegNan) h = tt
+  told-in (AReal ImpliedZero) h = tt
+  told-in (AReal (ImpliedOne neg)) h = tt
+  told-in NoReal h = tt
 
   -- a real
   infnan-in : (s : List ℕ) → SomeReal n (infnan s)
@@ -241,6 +260,13 @@ module _ (n : ℕ) where
 -- the places of a decimal lie in its part
 pub decimal-inside : (neg : Bool) (p : ℕ) (s : List ℕ) (d : Point) → decimal neg p s ≡ AReal (Decimal d) → InPoint (p + length s) d
 decimal-inside neg p s d e = rw e at (decimal-in (p + length s) neg p s (le-refl (p + length s)))
+
+-- the places of a text that is one decimal lie in the text
+pub one-decimal-inside : (s : List ℕ) (d : Point) → oneDecimal s ≡ APoint d → InPoint (length s) d
+unfolding oneDecimal
+one-decimal-inside s d e =
+    rw e at (told-in (length s) (decimal (negative s) (sign s) (drop (sign s) s))
+    (decimal-in (length s) (negative s) (sign s) (drop (sign s) s) (let l = sign-le s in rw (length-drop (sign s) s) (omega arith))))
 
 -- a prefix takes two bytes
 prefix-in : (s : List ℕ) → (prefix s ≡ 0 → ⊥) → 2 + length (drop 2 s) ≤ length s

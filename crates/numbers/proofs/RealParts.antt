@@ -1,9 +1,10 @@
 -- A real from a place on: <infnan>, an integer, a rational, or a decimal.
 use Rattle.numbers.specs.declared.Real.{Real}
 use Rattle.numbers.specs.declared.Real.the-variants.{Integer, Rational, PosInf, NegInf, PosNan, NegNan}
+use Rattle.numbers.specs.declared.MaybePoint.{MaybePoint}
 use Rattle.numbers.specs.declared.MaybeReal.{MaybeReal}
 use Rattle.numbers.specs.declared.MaybeReal.the-variants.{AReal, NoReal}
-use Rattle.numbers.specs.Reals.{decimal, infnan, integralOf, rationalOf, denominator, exact, orElse, ureal, real}
+use Rattle.numbers.specs.Reals.{decimal, pointIn, oneDecimal, infnan, integralOf, rationalOf, denominator, exact, orElse, ureal, real}
 use Rattle.laws.specs.Quoted.{codes, code}
 use Rattle.laws.specs.Texts.{before, starts, same}
 use Rattle.laws.proofs.Places.{cut-before, cut-at, cut-after, cut-in, cut-out}
@@ -12,10 +13,11 @@ use Rattle.digits.specs.declared.MaybeInt.{MaybeInt}
 use Rattle.digits.specs.declared.MaybeInt.the-variants.{AnInt, NoInt}
 use Rattle.digits.specs.Digits.{sign, wholeOf, integer}
 use Prim.Native.Nat.{ℕ, _+_, _≤_, _<_}
-use mathlib.Core.Path.{_≡_}
+use mathlib.Core.Path.{_≡_, ap, _∙_}
 use mathlib.Core.Bool.{Bool, true, false}
 use mathlib.Core.List.{List}
 use lib.ListN.{length, take, drop}
+use native.Mathlib.Nat.{zero-add}
 use borrow.Author.Tests.{eq-eqb, ne-eqb}
 
 module _ (s : List ℕ) where
@@ -107,3 +109,9 @@ module _ (R : ℕ) (t : List ℕ) (p : ℕ) (x : MaybeReal) (i : x ≡ infnan (d
       → r ≡ ureal R neg a (drop a t) → r ≡ real R p (drop p t)
   unfolding real orElse
   real-signed r neg a n g e z = simp (← i, n, ← g, ← e, ← cut-at t p (sign (drop p t)) a e) z
+
+-- a text that is one decimal: its sign at place 0, the decimal from a on
+pub one-decimal-at : (t : List ℕ) (neg : Bool) (a : ℕ) (x : MaybeReal) (r : MaybePoint) → neg ≡ starts (code "-") (drop 0 t)
+    → a ≡ 0 + sign (drop 0 t) → x ≡ decimal neg a (drop a t) → r ≡ pointIn x → r ≡ oneDecimal t
+unfolding oneDecimal
+one-decimal-at t neg a x r g e z y = let q : a ≡ sign t = e ∙ zero-add (sign t) in y ∙ ap pointIn (rw (g, q) at z)

@@ -16,7 +16,9 @@ use Rattle.digits.specs.declared.MaybeInt.the-variants.{AnInt, NoInt}
 use Rattle.digits.specs.Digits.{digits, sign, negative, uinteger, spanAt, wholeOf, integer}
 use Rattle.numbers.specs.declared.Exponent.{Exponent}
 use Rattle.numbers.specs.declared.Real.{Real}
-use Rattle.numbers.specs.declared.Real.the-variants.{Integer, Rational, Decimal, PosInf, NegInf, PosNan, NegNan}
+use Rattle.numbers.specs.declared.Real.the-variants.{Integer, Rational, Decimal, PosInf, NegInf, PosNan, NegNan, ImpliedZero, ImpliedOne}
+use Rattle.numbers.specs.declared.MaybePoint.{MaybePoint}
+use Rattle.numbers.specs.declared.MaybePoint.the-variants.{APoint, NoPoint}
 use Rattle.numbers.specs.declared.Suffix.{Suffix}
 use Rattle.numbers.specs.declared.Suffix.the-variants.{Empty, Marked, Bad}
 use Rattle.numbers.specs.declared.MaybeReal.{MaybeReal}
@@ -70,6 +72,23 @@ decimal neg p s =
     if starts (code ".") (drop (digits 10 s) s)
     then dotted neg p (digits 10 s) (p + digits 10 s + 1) (drop (digits 10 s + 1) s)
     else undotted neg p (digits 10 s) (suffix (p + digits 10 s) (drop (digits 10 s) s))
+
+-- the decimal that a real is
+unfoldable pub pointIn : MaybeReal → MaybePoint
+pointIn (AReal (Integer n)) = NoPoint
+pointIn (AReal (Rational n d)) = NoPoint
+pointIn (AReal (Decimal d)) = APoint d
+pointIn (AReal PosInf) = NoPoint
+pointIn (AReal NegInf) = NoPoint
+pointIn (AReal PosNan) = NoPoint
+pointIn (AReal NegNan) = NoPoint
+pointIn (AReal ImpliedZero) = NoPoint
+pointIn (AReal (ImpliedOne neg)) = NoPoint
+pointIn NoReal = NoPoint
+
+-- a text that is <sign> <decimal 10> and nothing else
+unfoldable pub oneDecimal : List ℕ → MaybePoint
+oneDecimal s = pointIn (decimal (negative s) (sign s) (drop (sign s) s))
 
 -- <infnan> → +inf.0 | -inf.0 | +nan.0 | -nan.0, "in every radix" (01, Decimal).
 -- Departure: in lower case only, as in the Rust. `+INF.0` is no number

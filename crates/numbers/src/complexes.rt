@@ -11,7 +11,7 @@ ghost use lib.ListN.{length, drop};
 ghost use Rattle.numbers.specs.Grammar.{justOf, complexOf, polarOf, endsI, imaginary, aloneOf, pairOf, toSign, rectangular, complex};
 
 // A number of one part.
-fn just(a: MaybeReal) -> MaybeParts
+pub fn just(a: MaybeReal) -> MaybeParts
     ensures { λ r. ⌜ r ≡ justOf a ⌝ }
 {
     match a {
@@ -21,7 +21,7 @@ fn just(a: MaybeReal) -> MaybeParts
 }
 
 // A number of a real and an imaginary part.
-fn complex(a: MaybeReal, b: MaybeReal) -> MaybeParts
+pub fn complex(a: MaybeReal, b: MaybeReal) -> MaybeParts
     ensures { λ r. ⌜ r ≡ complexOf a b ⌝ }
 {
     match a {
@@ -34,7 +34,7 @@ fn complex(a: MaybeReal, b: MaybeReal) -> MaybeParts
 }
 
 // A number of a magnitude and an angle.
-fn polar(a: MaybeReal, b: MaybeReal) -> MaybeParts
+pub fn polar(a: MaybeReal, b: MaybeReal) -> MaybeParts
     ensures { λ r. ⌜ r ≡ polarOf a b ⌝ }
 {
     match a {
@@ -108,7 +108,7 @@ fn pair(t: &[u8], from: usize, k: usize, radix: u64) -> MaybeParts
 }
 
 // Where the first sign from a place on stands, or the end; a byte after `e` or `E` is passed over, and the first one too where skip.
-fn to_sign(t: &[u8], from: usize, skip: bool) -> usize
+pub fn to_sign(t: &[u8], from: usize, skip: bool) -> usize
     ensures { λ r. ⌜ r ≡ from + toSign skip (drop from (now (t .entry))) ⌝ }
 {
     let mut i = from;

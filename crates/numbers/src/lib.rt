@@ -14,6 +14,18 @@ ghost use Rattle.numbers.specs.Call.{answered, given, number};
 mod complexes;
 mod reals;
 
+pub use reals::one_decimal;
+
+// What the second reader (crate standard) has in common with this one. Internal.
+pub use complexes::complex;
+pub use complexes::just;
+pub use complexes::polar;
+pub use complexes::to_sign;
+pub use reals::decimal_at;
+pub use reals::integral;
+pub use reals::is_marker;
+pub use reals::rational;
+
 // A decimal's exponent: whether it has a minus sign, and where its digits stand.
 pub struct Exponent {
     pub negative: bool,
@@ -96,6 +108,14 @@ pub enum MaybeReal {
     NoReal,
 }
 
+// What a text is that may be one decimal.
+pub enum MaybePoint {
+    // 1.5
+    APoint(Point),
+    // 15
+    NoPoint,
+}
+
 pub enum MaybeParts {
     SomeParts(Parts),
     NoParts,
@@ -158,7 +178,7 @@ fn zero_parts(p: Parts) -> bool
 }
 
 // What parts amount to.
-fn judge(m: MaybeParts) -> Parsed
+pub fn judge(m: MaybeParts) -> Parsed
     ensures { λ r. ⌜ r ≡ judged m ⌝ }
 {
     match m {
@@ -187,7 +207,7 @@ fn radix_mark(c: u8) -> u64
 }
 
 // The radix that a text names.
-fn prefix(t: &[u8]) -> u64
+pub fn prefix(t: &[u8]) -> u64
     ensures { λ r. ⌜ r ≡ prefix (now (t .entry)) ⌝ }
 {
     if t.len() < PREFIX {
@@ -262,7 +282,7 @@ pub fn is_plain(t: &[u8]) -> bool
 }
 
 // The answer to a text that is not refused.
-fn serve(p: Parsed) -> NumberAnswer
+pub fn serve(p: Parsed) -> NumberAnswer
     ensures { λ r. ⌜ answered r ≡ given p ⌝ }
 {
     match p {

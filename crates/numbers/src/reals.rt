@@ -1,6 +1,7 @@
 // A real number from a place on: <real R> and the productions below it (specs/Reals).
 use crate::DECIMAL;
 use crate::Exponent;
+use crate::MaybePoint;
 use crate::MaybeReal;
 use crate::Point;
 use crate::Real;
@@ -10,10 +11,10 @@ use digits::Span;
 ghost use mathlib.Core.Path.{_≡_};
 ghost use Prim.Native.Nat.{_-_, _≤_};
 ghost use lib.ListN.{drop};
-ghost use Rattle.numbers.specs.Reals.{exponentMarker, exponent, suffix, pointOf, dotted, undotted, decimal, infnan, integralOf, rationalOf, denominator, exact, ureal, real};
+ghost use Rattle.numbers.specs.Reals.{exponentMarker, exponent, suffix, pointOf, dotted, undotted, decimal, pointIn, oneDecimal, infnan, integralOf, rationalOf, denominator, exact, ureal, real};
 
 // Whether a byte marks an exponent.
-pub(crate) fn is_marker(c: u8) -> bool
+pub fn is_marker(c: u8) -> bool
     ensures { λ r. ⌜ r ≡ exponentMarker c ⌝ }
 {
     if c == b'e' {
@@ -85,7 +86,7 @@ fn dotted(t: &[u8], from: usize, neg: bool, start: usize, end: usize) -> MaybeRe
     requires { ⌜ start ≤ end ⌝ }
     ensures { λ r. ⌜ r ≡ dotted neg start (end - start) from (drop from (now (t .entry))) ⌝ }
 {
-    let stop = digits::run_end(t, from, DECIMAL);
+    let stop = digits::decimal_end(t, from);
     let whole = Span { start, end };
     let fraction = Span {
         start: from,
@@ -119,15 +120,44 @@ fn undotted(neg: bool, start: usize, end: usize, x: Suffix) -> MaybeReal
 }
 
 // The decimal from a place on, after its sign.
-fn decimal_at(t: &[u8], from: usize, neg: bool) -> MaybeReal
+pub fn decimal_at(t: &[u8], from: usize, neg: bool) -> MaybeReal
     ensures { λ r. ⌜ r ≡ decimal neg from (drop from (now (t .entry))) ⌝ }
 {
-    let end = digits::run_end(t, from, DECIMAL);
+    let end = digits::decimal_end(t, from);
     if texts::starts_at(t, end, b'.') {
         dotted(t, end + 1, neg, from, end)
     } else {
         undotted(neg, from, end, suffix_at(t, end))
     }
+}
+
+// The decimal that a real is.
+fn point_in(a: MaybeReal) -> MaybePoint
+    ensures { λ r. ⌜ r ≡ pointIn a ⌝ }
+{
+    match a {
+        MaybeReal::AReal(x) => match x {
+            Real::Decimal(d) => MaybePoint::APoint(d),
+            Real::Integer(_) => MaybePoint::NoPoint,
+            Real::Rational(_, _) => MaybePoint::NoPoint,
+            Real::PosInf => MaybePoint::NoPoint,
+            Real::NegInf => MaybePoint::NoPoint,
+            Real::PosNan => MaybePoint::NoPoint,
+            Real::NegNan => MaybePoint::NoPoint,
+            Real::ImpliedZero => MaybePoint::NoPoint,
+            Real::ImpliedOne(_) => MaybePoint::NoPoint,
+        },
+        MaybeReal::NoReal => MaybePoint::NoPoint,
+    }
+}
+
+// A text that is one decimal, with or without a sign: its digit places. Internal: for a text that is known to be short enough.
+pub fn one_decimal(t: &[u8]) -> MaybePoint
+    ensures { λ r. ⌜ r ≡ oneDecimal (now (t .entry)) ⌝ }
+{
+    let neg = texts::starts_at(t, 0, b'-');
+    let from = digits::sign_end(t, 0);
+    point_in(decimal_at(t, from, neg))
 }
 
 // One of the four texts of an infinity or of no number.
@@ -150,7 +180,7 @@ fn infnan_at(t: &[u8], from: usize) -> MaybeReal
 }
 
 // An integer as a real.
-fn integral(n: MaybeInt) -> MaybeReal
+pub fn integral(n: MaybeInt) -> MaybeReal
     ensures { λ r. ⌜ r ≡ integralOf n ⌝ }
 {
     match n {
@@ -160,7 +190,7 @@ fn integral(n: MaybeInt) -> MaybeReal
 }
 
 // A rational of two integers.
-fn rational(n: MaybeInt, d: MaybeInt) -> MaybeReal
+pub fn rational(n: MaybeInt, d: MaybeInt) -> MaybeReal
     ensures { λ r. ⌜ r ≡ rationalOf n d ⌝ }
 {
     match n {

@@ -1,5 +1,20 @@
-// Single calls: refusals that leave the state and the text memory as they were, stops that stand, empty pieces. Before and after each
-// call that is refused the state is printed, and the text memory after it.
+// Single calls, by the lines of the file `calls`: refusals that leave the state and the text memory as they were, stops that stand, empty
+// pieces. A line is a letter, and a name or a piece after a tab:
+//
+//     # NAME    prints a name                     o          opens, in plain mode with comments kept
+//     p PIECE   a piece call, answer printed      e          an end call, answer printed
+//     q PIECE   the same, its answer shown above  f          the same, its answer shown above
+//     s         prints the state                  -          from here on the text memory is a byte too short
+//
+// and a letter that makes the state one outside the bounds of docs/STATE.md: m its mode, a its place, t its range, b its character begun,
+// l its item's length, k the start of its item, x its stop.
+use crate::files::MOST;
+use crate::files::ROOM;
+use crate::files::field;
+use crate::files::first;
+use crate::files::line;
+use crate::files::load;
+use crate::files::past_line;
 use crate::show::end_line;
 use crate::show::number;
 use crate::show::print;
@@ -7,6 +22,7 @@ use crate::show::record;
 use crate::show::runs;
 use crate::standing;
 use chars::State as Begun;
+use cuttings::part;
 use pieces::Answer;
 use pieces::Got;
 use pieces::Marks;
@@ -37,9 +53,14 @@ const PAST_LONGEST: usize = 4097;
 
 const NO_STOP: u32 = 22;
 
+// Where the calls stand: the state, and whether the text memory is a byte too short.
+struct Stand {
+    state: State,
+    little: bool,
+}
+
 // What a call answers, and the text memory after it.
-fn answer(a: Answer, text: &[u8]) -> State {
-    let state = a.state;
+fn answer(a: Answer, text: &[u8]) {
     let got = a.got;
     print(b"  taken ");
     number(a.taken as u64);
@@ -59,42 +80,46 @@ fn answer(a: Answer, text: &[u8]) -> State {
     print(b"memory ");
     runs(text);
     end_line();
-    state
 }
 
-// A piece call.
-fn on_piece(state: State, bytes: &[u8]) -> State {
+// A piece call, whose answer is printed or not.
+fn on_piece(state: State, bytes: &[u8], told: bool) -> State {
     let mut text = [MARK; ENOUGH];
     let a = piece(state, bytes, &mut text);
-    answer(a, &text)
+    if told {
+        answer(a, &text);
+    }
+    let after = a.state;
+    after
 }
 
-// An end call.
-fn on_end(state: State) -> State {
+// The same with a text memory that is a byte too short.
+fn on_piece_short(state: State, bytes: &[u8]) -> State {
+    let mut text = [MARK; SHORT];
+    let a = piece(state, bytes, &mut text);
+    answer(a, &text);
+    let after = a.state;
+    after
+}
+
+// An end call, whose answer is printed or not.
+fn on_end(state: State, told: bool) -> State {
     let mut text = [MARK; ENOUGH];
     let a = end(state, &mut text);
-    answer(a, &text)
+    if told {
+        answer(a, &text);
+    }
+    let after = a.state;
+    after
 }
 
-// A piece call and an end call that are refused, with a text memory of 4,096 bytes.
-fn refused(name: &[u8], state: State) {
-    print(name);
-    end_line();
-    standing::show(state);
-    standing::show(on_piece(state, b"c)"));
-    standing::show(on_end(state));
-}
-
-// The same, with a byte less.
-fn refused_short(name: &[u8], state: State) {
+// The same with a text memory that is a byte too short.
+fn on_end_short(state: State) -> State {
     let mut text = [MARK; SHORT];
-    print(name);
-    end_line();
-    standing::show(state);
-    let a = piece(state, b"c)", &mut text);
-    standing::show(answer(a, &text));
-    let e = end(state, &mut text);
-    standing::show(answer(e, &text));
+    let a = end(state, &mut text);
+    answer(a, &text);
+    let after = a.state;
+    after
 }
 
 // A plain state, comments kept.
@@ -122,129 +147,6 @@ fn no_mode() {
     standing::show(state);
 }
 
-// A text memory that is a byte too short, in every stage; 24 goes before a standing stop and before 26. Then one that is not.
-fn short_memory() {
-    print(b"states\n");
-    let word = on_piece(fresh(), b"ab");
-    let pair = on_piece(fresh(), b"+a)");
-    let stopped = on_piece(fresh(), b"\xFF");
-    let ended = on_end(fresh());
-    refused_short(b"24 at the start", fresh());
-    refused_short(b"24 in a word", word);
-    refused_short(b"24 after a pair", pair);
-    refused_short(b"24 after a stop", stopped);
-    refused_short(b"24 after the end", ended);
-    print(b"enough\n");
-    on_piece(word, b"c)");
-    on_end(word);
-}
-
-// A piece after the declared end.
-fn piece_refused(name: &[u8], state: State) {
-    print(name);
-    end_line();
-    standing::show(state);
-    standing::show(on_piece(state, b"c)"));
-}
-
-fn after_end() {
-    print(b"states\n");
-    let nothing = on_end(fresh());
-    let word = on_end(on_piece(fresh(), b"ab"));
-    let first = on_end(on_piece(fresh(), b"+a"));
-    piece_refused(b"26 after nothing", nothing);
-    piece_refused(b"26 after a word", word);
-    piece_refused(b"26 after the first of a pair", first);
-    print(b"the end again\n");
-    let second = on_end(first);
-    on_end(on_end(second));
-}
-
-// A stop takes its byte and stands from then on, before 26 too.
-fn stops() {
-    print(b"states\n");
-    let bad = on_piece(fresh(), b"a\xFFb");
-    let cut = on_end(on_piece(fresh(), b" \xC3"));
-    refused(b"21 stands", bad);
-    refused(b"21 by the end stands", cut);
-}
-
-// An empty piece takes nothing and asks for more, unless an item waits.
-fn empty_pieces() {
-    print(b"empty at the start\n");
-    standing::show(on_piece(fresh(), b""));
-    print(b"empty in a word\n");
-    standing::show(on_piece(on_piece(fresh(), b"ab"), b""));
-    print(b"empty in a character\n");
-    standing::show(on_piece(on_piece(fresh(), b"\xC3"), b""));
-    print(b"empty where an item waits\n");
-    let pair = on_piece(fresh(), b"+a)b");
-    standing::show(pair);
-    on_piece(on_piece(pair, b""), b"");
-    print(b"the same with bytes\n");
-    on_piece(on_piece(pair, b"b"), b"b");
-}
-
-// The marks of a state with one of them another.
-fn with_mode(state: State, mode: u32) -> State {
-    let mut next = state;
-    let mut m = next.marks;
-    m.mode = mode;
-    next.marks = m;
-    next
-}
-
-fn with_len(state: State, len: usize) -> State {
-    let mut next = state;
-    let mut m = next.marks;
-    m.len = len;
-    next.marks = m;
-    next
-}
-
-fn with_at(state: State, at: usize) -> State {
-    let mut next = state;
-    let mut m = next.marks;
-    m.at = at;
-    next.marks = m;
-    next
-}
-
-fn with_to(state: State, to: usize) -> State {
-    let mut next = state;
-    let mut m = next.marks;
-    m.to = to;
-    next.marks = m;
-    next
-}
-
-fn with_part(state: State, part: Part) -> State {
-    let mut next = state;
-    let mut m = next.marks;
-    m.part = part;
-    next.marks = m;
-    next
-}
-
-fn with_stage(state: State, stage: Stage) -> State {
-    let mut next = state;
-    let m = next.marks;
-    let part = m.part;
-    let marks = Marks {
-        mode: m.mode,
-        skip: m.skip,
-        ended: m.ended,
-        stage,
-        at: m.at,
-        part,
-        from: m.from,
-        to: m.to,
-        len: m.len,
-    };
-    next.marks = marks;
-    next
-}
-
 // A character begun that wants no more bytes.
 fn full_part() -> Part {
     Part {
@@ -258,27 +160,138 @@ fn full_part() -> Part {
     }
 }
 
-// States outside the bounds of docs/STATE.md. 27 goes before 24.
-fn outside() {
-    print(b"states\n");
-    let blank = on_piece(fresh(), b" ");
-    let word = on_piece(fresh(), b"ab");
-    refused(b"27 mode", with_mode(word, NO_MODE));
-    refused(b"27 place", with_at(blank, PAST_LIMIT));
-    refused(b"27 range", with_to(blank, PAST_LIMIT));
-    refused(b"27 character begun", with_part(blank, full_part()));
-    refused(b"27 length", with_len(blank, PAST_LONGEST));
-    refused(b"27 start and length", with_len(word, 1));
-    refused(b"27 stop", with_stage(blank, Stage::Stopped(NO_STOP, 0)));
-    refused_short(b"27 before 24", with_mode(word, NO_MODE));
+// The marks with a stop that there is not.
+fn no_stop(m: Marks) -> Marks {
+    let part = m.part;
+    Marks {
+        mode: m.mode,
+        skip: m.skip,
+        ended: m.ended,
+        stage: Stage::Stopped(NO_STOP, 0),
+        at: m.at,
+        part,
+        from: m.from,
+        to: m.to,
+        len: m.len,
+    }
+}
+
+// The marks with one of them another, by a letter.
+fn forged(m: Marks, letter: u8) -> Marks {
+    let mut next = m;
+    match letter {
+        b'm' => next.mode = NO_MODE,
+        b'a' => next.at = PAST_LIMIT,
+        b't' => next.to = PAST_LIMIT,
+        b'b' => next.part = full_part(),
+        b'l' => next.len = PAST_LONGEST,
+        b'k' => next.len = 1,
+        b'x' => return no_stop(next),
+        _ => (),
+    }
+    next
+}
+
+// The state with one of its marks another, by a letter.
+fn forge(state: State, letter: u8) -> State {
+    let mut next = state;
+    let m = next.marks;
+    next.marks = forged(m, letter);
+    next
+}
+
+// The state after a call, by a letter.
+fn call(state: State, letter: u8, bytes: &[u8]) -> State {
+    match letter {
+        b'p' => on_piece(state, bytes, true),
+        b'q' => on_piece(state, bytes, false),
+        b'e' => on_end(state, true),
+        b'f' => on_end(state, false),
+        _ => forge(state, letter),
+    }
+}
+
+// The same with a text memory that is a byte too short.
+fn call_short(state: State, letter: u8, bytes: &[u8]) -> State {
+    if letter == b'p' {
+        return on_piece_short(state, bytes);
+    }
+    on_end_short(state)
+}
+
+// What a letter prints beside answers.
+fn tell(state: State, letter: u8, name: &[u8]) {
+    if letter == b's' {
+        standing::show(state);
+        return;
+    }
+    print(name);
+    end_line();
+}
+
+// The state after a line that calls or forges.
+fn after(stand: Stand, letter: u8, rest: &[u8]) -> Stand {
+    let state = stand.state;
+    if stand.little {
+        return Stand {
+            state: call_short(state, letter, rest),
+            little: true,
+        };
+    }
+    Stand {
+        state: call(state, letter, rest),
+        little: false,
+    }
+}
+
+// Where the calls stand after a line, by its letter and what follows.
+fn step(stand: Stand, letter: u8, rest: &[u8]) -> Stand {
+    let state = stand.state;
+    match letter {
+        b'#' | b's' => {
+            tell(state, letter, rest);
+            stand
+        }
+        b'o' => Stand {
+            state: fresh(),
+            little: false,
+        },
+        b'-' => Stand {
+            state,
+            little: true,
+        },
+        _ => after(stand, letter, rest),
+    }
+}
+
+// The same, with the line whole.
+fn step_line(stand: Stand, line: &[u8]) -> Stand {
+    step(stand, first(line), field(line, 1))
+}
+
+// The lines of the file, one after the other.
+fn follow(from: Stand, file: &[u8]) {
+    let mut stand = from;
+    let mut at: usize = 0;
+    let mut left = MOST;
+    while left > 0 {
+        if file.len() <= at {
+            return;
+        }
+        stand = step_line(stand, line(file, at));
+        at = past_line(file, at);
+        left = left - 1;
+    }
 }
 
 // All of them.
 pub fn edge() {
     no_mode();
-    short_memory();
-    after_end();
-    stops();
-    empty_pieces();
-    outside();
+    let mut file = [0u8; ROOM];
+    let count = load(b"calls", &mut file);
+    let opened = Stand {
+        state: fresh(),
+        little: false,
+    };
+    follow(opened, part(&file, 0, count));
 }

@@ -1,7 +1,13 @@
-// Items of 4,096 and of 4,097 bytes, of each sort that can be so long: brackets, quotes, `,@`, `#;`, `##` and booleans cannot.
+// Items of 4,096 and of 4,097 bytes, of each sort that can be so long: brackets, quotes, `,@`, `#;`, `##` and booleans cannot. A line of
+// their files has a name, the head of an item, the byte that is repeated, what closes the item, and what stands beyond it.
+use crate::files::Job;
+use crate::files::cases;
+use crate::files::field;
+use crate::files::first;
+use crate::files::newlines;
+use crate::files::put;
 use crate::show;
 use cuttings::Cutting;
-use cuttings::copy;
 use cuttings::part;
 
 // The longest text.
@@ -13,20 +19,12 @@ const LONGEST: usize = 4096;
 // More than that.
 const LONG: usize = 5000;
 
-// How an item is read: under a cutting, with so many bytes, comments skipped or kept.
-struct Run {
-    cutting: Cutting,
-    size: usize,
-    skip: bool,
-}
-
-// Writes bytes from a place on, as far as there is room; the place past them.
-fn put(source: &mut [u8], at: usize, bytes: &[u8]) -> usize {
-    if source.len() < at {
-        return at;
-    }
-    copy(bytes, &mut source[at..]);
-    std::num::wrapping_add_usize(at, bytes.len())
+// How an item is read: under a cutting, comments skipped or kept. It has so many bytes, or so many before what closes it.
+pub struct Run {
+    pub cutting: Cutting,
+    pub size: usize,
+    pub before_close: bool,
+    pub skip: bool,
 }
 
 // Writes one byte from a place on up to another, as far as there is room; that place.
@@ -42,205 +40,63 @@ fn fill(source: &mut [u8], from: usize, to: usize, byte: u8) -> usize {
     to
 }
 
-// An item of so many bytes: a head, one byte again and again, and what closes it. It stands after a blank, and something beyond it.
-fn case(run: Run, name: &[u8], head: &[u8], byte: u8, close: &[u8], beyond: &[u8]) {
+// How many bytes an item has before what closes it.
+fn open_size(run: Run, close: &[u8]) -> usize {
+    if run.before_close {
+        return run.size;
+    }
+    std::num::wrapping_sub_usize(run.size, close.len())
+}
+
+// An item: a head, one byte again and again, and what closes it. It stands after a blank, and something beyond it.
+fn item(run: Run, head: &[u8], byte: u8, close: &[u8], beyond: &[u8]) {
     let mut source = [0u8; ROOM];
     let blank = put(&mut source, 0, b" ");
-    let item = std::num::wrapping_add_usize(blank, run.size);
     let headed = put(&mut source, blank, head);
-    let filled = fill(
-        &mut source,
-        headed,
-        std::num::wrapping_sub_usize(item, close.len()),
-        byte,
-    );
+    let open = std::num::wrapping_add_usize(blank, open_size(run, close));
+    let filled = fill(&mut source, headed, open, byte);
     let closed = put(&mut source, filled, close);
     let all = put(&mut source, closed, beyond);
-    show::print(name);
-    show::end_line();
+    newlines(&mut source);
     let cutting = run.cutting;
     show::reading(part(&source, 0, all), cutting, run.skip);
 }
 
-fn words(run: Run) {
-    case(run, b"word", b"", b'a', b"", b")");
-    case(
+// The item of a line.
+pub fn case(run: Run, line: &[u8]) {
+    show::print(field(line, 0));
+    show::end_line();
+    item(
         run,
-        b"word that ends in two bytes",
-        b"",
-        b'a',
-        b"\xC3\xA9",
-        b")",
-    );
-    case(run, b"pair", b"+", b'a', b"", b")");
-    case(run, b"number", b"", b'1', b"", b")");
-    case(run, b"number in hex", b"#x", b'1', b"", b")");
-    case(run, b"run that is no number", b"1", b'.', b"", b")");
-    case(run, b"zero denominator", b"1/", b'0', b"", b")");
-    case(run, b"word that starts with #", b"#", b'a', b"", b")");
-    case(run, b"keyword", b"#:", b'a', b"", b")");
-}
-
-fn characters(run: Run) {
-    case(run, b"character", b"#\\x", b'0', b"41", b")");
-    case(run, b"character in braces", b"#\\u{", b'0', b"41}", b")");
-    case(run, b"no character name", b"#\\", b'a', b"", b")");
-    case(
-        run,
-        b"no hex digit in a character",
-        b"#\\x",
-        b'0',
-        b"g",
-        b")",
-    );
-    case(
-        run,
-        b"no code point in a character",
-        b"#\\x",
-        b'0',
-        b"D800",
-        b")",
+        field(line, 1),
+        first(field(line, 2)),
+        field(line, 3),
+        field(line, 4),
     );
 }
 
-fn strings(run: Run) {
-    case(run, b"string", b"\"", b'a', b"\"", b")");
-    case(run, b"string with an escape", b"\"\\n", b'a', b"\"", b")");
-    case(
-        run,
-        b"string of a hex escape",
-        b"\"\\x",
-        b'0',
-        b"41;\"",
-        b")",
-    );
-    case(
-        run,
-        b"string of a newline and blanks",
-        b"\"\\\n",
-        b' ',
-        b"\"",
-        b")",
-    );
-    case(
-        run,
-        b"string of blanks and a newline",
-        b"\"\\",
-        b' ',
-        b"\n\"",
-        b")",
-    );
-    case(run, b"here-string", b"#<<x\n", b'a', b"x", b")");
-    case(
-        run,
-        b"here-string with a long delimiter",
-        b"#<<",
-        b'a',
-        b"\n",
-        b"",
-    );
-}
-
-fn lines(run: Run) {
-    case(run, b"identifier in lines", b"|", b'a', b"|", b")");
-    case(
-        run,
-        b"identifier in lines with an escape",
-        b"|\\n",
-        b'a',
-        b"|",
-        b")",
-    );
-    case(
-        run,
-        b"identifier in lines, decoded to nothing",
-        b"|\\\n",
-        b' ',
-        b"|",
-        b")",
-    );
-    case(
-        run,
-        b"identifier in lines after a sign",
-        b"-|",
-        b'a',
-        b"|",
-        b")",
-    );
-}
-
-fn comments(run: Run) {
-    case(run, b"line comment", b";", b'a', b"\n", b")");
-    case(run, b"line comment at the end", b";", b'a', b"", b"");
-    case(run, b"nested comment", b"#|", b'a', b"|#", b")");
-    case(run, b"comment in a comment", b"#|#|", b'a', b"|#|#", b")");
-}
-
-fn quoted_errors(run: Run) {
-    case(run, b"no such escape", b"\"", b'a', b"\\", b"q)");
-    case(
-        run,
-        b"hex escape without an end",
-        b"\"\\x",
-        b'0',
-        b"\"",
-        b")",
-    );
-    case(
-        run,
-        b"no hex digit in a string",
-        b"\"\\x",
-        b'0',
-        b"g;",
-        b")",
-    );
-    case(
-        run,
-        b"no code point in a string",
-        b"\"\\x",
-        b'0',
-        b"D800;",
-        b")",
-    );
-    case(run, b"no newline after blanks", b"\"\\", b' ', b"", b"x)");
-    case(run, b"blank in a delimiter", b"#<<", b'a', b" ", b")");
-}
-
-fn unclosed(run: Run) {
-    case(run, b"string without an end", b"\"", b'a', b"", b"");
-    case(run, b"hex digits without an end", b"\"\\x", b'0', b"", b"");
-    case(run, b"identifier without an end", b"|", b'a', b"", b"");
-    case(run, b"comment without an end", b"#|", b'a', b"", b"");
-    case(
-        run,
-        b"here-string without an end",
-        b"#<<x\n",
-        b'a',
-        b"",
-        b"",
-    );
+// An item of so many bytes.
+fn sized(cutting: Cutting, size: usize, skip: bool) -> Job {
+    Job::Items(Run {
+        cutting,
+        size,
+        before_close: false,
+        skip,
+    })
 }
 
 // Every sort of item, of so many bytes, and skipped comments.
 fn sorts(cutting: Cutting, size: usize) {
-    let run = Run {
-        cutting,
-        size,
-        skip: false,
-    };
-    words(run);
-    characters(run);
-    strings(run);
-    lines(run);
-    comments(run);
-    quoted_errors(run);
-    unclosed(run);
+    let kept = sized(cutting, size, false);
+    cases(kept, b"words");
+    cases(kept, b"characters");
+    cases(kept, b"strings");
+    cases(kept, b"lines");
+    cases(kept, b"comments");
+    cases(kept, b"quoted_errors");
+    cases(kept, b"unclosed");
     show::print(b"comments skipped\n");
-    comments(Run {
-        cutting,
-        size,
-        skip: true,
-    });
+    cases(sized(cutting, size, true), b"comments");
 }
 
 // Every sort of item at the longest, and a byte longer.
@@ -253,34 +109,18 @@ pub fn edge(cutting: Cutting) {
 
 // A character of two, three and four bytes whose last byte makes the item too long, the first byte not yet.
 pub fn wide_ends(cutting: Cutting) {
-    let two = Run {
+    let run = Run {
         cutting,
-        size: LONGEST + 1,
+        size: LONGEST - 1,
+        before_close: true,
         skip: false,
     };
-    let three = Run {
-        cutting,
-        size: LONGEST + 2,
-        skip: false,
-    };
-    let four = Run {
-        cutting,
-        size: LONGEST + 3,
-        skip: false,
-    };
-    case(two, b"two bytes", b"", b'a', b"\xC3\xA9", b")");
-    case(three, b"three bytes", b"", b'a', b"\xE6\x97\xA5", b")");
-    case(four, b"four bytes", b"", b'a', b"\xF0\x9F\x98\x80", b")");
+    cases(Job::Items(run), b"wide_ends");
 }
 
 // What is no item may be longer: blanks, and a first line that starts with #!.
 pub fn no_items(cutting: Cutting) {
-    let run = Run {
-        cutting,
-        size: LONG,
-        skip: false,
-    };
-    case(run, b"blanks", b"", b' ', b"", b"a)");
+    cases(sized(cutting, LONG, false), b"blanks");
     let mut source = [0u8; ROOM];
     let headed = put(&mut source, 0, b"#!");
     let filled = fill(&mut source, headed, LONG, b'x');

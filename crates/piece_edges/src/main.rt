@@ -5,6 +5,7 @@ use cuttings::Cutting;
 
 mod calls;
 mod cuts;
+mod files;
 mod long;
 mod show;
 mod standing;

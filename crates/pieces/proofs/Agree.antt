@@ -7,7 +7,7 @@ use Rattle.items.specs.declared.Next.the-variants.{Eat, Stop}
 use Rattle.items.specs.declared.Phase.{Phase}
 use Rattle.items.specs.declared.Phase.the-variants.{AfterHash}
 use Rattle.items.specs.Classes.{firstOf}
-use Rattle.items.specs.Items.{Place, Item, itemOf, itemsOf, rangeAfter, extentItems, kept}
+use Rattle.items.specs.Items.{Place, Item, itemOf, itemsOf, rangeAfter, standing, extentItems, kept}
 use Rattle.items.specs.Kinds as kind
 use Rattle.items.specs.Machine.{stepOf, onFirst}
 use Rattle.items.specs.Meaning.{Meaning, means, source, meaningOf}
@@ -97,24 +97,24 @@ module _ (bytes : List ℕ) where
           ∙ ap (λ (l : List ℕ). take (s .marks .at - st) (l ++ after)) (h .bytes)
           ∙ take-at (take (s .marks .len) (s .buf)) after (s .marks .at - st) (omega (arith, held-length k, h .ends))
 
-      pub gives-all : (b : Beyond) (last : Place) (ms : List Meaning) → Shape st (s .marks .at) (take (s .marks .len) (s .buf)) ms → (go : State → Expected)
+      pub gives-all : (b : Beyond) (last set : Place) (ms : List Meaning) → Shape st (s .marks .at) (take (s .marks .len) (s .buf)) ms → (go : State → Expected)
           → settled (beyond s last b) go ≡ go (beyond s last b)
-          → afterTurn (gives s st last b (itemsOf (report s) last st (s .marks .at) ms)) go
-          ≡ prepend (givenAll bytes (kept (s .marks .skip) (itemsOf (report s) last st (s .marks .at) ms))) (go (beyond s last b))
+          → afterTurn (gives s st last b (itemsOf (report s) set st (s .marks .at) ms)) go
+          ≡ prepend (givenAll bytes (kept (s .marks .skip) (itemsOf (report s) set st (s .marks .at) ms))) (go (beyond s last b))
       unfolding kept givenAll
-      gives-all b last ms (alone m) go e =
-          let i : Item = itemOf (report s) last st (s .marks .at) m in
+      gives-all b last set ms (alone m) go e =
+          let i : Item = itemOf (report s) set st (s .marks .at) m in
           by-bool (s .marks .skip && eqb (m .kind) kind.Comment)
           (λ f. rw f)
           (λ f. rw f (
           ap (heed (item (given (take (s .marks .len) (s .buf)) i))) e
           ∙ ap (λ (l : List ℕ). heed (item (given l i)) (go (beyond s last b))) (sym raw-bytes)))
-      gives-all b last ms (pair two) go e =
-          let i : Item = itemOf (report s) last st (s .marks .at) (means kind.Identifier 0 (source st (st + 1))) in
-          let j : Item = itemOf (report s) last st (s .marks .at) (means kind.Identifier 0 (source (st + 1) (s .marks .at))) in
+      gives-all b last set ms (pair two) go e =
+          let i : Item = itemOf (report s) set st (s .marks .at) (means kind.Identifier 0 (source st (st + 1))) in
+          let j : Item = itemOf (report s) set st (s .marks .at) (means kind.Identifier 0 (source (st + 1) (s .marks .at))) in
           ap (λ (u : State). heed (item (given (take (s .marks .len) (s .buf)) i)) (heed (item (given (take (s .marks .len) (s .buf)) j)) (go u))) (waited st last b)
           ∙ ap (λ (l : List ℕ). heed (item (given l i)) (heed (item (given l j)) (go (beyond s last b)))) (sym raw-bytes)
-          ∙ ap (λ (l : List Item). prepend (givenAll bytes l) (go (beyond s last b))) (sym (pair-kept (s .marks .skip) (report s) last st (s .marks .at)))
+          ∙ ap (λ (l : List Item). prepend (givenAll bytes l) (go (beyond s last b))) (sym (pair-kept (s .marks .skip) (report s) set st (s .marks .at)))
 
     -- ---- a character
 
@@ -168,7 +168,7 @@ module _ (bytes : List ℕ) where
             let last : Place = rangeAfter (lastOf s) st o (itemSoFar s) in
             let w : Within last = kept-range k st o (itemSoFar s) z (omega (arith, h .ends, k .far)) (omega (arith, k .far)) in
             goes (begin s last c) (arrives-begin last w)
-            (λ go. gives-all after text st h (Char c) last (meaningOf o st (s .marks .at) (take (s .marks .len) (s .buf)))
+            (λ go. gives-all after text st h (Char c) last (rangeAfter (standing (report s) (lastOf s)) st o (itemSoFar s)) (meaningOf o st (s .marks .at) (take (s .marks .len) (s .buf)))
             (shape st (s .marks .at) (take (s .marks .len) (s .buf)) o) go (settled-going (going-begin k c scalar room last w) go))
 
         staged : {b : Stage} → s .marks .stage ≡ b → Staged q s b

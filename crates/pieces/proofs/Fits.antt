@@ -13,7 +13,7 @@ use Rattle.items.specs.declared.Outcome.{Outcome}
 use Rattle.items.specs.declared.Outcome.the-variants.{Token, Str, HereStr, Word, Run, Lined, Keyword, Character, Error, ErrorAt}
 use Rattle.items.specs.declared.Phase.the-variants.{AfterHash}
 use Rattle.items.specs.declared.Quotes.the-variants.{Double, Lines}
-use Rattle.items.specs.Items.{Place, Item, itemsOf, rangeAfter, extentItems}
+use Rattle.items.specs.Items.{Place, Item, itemsOf, rangeAfter, standing, extentItems}
 use Rattle.items.specs.Kinds as kind
 use Rattle.items.specs.Machine.{stepOf, finishOf}
 use Rattle.items.specs.Meaning.{Text, none, source, decoded, Meaning, wordKind, wordMeans, runMeans, escaped, unescape, stringText, linedText}
@@ -156,7 +156,7 @@ module _ (s : State) (h : Short s) where
   unfolding extentItems
   fits-ends st o b =
       fits-gives st (rangeAfter (lastOf s) st o (itemSoFar s)) b (extentItems (report s) (lastOf s) st o (itemSoFar s))
-      (items-little st (s .marks .at) (itemSoFar s .bytes) (report s) (rangeAfter (lastOf s) st o (itemSoFar s))
+      (items-little st (s .marks .at) (itemSoFar s .bytes) (report s) (rangeAfter (standing (report s) (lastOf s)) st o (itemSoFar s))
       (meaningOf o st (s .marks .at) (itemSoFar s .bytes)) (meant-little st (s .marks .at) (itemSoFar s .bytes) o))
 
   fits-next : (st c : ℕ) (n : Next) → FitsTurn (onNext s st c n)

@@ -11,7 +11,7 @@ use Rattle.items.specs.declared.Outcome.{Outcome}
 use Rattle.items.specs.declared.Phase.{Phase}
 use Rattle.items.specs.declared.Phase.the-variants.{AfterHash}
 use Rattle.items.specs.Classes.{firstOf}
-use Rattle.items.specs.Items.{Place, itemsOf, rangeAfter, extentItems, byteCount}
+use Rattle.items.specs.Items.{Place, itemsOf, rangeAfter, standing, extentItems, byteCount}
 use Rattle.items.specs.Kinds as kind
 use Rattle.items.specs.Machine.{stepOf, finishOf, onFirst}
 use Rattle.items.specs.Meaning.{Meaning, meaningOf}
@@ -117,7 +117,7 @@ module _ {q g : List ℕ} {s : State} (k : Kept q g s) where
     unfolding extentItems
     turned-ends o r =
         turned-gives (rangeAfter (lastOf s) st o (itemSoFar s)) (kept-range k st o (itemSoFar s) r (omega (arith, h .ends, k .far)) (omega (arith, k .far)))
-        (report s) (rangeAfter (lastOf s) st o (itemSoFar s)) (meaningOf o st (s .marks .at) (take (s .marks .len) (s .buf)))
+        (report s) (rangeAfter (standing (report s) (lastOf s)) st o (itemSoFar s)) (meaningOf o st (s .marks .at) (take (s .marks .len) (s .buf)))
         (shape st (s .marks .at) (take (s .marks .len) (s .buf)) o)
 
   -- a character in an item

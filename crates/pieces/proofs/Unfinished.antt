@@ -2,7 +2,7 @@
 -- ends there and starts where the machine says.
 use Rattle.items.specs.declared.Outcome.{Outcome}
 use Rattle.items.specs.declared.Phase.the-variants.{AfterHash}
-use Rattle.items.specs.Items.{Place, Item, itemsOf, rangeAfter, extentItems, items, byteCount, endsBefore}
+use Rattle.items.specs.Items.{Place, Item, itemsOf, rangeAfter, standing, extentItems, items, byteCount, endsBefore}
 use Rattle.items.specs.Machine.{finishOf}
 use Rattle.items.specs.Meaning.{Meaning, meaningOf}
 use Rattle.items.specs.Readers.{SoFar, soFar}
@@ -59,7 +59,7 @@ module _ (report : Bool) where
   extent-off : (is : List Item) (last : Place) (s : ℕ) (o : Outcome) (i : SoFar) → unfinished (i .at) (is ++ extentItems report last s o i) ≡ from s
   unfolding extentItems
   extent-off is last s o i =
-      cut-off report (rangeAfter last s o i) s (i .at) (i .bytes) is (meaningOf o s (i .at) (i .bytes)) (shape s (i .at) (i .bytes) o)
+      cut-off report (rangeAfter (standing report last) s o i) s (i .at) (i .bytes) is (meaningOf o s (i .at) (i .bytes)) (shape s (i .at) (i .bytes) o)
 
   -- the machine stands at n after the characters q
   pub breaks-off : (q : List ℕ) (m : Mode) (n : ℕ) (last : Place) → advance report fresh q .after ≡ state m n last → n ≡ byteCount q

@@ -71,11 +71,16 @@ table =
     -- E8, in both modes; a number's whole extent is its text
     ∷ plain "14.7;gps" (texted kind.Identifier 0 4 "14.7" ∷ bare kind.Comment 0 4 8 ∷ [])
     ∷ example 1 false (bothWays (spelled "14.7;gps")) (texted kind.Number 0 4 "14.7" ∷ bare kind.Comment 0 4 8 ∷ []) finished
+    -- 02 (iii): in report mode a number ends at a vertical line
+    ∷ example 1 false (bothWays (spelled "12|Birch|")) (texted kind.Number 0 2 "12" ∷ texted kind.Identifier 2 9 "Birch" ∷ []) finished
+    ∷ example 1 false (bothWays (spelled "1|a|")) (texted kind.Number 0 1 "1" ∷ texted kind.Identifier 1 4 "a" ∷ []) finished
     -- E9 and E11: decoded text
     ∷ plain "|a\\|" (texted kind.Identifier 0 4 "a|" ∷ [])
     ∷ plain "\"\\x+41;\"" (texted kind.StringLiteral 0 8 "A" ∷ [])
     -- E10: an error's range stands on, also between pieces
     ∷ plain "\"\\xD800;\"" (error kind.InvalidHexCodePoint 0xD800 0 8 1 8 ∷ error kind.IncompleteString 0 8 9 1 8 ∷ [])
+    -- and in report mode it does not
+    ∷ example 1 false (bothWays (spelled "\"\\xD800;\"")) (error kind.InvalidHexCodePoint 0xD800 0 8 1 8 ∷ error kind.IncompleteString 0 8 9 8 9 ∷ []) finished
     -- a comma is not known before the next character
     ∷ plain ",@" (bare kind.UnquoteSplice 0 0 2 ∷ [])
     ∷ plain ",a" (bare kind.Unquote 0 0 1 ∷ texted kind.Identifier 1 2 "a" ∷ [])

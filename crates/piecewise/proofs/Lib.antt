@@ -1,9 +1,1 @@
-pub mod Laid
-pub mod Bounded
-pub mod Gives
-pub mod Shown
-pub mod Told
-pub mod Sounds
-pub mod Passes
-pub mod Steps
 pub mod Replies

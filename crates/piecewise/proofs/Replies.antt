@@ -26,10 +26,11 @@ use Rattle.pieces.specs.declared.Got.the-variants.{Item, More, Finished, Refuse
 use Rattle.pieces.specs.Expected.{longest}
 use Rattle.pieces.specs.Bounds.{isPlace, beyondBounds, heldBounds, stageBounds, inBounds}
 use Rattle.pieces.specs.Calls.{What, Reply, reply, Turn, on, off, textAfter, turnOf, after, feedOf, pieceStage, replied, endStage, endUnlessStopped}
-use Rattle.piecewise.specs.Answers.{whatOf, stateOf, turnBy, textTurned, isMore, endDeclared}
-use Rattle.piecewise.specs.Inner.{Held, CharFits, BeyondFits}
-use Rattle.piecewise.proofs.Bounded.{Numbers, numbers}
-use Rattle.piecewise.proofs.Told.{told-numbers, told-held}
+use Rattle.giving.specs.Answers.{whatOf, stateOf, turnBy, textTurned}
+use Rattle.piecewise.specs.Answers.{isMore, endDeclared}
+use Rattle.giving.specs.Inner.{Held, CharFits, BeyondFits}
+use Rattle.bounds.proofs.Bounded.{Numbers, numbers}
+use Rattle.turns.proofs.Told.{told-numbers, told-held}
 
 no : {A : Type 0} → true ≡ false → A
 no e = absurd (let z : _≡_ {A = ℕ} 0 1 = cc in omega arith)

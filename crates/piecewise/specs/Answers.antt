@@ -3,15 +3,10 @@
 use Prim.Native.Nat.{ℕ}
 use mathlib.Core.Bool.{Bool, true, false}
 use mathlib.Core.List.{List, []}
-use lib.ListN.{length, take}
+use lib.ListN.{length}
 use lib.Dec.{eqb}
 use Rattle.laws.specs.Choice.{if_then_else_}
-use Rattle.items.specs.Items.{Place, range, wordsOf}
-use Rattle.pieces.specs.declared.Stage.{Stage}
-use Rattle.pieces.specs.declared.Stage.the-variants.{Stopped}
-use Rattle.pieces.specs.declared.Part.{Part}
 use Rattle.pieces.specs.declared.Marks.{Marks}
-use Rattle.pieces.specs.declared.State.{State}
 use Rattle.pieces.specs.declared.Got.{Got}
 use Rattle.pieces.specs.declared.Got.the-variants.{Item, More, Finished, Refused}
 use Rattle.pieces.specs.declared.Start.{Start}
@@ -20,16 +15,9 @@ use Rattle.pieces.specs.declared.Opened.{Opened}
 use Rattle.pieces.specs.declared.Answer.{Answer}
 use Rattle.pieces.specs.declared.Pieced.{Pieced}
 use Rattle.pieces.specs.declared.Turned.{Turned}
-use Rattle.pieces.specs.Calls.{What, item, more, finished, refused, Reply, reply, Turn, on, off, marks, textAfter, declared, pieceOf, endOf}
+use Rattle.pieces.specs.Calls.{What, more, refused, Reply, reply, marks, declared, pieceOf, endOf}
 use Rattle.pieces.specs.Expected.{longest}
-
--- an item's text is what the text memory holds from 0 to the place that the record's last word says; `text` is the text memory after
--- the call
-abbrev pub whatOf : Got → List ℕ → What
-whatOf (Item r) text = item (record { words = wordsOf r; text = take (r .past) text })
-whatOf More text = more
-whatOf Finished text = finished
-whatOf (Refused n p) text = refused n p
+pub use Rattle.giving.specs.Answers.{whatOf, stateOf}
 
 abbrev pub answered : Answer → List ℕ → Reply
 answered a text = reply (a .taken) (whatOf (a .got) text) (a .state)
@@ -44,9 +32,6 @@ opened o = reply 0 (startOf (o .start)) (o .state)
 
 -- ---- the marks by value, the buffer lent
 
-abbrev pub stateOf : Marks → List ℕ → State
-stateOf m buf = record { buf = buf; marks = m }
-
 abbrev pub pieced : Pieced → List ℕ → List ℕ → Reply
 pieced p buf text = reply (p .taken) (whatOf (p .got) text) (stateOf (p .marks) buf)
 
@@ -56,38 +41,6 @@ pieceIn m buf bs room = if eqb (length buf) longest then pieceOf (stateOf m buf)
 
 abbrev pub endIn : Marks → List ℕ → ℕ → Reply
 endIn m buf room = if eqb (length buf) longest then endOf (stateOf m buf) room else reply 0 (refused 27 0) (stateOf m buf)
-
--- ---- inside
-
--- a turn that goes on gives nothing yet
-abbrev pub turnBy : Got → State → List ℕ → Turn
-turnBy (Item r) s text = off s (whatOf (Item r) text)
-turnBy More s text = on s
-turnBy Finished s text = off s finished
-turnBy (Refused n p) s text = off s (refused n p)
-
-abbrev pub turnIn : Turned → List ℕ → List ℕ → Turn
-turnIn t buf text = turnBy (t .got) (stateOf (t .marks) buf) text
-
--- the text memory after a turn
-abbrev pub textTurned : Turn → List ℕ → List ℕ
-textTurned (on s) old = old
-textTurned (off s w) old = textAfter w old
-
-abbrev pub lastIn : Marks → Place
-lastIn m = range (m .from) (m .to)
-
-abbrev pub goesOn : Marks → Turned
-goesOn m = record { marks = m; got = More }
-
--- a stop that stands from then on
-abbrev pub stops : Marks → ℕ → ℕ → Turned
-stops m n p = record { marks = marks m (Stopped n p) (m .at) 0 (lastIn m); got = Refused n p }
-
--- the marks with another character begun
-abbrev pub begun : Marks → Part → Marks
-begun m p =
-    record { mode = m .mode; skip = m .skip; ended = m .ended; stage = m .stage; at = m .at; part = p; from = m .from; to = m .to; len = m .len }
 
 -- nothing was given yet
 abbrev pub isMore : Got → Bool

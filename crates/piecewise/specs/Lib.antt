@@ -1,4 +1,1 @@
 pub mod Answers
-pub mod Copied
-pub mod Inner
-pub mod Passed

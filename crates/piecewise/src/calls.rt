@@ -1,14 +1,10 @@
 // The calls: a piece of the text, and its end. `piece` and `end` take the state by value and hand it back; under them, the buffer is lent.
-use crate::bounds::in_bounds;
-use crate::ends::beyond;
-use crate::ends::ends;
-use crate::ends::extent;
-use crate::ends::give_second;
-use crate::limits::*;
-use crate::passing::ahead;
-use crate::passing::pass;
-use crate::turn::stop;
-use crate::turn::turn;
+use bounds::in_bounds;
+use bounds::limits::*;
+use giving::ends::beyond;
+use giving::ends::ends;
+use giving::ends::extent;
+use giving::ends::give_second;
 use items::Phase;
 use pieces::Answer;
 use pieces::Beyond;
@@ -19,6 +15,10 @@ use pieces::Stage;
 use pieces::State;
 use pieces::Turned;
 use steps::finish;
+use turns::passing::ahead;
+use turns::passing::pass;
+use turns::turn::stop;
+use turns::turn::turn;
 ghost use mathlib.Core.Path.{_≡_};
 ghost use mathlib.Core.Bool.{true};
 ghost use mathlib.Core.List.{List};
@@ -26,8 +26,10 @@ ghost use Prim.Native.Nat.{ℕ};
 ghost use lib.ListN.{length};
 ghost use Rattle.pieces.specs.Bounds.{phaseBounds};
 ghost use Rattle.pieces.specs.Calls as calls;
-ghost use Rattle.piecewise.specs.Answers.{stateOf, isMore, pieced, refuses, endsWith, endDeclared, answered, pieceIn, endIn};
-ghost use Rattle.piecewise.specs.Inner.{Sound, Held, BeyondFits};
+ghost use Rattle.giving.specs.Answers.{stateOf};
+ghost use Rattle.piecewise.specs.Answers.{isMore, pieced, refuses, endsWith, endDeclared, answered, pieceIn, endIn};
+ghost use Rattle.giving.specs.Inner.{Held, BeyondFits};
+ghost use Rattle.turns.specs.Inner.{Sound};
 
 // Whether nothing is given yet.
 fn is_more(got: Got) -> bool

@@ -1,11 +1,4 @@
 // The calls that read a text in pieces: `opening::open`, `calls::piece` and `calls::end`, as the crate pieces says what a call does with
 // a state. `calls::piece_call` and `calls::end_call` are the same with the buffer lent.
-mod bounds;
 pub mod calls;
-mod ends;
-mod give;
-mod lay;
-mod limits;
 pub mod opening;
-mod passing;
-mod turn;

@@ -80,7 +80,7 @@ pub(crate) fn ends_run(report: bool, c: u32) -> bool
     match c {
         OPEN_ROUND | OPEN_SQUARE => true,
         CLOSE_ROUND | CLOSE_SQUARE => true,
-        SEMICOLON | DOUBLE_QUOTE => report,
+        SEMICOLON | DOUBLE_QUOTE | VERTICAL => report,
         _ => is_blank(c),
     }
 }

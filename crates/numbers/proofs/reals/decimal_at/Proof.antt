@@ -8,15 +8,15 @@ use borrow.Author.Needs.{needs}
 use Rattle.numbers.proofs.reals.decimal_at.Statement.{statement}
 use Rattle.numbers.proofs.reals.decimal_at.Tie as tie
 
-run-end-requires : tie.Need-run-end-requires
-run-end-requires c κs = search needs
+decimal-end-requires : tie.Need-decimal-end-requires
+decimal-end-requires c κs = search needs
 
 starts-at-requires : tie.Need-starts-at-requires
 starts-at-requires c κs = search needs
 
 add-dotted : tie.Need-add-dotted
 add-dotted c =
-    let h = starts-in (code ".") (c .before .before .before .before .args .t .now) (c .before .before .run-end .result)
+    let h = starts-in (code ".") (c .before .before .before .before .args .t .now) (c .before .before .decimal-end .result)
     (sym (c .if1 .taken) ∙ c .before .starts-at .ensures) in
     omega arith
 
@@ -31,19 +31,19 @@ undotted-requires c κs = search needs
 
 returns : tie.Need-returns
 returns c =
-    decimal-dot _ _ _ _ (c .before .before .before .run-end .ensures) _ (sym (c .before .if1 .taken) ∙ c .before .before .starts-at .ensures)
+    decimal-dot _ _ _ _ (c .before .before .before .decimal-end .ensures) _ (sym (c .before .if1 .taken) ∙ c .before .before .starts-at .ensures)
     (c .dotted .ensures)
 
 returns-2 : tie.Need-returns-2
 returns-2 c =
-    decimal-no _ _ _ _ (c .before .before .before .before .run-end .ensures) _ _
+    decimal-no _ _ _ _ (c .before .before .before .before .decimal-end .ensures) _ _
     (sym (c .before .before .if1 .left) ∙ c .before .before .before .starts-at .ensures) (c .before .suffix-at .ensures) (c .undotted .ensures)
 
 pub decimal-at-spec : {M : Type 1} → statement M
 decimal-at-spec =
     tie.close
     (tie.spec
-    run-end-requires
+    decimal-end-requires
     starts-at-requires
     add-dotted
     dotted-requires

@@ -4,12 +4,12 @@ use borrow.Author.Needs.{needs}
 use Rattle.numbers.proofs.reals.dotted.Statement.{statement}
 use Rattle.numbers.proofs.reals.dotted.Tie as tie
 
-run-end-requires : tie.Need-run-end-requires
-run-end-requires c κs = search needs
+decimal-end-requires : tie.Need-decimal-end-requires
+decimal-end-requires c κs = search needs
 
 returns : tie.Need-returns
 returns c =
-    dotted-none _ _ _ _ _ _ (c .before .before .before .before .pre) (c .before .before .run-end .ensures) (c .before .if1 .taken) (c .if2 .taken)
+    dotted-none _ _ _ _ _ _ (c .before .before .before .before .pre) (c .before .before .decimal-end .ensures) (c .before .if1 .taken) (c .if2 .taken)
 
 suffix-at-requires : tie.Need-suffix-at-requires
 suffix-at-requires c κs = search needs
@@ -19,7 +19,7 @@ point-of-requires c κs = search needs
 
 returns-2 : tie.Need-returns-2
 returns-2 c =
-    dotted-fraction _ _ _ _ _ _ (c .before .before .before .before .before .before .pre) (c .before .before .before .before .run-end .ensures) _ _
+    dotted-fraction _ _ _ _ _ _ (c .before .before .before .before .before .before .pre) (c .before .before .before .before .decimal-end .ensures) _ _
     (c .before .suffix-at .ensures) (c .point-of .ensures) (c .before .before .if2 .left)
 
 suffix-at-requires-2 : tie.Need-suffix-at-requires-2
@@ -30,14 +30,14 @@ point-of-requires-2 c κs = search needs
 
 returns-3 : tie.Need-returns-3
 returns-3 c =
-    dotted-whole _ _ _ _ _ _ (c .before .before .before .before .before .pre) (c .before .before .before .run-end .ensures) _ _
+    dotted-whole _ _ _ _ _ _ (c .before .before .before .before .before .pre) (c .before .before .before .decimal-end .ensures) _ _
     (c .before .suffix-at2 .ensures) (c .point-of2 .ensures) (c .before .before .if1 .left)
 
 pub dotted-spec : {M : Type 1} → statement M
 dotted-spec =
     tie.close
     (tie.spec
-    run-end-requires
+    decimal-end-requires
     returns
     suffix-at-requires
     point-of-requires

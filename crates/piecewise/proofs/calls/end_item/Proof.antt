@@ -6,10 +6,10 @@ use native.Mathlib.Omega.{arith}
 use borrow.Author.Tests.{eq-eqb, ne-eqb}
 use borrow.Author.Needs.{needs}
 use denote.Ref.{now}
-use Rattle.piecewise.specs.Answers.{stateOf}
-use Rattle.piecewise.specs.Inner.{OutcomeFits}
+use Rattle.giving.specs.Answers.{stateOf}
+use Rattle.giving.specs.Inner.{OutcomeFits}
 use Rattle.piecewise.proofs.Replies.{reply-yes, reply-no, end-turn}
-use Rattle.piecewise.proofs.Sounds.{finish-fits}
+use Rattle.turns.proofs.Sounds.{finish-fits}
 use Rattle.piecewise.proofs.calls.end_item.Statement.{statement}
 use Rattle.piecewise.proofs.calls.end_item.Tie as tie
 

@@ -9,13 +9,13 @@ use borrow.Author.Tests.{not-true, not-false}
 use borrow.Author.Needs.{needs}
 use denote.Ref.{now}
 use Rattle.pieces.specs.Calls.{feedOf}
-use Rattle.piecewise.specs.Answers.{stateOf}
-use Rattle.piecewise.specs.Inner.{Sound}
-use Rattle.piecewise.specs.Passed.{kept}
-use Rattle.piecewise.proofs.Passes.{passes, run-within}
+use Rattle.giving.specs.Answers.{stateOf}
+use Rattle.turns.specs.Inner.{Sound}
+use Rattle.turns.specs.Passed.{kept}
+use Rattle.turns.proofs.Passes.{passes, run-within}
 use Rattle.piecewise.proofs.Replies.{fed-on, fed-off, fed-all, answers}
-use Rattle.piecewise.proofs.Sounds.{turn-sound}
-use Rattle.piecewise.proofs.Told.{sane}
+use Rattle.turns.proofs.Sounds.{turn-sound}
+use Rattle.turns.proofs.Told.{sane}
 use Rattle.piecewise.proofs.calls.feed.Statement.{statement}
 use Rattle.piecewise.proofs.calls.feed.Tie as tie
 

@@ -6,14 +6,15 @@ use borrow.Author.Tests.{not-true, not-false, lt-ltb, le-ltb}
 use borrow.Author.Needs.{needs}
 use denote.Ref.{now}
 use Rattle.pieces.specs.declared.Marks.{Marks}
-use Rattle.piecewise.specs.Answers.{stateOf}
+use Rattle.giving.specs.Answers.{stateOf}
 use Rattle.pieces.specs.Bounds.{inBounds}
 use Rattle.pieces.specs.Calls.{declared, endOf}
 use Rattle.pieces.specs.Expected.{longest}
-use Rattle.piecewise.specs.Inner.{readsOn, Held}
+use Rattle.giving.specs.Inner.{Held}
+use Rattle.turns.specs.Inner.{readsOn}
 use Rattle.piecewise.proofs.Replies.{reply-yes, reply-no, end-stage, idle-quiet, held-declared, held-waiting}
-use Rattle.piecewise.proofs.Sounds.{held-busy, held-pound}
-use Rattle.piecewise.proofs.Told.{sane}
+use Rattle.turns.proofs.Sounds.{held-busy, held-pound}
+use Rattle.turns.proofs.Told.{sane}
 use Rattle.piecewise.proofs.calls.read_end.Statement.{statement}
 use Rattle.piecewise.proofs.calls.read_end.Tie as tie
 

@@ -5,11 +5,11 @@ use lib.Dec.{ltb}
 use borrow.Author.Tests.{not-true, not-false, lt-ltb, le-ltb}
 use borrow.Author.Needs.{needs}
 use denote.Ref.{now}
-use Rattle.piecewise.specs.Answers.{stateOf}
+use Rattle.giving.specs.Answers.{stateOf}
 use Rattle.pieces.specs.Bounds.{inBounds}
 use Rattle.pieces.specs.Calls.{pieceOf}
 use Rattle.pieces.specs.Expected.{longest}
-use Rattle.piecewise.specs.Inner.{readsOn}
+use Rattle.turns.specs.Inner.{readsOn}
 use Rattle.piecewise.proofs.Replies.{reply-yes, reply-no, piece-stage, held-waiting}
 use Rattle.piecewise.proofs.calls.read_piece.Statement.{statement}
 use Rattle.piecewise.proofs.calls.read_piece.Tie as tie

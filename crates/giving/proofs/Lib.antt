@@ -1,0 +1,4 @@
+pub mod Laid
+pub mod Gives
+pub mod Shown
+pub mod Steps

@@ -1,0 +1,396 @@
+-- In report mode an error points at its own place. An item's outcome carries its own range; every step of the machine keeps a backslash's
+-- place between the item's start and the place read to, and what closes an item then sets a range as `PointsAt` says.
+use Prim.Native.Nat.{ℕ, _+_, _-_, _≤_, _<_}
+use mathlib.Core.Path.{_≡_, refl, ap, _∙_}
+use mathlib.Core.Bool.{Bool, true, false, _&&_, _||_}
+use mathlib.Core.List.{List, [], _∷_, map}
+use lib.ListN.{length, getD, take, drop}
+use lib.Dec.{T, eqb, leb, ltb}
+use native.Mathlib.Omega.{arith}
+use borrow.Author.Tests.{eqb-true}
+use Rattle.laws.specs.Quoted.{code, oneOf}
+use Rattle.laws.specs.Texts.{begins, same}
+use Rattle.laws.proofs.Choice.{by-bool, if-all}
+use Rattle.chars.specs.Encode.{isScalar, width, spelled}
+use Rattle.chars.specs.Utf8.{front, Front}
+use Rattle.chars.specs.Utf8 as Utf8
+use Rattle.chars.proofs.Width.{wide, width-le}
+use Rattle.digits.specs.Hex.{hexValue}
+use Rattle.digits.specs.declared.Hex.{Hex}
+use Rattle.digits.specs.declared.Hex.the-variants as hex
+use Rattle.items.specs.declared.Quotes.{Quotes}
+use Rattle.items.specs.declared.Quotes.the-variants.{Double, Lines}
+use Rattle.items.specs.declared.Outcome.{Outcome}
+use Rattle.items.specs.declared.Outcome.the-variants.{Token, Str, HereStr, Word, Run, Lined, Keyword, Character, Error, ErrorAt}
+use Rattle.items.specs.declared.Phase.{Phase}
+use Rattle.items.specs.declared.Phase.the-variants as ph
+use Rattle.items.specs.declared.Next.{Next}
+use Rattle.items.specs.declared.Next.the-variants.{Eat, Stop}
+use Rattle.items.specs.declared.HashKind.{HashKind}
+use Rattle.items.specs.declared.HashKind.the-variants.{Decided, Bracket, Undecided}
+use Rattle.items.specs.declared.CharValue.{CharValue}
+use Rattle.items.specs.declared.CharValue.the-variants.{Scalar, Wrong}
+use Rattle.items.specs.Kinds as kind
+use Rattle.items.specs.Classes.{startsRun, firstOf, delimOf, inQuotes, afterBackslash, inHex, inTrim, inNest, inWord, inRun}
+use Rattle.items.specs.Classes.{afterHash, inHash, inDelim, First, InQuotes, ends, escapes, plain, AfterBackslash, simple, hexX, hexU}
+use Rattle.items.specs.Classes.{blank, newline, invalid, InHex, closes, stops, digit, InTrim, space, line, solid, InNest, bar, sharp}
+use Rattle.items.specs.Classes.{inside, InWord, breaks, skips, goes, InRun, stays, stopsRun, leaves, AfterHash, radix, opensNest}
+use Rattle.items.specs.Classes.{datum, twice, angle, value, InHash, skipsTwo, tick, commas, stopsHash, staysHash, InDelim, endsDelim}
+use Rattle.items.specs.Classes.{returns, blankDelim, ofDelim}
+use Rattle.items.specs.Meaning.{none, lookup}
+use Rattle.items.specs.Meaning.{lower, charNames, unnamed, onlyOne, hexNamed, spelledOut, characterOf}
+use Rattle.items.specs.Points.{escapeErrors, extentErrors, PointsAt}
+use Rattle.items.specs.Machine.{onNest, onBar, onSharp, onQuoted, onEscape, onBrace, closeHex, onHex, onTrimBefore, onTrimAfter}
+use Rattle.items.specs.Machine.{onWord, enterWord, onRun, hashThen, hashLast, onHash, onAfterHash, onDelim, stepOf, finishOf, onFirst, scanOf}
+use Rattle.items.specs.Readers.{soFar, eat, firstIs, lastIs, linedOf, closed, unclosed, cut, scalarOf, boolKind, quoteKind, formKind, orElse, hashKind, hereEnds, readItem, SoFar}
+use Rattle.items.proofs.Cases.{by-next}
+use Rattle.items.proofs.Same.{item-same}
+
+pub holds : (b : Bool) → T b → b ≡ true
+holds true t = refl
+holds false t = absurd t
+
+-- ---- what is known of an outcome, its extent from s to e
+
+abbrev pub Own : ℕ → ℕ → Outcome → Type 0
+Own s e (Token k d) = T (ltb k kind.firstError)
+Own s e Str = Unit {0}
+Own s e HereStr = Unit {0}
+Own s e Word = Unit {0}
+Own s e Run = Unit {0}
+Own s e Lined = Unit {0}
+Own s e Keyword = Unit {0}
+Own s e Character = Unit {0}
+Own s e (Error n d) = T (oneOf extentErrors n)
+Own s e (ErrorAt n d a b) = (a < b) × PointsAt s e n a b
+
+abbrev OwnKind : ℕ → ℕ → HashKind → Type 0
+OwnKind s e (Decided o) = Own s e o
+OwnKind s e (Bracket d) = Unit {0}
+OwnKind s e Undecided = Unit {0}
+
+-- what is known in a phase of an item that starts at s
+abbrev Holds : ℕ → SoFar → Phase → Type 0
+Holds s i ph.InLine = Unit {0}
+Holds s i ph.AfterComma = Unit {0}
+Holds s i ph.AfterHash = Unit {0}
+Holds s i ph.AfterAngle = Unit {0}
+Holds s i ph.HereDelim = Unit {0}
+Holds s i ph.HereStart = Unit {0}
+Holds s i ph.HereBody = Unit {0}
+Holds s i ph.InWord = Unit {0}
+Holds s i ph.WordEscape = Unit {0}
+Holds s i ph.InRun = Unit {0}
+Holds s i ph.InHash = Unit {0}
+Holds s i ph.HashEscape = Unit {0}
+Holds s i ph.HashTick = Unit {0}
+Holds s i ph.HashComma = Unit {0}
+Holds s i (ph.Nest d) = Unit {0}
+Holds s i (ph.NestBar d) = Unit {0}
+Holds s i (ph.NestSharp d) = Unit {0}
+Holds s i (ph.Quoted k) = Unit {0}
+Holds s i (ph.Closed k) = Unit {0}
+Holds s i (ph.TrimBefore k) = Unit {0}
+Holds s i (ph.TrimAfter k) = Unit {0}
+Holds s i (ph.Escape k from) = (s ≤ from) × (from + 1 ≡ i .at)
+Holds s i (ph.Brace k from) = (s ≤ from) × (from < i .at)
+Holds s i (ph.Hex k closer from m) = (s ≤ from) × (from < i .at)
+Holds s i (ph.Done o) = Own s (i .at) o
+
+abbrev Goes : ℕ → SoFar → ℕ → Next → Type 0
+Goes s i c (Eat q) = Holds s (eat i c) q
+Goes s i c (Stop o) = Own s (i .at) o
+
+module _ (s e : ℕ) where
+  own-lined : (raw : List ℕ) → Own s e (linedOf raw)
+  unfolding linedOf
+  own-lined raw =
+      let P : Outcome → Type 0 = Own s e in
+      if-all P (leb (length raw) 1) tt
+      (if-all P (firstIs (code "+") raw) tt (if-all P (firstIs (code "|") raw) (if-all P (lastIs (code "|") raw) tt tt) tt))
+
+  own-closed : (k : Quotes) (raw : List ℕ) → Own s e (closed k raw)
+  own-closed Double raw = tt
+  own-closed Lines raw = own-lined raw
+
+  own-unclosed : (k : Quotes) (raw : List ℕ) → Own s e (unclosed k raw)
+  own-unclosed Double raw = tt
+  own-unclosed Lines raw = own-lined raw
+
+  own-cut : (k : Quotes) → Own s e (cut k)
+  own-cut Double = tt
+  own-cut Lines = tt
+
+  own-bool : (raw : List ℕ) → OwnKind s e (boolKind raw)
+  unfolding boolKind
+  own-bool raw =
+      let P : HashKind → Type 0 = OwnKind s e in
+      if-all P (same raw (spelled "#true")) tt (if-all P (same raw (spelled "#t")) tt
+      (if-all P (same raw (spelled "#false")) tt (if-all P (same raw (spelled "#f")) tt tt)))
+
+  own-quote : (raw : List ℕ) → OwnKind s e (quoteKind raw)
+  unfolding quoteKind
+  own-quote raw =
+      let P : HashKind → Type 0 = OwnKind s e in
+      if-all P (same raw (spelled "#'")) tt (if-all P (same raw (spelled "#`")) tt
+      (if-all P (same raw (spelled "#,")) tt (if-all P (same raw (spelled "#,@")) tt tt)))
+
+  own-form : (raw : List ℕ) → OwnKind s e (formKind raw)
+  unfolding formKind
+  own-form raw =
+      let P : HashKind → Type 0 = OwnKind s e in
+      if-all P (begins (spelled "#:") raw) tt
+      (if-all P (begins (spelled "#\\") raw) (if-all P (leb (length raw) 2) tt tt)
+      (if-all P (same raw (spelled "#")) tt (if-all P (same raw (spelled "#u8")) tt tt)))
+
+  own-else : (j k : HashKind) → OwnKind s e j → OwnKind s e k → OwnKind s e (orElse j k)
+  own-else (Decided o) k p q = p
+  own-else (Bracket d) k p q = p
+  own-else Undecided k p q = q
+
+  own-kind : (raw : List ℕ) → OwnKind s e (hashKind raw)
+  unfolding hashKind
+  own-kind raw =
+      own-else (boolKind raw) (orElse (quoteKind raw) (formKind raw)) (own-bool raw)
+      (own-else (quoteKind raw) (formKind raw) (own-quote raw) (own-form raw))
+
+  own-last : (k : HashKind) → OwnKind s e k → Own s e (hashLast k)
+  own-last (Decided o) p = p
+  own-last (Bracket d) p = tt
+  own-last Undecided p = tt
+
+-- ---- a character that is none
+
+-- the error of hex digits, of any text after `#\`
+abbrev HexFails : CharValue → Type 0
+HexFails (Scalar x) = Unit {0}
+HexFails (Wrong n d) = T (oneOf escapeErrors n)
+
+scalar-fails : (h : Hex) → HexFails (scalarOf h)
+unfolding scalarOf
+scalar-fails (hex.Value v) = if-all HexFails (isScalar v) tt tt
+scalar-fails (hex.Wrong d p) = tt
+
+abbrev pub Fails : CharValue → Type 0
+Fails (Scalar x) = Unit {0}
+Fails (Wrong n d) = T (oneOf extentErrors n)
+
+digits-fail : (h : Hex) → Fails (scalarOf h)
+unfolding scalarOf
+digits-fail (hex.Value v) = if-all Fails (isScalar v) tt tt
+digits-fail (hex.Wrong d p) = tt
+
+only-fails : (f : Front) (m : ℕ) → Fails (onlyOne f m)
+only-fails (Utf8.char c n) m = if-all Fails (eqb n m) tt tt
+only-fails (Utf8.bad n) m = tt
+only-fails Utf8.cut m = tt
+only-fails Utf8.none m = tt
+
+named-fails : (t : List ℕ) → Fails (hexNamed t)
+unfolding hexNamed
+named-fails t =
+    if-all Fails (firstIs (code "u") t && eqb (getD t 1 0) (code "{"))
+    (if-all Fails (lastIs (code "}") t) (digits-fail (hexValue (take (length t - 3) (drop 2 t)))) tt)
+    (digits-fail (hexValue (drop 1 t)))
+
+spelled-fails : (t : List ℕ) → Fails (spelledOut t)
+unfolding spelledOut
+spelled-fails t =
+    if-all Fails ((firstIs (code "u") t || firstIs (code "x") t) && ltb 1 (length t)) (named-fails t) (only-fails (front t) (length t))
+
+pub character-fails : (t : List ℕ) → Fails (characterOf t)
+unfolding characterOf
+character-fails t = if-all Fails (eqb (lookup charNames (map lower t) unnamed) unnamed) (spelled-fails t) tt
+
+-- ---- a step
+
+backslash-width : width (code "\\") ≡ 1
+unfolding width
+backslash-width = refl
+
+-- what escapes in quotes is a backslash
+escapes-is : (q : Quotes) (c : ℕ) → inQuotes q c ≡ escapes → c ≡ code "\\"
+unfolding inQuotes
+escapes-is q c h = by-bool (eqb c (delimOf q))
+    (λ e. let z = rw e at h in let w : _≡_ {A = ℕ} 0 1 = cc in absurd (omega arith))
+    (λ e. by-bool (eqb c (code "\\"))
+    (λ f. eqb-true c (code "\\") f)
+    (λ f. let z = rw (e, f) at h in let w : _≡_ {A = ℕ} 0 1 = cc in absurd (omega arith)))
+
+module _ (s : ℕ) (i : SoFar) (c : ℕ) (later : s ≤ i .at) where
+  abbrev G : Next → Type 0
+  G = Goes s i c
+
+  goes-nest : (k : InNest) (d : ℕ) → G (onNest k d)
+  goes-nest bar d = tt
+  goes-nest sharp d = tt
+  goes-nest inside d = tt
+
+  goes-bar : (k : InNest) (d : ℕ) → G (onBar k d)
+  goes-bar bar d = tt
+  goes-bar sharp d = if-all G (leb d 1) tt tt
+  goes-bar inside d = tt
+
+  goes-sharp : (k : InNest) (d : ℕ) → G (onSharp k d)
+  goes-sharp bar d = tt
+  goes-sharp sharp d = tt
+  goes-sharp inside d = tt
+
+  goes-quoted : (k : InQuotes) (q : Quotes) → inQuotes q c ≡ k → G (onQuoted k q i c)
+  goes-quoted ends q e = tt
+  goes-quoted escapes q e = let z : width c ≡ 1 = ap width (escapes-is q c e) ∙ backslash-width in (later, omega arith)
+  goes-quoted plain q e = tt
+
+  goes-escape : (k : AfterBackslash) (q : Quotes) (from : ℕ) → s ≤ from → from + 1 ≡ i .at → G (onEscape k q from i c)
+  goes-escape (simple x) q from g h = tt
+  goes-escape hexX q from g h = (g, omega arith)
+  goes-escape hexU q from g h = (g, omega arith)
+  goes-escape blank q from g h = tt
+  goes-escape newline q from g h = tt
+  goes-escape invalid q from g h =
+      (omega (arith, wide c), PointsAt.backslash refl g h (omega (arith, wide c)) (omega (arith, width-le c)))
+
+  goes-brace : (k : InHex) (q : Quotes) (from : ℕ) → s ≤ from → from < i .at → G (onBrace k q from i c)
+  goes-brace closes q from g h = (omega arith, PointsAt.escape refl g (omega arith) (omega arith))
+  goes-brace stops q from g h = (h, PointsAt.escape refl g h (omega arith))
+  goes-brace digit q from g h = (g, omega arith)
+
+  goes-close : (v : CharValue) → HexFails v → (q : Quotes) (from : ℕ) → s ≤ from → from < i .at → G (closeHex v q from (eat i c .at))
+  goes-close (Scalar x) f q from g h = tt
+  goes-close (Wrong n d) f q from g h = (omega arith, PointsAt.escape (holds _ f) g (omega arith) (omega arith))
+
+  goes-hex : (k : InHex) (q : Quotes) (closer from m : ℕ) → s ≤ from → from < i .at → G (onHex k q closer from m i c)
+  goes-hex closes q closer from m g h =
+      goes-close (scalarOf (hexValue (drop m (i .bytes)))) (scalar-fails (hexValue (drop m (i .bytes)))) q from g h
+  goes-hex stops q closer from m g h = (h, PointsAt.escape refl g h (omega arith))
+  goes-hex digit q closer from m g h = (g, omega arith)
+
+  goes-before : (k : InTrim) (q : Quotes) → G (onTrimBefore k q i c)
+  goes-before space q = tt
+  goes-before line q = tt
+  goes-before solid q = (omega (arith, wide c), PointsAt.stopped refl refl (omega (arith, wide c)) (omega (arith, width-le c)))
+
+  goes-trim : (k : InTrim) (q : Quotes) → G (onTrimAfter k q i c)
+  goes-trim space q = tt
+  goes-trim line q = tt
+  goes-trim solid q = goes-quoted (inQuotes q c) q refl
+
+  goes-word : (k : InWord) → G (onWord k)
+  goes-word breaks = tt
+  goes-word skips = tt
+  goes-word goes = tt
+
+  goes-enter : G (enterWord c)
+  goes-enter = if-all G (eqb c (code "|")) tt (goes-word (inWord c))
+
+  goes-run : (k : InRun) → G (onRun k c)
+  goes-run stays = tt
+  goes-run stopsRun = tt
+  goes-run leaves = goes-enter
+
+  goes-then : (k : HashKind) → OwnKind s (i .at) k → G (hashThen k c)
+  goes-then (Decided o) f = f
+  goes-then (Bracket d) f = if-all G (eqb c (code "(")) tt goes-enter
+  goes-then Undecided f = goes-enter
+
+  goes-hash : (k : InHash) → G (onHash k (i .bytes) c)
+  goes-hash skipsTwo = tt
+  goes-hash tick = tt
+  goes-hash commas = tt
+  goes-hash stopsHash = goes-then (hashKind (i .bytes)) (own-kind s (i .at) (i .bytes))
+  goes-hash staysHash = tt
+
+  goes-after : (k : AfterHash) → G (onAfterHash k (i .bytes) c)
+  goes-after radix = tt
+  goes-after opensNest = tt
+  goes-after datum = tt
+  goes-after twice = tt
+  goes-after angle = tt
+  goes-after value = goes-hash (inHash c)
+
+  goes-delim : (k : InDelim) → G (onDelim k c)
+  goes-delim endsDelim = tt
+  goes-delim returns = tt
+  goes-delim blankDelim = tt
+  goes-delim ofDelim = tt
+
+  goes-on : (report : Bool) (p : Phase) → Holds s i p → G (stepOf report p i c)
+  goes-on report ph.InLine h = if-all G (eqb c (code "\n")) tt tt
+  goes-on report ph.AfterComma h = if-all G (eqb c (code "@")) tt tt
+  goes-on report ph.AfterHash h = goes-after (afterHash c)
+  goes-on report ph.AfterAngle h = if-all G (eqb c (code "<")) tt goes-enter
+  goes-on report ph.HereDelim h = goes-delim (inDelim c)
+  goes-on report ph.HereStart h = tt
+  goes-on report ph.HereBody h = if-all G (hereEnds (i .bytes)) tt tt
+  goes-on report ph.InWord h = goes-word (inWord c)
+  goes-on report ph.WordEscape h = tt
+  goes-on report ph.InRun h = goes-run (inRun report c)
+  goes-on report ph.InHash h = goes-hash (inHash c)
+  goes-on report ph.HashEscape h = tt
+  goes-on report ph.HashTick h = goes-then (hashKind (i .bytes)) (own-kind s (i .at) (i .bytes))
+  goes-on report ph.HashComma h = if-all G (eqb c (code "@")) tt (goes-then (hashKind (i .bytes)) (own-kind s (i .at) (i .bytes)))
+  goes-on report (ph.Nest d) h = goes-nest (inNest c) d
+  goes-on report (ph.NestBar d) h = goes-bar (inNest c) d
+  goes-on report (ph.NestSharp d) h = goes-sharp (inNest c) d
+  goes-on report (ph.Quoted k) h = goes-quoted (inQuotes k c) k refl
+  goes-on report (ph.Closed k) h = own-closed s (i .at) k (i .bytes)
+  goes-on report (ph.TrimBefore k) h = goes-before (inTrim c) k
+  goes-on report (ph.TrimAfter k) h = goes-trim (inTrim c) k
+  goes-on report (ph.Escape k from) h = goes-escape (afterBackslash c) k from (h .0) (h .1)
+  goes-on report (ph.Brace k from) h = if-all G (eqb c (code "{")) (h .0, omega (arith, h .1)) (goes-brace (inHex k (code ";") c) k from (h .0) (h .1))
+  goes-on report (ph.Hex k closer from m) h = goes-hex (inHex k closer c) k closer from m (h .0) (h .1)
+  goes-on report (ph.Done o) h = h
+
+-- ---- the end, the start, and the whole item
+
+module _ (s : ℕ) where
+  own-finish : (i : SoFar) (p : Phase) → Holds s i p → Own s (i .at) (finishOf p (i .bytes))
+  own-finish i ph.InLine h = tt
+  own-finish i ph.AfterComma h = tt
+  own-finish i ph.AfterHash h = own-last s (i .at) (hashKind (i .bytes)) (own-kind s (i .at) (i .bytes))
+  own-finish i ph.AfterAngle h = tt
+  own-finish i ph.HereDelim h = tt
+  own-finish i ph.HereStart h = tt
+  own-finish i ph.HereBody h = if-all (Own s (i .at)) (hereEnds (i .bytes)) tt tt
+  own-finish i ph.InWord h = tt
+  own-finish i ph.WordEscape h = tt
+  own-finish i ph.InRun h = tt
+  own-finish i ph.InHash h = own-last s (i .at) (hashKind (i .bytes)) (own-kind s (i .at) (i .bytes))
+  own-finish i ph.HashEscape h = own-last s (i .at) (hashKind (i .bytes)) (own-kind s (i .at) (i .bytes))
+  own-finish i ph.HashTick h = own-last s (i .at) (hashKind (i .bytes)) (own-kind s (i .at) (i .bytes))
+  own-finish i ph.HashComma h = own-last s (i .at) (hashKind (i .bytes)) (own-kind s (i .at) (i .bytes))
+  own-finish i (ph.Nest d) h = tt
+  own-finish i (ph.NestBar d) h = tt
+  own-finish i (ph.NestSharp d) h = tt
+  own-finish i (ph.Quoted k) h = own-unclosed s (i .at) k (i .bytes)
+  own-finish i (ph.Closed k) h = own-closed s (i .at) k (i .bytes)
+  own-finish i (ph.TrimBefore k) h = own-cut s (i .at) k
+  own-finish i (ph.TrimAfter k) h = own-cut s (i .at) k
+  own-finish i (ph.Escape k from) h = own-cut s (i .at) k
+  own-finish i (ph.Brace k from) h = own-cut s (i .at) k
+  own-finish i (ph.Hex k closer from m) h = own-cut s (i .at) k
+  own-finish i (ph.Done o) h = h
+
+  scan-own : (report : Bool) (p : Phase) (i : SoFar) (cs : List ℕ) → Holds s i p → s ≤ i .at
+      → Own s (scanOf report p i cs .item .at) (scanOf report p i cs .what)
+  unfolding scanOf
+  scan-own report p i [] h l = own-finish i p h
+  scan-own report p i (c ∷ cs) h l =
+      let g : Goes s i c (stepOf report p i c) = goes-on s i c l report p h in
+      by-next (stepOf report p i c)
+      (λ q e. rw (e, scanOf) (scan-own report q (eat i c) cs (rw e at g) (omega arith)))
+      (λ o e. rw (e, scanOf) (rw e at g))
+
+  first-holds : (i : SoFar) (c : ℕ) → Holds s i (onFirst (firstOf c))
+  unfolding firstOf
+  first-holds i c =
+      let P : First → Type 0 = λ f. Holds s i (onFirst f) in
+      if-all P (eqb c (code ";")) tt (if-all P (eqb c (code "\"")) tt (if-all P (eqb c (code ",")) tt (if-all P (eqb c (code "#")) tt
+      (if-all P (eqb c (code "(")) tt (if-all P (eqb c (code "[")) tt (if-all P (eqb c (code "{")) tt (if-all P (eqb c (code ")")) tt
+      (if-all P (eqb c (code "]")) tt (if-all P (eqb c (code "}")) tt (if-all P (eqb c (code "'")) tt (if-all P (eqb c (code "`")) tt
+      (if-all P (startsRun c) tt (if-all P (eqb c (code "|")) tt (if-all P (eqb c (code "\\")) tt tt))))))))))))))
+
+  pub read-own : (report : Bool) (c : ℕ) (cs : List ℕ) → Own s (readItem report s c cs .item .at) (readItem report s c cs .what)
+  read-own report c cs =
+      let i : SoFar = eat (soFar [] s) c in
+      rw (item-same report s c cs) at (scan-own report (onFirst (firstOf c)) i cs (first-holds i c) (omega arith))

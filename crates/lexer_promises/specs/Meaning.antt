@@ -1,0 +1,51 @@
+-- What an extent means: `meaning` ensures `meant r ≡ sizedAll (meaningOf ..)`, which leaves one answer (One, `meaning-one-answer`), `record_of` and `put`
+-- the record and its nine words, `place` the place, `count_of` `r ≡ countOf ..`.
+use Prim.Native.Nat.{ℕ, _+_}
+use mathlib.Core.Path.{_≡_, refl}
+use mathlib.Core.Bool.{true, false}
+use mathlib.Core.List.{List, [], _∷_, _++_}
+use Rattle.laws.specs.Lent.{written}
+use Rattle.laws.specs.Texts.{same}
+use Rattle.chars.specs.Encode.{utf8, bytesOf, spelled}
+use Rattle.items.specs.Kinds as kind
+use Rattle.promises.specs.Shapes.{room}
+use Rattle.items.specs.Items.{range, unset, placeOf, wordsOf, extentItems, kept, texts}
+use Rattle.items.specs.Meaning.{lookup, words, wordKind, wordMeans, meaningOf}
+use Rattle.items.specs.declared.Outcome.the-variants.{Token, Word}
+use Rattle.meaning.specs.Counts.{sum, countOf}
+use Rattle.meaning.specs.Meant.{means, sizedAll}
+use Rattle.meaning.specs.Places.{rangeOf}
+use Rattle.meaning.specs.Records.{recordFor}
+use Rattle.meaning.specs.declared.Text.the-variants.{Nowhere, Source, Decoded}
+
+-- the words of a record as `put` writes them at the front of lent memory that has a word more
+abbrev put : List ℕ → List ℕ
+put w = written w (room 10)
+
+pub record Rows : Type 0 where
+  -- meaning: a word with a kind of its own; of `+foo` the second item's text starts after the plus
+  pub word : sizedAll (meaningOf Word 0 2 (spelled "if")) ≡ means kind.If 0 Nowhere ∷ []
+  pub plus : sizedAll (meaningOf Word 3 7 (spelled "+foo")) ≡ means kind.Identifier 0 (Source 3 4) ∷ means kind.Identifier 0 (Source 4 7) ∷ []
+  -- record_of and put: kind, detail, extent, place, text source, text places; the word past them stays
+  pub record-of : put (wordsOf (recordFor 5 (means kind.StringLiteral 0 (Decoded 2)) (rangeOf (range 3 9)) (rangeOf (range 3 9))))
+      ≡ (kind.StringLiteral ∷ 0 ∷ 3 ∷ 9 ∷ 3 ∷ 9 ∷ 2 ∷ 5 ∷ 7 ∷ []) ++ (7 ∷ [])
+  -- place: an error's is the last range that was set, if any was; any other item's is its extent
+  pub error-place : placeOf false (kind.firstError + kind.IncompleteString) (range 1 8) (range 8 9) ≡ range 1 8
+  pub first-place : placeOf false (kind.firstError + kind.IncompleteString) unset (range 8 9) ≡ range 8 9
+  pub item-place : placeOf false kind.Number (range 1 8) (range 8 9) ≡ range 8 9
+  -- count_of: `+foo` counts for two items, a skipped comment for none
+  pub two : countOf Word false (spelled "+foo") ≡ sum 2 0
+  pub comment : countOf (Token kind.Comment 0) true (spelled ";") ≡ sum 0 0
+
+rows : Rows
+unfolding same utf8 bytesOf lookup words wordKind wordMeans extentItems kept texts countOf
+rows = record {
+  word = refl;
+  plus = refl;
+  record-of = refl;
+  error-place = refl;
+  first-place = refl;
+  item-place = refl;
+  two = refl;
+  comment = refl;
+}

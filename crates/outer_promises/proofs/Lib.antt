@@ -1,0 +1,5 @@
+pub mod Pieces
+pub mod Lent
+pub mod NeverLent
+pub mod NeverFlat
+pub mod NeverExports

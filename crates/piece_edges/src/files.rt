@@ -1,0 +1,150 @@
+// The cases lie in files, a line for each: fields between tabs, the first of them the case's name, and `$` for a newline in a text.
+use crate::cuts;
+use crate::long;
+use crate::long::Run;
+use cuttings::Cutting;
+use cuttings::copy;
+use cuttings::part;
+
+const TAB: u8 = b'\t';
+
+const NEWLINE: u8 = b'\n';
+
+// What stands for a newline in a text.
+const FOR_NEWLINE: u8 = b'$';
+
+// More bytes than a file has.
+pub const ROOM: usize = 2048;
+
+// More lines than a file has.
+pub const MOST: u32 = 1000;
+
+// What is done with each case of a file.
+pub enum Job {
+    // a long item is made and read
+    Items(Run),
+    // a text is cut inside each of its characters
+    Cut,
+    // a text is read under a cutting
+    Read(Cutting),
+}
+
+// The place of the next such byte from a place on, or past the last byte.
+fn find(bytes: &[u8], from: usize, byte: u8) -> usize {
+    let mut i = from;
+    while i < bytes.len() {
+        if bytes[i] == byte {
+            return i;
+        }
+        i += 1;
+    }
+    i
+}
+
+// Reads a file to the front of a memory; how many bytes it has.
+pub fn load(name: &[u8], file: &mut [u8]) -> usize {
+    let fd = os::open_read(name);
+    if fd < 0 {
+        os::fail(name);
+        return 0;
+    }
+    let count = io::read_full(fd, file);
+    libc::close(fd);
+    count
+}
+
+// The line that starts at a place.
+pub fn line(file: &[u8], at: usize) -> &[u8] {
+    part(file, at, find(file, at, NEWLINE))
+}
+
+// The place past a line.
+pub fn past_line(file: &[u8], at: usize) -> usize {
+    std::num::wrapping_add_usize(find(file, at, NEWLINE), 1)
+}
+
+// The place in a line past so many tabs.
+fn past_tabs(line: &[u8], tabs: u32) -> usize {
+    let mut left = tabs;
+    let mut i = 0;
+    while i < line.len() {
+        if left == 0 {
+            return i;
+        }
+        if line[i] == TAB {
+            left = left - 1;
+        }
+        i += 1;
+    }
+    i
+}
+
+// The field of a line after so many tabs.
+pub fn field(line: &[u8], tabs: u32) -> &[u8] {
+    let from = past_tabs(line, tabs);
+    part(line, from, find(line, from, TAB))
+}
+
+// The first byte of a field.
+pub fn first(field: &[u8]) -> u8 {
+    if field.len() == 0 {
+        return 0;
+    }
+    field[0]
+}
+
+// Writes bytes from a place on, as far as there is room; the place past them.
+pub fn put(source: &mut [u8], at: usize, bytes: &[u8]) -> usize {
+    if source.len() < at {
+        return at;
+    }
+    copy(bytes, &mut source[at..]);
+    std::num::wrapping_add_usize(at, bytes.len())
+}
+
+// What a byte stands for.
+fn real(byte: u8) -> u8 {
+    if byte == FOR_NEWLINE {
+        return NEWLINE;
+    }
+    byte
+}
+
+// Puts the newlines in.
+pub fn newlines(source: &mut [u8]) {
+    let mut i = 0;
+    while i < source.len() {
+        let byte = real(source[i]);
+        source[i] = byte;
+        i += 1;
+    }
+}
+
+fn case(job: Job, line: &[u8]) {
+    match job {
+        Job::Items(run) => long::case(run, line),
+        Job::Cut => cuts::cut_case(line),
+        Job::Read(cutting) => cuts::read_case(cutting, line),
+    }
+}
+
+// Does it with each line.
+fn each(job: Job, file: &[u8]) {
+    let mut at: usize = 0;
+    let mut left = MOST;
+    while left > 0 {
+        if file.len() <= at {
+            return;
+        }
+        case(job, line(file, at));
+        at = past_line(file, at);
+        left = left - 1;
+    }
+}
+
+// Does it with the cases of a file.
+pub fn cases(job: Job, name: &[u8]) {
+    let mut file = [0u8; ROOM];
+    let count = load(name, &mut file);
+    each(job, part(&file, 0, count));
+}

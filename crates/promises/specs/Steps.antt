@@ -1,0 +1,49 @@
+-- The machine's steps: `steps::step` ensures `r ≡ stepOf report phase (soFar raw at) c`, `first_phase` and `finish` the same of their
+-- definitions in crate `items`, and `scan` goes on by `scanOf`.
+use Prim.Native.Nat.{ℕ}
+use mathlib.Core.Path.{_≡_, refl}
+use mathlib.Core.Bool.{true, false}
+use mathlib.Core.List.{List, [], _∷_}
+use Rattle.laws.specs.Quoted.{code, codes, within}
+use Rattle.laws.specs.Texts.{span, begins, same}
+use Rattle.chars.specs.Encode.{isScalar, utf8, width, encode, bytesOf, spelled}
+use Rattle.chars.specs.Blank.{isBlank}
+use Rattle.items.specs.Kinds as kind
+use Rattle.items.specs.Classes.{startsRun, firstOf, inQuotes, afterBackslash, stopsHex, inHex, inTrim, inNest, breaksWord, inWord, staysRun, endsRun, inRun, afterHash}
+use Rattle.items.specs.Machine.{onFirst, stepOf, finishOf, scanOf}
+use Rattle.items.specs.Readers.{soFar, Read, got, comment, linedOf}
+use Rattle.items.specs.declared.Quotes.the-variants.{Double, Lines}
+use Rattle.items.specs.declared.Outcome.the-variants.{Token, Word, Run, Lined, Error, ErrorAt}
+use Rattle.items.specs.declared.Phase.the-variants as ph
+use Rattle.items.specs.declared.Next.the-variants.{Eat, Stop}
+
+pub record Rows : Type 0 where
+  -- first_phase: a comma is not known before the character after it
+  pub comma : onFirst (firstOf (code ",")) ≡ ph.AfterComma
+  pub comma-at : stepOf false ph.AfterComma (soFar (spelled ",") 1) (code "@") ≡ Eat (ph.Done (Token kind.UnquoteSplice 0))
+  -- step: a semicolon ends a number run in report mode alone (E8)
+  pub semicolon : stepOf false ph.InRun (soFar (spelled "14.7") 4) (code ";") ≡ Stop Word
+  pub reported : stepOf true ph.InRun (soFar (spelled "14.7") 4) (code ";") ≡ Stop Run
+  -- what breaks a hex escape off lies in its extent and not in its place
+  pub broken : stepOf false (ph.Hex Double (code ";") 1 3) (soFar (spelled "\"\\x4") 4) (code "\"") ≡ Eat (ph.Done (ErrorAt kind.UnclosedHexEscape (code ";") 1 4))
+  -- a comment in a comment closes itself alone
+  pub nested : stepOf false (ph.NestBar 2) (soFar (spelled "#|#||") 5) (code "#") ≡ Eat (ph.Nest 1)
+  -- finish: E9, and E13
+  pub lined : finishOf (ph.Quoted Lines) (spelled "|a\\|") ≡ Lined
+  pub unlined : finishOf (ph.Closed Lines) (spelled "-|a|") ≡ Error kind.IncompleteIdentifier 0
+  -- scan: an item ends before the character that shows its end
+  pub scan : scanOf false (ph.Nest 1) (soFar (spelled "#|") 2) (codes "#||#|#a") ≡ got comment (soFar (spelled "#|#||#|#") 8) (codes "a")
+
+rows : Rows
+unfolding within span begins same isScalar utf8 width encode bytesOf isBlank startsRun firstOf inQuotes afterBackslash stopsHex inHex inTrim inNest breaksWord inWord staysRun endsRun inRun afterHash linedOf scanOf
+rows = record {
+  comma = refl;
+  comma-at = refl;
+  semicolon = refl;
+  reported = refl;
+  broken = refl;
+  nested = refl;
+  lined = refl;
+  unlined = refl;
+  scan = refl;
+}

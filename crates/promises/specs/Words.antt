@@ -1,0 +1,74 @@
+-- Words, characters and texts between quotes: what the calls of `words`, `characters` and `escapes` ensure is `r ≡` these definitions of
+-- crate `items`, and what they leave in lent memory is `written` of them.
+use Prim.Native.Nat.{ℕ}
+use mathlib.Core.Path.{_≡_, refl}
+use mathlib.Core.Bool.{true, false}
+use mathlib.Core.List.{List, [], _∷_, _++_, map}
+use lib.ListN.{length, drop}
+use Rattle.laws.specs.Texts.{same}
+use Rattle.laws.specs.Quoted.{code, codes, within}
+use Rattle.laws.specs.Lent.{written}
+use Rattle.chars.specs.Encode.{isScalar, utf8, encode, bytesOf, spelled}
+use Rattle.chars.specs.Utf8.{first, rest, front}
+use Rattle.digits.specs.Digits.{digitOf}
+use Rattle.digits.specs.Hex.{hexDigits, hexAfterPlus, hexValue}
+use Rattle.items.specs.Kinds as kind
+use Rattle.items.specs.Classes.{inQuotes, afterBackslash, stopsHex, inHex, inTrim}
+use Rattle.items.specs.Readers.{scalarOf}
+use Rattle.items.specs.Meaning.{lookup, words, wordKind, wordMeans, means, source, charNames, hexNamed, spelledOut, characterOf, unescape}
+use Rattle.items.specs.declared.Quotes.{Quotes}
+use Rattle.items.specs.declared.Quotes.the-variants.{Double, Lines}
+use Rattle.items.specs.declared.CharValue.the-variants.{Scalar, Wrong}
+use Rattle.promises.specs.Shapes.{room}
+
+-- what `decode` leaves in n bytes of free memory: the text between quotes that stands in `raw` from a place on
+abbrev decoded : List ℕ → ℕ → ℕ → List ℕ
+decoded raw from n = written (unescape Double (drop from raw)) (room n)
+
+pub record Rows : Type 0 where
+  -- word_kind
+  pub defn : wordKind (spelled "defn") ≡ kind.Define
+  pub set : wordKind (spelled "set!") ≡ kind.Set
+  pub other : wordKind (spelled "defined") ≡ kind.Identifier
+  -- character: a name, in any case; a letter; digits; errors 9 to 12
+  pub escape : characterOf (spelled "escape") ≡ Scalar 0x1B
+  pub upper : characterOf (spelled "SPACE") ≡ Scalar (code " ")
+  pub letter : characterOf (spelled "x") ≡ Scalar (code "x")
+  pub brace : characterOf (spelled "u{3bb}") ≡ Scalar (code "λ")
+  pub open-brace : characterOf (spelled "u{3bb") ≡ Wrong kind.UnclosedHexEscape (code "}")
+  pub no-name : characterOf (spelled "ab") ≡ Wrong kind.InvalidCharName 0
+  pub bad-digit : characterOf (spelled "xyz") ≡ Wrong kind.InvalidHexEscapeLiteral 2
+  pub surrogate : characterOf (spelled "xD800") ≡ Wrong kind.InvalidHexCodePoint 0xD800
+  -- decode: a run of bytes; an escape; of the newlines after a backslash the second stays, and blanks before it go
+  pub run : decoded (spelled "\"ab\"") 1 3 ≡ spelled "ab" ++ room 1
+  pub null : decoded (spelled "\"\\0\"") 1 2 ≡ 0 ∷ room 1
+  pub newlines : decoded (spelled "\"\\\n\na\"") 1 3 ≡ spelled "\na" ++ room 1
+  pub tabs : decoded (spelled "\"\\\n\ta\"") 1 2 ≡ spelled "a" ++ room 1
+  pub nothing : decoded (spelled "\"\"") 1 1 ≡ room 1
+  -- decoded_length
+  pub count : length (unescape Double (spelled "\\n\"")) ≡ 1
+  -- text_same: a text is not the same as one that it begins
+  pub longer : map (same (spelled "ab")) (spelled "ab" ∷ spelled "abc" ∷ spelled "a" ∷ []) ≡ true ∷ false ∷ false ∷ []
+
+rows : Rows
+unfolding same within isScalar utf8 encode bytesOf first rest front digitOf hexDigits hexAfterPlus hexValue inQuotes afterBackslash stopsHex inHex inTrim scalarOf lookup words wordKind charNames hexNamed spelledOut characterOf unescape
+rows = record {
+  defn = refl;
+  set = refl;
+  other = refl;
+  escape = refl;
+  upper = refl;
+  letter = refl;
+  brace = refl;
+  open-brace = refl;
+  no-name = refl;
+  bad-digit = refl;
+  surrogate = refl;
+  run = refl;
+  null = refl;
+  newlines = refl;
+  tabs = refl;
+  nothing = refl;
+  count = refl;
+  longer = refl;
+}

@@ -1,0 +1,4 @@
+pub mod Told
+pub mod Sounds
+pub mod Passes
+pub mod Stands
