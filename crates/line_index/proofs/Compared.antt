@@ -67,8 +67,8 @@ module _ (s index : List ℕ) (j at : ℕ) (g : Comparing s index j at) where
         within = omega (arith, low);
         stands = found-stands s (at + 1) f;
         rest =
-          hit ∙ same-step (at + 1) (left s (at + 1)) index j low (sym q ∙ d)
-          ∙ ap (λ (l : List ℕ). same l (drop (j + 1) index)) (found-left s (at + 1) f);
+            hit ∙ same-step (at + 1) (left s (at + 1)) index j low (sym q ∙ d)
+            ∙ ap (λ (l : List ℕ). same l (drop (j + 1) index)) (found-left s (at + 1) f);
       }
 
   pub comparing-end : length s ≤ at → eqb j (length index) ≡ same (starts s) index

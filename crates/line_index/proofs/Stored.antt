@@ -81,8 +81,8 @@ module _ (s : List ℕ) (at j n p : ℕ) (g : Found s at j n p) (h : at + j < le
       record {
         places = g .places ++ (j ∷ []);
         whole =
-          g .whole ∙ ap (λ (l : List ℕ). shifted (at + 1) (g .places) ++ l) (left-hit s (at + j) h e)
-          ∙ rw (y, z, shifted-push (at + 1) (g .places) j, append-assoc (shifted (at + 1) (g .places)));
+            g .whole ∙ ap (λ (l : List ℕ). shifted (at + 1) (g .places) ++ l) (left-hit s (at + j) h e)
+            ∙ rw (y, z, shifted-push (at + 1) (g .places) j, append-assoc (shifted (at + 1) (g .places)));
         count = length-append (g .places) (j ∷ []) ∙ rw (g .count);
         sum = total-push (g .places) j ∙ rw (g .sum);
       }

@@ -78,10 +78,7 @@ fn see_block(text: &[u8], at: usize) -> Block
         places += if_newline(text[at + j], j as u8);
         j += 1;
     }
-    Block {
-        count,
-        places,
-    }
+    Block { count, places }
 }
 
 // Stores the starts after the newline bytes of a part of the text, from place n of the index on; answers the place past them.

@@ -52,9 +52,9 @@ one-more : (l : List ℕ) (p at m r c w : ℕ) → front l ≡ char c w → Pass
 one-more l p at m r c w f v =
     let wide : w ≡ width c = char-width l c w (subst (Spells l) f (spells l)) in
     let first : length (bytesOf (take (suc (v .0)) (chars l))) ≡ w + length (bytesOf (take (v .0) (chars (drop w l)))) =
-      ap (λ (x : List ℕ). length (bytesOf (take (suc (v .0)) x))) (chars-char l c w f)
-      ∙ length-bytes c (take (v .0) (chars (drop w l)))
-      ∙ ap (λ (n : ℕ). n + length (bytesOf (take (v .0) (chars (drop w l))))) (sym wide) in
+    ap (λ (x : List ℕ). length (bytesOf (take (suc (v .0)) x))) (chars-char l c w f)
+    ∙ length-bytes c (take (v .0) (chars (drop w l)))
+    ∙ ap (λ (n : ℕ). n + length (bytesOf (take (v .0) (chars (drop w l))))) (sym wide) in
     (suc (v .0), omega (arith, v .1), omega (arith, v .2, first))
 
 past : (n b : ℕ) (l : List ℕ) (p at m r : ℕ) → Passing n → length (b ∷ l) ≤ suc n → at < p → p ≤ at + length (b ∷ l)
@@ -65,7 +65,7 @@ past n b l p at m r ih h a q e = go (front (b ∷ l)) refl
     go : (F : Front) → front (b ∷ l) ≡ F → Passed (b ∷ l) p at m r
     go (char c w) f =
         let shape : column p m (sequences 0 at (b ∷ l)) ≡ (if ltb p (at + w) then Inside else column p (m + 1) (sequences 0 (at + w) (drop w (b ∷ l)))) =
-          rw (sequences-char at (b ∷ l) c w f, lt-leb p at a) in
+        rw (sequences-char at (b ∷ l) c w f, lt-leb p at a) in
         let some : 1 ≤ w = char-some (b ∷ l) c w f in
         let fits : w ≤ length (b ∷ l) = subst (Spells (b ∷ l)) f (spells (b ∷ l)) .2 in
         by-less p (at + w)
@@ -122,7 +122,7 @@ pub line-last : (s : List ℕ) (p : ℕ) → (k : ℕ) × (lineOf p (starts s) 1
 unfolding lineOf
 line-last s p =
     let first : lineOf p (starts s) 1 0 ≡ lineOf p (startsFrom 0 s) (1 + 1) 1 =
-      ap (λ (t : Bool). lineOf p (startsFrom 0 s) (1 + 1) (if t then 1 else 0)) (le-leb 0 p (let q : 0 ≤ p = omega arith in q)) in
+    ap (λ (t : Bool). lineOf p (startsFrom 0 s) (1 + 1) (if t then 1 else 0)) (le-leb 0 p (let q : 0 ≤ p = omega arith in q)) in
     let v = go (last (startsFrom 0 s) p (1 + 1) 1) in
     (v .0, first ∙ v .1, v .2, v .3)
   where

@@ -45,9 +45,9 @@ off-next l at p c w f (inr (zero, e)) = let h : p ≤ at = omega (arith, e) in (
 off-next l at p c w f (inr (suc k, e)) =
     let wide : w ≡ width c = char-width l c w (subst (Spells l) f (spells l)) in
     let first : length (bytesOf (take (suc k) (chars l))) ≡ w + length (bytesOf (take k (chars (drop w l)))) =
-      ap (λ (x : List ℕ). length (bytesOf (take (suc k) x))) (chars-char l c w f)
-      ∙ length-bytes c (take k (chars (drop w l)))
-      ∙ ap (λ (n : ℕ). n + length (bytesOf (take k (chars (drop w l))))) (sym wide) in
+    ap (λ (x : List ℕ). length (bytesOf (take (suc k) x))) (chars-char l c w f)
+    ∙ length-bytes c (take k (chars (drop w l)))
+    ∙ ap (λ (n : ℕ). n + length (bytesOf (take k (chars (drop w l))))) (sym wide) in
     (inr (omega (arith, e, first)), inr (k, omega (arith, e, first)))
 
 abbrev Clearing : ℕ → Type 0

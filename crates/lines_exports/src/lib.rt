@@ -100,7 +100,12 @@ pub extern "C" fn mihadrena_lines(text: &[u8], index: &mut [u32], values: &mut [
 // Line and column of a byte place, by the index of the text: 0 with both, or 48 (the index isn't that text's) or 34 (the place lies past
 // the end or inside a character).
 #[no_mangle]
-pub extern "C" fn mihadrena_locate(text: &[u8], index: &[u32], place: usize, values: &mut [u64]) -> u32
+pub extern "C" fn mihadrena_locate(
+    text: &[u8],
+    index: &[u32],
+    place: usize,
+    values: &mut [u64],
+) -> u32
     ensures { λ r. ⌜ r ≡ locatedNumber (locateOf (now (text .entry)) (now (index .entry)) place) ⌝ }
     ensures { λ _. ⌜ now (values .exit)
         ≡ lay (locatedFirst (locateOf (now (text .entry)) (now (index .entry)) place) ∷ locatedSecond (locateOf (now (text .entry)) (now (index .entry)) place) ∷ []) (now (values .entry)) ⌝ }
@@ -113,7 +118,13 @@ pub extern "C" fn mihadrena_locate(text: &[u8], index: &[u32], place: usize, val
 // Line and column of many places, in any order: two numbers for each in `found`, line and column, or 0 and the refusal's number. 0 with
 // the count of places, or 48, or 33 with the numbers that are needed.
 #[no_mangle]
-pub extern "C" fn mihadrena_locate_all(text: &[u8], index: &[u32], places: &[u32], found: &mut [usize], values: &mut [u64]) -> u32
+pub extern "C" fn mihadrena_locate_all(
+    text: &[u8],
+    index: &[u32],
+    places: &[u32],
+    found: &mut [usize],
+    values: &mut [u64],
+) -> u32
     ensures { λ r. ⌜ r ≡ answerNumber (locateAllOf (now (text .entry)) (now (index .entry)) (now (places .entry)) (now (found .entry)) .answer) ⌝ }
     ensures { λ _. ⌜ now (values .exit)
         ≡ lay (answerValue (locateAllOf (now (text .entry)) (now (index .entry)) (now (places .entry)) (now (found .entry)) .answer) ∷ 0 ∷ []) (now (values .entry)) ⌝ }

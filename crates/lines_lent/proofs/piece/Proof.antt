@@ -25,7 +25,7 @@ same-length-2 : tie.Need-same-length-2
 same-length-2 c = search needs
 
 returns : tie.Need-returns
-returns c = 
+returns c =
     let a = c .before .before .before .before .before .before .before .before .before .before .before .before .before .before .before .before .args in
     feeds (now (a .words)) (now (a .index)) (now (a .bytes)) (sym (c .before .before .before .before .before .before .before .before .before .before .before .is-state .ensures) ∙ c .before .before .before .before .before .before .before .before .before .before .if1 .taken) (rw (c .before .before .before .before .before .before .before .before .state-in .ensures) at (c .before .before .before .before .before .before .piece .ensures)) (c .before .before .put-state .ensures)
 

@@ -63,7 +63,7 @@ loop-less : tie.Need-loop-less Inv-loop μ-loop
 loop-less c = omega arith
 
 loop-again : tie.Need-loop-again Inv-loop μ-loop
-loop-again c = 
+loop-again c =
     let a = c .before .before .before .before .before .before .before .before .before .before .before .args in
     let l = c .before .before .before .before .before .before .loop in
     let r = locates (now (a .text)) (now (a .index)) (c .before .before .before .wide .result) (c .before .before .before .before .before .before .before .before .before .before .before .pre .0) (c .before .before .place-at .ensures) in (
