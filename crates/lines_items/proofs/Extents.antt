@@ -19,7 +19,7 @@ use Rattle.items.specs.Classes.{firstOf}
 use Rattle.items.specs.Machine.{stepOf, onFirst, scanOf}
 use Rattle.items.specs.Meaning.{Meaning, meaningOf}
 use Rattle.items.specs.Readers.{SoFar, Read, soFar, eat, readItem}
-use Rattle.items.specs.Items.{Place, Item, rangeAfter, unset, itemsOf, extentItems, itemsFrom, itemsAt, pastLine, afterPound, items}
+use Rattle.items.specs.Items.{Place, Item, rangeAfter, standing, unset, itemsOf, extentItems, itemsFrom, itemsAt, pastLine, afterPound, items}
 use Rattle.items.proofs.Cases.{by-next}
 use Rattle.items.proofs.Every.{Every, every-append, every-then}
 use Rattle.items.proofs.Same.{item-same}
@@ -105,7 +105,7 @@ module _ (report : Bool) where
       let t = read-taken at c cs in
       rw (b, itemsFrom)
       (every-append (Marked (c ∷ cs) at) (extentItems report last at (r .what) (r .item)) (itemsFrom report turns next (r .item .at) (r .rest))
-      (one-extent (c ∷ cs) at next at (r .item .at) (meaningOf (r .what) at (r .item .at) (r .item .bytes)) (first-mark (c ∷ cs) at) (t .0, t .1))
+      (one-extent (c ∷ cs) at (rangeAfter (standing report last) at (r .what) (r .item)) at (r .item .at) (meaningOf (r .what) at (r .item .at) (r .item .bytes)) (first-mark (c ∷ cs) at) (t .0, t .1))
       (beyond-all (c ∷ cs) at (r .item .at) (r .rest) (itemsFrom report turns next (r .item .at) (r .rest)) t
       (marked-from turns (rangeAfter last at (r .what) (r .item)) (r .item .at) (r .rest)))))
 
