@@ -5,7 +5,7 @@ use Rattle.lines_exports.proofs.mihadrena_locate.Statement.{statement}
 use Rattle.lines_exports.proofs.mihadrena_locate.Tie as tie
 
 returns : tie.Need-returns
-returns c = told-place _ _ (c .before .before .before .before .before .before .before .locate .ensures) (c .located-number .ensures) (c .before .before .before .before .before .before .located-first .ensures) (c .before .before .before .before .before .located-second .ensures) (c .before .before .before .put-values .ensures)
+returns c = told-place _ _ (c .before .before .before .before .before .before .before .locate .ensures) (c .located-number .ensures) (c .before .before .before .before .before .located-first .ensures) (c .before .before .before .before .located-second .ensures) (c .before .before .before .put-values .ensures)
 
 pub mihadrena-locate-spec : {M : Type 1} → statement M
 mihadrena-locate-spec =
