@@ -1,4 +1,5 @@
-//! The proved functions (crates/exports), each behind a safe function. A slice is passed as a pointer and a length.
+//! The proved functions (crates/exports and others of their kind), each behind a safe function. A slice is passed as a pointer and a length.
+pub mod lines;
 
 pub mod names;
 
