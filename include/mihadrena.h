@@ -453,6 +453,84 @@ uint32_t mihadrena_locate_all(const uint8_t *text, size_t text_length, const uin
 void mihadrena_lines_open(uint32_t *state, size_t state_length, uint32_t *index, size_t index_length);
 void mihadrena_lines_piece(uint32_t *state, size_t state_length, const uint8_t *piece, size_t piece_length, uint32_t *index, size_t index_length);
 uint32_t mihadrena_lines_end(const uint32_t *state, size_t state_length, const uint32_t *index, size_t index_length, uint64_t *values, size_t values_length);
+/* -- Coordinates -------------------------------------------------------------------------------------------------------------- */
+
+/* What the two calls answer beside MIHADRENA_SERVED, MIHADRENA_TOO_LONG and MIHADRENA_NOT_UTF8. */
+#define MIHADRENA_NO_EXTENT 27     /* the extent goes back or passes the source: 0 */
+#define MIHADRENA_NO_COORDINATE 28 /* no decimal, or too many digits or too large an exponent for one exact step: 0 */
+
+/* The coordinate of a text that is one decimal, such as 6892014.7: its exact value rounded once, to the nearest double, ties to even, the
+ * sign kept also on zero. The value goes to `value`; what a refusal comes with goes to `place`; the other keeps what it has.
+ *
+ * MIHADRENA_NO_COORDINATE exactly if the text is no decimal (12, #d1.5 and +inf.0 are none), or all its digits, without the dot, are a
+ * number over 9,007,199,254,740,992, or its exponent less the count of its digits behind the dot is not from -22 to 22. Up to 15 digits
+ * are always few enough; 17 or more, zeros in front not counted, are always too many. Read such a number with mihadrena_number.
+ *
+ *     double value;
+ *     uint64_t place;
+ *     mihadrena_coordinate((const uint8_t *)"6892014.7", 9, &value, &place);  // MIHADRENA_SERVED, value == 6892014.7
+ *     mihadrena_coordinate((const uint8_t *)"12", 2, &value, &place);         // MIHADRENA_NO_COORDINATE, place == 0
+ */
+uint32_t mihadrena_coordinate(const uint8_t *text, size_t text_length, double *value, uint64_t *place);
+
+/* The same for the extent of a record, by the record's kind and its extent: MIHADRENA_NO_EXTENT if the extent is no part of the source,
+ * MIHADRENA_NO_COORDINATE if the kind is not MIHADRENA_NUMBER. In pieces a number's text is copied: call mihadrena_coordinate on it. */
+uint32_t mihadrena_record_coordinate(const uint8_t *source, size_t source_length, uint32_t kind, uint32_t start, uint32_t end,
+                                     double *value, uint64_t *place);
+
+/* The same with the record itself. */
+static inline uint32_t mihadrena_coordinate_of(const mihadrena_record *record, const uint8_t *source, size_t source_length,
+                                               double *value, uint64_t *place)
+{
+    return mihadrena_record_coordinate(source, source_length, record->kind, record->start, record->end, value, place);
+}
+/* -- One name table for planner and contractor ---------------------------------------------------------------------------------- */
+
+/* A table gives each distinct name a number, the same for both parties. It lies in memory that the caller keeps: this many words and bytes,
+ * or more. docs/NAMES.md says what they hold, and outside which bounds they are refused: none that the calls made is. */
+#define MIHADRENA_NAMES_WORDS 3078
+#define MIHADRENA_NAMES_BYTES 32768
+
+/* The parties, and the first number of each: at most 512 names and 16,384 name bytes are first entered by each. */
+#define MIHADRENA_PLANNER 0
+#define MIHADRENA_CONTRACTOR 1
+#define MIHADRENA_PLANNERS_FIRST 0
+#define MIHADRENA_CONTRACTORS_FIRST 512
+
+/* The refusals of these calls, in their order; all come with 0, and the table stays as it was. */
+#define MIHADRENA_NAMES_OUTSIDE 27 /* the lent memory is outside the table's bounds */
+#define MIHADRENA_NO_PARTY 35      /* the party is neither of the two */
+#define MIHADRENA_NO_ROOM 36       /* the name is absent, and the party's own half lacks the entry or the bytes */
+#define MIHADRENA_NO_NAME 37       /* there is no such number */
+
+/* Opens a table: its words are cleared, and no byte is written. MIHADRENA_SERVED, or MIHADRENA_NAMES_OUTSIDE for too little memory.
+ *
+ *     static uint32_t words[MIHADRENA_NAMES_WORDS];
+ *     static uint8_t bytes[MIHADRENA_NAMES_BYTES];
+ *     mihadrena_names_open(words, MIHADRENA_NAMES_WORDS, bytes, MIHADRENA_NAMES_BYTES);  // MIHADRENA_SERVED
+ */
+uint32_t mihadrena_names_open(uint32_t *words, size_t words_length, const uint8_t *bytes, size_t bytes_length);
+
+/* A party asks for a name's number. A name that neither has entered is entered in the party's own half, with its next number.
+ * MIHADRENA_SERVED, or MIHADRENA_NAMES_OUTSIDE, MIHADRENA_NO_PARTY, MIHADRENA_NO_ROOM; `number` is then 0.
+ *
+ *     uint32_t number;
+ *     mihadrena_names_enter(words, MIHADRENA_NAMES_WORDS, bytes, MIHADRENA_NAMES_BYTES, MIHADRENA_CONTRACTOR,
+ *                           (const uint8_t *)"Fagus", 5, &number);  // MIHADRENA_SERVED, number == 512
+ *     mihadrena_names_enter(words, MIHADRENA_NAMES_WORDS, bytes, MIHADRENA_NAMES_BYTES, MIHADRENA_PLANNER,
+ *                           (const uint8_t *)"Fagus", 5, &number);  // MIHADRENA_SERVED, number == 512
+ */
+uint32_t mihadrena_names_enter(uint32_t *words, size_t words_length, uint8_t *bytes, size_t bytes_length, uint32_t party,
+                               const uint8_t *name, size_t name_length, uint32_t *number);
+
+/* Where a number's name lies in `bytes`. MIHADRENA_SERVED, or MIHADRENA_NAMES_OUTSIDE, MIHADRENA_NO_NAME; both places are then 0.
+ *
+ *     size_t start, end;
+ *     mihadrena_names_place(words, MIHADRENA_NAMES_WORDS, bytes, MIHADRENA_NAMES_BYTES, 512, &start, &end);  // MIHADRENA_SERVED
+ *     // end - start == 5, and `Fagus` is at bytes + start
+ */
+uint32_t mihadrena_names_place(const uint32_t *words, size_t words_length, const uint8_t *bytes, size_t bytes_length, uint32_t number,
+                               size_t *start, size_t *end);
 
 #ifdef __cplusplus
 }

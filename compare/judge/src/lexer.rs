@@ -165,7 +165,7 @@ pub fn in_report(text: &str, skip: bool, out: &mut Reading) -> u64 {
 }
 
 /// Items never outnumber bytes, and their decoded texts are shorter than the text.
-fn whole(text: &str, mode: u32, skip: bool, out: &mut Reading) -> u64 {
+pub fn whole(text: &str, mode: u32, skip: bool, out: &mut Reading) -> u64 {
     out.clear();
     let answer = Call::default().read(text.as_bytes(), mode, skip, text.len() * WORDS, text.len());
     if let Answer::Served(reading) = answer {

@@ -10,6 +10,7 @@
 //!
 //! `judge --scale [--share N] [--jobs N]` compares at scale, in processes of its own: see scale.rs.
 mod chars;
+mod coverage;
 mod differences;
 mod examples;
 mod huge;
@@ -64,6 +65,7 @@ const PARTS: &[Part] = &[
     ("lexer", lexer::judge),
     ("pieces", pieces::judge),
     ("edges", pieces::edges::judge),
+    ("coverage", coverage::judge),
     ("differences", differences::judge),
     ("huge", huge::judge),
 ];

@@ -1,6 +1,8 @@
 //! The proved functions (crates/exports and others of their kind), each behind a safe function. A slice is passed as a pointer and a length.
 pub mod lines;
 
+pub mod names;
+
 extern "C" {
     fn mihadrena_good_bytes(text: *const u8, length: usize) -> usize;
     fn mihadrena_code_at(text: *const u8, length: usize, at: usize) -> u32;

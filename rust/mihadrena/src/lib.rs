@@ -2,9 +2,9 @@
 //!
 //! The functions behind this crate are proved (crates/ of the repository): every call ends, touches only the memory that it is lent, and
 //! answers what the definitions say. This crate makes a safe interface of them: [`Items`] reads a whole text, [`PieceReader`] one that
-//! comes in pieces, and [`number`] takes a number apart. It allocates nothing and depends on nothing but the archive that
-//! `.ci/archive` writes; `build.rs` looks for it in the repository's target/staticlib, or in the folder that the environment
-//! variable `MIHADRENA_ARCHIVE` names.
+//! comes in pieces, [`number`] takes a number apart, and [`coordinate`] makes a float of a decimal. It allocates nothing and depends on
+//! nothing but the archive that `.ci/archive` writes; `build.rs` looks for it in the repository's target/staticlib, or in the folder
+//! that the environment variable `MIHADRENA_ARCHIVE` names.
 //!
 //! ```
 //! use mihadrena::{number, Int, Items, Kind, Number, Options, Real, Record};
@@ -30,19 +30,23 @@
 #[cfg(not(target_pointer_width = "64"))]
 compile_error!("the archive is for x86-64");
 
+mod coordinate;
 mod error;
 mod items;
 mod kind;
 mod lines;
+mod names;
 mod number;
 mod pieces;
 #[allow(missing_docs, clippy::unreadable_literal)]
 pub mod raw;
 
+pub use coordinate::{coordinate, record_coordinate, NoCoordinate};
 pub use error::{Error, HexError, Refusal};
 pub use items::{needed, Item, Items, Mode, Needed, Options};
 pub use kind::{Kind, Paren, ParenMod};
 pub use lines::{LineIndex, LinePieces, LineRefusal, Position};
+pub use names::{Names, NoName, Party};
 pub use number::{number, Decimal, Int, NotNumber, Number, Real, Sign};
 pub use pieces::PieceReader;
 pub use raw::Record;

@@ -225,6 +225,10 @@ const _: () = assert!(size_of::<State>() == STATE_SIZE && align_of::<State>() ==
 const _: () = assert!(size_of::<Told>() == PIECE_VALUES * size_of::<u64>());
 const _: () = assert!(size_of::<Parts>() == NUMBER_WORDS * size_of::<u64>());
 
+// What the coordinate calls answer beside `SERVED`, `TOO_LONG` and `NOT_UTF8`.
+pub const NO_EXTENT: u32 = 27;
+pub const NO_COORDINATE: u32 = 28;
+
 #[rustfmt::skip]
 extern "C" {
     pub fn mihadrena_read(source: *const u8, source_length: usize, mode: u32, skip_comments: bool, records: *mut u32, records_length: usize, text: *mut u8, text_length: usize, values: *mut u64, values_length: usize) -> u32;
@@ -244,4 +248,25 @@ extern "C" {
     pub fn mihadrena_lines_open(state: *mut u32, state_length: usize, index: *mut u32, index_length: usize);
     pub fn mihadrena_lines_piece(state: *mut u32, state_length: usize, piece: *const u8, piece_length: usize, index: *mut u32, index_length: usize);
     pub fn mihadrena_lines_end(state: *const u32, state_length: usize, index: *const u32, index_length: usize, values: *mut u64, values_length: usize) -> u32;
+    pub fn mihadrena_coordinate(text: *const u8, text_length: usize, value: *mut f64, place: *mut u64) -> u32;
+    pub fn mihadrena_record_coordinate(source: *const u8, source_length: usize, kind: u32, start: u32, end: u32, value: *mut f64, place: *mut u64) -> u32;
+}
+
+// The name table: what it takes, the parties, their first numbers, and the refusals of its calls.
+pub const NAMES_WORDS: usize = 3078;
+pub const NAMES_BYTES: usize = 32768;
+pub const PLANNER: u32 = 0;
+pub const CONTRACTOR: u32 = 1;
+pub const PLANNERS_FIRST: u32 = 0;
+pub const CONTRACTORS_FIRST: u32 = 512;
+pub const NAMES_OUTSIDE: u32 = 27;
+pub const NO_PARTY: u32 = 35;
+pub const NO_ROOM: u32 = 36;
+pub const NO_NAME: u32 = 37;
+
+#[rustfmt::skip]
+extern "C" {
+    pub fn mihadrena_names_open(words: *mut u32, words_length: usize, bytes: *const u8, bytes_length: usize) -> u32;
+    pub fn mihadrena_names_enter(words: *mut u32, words_length: usize, bytes: *mut u8, bytes_length: usize, party: u32, name: *const u8, name_length: usize, number: *mut u32) -> u32;
+    pub fn mihadrena_names_place(words: *const u32, words_length: usize, bytes: *const u8, bytes_length: usize, number: u32, start: *mut usize, end: *mut usize) -> u32;
 }

@@ -21,8 +21,8 @@ const FAMILIES: &[&str] =
 const MOST: u64 = 250_000;
 
 /// Refusals of 01 that are met here.
-const NOT_UTF8: u32 = 21;
-const TOO_BIG: u32 = 23;
+pub const NOT_UTF8: u32 = 21;
+pub const TOO_BIG: u32 = 23;
 const SMALL: u32 = 24;
 const ENDED: u32 = 26;
 const BAD_STATE: u32 = 27;
@@ -88,7 +88,7 @@ fn same(tally: &mut Tally, random: &mut Random, text: &[u8]) {
 
 /// How a text is cut into pieces.
 #[derive(Clone, Copy, Debug)]
-enum Cutting {
+pub enum Cutting {
     Whole,
     Bytes,
     Random,
@@ -131,7 +131,7 @@ fn too_many(text: &[u8]) -> usize {
 
 /// Hands over the pieces, each until it is all taken or, at times, until "more"; then the end, until it is finished; then some calls
 /// more. At times a call comes with too little text memory, or a piece after the end.
-fn drive(reader: &mut impl Reads, text: &[u8], cutting: Cutting, seed: u64) -> Vec<Answer> {
+pub fn drive(reader: &mut impl Reads, text: &[u8], cutting: Cutting, seed: u64) -> Vec<Answer> {
     let mut random = Random::new(seed);
     let mut answers = Vec::new();
     for piece in cutting.pieces(text, &mut random) {

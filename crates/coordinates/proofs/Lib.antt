@@ -1,0 +1,9 @@
+pub mod Floats
+pub mod Scales
+pub mod Totals
+pub mod Rounding
+pub mod Only
+pub mod Nearer
+pub mod Means
+pub mod Ascii
+pub mod Calls

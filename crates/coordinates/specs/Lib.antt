@@ -1,0 +1,6 @@
+pub mod Answers
+pub mod Coordinate
+pub mod Inner
+pub mod Nearest
+pub mod Means
+pub mod Examples

@@ -1,0 +1,69 @@
+// Coordinates: a text that is one decimal, as a float of 64 bits, the exact value rounded once (specs/Coordinate says which texts have a
+// coordinate, specs/Means and specs/Nearest what it is, over whole numbers). The digits as a whole number up to 2^53 and a power of ten up
+// to 10^22 are both exact in a float, so one multiplication or one division rounds once.
+use chars::Utf8;
+use items::kinds;
+use numbers::MaybePoint;
+ghost use mathlib.Core.Path.{_≡_};
+ghost use Rattle.coordinates.specs.Answers.{answered};
+ghost use Rattle.coordinates.specs.Coordinate.{coordinate, recordCoordinate};
+
+mod amounts;
+mod scaling;
+
+// What the calls answer: specs/Answers gives the number and what comes with it for each case.
+pub enum CoordinateAnswer {
+    // 6892014.7
+    Value(f64),
+    // a text of 4,294,967,296 bytes
+    TooLong,
+    // the byte FF: the start of the first bad sequence
+    NotUtf8(usize),
+    // an extent that goes back or passes the source
+    NoExtent,
+    // 12: no decimal; 1e23, 9007199254740993.: outside
+    NoCoordinate,
+}
+
+// A whole number that is at most 2^53: Beyond is 9007199254740993.
+enum Amount {
+    Within(u64),
+    Beyond,
+}
+
+// The longest text that is read, in bytes.
+const LONGEST: usize = 4_294_967_295;
+
+// The coordinate of a text. A decimal is ASCII, so its text need not be asked whether it is UTF-8.
+pub fn coordinate(t: &[u8]) -> CoordinateAnswer
+    ensures { λ r. ⌜ answered r ≡ coordinate (now (t .entry)) ⌝ }
+{
+    if LONGEST < t.len() {
+        return CoordinateAnswer::TooLong;
+    }
+    match numbers::one_decimal(t) {
+        MaybePoint::APoint(p) => amounts::of_point(t, p),
+        MaybePoint::NoPoint => match chars::first_bad(t) {
+            Utf8::Good => CoordinateAnswer::NoCoordinate,
+            Utf8::Bad(at) => CoordinateAnswer::NotUtf8(at),
+        },
+    }
+}
+
+// The coordinate of a record's extent in its source, by the record's kind and its extent's places.
+pub fn record_coordinate(source: &[u8], kind: u32, start: u32, end: u32) -> CoordinateAnswer
+    ensures { λ r. ⌜ answered r ≡ recordCoordinate (now (source .entry)) kind start end ⌝ }
+{
+    let from = start as usize;
+    let to = end as usize;
+    if to < from {
+        return CoordinateAnswer::NoExtent;
+    }
+    if source.len() < to {
+        return CoordinateAnswer::NoExtent;
+    }
+    if kind == kinds::NUMBER {
+        return coordinate(&source[from..to]);
+    }
+    CoordinateAnswer::NoCoordinate
+}

@@ -1,0 +1,4 @@
+pub mod Text
+pub mod Record
+pub mod Told
+pub mod Rounded

@@ -1,0 +1,3 @@
+pub mod Tokens
+pub mod Numbers
+pub mod Calls

@@ -1,0 +1,86 @@
+-- Each return is one arm of `enterOf`; what is found bears the name, so that its number fits 32 bits.
+use native.Mathlib.Omega.{arith}
+use mathlib.Core.Path.{sym, _∙_}
+use borrow.Author.Needs.{needs}
+use borrow.Author.Tests.{not-false, not-true}
+use Rattle.names.proofs.Gives.{enter-new, enter-outside, enter-party, enter-there, find-in, number-small}
+use Rattle.names.proofs.Laws.{bounds}
+use Rattle.names.proofs.entering.enter.Statement.{statement}
+use Rattle.names.proofs.entering.enter.Tie as tie
+
+in-bounds-requires : tie.Need-in-bounds-requires
+in-bounds-requires c κs = search needs
+
+same-length : tie.Need-same-length
+same-length c = search needs
+
+same-length-2 : tie.Need-same-length-2
+same-length-2 c = search needs
+
+returns : tie.Need-returns
+returns c = enter-outside _ _ _ _ (sym (c .before .in-bounds .ensures) ∙ not-true _ (c .if1 .taken))
+
+same-length-3 : tie.Need-same-length-3
+same-length-3 c = search needs
+
+same-length-4 : tie.Need-same-length-4
+same-length-4 c = search needs
+
+returns-2 : tie.Need-returns-2
+returns-2 c = enter-party _ _ _ _ (sym (c .before .before .in-bounds .ensures) ∙ not-false _ (c .before .if1 .left)) (c .if2 .taken)
+
+find-requires : tie.Need-find-requires
+find-requires c κs = let B = bounds _ _ (sym (c .before .before .before .before .in-bounds .ensures) ∙ not-false _ (c .before .before .before .if1 .left)) in (B .words, (B .bytes, (c .before .before .if2 .left, (B .few 0 (omega arith), B .few 1 (omega arith)))))
+
+enum-known-f : tie.Need-enum-known-f
+enum-known-f c = search needs
+
+cast-t19 : tie.Need-cast-t19
+cast-t19 c = omega (arith, number-small _ _ _ (bounds _ _ (sym (c .before .before .before .before .before .before .before .before .in-bounds .ensures) ∙ not-false _ (c .before .before .before .before .before .before .before .if1 .left)) .few) (find-in _ _ _ _ (c .before .before .before .before .before .before .if2 .left) (sym (c .before .before .before .find .ensures) ∙ c .before .f .given .1)))
+
+enum-told : tie.Need-enum-told
+enum-told c = search needs
+
+add-requires : tie.Need-add-requires
+add-requires c κs = let B = bounds _ _ (sym (c .before .before .before .before .before .before .before .before .before .in-bounds .ensures) ∙ not-false _ (c .before .before .before .before .before .before .before .before .if1 .left)) in (B .words, (B .bytes, (c .before .before .before .before .before .before .before .if2 .left, (B .few _ (c .before .before .before .before .before .before .before .if2 .left), B .short _ (c .before .before .before .before .before .before .before .if2 .left)))))
+
+same-length-5 : tie.Need-same-length-5
+same-length-5 c = search needs
+
+same-length-6 : tie.Need-same-length-6
+same-length-6 c = search needs
+
+returns-3 : tie.Need-returns-3
+returns-3 c = enter-there _ _ _ _ (sym (c .before .before .before .before .before .before .before .before .in-bounds .ensures) ∙ not-false _ (c .before .before .before .before .before .before .before .if1 .left)) (c .before .before .before .before .before .before .if2 .left) (sym (c .before .before .before .find .ensures) ∙ c .before .f .given .1)
+
+same-length-7 : tie.Need-same-length-7
+same-length-7 c = search needs
+
+same-length-8 : tie.Need-same-length-8
+same-length-8 c = search needs
+
+returns-4 : tie.Need-returns-4
+returns-4 c = enter-new _ _ _ _ (sym (c .before .before .before .before .before .before .before .before .before .before .before .before .before .before .in-bounds .ensures) ∙ not-false _ (c .before .before .before .before .before .before .before .before .before .before .before .before .before .if1 .left)) (c .before .before .before .before .before .before .before .before .before .before .before .before .if2 .left) (sym (c .before .before .before .before .before .before .before .before .before .find .ensures) ∙ c .before .before .before .before .before .before .before .enum-told .given .1) (c .before .before .before .before .add .ensures)
+
+pub enter-spec : {M : Type 1} → statement M
+enter-spec =
+    tie.close
+    (tie.spec
+    in-bounds-requires
+    same-length
+    same-length-2
+    returns
+    same-length-3
+    same-length-4
+    returns-2
+    find-requires
+    enum-known-f
+    cast-t19
+    enum-told
+    add-requires
+    same-length-5
+    same-length-6
+    returns-3
+    same-length-7
+    same-length-8
+    returns-4)

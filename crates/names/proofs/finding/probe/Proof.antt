@@ -1,0 +1,88 @@
+-- Each turn asks one slot as `probe` does: the rest of the search from the next slot on is what `probe` says of one look fewer.
+use denote.Ref.{now}
+use Prim.Native.Nat.{_<_}
+use native.Mathlib.Omega.{arith}
+use borrow.Author.Needs.{needs}
+use mathlib.Core.Path.{_≡_, sym, _∙_}
+use Rattle.names.specs.Layout.{indexSlots}
+use Rattle.names.specs.Call.{tagOf, probe, probeOf}
+use Rattle.names.proofs.Laws.{hash-small, slot-small, next-small, probe-free, probe-hit, probe-miss, probe-end}
+use Rattle.names.proofs.finding.probe.Statement.{statement}
+use Rattle.names.proofs.finding.probe.Tie as tie
+
+abbrev Inv-loop : tie.InvT-loop
+Inv-loop words bytes party name h tag base s₀ left₀ s left = (s < indexSlots) × (tag ≡ tagOf name) × (probe left words bytes party name s ≡ probeOf words bytes party name)
+
+abbrev μ-loop : tie.MeasureT-loop
+μ-loop words bytes party name h tag base s₀ left₀ s left = left
+
+tag-of-requires : tie.Need-tag-of-requires Inv-loop μ-loop
+tag-of-requires c κs = search needs
+
+mul-base : tie.Need-mul-base Inv-loop μ-loop
+mul-base c = search needs
+
+add-base : tie.Need-add-base Inv-loop μ-loop
+add-base c = search needs
+
+slot-of-requires : tie.Need-slot-of-requires Inv-loop μ-loop
+slot-of-requires c κs = rw (c .before .before .before .before .pre .0) (hash-small _)
+
+loop-holds : tie.Need-loop-holds Inv-loop μ-loop
+loop-holds c = (rw (c .slot-of .ensures, c .before .before .before .before .before .pre .0) (slot-small _), c .before .tag-of .ensures ∙ rw (c .before .before .before .before .before .pre .0), rw (c .slot-of .ensures, c .before .before .before .before .before .pre .0))
+
+add-word : tie.Need-add-word Inv-loop μ-loop
+add-word c = search needs
+
+word-requires : tie.Need-word-requires Inv-loop μ-loop
+word-requires c κs = search needs
+
+returns : tie.Need-returns Inv-loop μ-loop
+returns c = probe-free (now (c .before .before .before .before .before .before .before .before .before .args .words)) (now (c .before .before .before .before .before .before .before .before .before .args .bytes)) (c .before .before .before .before .before .before .before .before .before .args .party) (now (c .before .before .before .before .before .before .before .before .before .args .name)) (c .before .before .before .loop .left) (c .before .before .before .loop .s) (c .before .word .ensures) (c .before .before .loop-test .taken) (c .if1 .taken) ∙ c .before .before .before .loop .inv .2
+
+proposes-requires : tie.Need-proposes-requires Inv-loop μ-loop
+proposes-requires c κs = (c .before .before .before .loop .inv .1, (omega (arith, c .if1 .left), (c .before .before .before .before .before .before .before .before .before .pre .1 .0, (c .before .before .before .before .before .before .before .before .before .pre .1 .1 .0, (c .before .before .before .before .before .before .before .before .before .pre .1 .1 .1 .0, c .before .before .before .before .before .before .before .before .before .pre .1 .1 .1 .1)))))
+
+sub-t15 : tie.Need-sub-t15 Inv-loop μ-loop
+sub-t15 c = omega (arith, c .before .before .if1 .left)
+
+returns-2 : tie.Need-returns-2 Inv-loop μ-loop
+returns-2 c = probe-hit (now (c .before .before .before .before .before .before .before .before .before .before .before .args .words)) (now (c .before .before .before .before .before .before .before .before .before .before .before .args .bytes)) (c .before .before .before .before .before .before .before .before .before .before .before .args .party) (now (c .before .before .before .before .before .before .before .before .before .before .before .args .name)) (c .before .before .before .before .before .loop .left) (c .before .before .before .before .before .loop .s) (c .before .before .before .word .ensures) (c .before .before .before .before .loop-test .taken) (c .before .before .if1 .left) (sym (c .before .proposes .ensures) ∙ c .if2 .taken) ∙ c .before .before .before .before .before .loop .inv .2
+
+add-s : tie.Need-add-s Inv-loop μ-loop
+add-s c = search needs
+
+sub-left : tie.Need-sub-left Inv-loop μ-loop
+sub-left c = search needs
+
+loop-less : tie.Need-loop-less Inv-loop μ-loop
+loop-less c = search needs
+
+loop-again : tie.Need-loop-again Inv-loop μ-loop
+loop-again c = (next-small _, c .before .before .before .before .before .loop .inv .1, probe-miss (now (c .before .before .before .before .before .before .before .before .before .before .before .args .words)) (now (c .before .before .before .before .before .before .before .before .before .before .before .args .bytes)) (c .before .before .before .before .before .before .before .before .before .before .before .args .party) (now (c .before .before .before .before .before .before .before .before .before .before .before .args .name)) (c .before .before .before .before .before .loop .left) (c .before .before .before .before .before .loop .s) (c .before .before .before .word .ensures) (c .before .before .before .before .loop-test .taken) (c .before .before .if1 .left) (sym (c .before .proposes .ensures) ∙ c .if2 .left) ∙ c .before .before .before .before .before .loop .inv .2)
+
+returns-3 : tie.Need-returns-3 Inv-loop μ-loop
+returns-3 c = probe-end (now (c .before .before .before .before .before .before .before .args .words)) (now (c .before .before .before .before .before .before .before .args .bytes)) (c .before .before .before .before .before .before .before .args .party) (now (c .before .before .before .before .before .before .before .args .name)) (c .before .loop .left) (c .before .loop .s) (omega arith) ∙ c .before .loop .inv .2
+
+pub probe-spec : {M : Type 1} → statement M
+probe-spec =
+    tie.close
+    (tie.spec
+    Inv-loop
+    μ-loop
+    tag-of-requires
+    mul-base
+    add-base
+    slot-of-requires
+    loop-holds
+    add-word
+    word-requires
+    returns
+    proposes-requires
+    sub-t15
+    returns-2
+    add-s
+    sub-left
+    loop-less
+    loop-again
+    returns-3)

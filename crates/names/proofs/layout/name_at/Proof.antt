@@ -1,0 +1,30 @@
+-- Every place lies within the lent bytes, and the name is the part at its place.
+use denote.Ref.{now}
+use native.Mathlib.Omega.{arith}
+use mathlib.Core.Path.{ap}
+use borrow.Author.Needs.{needs}
+use Rattle.names.specs.Layout.{nameAt, cut}
+use Rattle.names.specs.declared.Place.{Place}
+use Rattle.names.proofs.Laws.{place-within}
+use Rattle.names.proofs.layout.name_at.Statement.{statement}
+use Rattle.names.proofs.layout.name_at.Tie as tie
+
+place-at-requires : tie.Need-place-at-requires
+place-at-requires c κs = search needs
+
+sub-result : tie.Need-sub-result
+sub-result c = rw (c .place-at .ensures) (let q = place-within (now (c .before .before .before .args .words)) (c .before .before .before .args .party) (c .before .before .before .args .k) (c .before .before .before .pre .1 .1 .0) in let f = q .forth in let s = q .short in omega (arith, c .before .before .before .pre .1 .0))
+
+part-result-start : tie.Need-part-result-start
+part-result-start c = rw (c .place-at .ensures) (let q = place-within (now (c .before .before .before .args .words)) (c .before .before .before .args .party) (c .before .before .before .args .k) (c .before .before .before .pre .1 .1 .0) in let f = q .forth in let s = q .short in omega (arith, c .before .before .before .pre .1 .0))
+
+part-result-end : tie.Need-part-result-end
+part-result-end c = rw (c .place-at .ensures) (let q = place-within (now (c .before .before .before .args .words)) (c .before .before .before .args .party) (c .before .before .before .args .k) (c .before .before .before .pre .1 .1 .0) in let f = q .forth in let s = q .short in omega (arith, c .before .before .before .pre .1 .0))
+
+returns : tie.Need-returns
+unfolding nameAt
+returns c = ap (λ (q : Place). cut q (now (c .before .before .before .before .args .bytes))) (c .before .place-at .ensures)
+
+pub name-at-spec : {M : Type 1} → statement M
+name-at-spec =
+    tie.close (tie.spec place-at-requires sub-result part-result-start part-result-end returns)

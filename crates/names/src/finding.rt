@@ -1,0 +1,194 @@
+// Which entry bears a name: a half's index is asked first, and its names are read only where the index answers neither yes nor no.
+use crate::Found;
+use crate::Proposal;
+use crate::layout::FIRST_SLOT;
+use crate::layout::HALF_NAMES;
+use crate::layout::HALF_WORDS;
+use crate::layout::INDEX_SLOTS;
+use crate::layout::bears;
+use crate::layout::word;
+ghost use mathlib.Core.Path.{_≡_};
+ghost use Prim.Native.Nat.{_+_, _/_, _%_, _≤_, _<_};
+ghost use lib.ListN.{length, getD, drop};
+ghost use Rattle.names.specs.Layout.{halfNames, tableWords, tableBytes, count};
+ghost use Rattle.names.specs.Call.{hashes, hashesASlot, turn, four, rest, hashOf, tagOf, proposes, probeOf, scanned, lookupOf, findOf};
+
+// The hash of a name has 32 bits: the top ten are a slot, the others a tag.
+const FACTOR: u64 = 1640531527;
+
+const HASHES: u64 = 4294967296;
+
+const HASHES_A_SLOT: u64 = 4194304;
+
+// So many bytes go into one turn of the hash.
+const FOUR: usize = 4;
+
+// So many slots are asked for a name. Names as plans have them never meet this; it bounds what names made to collide cost.
+const LOOKS: usize = 64;
+
+// A byte of a name.
+fn byte(name: &[u8], i: usize) -> u64
+    requires { ⌜ i < length (now name) ⌝ }
+    ensures { λ r. ⌜ (r ≡ getD (now (name .entry)) i 0) × (r < 256) ⌝ }
+{
+    name[i] as u64
+}
+
+// One turn of the hash.
+fn turn(h: u64, x: u64) -> u64
+    requires { ⌜ h < hashes ⌝ }
+    requires { ⌜ x < hashes ⌝ }
+    ensures { λ r. ⌜ (r ≡ turn h x) × (r < hashes) ⌝ }
+{
+    ((h + x) * FACTOR) % HASHES
+}
+
+// Four bytes of a name as one number, the lowest first.
+fn four(name: &[u8], i: usize) -> u64
+    requires { ⌜ i + 4 ≤ length (now name) ⌝ }
+    ensures { λ r. ⌜ (r ≡ four (getD (now (name .entry)) i 0) (getD (now (name .entry)) (i + 1) 0) (getD (now (name .entry)) (i + 2) 0) (getD (now (name .entry)) (i + 3) 0)) × (r < hashes) ⌝ }
+{
+    let a = byte(name, i);
+    let b = byte(name, i + 1);
+    let c = byte(name, i + 2);
+    let d = byte(name, i + 3);
+    a + b * 0x100 + c * 0x10000 + d * 0x1000000
+}
+
+// The hash of the bytes from a place on, one by one.
+fn rest(name: &[u8], from: usize, start: u64) -> u64
+    requires { ⌜ from ≤ length (now name) ⌝ }
+    requires { ⌜ start < hashes ⌝ }
+    ensures { λ r. ⌜ r ≡ rest start (drop from (now (name .entry))) ⌝ }
+{
+    let mut h = start;
+    let mut i = from;
+    while i < name.len() {
+        h = turn(h, byte(name, i));
+        i += 1;
+    }
+    h
+}
+
+// The hash of a name.
+pub fn hash(name: &[u8]) -> u64
+    ensures { λ r. ⌜ r ≡ hashOf (now (name .entry)) ⌝ }
+{
+    let mut h: u64 = 0;
+    let mut i = 0;
+    while FOUR <= name.len() - i {
+        h = turn(h, four(name, i));
+        i += FOUR;
+    }
+    rest(name, i, h)
+}
+
+// The slot at which the search for a name begins, and its tag.
+fn slot_of(h: u64) -> usize
+    requires { ⌜ h < hashes ⌝ }
+    ensures { λ r. ⌜ r ≡ h / hashesASlot ⌝ }
+{
+    (h / HASHES_A_SLOT) as usize
+}
+
+pub fn tag_of(h: u64) -> usize
+    ensures { λ r. ⌜ r ≡ h % hashesASlot ⌝ }
+{
+    (h % HASHES_A_SLOT) as usize
+}
+
+// Whether a slot's word, which is not 0, proposes an entry that bears the name.
+fn proposes(words: &[u32], bytes: &[u8], party: usize, name: &[u8], tag: usize, v: usize) -> bool
+    requires { ⌜ tag ≡ tagOf (now name) ⌝ }
+    requires { ⌜ 0 < v ⌝ }
+    requires { ⌜ tableWords ≤ length (now words) ⌝ }
+    requires { ⌜ tableBytes ≤ length (now bytes) ⌝ }
+    requires { ⌜ party < 2 ⌝ }
+    requires { ⌜ count (now words) party ≤ halfNames ⌝ }
+    ensures { λ r. ⌜ r ≡ proposes (now (words .entry)) (now (bytes .entry)) party (now (name .entry)) v ⌝ }
+{
+    if (v - 1) / HALF_NAMES != tag {
+        return false;
+    }
+    bears(words, bytes, party, name, (v - 1) % HALF_NAMES)
+}
+
+// Asks a half's index for a name, whose hash is h.
+pub fn probe(words: &[u32], bytes: &[u8], party: usize, name: &[u8], h: u64) -> Proposal
+    requires { ⌜ h ≡ hashOf (now name) ⌝ }
+    requires { ⌜ tableWords ≤ length (now words) ⌝ }
+    requires { ⌜ tableBytes ≤ length (now bytes) ⌝ }
+    requires { ⌜ party < 2 ⌝ }
+    requires { ⌜ count (now words) party ≤ halfNames ⌝ }
+    ensures { λ r. ⌜ r ≡ probeOf (now (words .entry)) (now (bytes .entry)) party (now (name .entry)) ⌝ }
+{
+    let tag = tag_of(h);
+    let base = party * HALF_WORDS + FIRST_SLOT;
+    let mut s = slot_of(h);
+    let mut left: usize = LOOKS;
+    while 0 < left {
+        let v = word(words, base + s);
+        if v == 0 {
+            return Proposal::Free(s);
+        }
+        if proposes(words, bytes, party, name, tag, v) {
+            return Proposal::Entry((v - 1) % HALF_NAMES);
+        }
+        s = (s + 1) % INDEX_SLOTS;
+        left -= 1;
+    }
+    Proposal::Full
+}
+
+// The first entry of a half that bears the name.
+fn scan(words: &[u32], bytes: &[u8], party: usize, name: &[u8]) -> Found
+    requires { ⌜ tableWords ≤ length (now words) ⌝ }
+    requires { ⌜ tableBytes ≤ length (now bytes) ⌝ }
+    requires { ⌜ party < 2 ⌝ }
+    requires { ⌜ count (now words) party ≤ halfNames ⌝ }
+    ensures { λ r. ⌜ r ≡ scanned (now (words .entry)) (now (bytes .entry)) party (now (name .entry)) ⌝ }
+{
+    let n = word(words, party * HALF_WORDS);
+    let mut k = 0;
+    while k < n {
+        if bears(words, bytes, party, name, k) {
+            return Found::At(party * HALF_NAMES + k);
+        }
+        k += 1;
+    }
+    Found::Nothing
+}
+
+// The number of a name that is in a half: by its index, and by reading the names where the index answers neither.
+fn lookup(words: &[u32], bytes: &[u8], party: usize, name: &[u8], h: u64) -> Found
+    requires { ⌜ h ≡ hashOf (now name) ⌝ }
+    requires { ⌜ tableWords ≤ length (now words) ⌝ }
+    requires { ⌜ tableBytes ≤ length (now bytes) ⌝ }
+    requires { ⌜ party < 2 ⌝ }
+    requires { ⌜ count (now words) party ≤ halfNames ⌝ }
+    ensures { λ r. ⌜ r ≡ lookupOf (now (words .entry)) (now (bytes .entry)) party (now (name .entry)) ⌝ }
+{
+    let x = probe(words, bytes, party, name, h);
+    match x {
+        Proposal::Entry(k) => Found::At(party * HALF_NAMES + k),
+        Proposal::Free(_) => Found::Nothing,
+        Proposal::Full => scan(words, bytes, party, name),
+    }
+}
+
+// The number of a name that is there, own half first.
+pub fn find(words: &[u32], bytes: &[u8], party: usize, name: &[u8]) -> Found
+    requires { ⌜ tableWords ≤ length (now words) ⌝ }
+    requires { ⌜ tableBytes ≤ length (now bytes) ⌝ }
+    requires { ⌜ party < 2 ⌝ }
+    requires { ⌜ count (now words) 0 ≤ halfNames ⌝ }
+    requires { ⌜ count (now words) 1 ≤ halfNames ⌝ }
+    ensures { λ r. ⌜ r ≡ findOf (now (words .entry)) (now (bytes .entry)) party (now (name .entry)) ⌝ }
+{
+    let h = hash(name);
+    let a = lookup(words, bytes, party, name, h);
+    match a {
+        Found::At(n) => Found::At(n),
+        Found::Nothing => lookup(words, bytes, 1 - party, name, h),
+    }
+}
