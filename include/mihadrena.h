@@ -401,7 +401,7 @@ size_t mihadrena_put_char(uint32_t code, uint8_t *text, size_t text_length);
  * the byte place of each line start. */
 
 /* Refusals of these calls, beside MIHADRENA_TOO_LONG, MIHADRENA_NOT_UTF8 and MIHADRENA_BAD_STATE, each with what it comes with. */
-#define MIHADRENA_NO_ROOM 33       /* the line starts, or the answers, don't fit: how many words are needed */
+#define MIHADRENA_LINES_NO_ROOM 33 /* the line starts, or the answers, don't fit: how many words are needed */
 #define MIHADRENA_NO_PLACE 34      /* the place lies past the end or inside a character: the place */
 #define MIHADRENA_NOT_ITS_INDEX 48 /* the index isn't that text's: 0 */
 
@@ -427,7 +427,7 @@ uint32_t mihadrena_locate(const uint8_t *text, size_t text_length, const uint32_
 
 /* The same for many places, in any order, with one look at the index. `found` gets two numbers for each place, in their order: line and
  * column, or 0 and the refusal's number. MIHADRENA_SERVED, and values[0] is how many places were answered; or MIHADRENA_NOT_ITS_INDEX or
- * MIHADRENA_NO_ROOM, and nothing is written to `found`.
+ * MIHADRENA_LINES_NO_ROOM, and nothing is written to `found`.
  *
  *     uint32_t places[2] = {4, 3};
  *     size_t found[4];

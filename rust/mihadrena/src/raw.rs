@@ -214,7 +214,7 @@ pub const CODE_CUT: u32 = 0x110001;
 pub const CODE_END: u32 = 0x110002;
 
 // Line and column.
-pub const NO_ROOM: u32 = 33;
+pub const LINES_NO_ROOM: u32 = 33;
 pub const NO_PLACE: u32 = 34;
 pub const NOT_ITS_INDEX: u32 = 48;
 pub const LINES_VALUES: usize = 2;
