@@ -20,7 +20,7 @@ static void whole(void)
     uint32_t index[8] = {9, 9, 9, 9, 9, 9, 9, 9};
     uint64_t values[MIHADRENA_LINES_VALUES];
     uint32_t answer = mihadrena_lines(text, 6, index, 2, values, 2);
-    expect(answer == MIHADRENA_NO_ROOM && values[0] == 3 && index[0] == 9, "mihadrena_lines, no room");
+    expect(answer == MIHADRENA_LINES_NO_ROOM && values[0] == 3 && index[0] == 9, "mihadrena_lines, no room");
     answer = mihadrena_lines(text, 6, index, 8, values, 2);
     expect(answer == MIHADRENA_SERVED && values[0] == 3, "mihadrena_lines");
     expect(index[0] == 0 && index[1] == 2 && index[2] == 6 && index[3] == 9, "the line starts");

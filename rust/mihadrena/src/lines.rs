@@ -36,7 +36,7 @@ impl LineRefusal {
         match answer {
             raw::TOO_LONG => Self::TooLong,
             raw::NOT_UTF8 => Self::NotUtf8(value as usize),
-            raw::NO_ROOM => Self::NoRoom(value as usize),
+            raw::LINES_NO_ROOM => Self::NoRoom(value as usize),
             raw::NO_PLACE => Self::NoPlace(value as usize),
             _ => unreachable!("the library refuses these calls for nothing else"),
         }
@@ -48,7 +48,7 @@ impl LineRefusal {
         match self {
             Self::TooLong => raw::TOO_LONG,
             Self::NotUtf8(_) => raw::NOT_UTF8,
-            Self::NoRoom(_) => raw::NO_ROOM,
+            Self::NoRoom(_) => raw::LINES_NO_ROOM,
             Self::NoPlace(_) => raw::NO_PLACE,
         }
     }
