@@ -451,6 +451,82 @@ MIHADRENA_ASSERT(sizeof(mihadrena_node) == 4 * MIHADRENA_NODE_WORDS, "a node is 
  */
 uint32_t mihadrena_nest(const uint32_t *records, size_t records_length, uint32_t *nodes, size_t nodes_length, uint64_t *values,
                         size_t values_length);
+/* -- The parts of a number by a choice of reader ------------------------------------------------------------------------------- */
+
+/* The readers. They differ on the texts of docs/DIFFERENCES.md's three conditions alone. */
+#define MIHADRENA_BOUGHT 0   /* as mihadrena_number reads, and the items' Number: 1@1/-2 is a number, +I and #xe+1i are none */
+#define MIHADRENA_STANDARD 1 /* by the number grammar of R7RS 7.1.1: +I and #xe+1i are numbers, 1@1/-2 is none */
+
+/* Refused: the choice is neither; comes with 0, before MIHADRENA_TOO_LONG and MIHADRENA_NOT_UTF8. */
+#define MIHADRENA_NO_CHOICE 39
+
+/* What a text is as a number by the reader of a choice; else as mihadrena_number.
+ *
+ *     mihadrena_parts parts;
+ *     uint32_t answer =
+ *         mihadrena_number_by(MIHADRENA_STANDARD, (const uint8_t *)"#xe+1i", 6, (uint64_t *)&parts, MIHADRENA_NUMBER_WORDS);
+ *     // answer == MIHADRENA_A_NUMBER, parts.form == MIHADRENA_COMPLEX,
+ *     // parts.one.one is { MIHADRENA_VALUE, 0, 14, 0 }, parts.two.one is { MIHADRENA_VALUE, 0, 1, 0 }
+ */
+uint32_t mihadrena_number_by(uint32_t choice, const uint8_t *text, size_t text_length, uint64_t *words, size_t words_length);
+/* -- Line and column --------------------------------------------------------------------------------------------------------- */
+
+/* A line starts at place 0 and after every newline byte. Lines and columns count from 1, columns in characters. An index of a text holds
+ * the byte place of each line start. */
+
+/* Refusals of these calls, beside MIHADRENA_TOO_LONG, MIHADRENA_NOT_UTF8 and MIHADRENA_BAD_STATE, each with what it comes with. */
+#define MIHADRENA_LINES_NO_ROOM 33 /* the line starts, or the answers, don't fit: how many words are needed */
+#define MIHADRENA_NO_PLACE 34      /* the place lies past the end or inside a character: the place */
+#define MIHADRENA_NOT_ITS_INDEX 48 /* the index isn't that text's: 0 */
+
+/* How many values these calls write. Where fewer are lent, they are left as they were. */
+#define MIHADRENA_LINES_VALUES 2
+
+/* Builds the index of a whole text: MIHADRENA_SERVED, and values[0] is how many line starts were written; or a refusal and what it comes
+ * with, and nothing is written. Of the index asked about later pass as many words as were served. A text has at most one line start more
+ * than it has bytes.
+ *
+ *     uint32_t index[8];
+ *     uint64_t values[MIHADRENA_LINES_VALUES];
+ *     mihadrena_lines((const uint8_t *)"a\n\xce\xbb" "b\n", 6, index, 8, values, 2);  // MIHADRENA_SERVED: 3 starts, 0, 2 and 6
+ */
+uint32_t mihadrena_lines(const uint8_t *text, size_t text_length, uint32_t *index, size_t index_length, uint64_t *values, size_t values_length);
+
+/* Line and column of a byte place, in values[0] and values[1]; the end of the text is a place. Each call holds the index against the
+ * text, one pass over it: for many places see mihadrena_locate_all.
+ *
+ *     mihadrena_locate((const uint8_t *)"a\n\xce\xbb" "b\n", 6, index, 3, 4, values, 2);  // line 2, column 2
+ */
+uint32_t mihadrena_locate(const uint8_t *text, size_t text_length, const uint32_t *index, size_t index_length, size_t place, uint64_t *values, size_t values_length);
+
+/* The same for many places, in any order, with one look at the index. `found` gets two numbers for each place, in their order: line and
+ * column, or 0 and the refusal's number. MIHADRENA_SERVED, and values[0] is how many places were answered; or MIHADRENA_NOT_ITS_INDEX or
+ * MIHADRENA_LINES_NO_ROOM, and nothing is written to `found`.
+ *
+ *     uint32_t places[2] = {4, 3};
+ *     size_t found[4];
+ *     mihadrena_locate_all((const uint8_t *)"a\n\xce\xbb" "b\n", 6, index, 3, places, 2, found, 4, values, 2);  // 2, 2, 0, 34
+ */
+uint32_t mihadrena_locate_all(const uint8_t *text, size_t text_length, const uint32_t *index, size_t index_length, const uint32_t *places, size_t places_length, size_t *found, size_t found_length, uint64_t *values, size_t values_length);
+
+/* The words of a state of an index from pieces. docs/STATE.md lists them. */
+#define MIHADRENA_LINES_STATE_WORDS 8
+
+/* The index of a text that comes in pieces, on a state that the caller keeps: opening, each piece in turn with the same index memory, the
+ * declared end. No piece is refused: every refusal comes with the end, which answers what mihadrena_lines answers for the whole text. The
+ * memory then holds the starts found before any byte that shows MIHADRENA_TOO_LONG or MIHADRENA_NOT_UTF8, as many as fit. A state of other
+ * than MIHADRENA_LINES_STATE_WORDS words, or one that these calls did not leave, stays as it is with the memory, and the end answers
+ * MIHADRENA_BAD_STATE.
+ *
+ *     uint32_t state[MIHADRENA_LINES_STATE_WORDS];
+ *     mihadrena_lines_open(state, 8, index, 8);
+ *     mihadrena_lines_piece(state, 8, (const uint8_t *)"a\n\xce", 3, index, 8);
+ *     mihadrena_lines_piece(state, 8, (const uint8_t *)"\xbb" "b\n", 3, index, 8);
+ *     mihadrena_lines_end(state, 8, index, 8, values, 2);  // MIHADRENA_SERVED: 3 starts
+ */
+void mihadrena_lines_open(uint32_t *state, size_t state_length, uint32_t *index, size_t index_length);
+void mihadrena_lines_piece(uint32_t *state, size_t state_length, const uint8_t *piece, size_t piece_length, uint32_t *index, size_t index_length);
+uint32_t mihadrena_lines_end(const uint32_t *state, size_t state_length, const uint32_t *index, size_t index_length, uint64_t *values, size_t values_length);
 /* -- Coordinates -------------------------------------------------------------------------------------------------------------- */
 
 /* What the two calls answer beside MIHADRENA_SERVED, MIHADRENA_TOO_LONG and MIHADRENA_NOT_UTF8. */

@@ -55,11 +55,24 @@ pub const CHECKS: &[Reader] = &[
 /// The number calls, on each number of a text; their items are the numbers.
 pub const NUMBERS: &[Reader] = &[
     Reader { name: "number", title: "number call", inside: &["mihadrena_number"], ready: number },
+    Reader { name: "by-standard", title: "by the standard", inside: &["mihadrena_number_by"], ready: by_standard },
     Reader { name: "rust-number", title: "the Rust's", inside: &["rust_number"], ready: rust_numbers },
 ];
 
+/// Building the index of line starts, and counting newline bytes; their items are the line starts.
+pub const LINES: &[Reader] = &[
+    Reader { name: "lines", title: "index of lines", inside: &["mihadrena_lines"], ready: lines },
+    Reader { name: "rust-count", title: "Rust's count of newline bytes", inside: &["rust_count"], ready: rust_counts },
+    Reader {
+        name: "rust-lines",
+        title: "Rust's `from_utf8` and line starts",
+        inside: &["rust_starts"],
+        ready: rust_lines,
+    },
+];
+
 pub fn named(name: &str) -> Option<&'static Reader> {
-    [READERS, CHECKS, NUMBERS, &[ONE_PIECE]].into_iter().flatten().find(|reader| reader.name == name)
+    [READERS, CHECKS, NUMBERS, LINES, &[ONE_PIECE]].into_iter().flatten().find(|reader| reader.name == name)
 }
 
 const PLAIN: u32 = 0;
@@ -177,6 +190,17 @@ fn number(text: &str) -> Run<'_> {
     })
 }
 
+fn by_standard(text: &str) -> Run<'_> {
+    let numbers = numbers_of(text);
+    let mut words = [0; proved::NUMBER_WORDS];
+    Box::new(move || {
+        for number in &numbers {
+            assert_eq!(proved::number_by(proved::STANDARD, number.as_bytes(), &mut words), proved::A_NUMBER);
+        }
+        Some(numbers.len() as u64)
+    })
+}
+
 fn rust_numbers(text: &str) -> Run<'_> {
     let numbers = numbers_of(text);
     Box::new(move || {
@@ -189,4 +213,42 @@ fn rust_numbers(text: &str) -> Run<'_> {
 #[inline(never)]
 fn rust_number(text: &str) -> bool {
     steel::run_number(text)
+}
+
+fn lines(text: &str) -> Run<'_> {
+    let mut index = vec![0; text.len() + 1];
+    Box::new(move || {
+        let (answer, [count, _]) = proved::lines::build(text.as_bytes(), &mut index);
+        (answer == proved::lines::SERVED).then_some(count)
+    })
+}
+
+fn rust_counts(text: &str) -> Run<'_> {
+    Box::new(|| Some(rust_count(text.as_bytes())))
+}
+
+/// As `memchr` counts: one more than the newline bytes.
+#[no_mangle]
+#[inline(never)]
+fn rust_count(text: &[u8]) -> u64 {
+    1 + black_box(text).iter().filter(|&&byte| byte == b'\n').count() as u64
+}
+
+fn rust_lines(text: &str) -> Run<'_> {
+    let mut index = vec![0; text.len() + 1];
+    Box::new(move || Some(rust_starts(text.as_bytes(), &mut index)))
+}
+
+/// What the call does, in the shortest Rust: the check for UTF-8, and the place after each newline byte.
+#[no_mangle]
+#[inline(never)]
+fn rust_starts(text: &[u8], index: &mut [u32]) -> u64 {
+    let text = std::str::from_utf8(black_box(text)).expect("UTF-8");
+    let mut count = 1;
+    index[0] = 0;
+    for (at, _) in text.match_indices('\n') {
+        index[count] = at as u32 + 1;
+        count += 1;
+    }
+    count as u64
 }

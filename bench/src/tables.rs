@@ -1,6 +1,6 @@
 //! The tables, in the form of docs/SPEED.md. A row is printed as soon as it is measured.
 use crate::measure::{instructions, times, Times};
-use crate::readers::{self, Reader, CHECKS, NUMBERS, ONE_PIECE, READERS};
+use crate::readers::{self, Reader, CHECKS, LINES, NUMBERS, ONE_PIECE, READERS};
 use crate::texts::{in_one_piece, Text, MEGABYTE, TEXTS};
 use crate::Wanted;
 use std::fs;
@@ -19,6 +19,10 @@ pub fn print(wanted: &Wanted) {
     println!("\n## The number call: instructions a byte of the numbers, ns a number\n");
     head(&["text", "numbers", "bytes of each"], &NUMBERS.iter().collect::<Vec<_>>());
     texts.iter().for_each(numbers);
+    println!("\n## The line index: instructions a byte\n");
+    let indexers: Vec<&Reader> = LINES.iter().collect();
+    head(&["text", "bytes", "items"], &indexers);
+    texts.iter().for_each(|text| counts(text, &indexers));
     if !wanted.growth.is_empty() {
         growth(&wanted.growth);
         one_piece(&wanted.growth);

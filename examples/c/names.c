@@ -10,6 +10,9 @@
 
 #include "mihadrena.h"
 
+/* A plan has fewer bytes here; its items never outnumber them. */
+#define LONGEST_PLAN 65536
+
 static uint32_t words[MIHADRENA_NAMES_WORDS];
 static uint8_t bytes[MIHADRENA_NAMES_BYTES];
 
@@ -79,8 +82,8 @@ static void print_names(const char *party, uint32_t first)
 
 int main(int count, char **arguments)
 {
-    static uint8_t source[1 << 16], text[1 << 16];
-    static mihadrena_record records[1 << 16];
+    static uint8_t source[LONGEST_PLAN], text[LONGEST_PLAN];
+    static mihadrena_record records[LONGEST_PLAN];
     uint64_t values[MIHADRENA_READ_VALUES];
     calls();
     expect(count == 2, "usage: names FILE");
@@ -90,7 +93,7 @@ int main(int count, char **arguments)
     expect(length < sizeof source, "the file is too long");
     fclose(file);
     uint32_t mark = mihadrena_read(source, length, MIHADRENA_PLAIN, true, (uint32_t *)records,
-                                   sizeof records / sizeof(uint32_t), text, sizeof text, values, MIHADRENA_READ_VALUES);
+                                   LONGEST_PLAN * MIHADRENA_RECORD_WORDS, text, sizeof text, values, MIHADRENA_READ_VALUES);
     expect(mark == MIHADRENA_SERVED, "mihadrena_read");
     expect(open_table() == MIHADRENA_SERVED, "mihadrena_names_open");
     ask(MIHADRENA_PLANNER, records, (size_t)values[0] / 2, source, text);

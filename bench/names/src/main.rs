@@ -58,7 +58,7 @@ fn ask_map(map: &mut HashMap<Vec<u8>, u32>, names: &[Vec<u8>]) {
     }
 }
 
-/// Names such as `Betula-pendula`, of 14.5 bytes on the average.
+/// Names such as `Betula-pendula`, of 14 bytes on the average.
 fn species(count: usize) -> Vec<Vec<u8>> {
     const GENERA: [&str; 25] = [
         "Betula", "Quercus", "Fagus", "Pinus", "Picea", "Abies", "Larix", "Acer", "Alnus", "Salix", "Populus", "Tilia",

@@ -1,4 +1,5 @@
-//! The proved functions (crates/exports), each behind a safe function. A slice is passed as a pointer and a length.
+//! The proved functions (crates/exports and others of their kind), each behind a safe function. A slice is passed as a pointer and a length.
+pub mod lines;
 
 pub mod names;
 
@@ -9,6 +10,7 @@ extern "C" {
     fn mihadrena_is_blank(code: u32) -> bool;
     fn mihadrena_put_char(code: u32, text: *mut u8, length: usize) -> usize;
     fn mihadrena_number(text: *const u8, length: usize, words: *mut u64, count: usize) -> u32;
+    fn mihadrena_number_by(choice: u32, text: *const u8, length: usize, words: *mut u64, count: usize) -> u32;
     fn mihadrena_read(
         source: *const u8,
         length: usize,
@@ -89,6 +91,14 @@ pub const ZERO_DENOMINATOR: u32 = 8;
 
 pub fn number(text: &[u8], words: &mut [u64]) -> u32 {
     unsafe { mihadrena_number(text.as_ptr(), text.len(), words.as_mut_ptr(), words.len()) }
+}
+
+/// The readers that `number_by` has: the bought one, which `number` has too, and the standard's.
+pub const BOUGHT: u32 = 0;
+pub const STANDARD: u32 = 1;
+
+pub fn number_by(choice: u32, text: &[u8], words: &mut [u64]) -> u32 {
+    unsafe { mihadrena_number_by(choice, text.as_ptr(), text.len(), words.as_mut_ptr(), words.len()) }
 }
 
 /// The words of a record, and what else `read` answers: the items were written.

@@ -1,4 +1,3 @@
 -- What the exported functions answer: the library's answers as plain numbers.
 pub mod Utf8
-pub mod Number
 pub mod Read

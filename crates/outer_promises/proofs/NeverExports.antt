@@ -13,7 +13,7 @@ use Rattle.numbers.specs.Call.{number}
 use Rattle.items.specs.Whole.{readOf}
 use Rattle.lexer.specs.Text.{textMark}
 use Rattle.exports.specs.Read.{readNumber}
-use Rattle.exports.specs.Number.{bit, numberOr}
+use Rattle.number_words.specs.Words.{bit, numberOr}
 use Rattle.exports.specs.Utf8.{goodBytes, codeOr, nextOr}
 use Rattle.outer_promises.specs.Exports.{Rows, computed, cutLambda, goodThenBad}
 

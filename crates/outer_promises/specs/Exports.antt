@@ -22,7 +22,7 @@ use Rattle.items.specs.Items.{extentItems, itemsFrom, pastLine, afterPound, ite
 use Rattle.items.specs.Whole.{Call, call, served, refused, deliver, readOf}
 use Rattle.lexer.specs.Text.{textMark}
 use Rattle.exports.specs.Read.{readNumber, readValues}
-use Rattle.exports.specs.Number.{intWords, formed, realWords, joined, partsWords, flattened, answerNumber, numberOr}
+use Rattle.number_words.specs.Words.{intWords, formed, realWords, joined, partsWords, flattened, answerNumber, numberOr}
 use Rattle.exports.specs.Utf8.{goodBytes, codeOr, nextOr}
 
 -- a call that has no memory for records and text

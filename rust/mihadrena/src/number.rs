@@ -110,8 +110,13 @@ pub fn number<S: AsRef<[u8]> + ?Sized>(text: &S) -> Result<Number<'_>, NotNumber
     // SAFETY: each pointer and length is those of a slice, and `Parts` is NUMBER_WORDS words.
     let answer =
         unsafe { raw::mihadrena_number(text.as_ptr(), text.len(), (&raw mut parts).cast(), raw::NUMBER_WORDS) };
+    told(text, answer, &parts)
+}
+
+/// What an answer and the parts that the library wrote for a text say.
+pub(crate) fn told<'a>(text: &'a [u8], answer: u32, parts: &Parts) -> Result<Number<'a>, NotNumber> {
     match answer {
-        raw::A_NUMBER => Ok(in_text(text, &parts)),
+        raw::A_NUMBER => Ok(in_text(text, parts)),
         raw::NO_NUMBER => Err(NotNumber::NoNumber),
         raw::ZERO => Err(NotNumber::ZeroDenominator),
         _ => Err(NotNumber::Refused(Refusal::of(answer, [parts.form, 0]))),

@@ -255,6 +255,16 @@ pub const DEEPEST: usize = 64;
 
 /// How many values `mihadrena_nest` writes.
 pub const NEST_VALUES: usize = 1;
+// The readers of `mihadrena_number_by`, and its refusal of any other.
+pub const BOUGHT: u32 = 0;
+pub const STANDARD: u32 = 1;
+pub const NO_CHOICE: u32 = 39;
+// Line and column.
+pub const LINES_NO_ROOM: u32 = 33;
+pub const NO_PLACE: u32 = 34;
+pub const NOT_ITS_INDEX: u32 = 48;
+pub const LINES_VALUES: usize = 2;
+pub const LINES_STATE_WORDS: usize = 8;
 
 const _: () = assert!(size_of::<Record>() == RECORD_WORDS * size_of::<u32>());
 const _: () = assert!(size_of::<State>() == STATE_SIZE && align_of::<State>() == STATE_ALIGN);
@@ -280,6 +290,13 @@ extern "C" {
     pub fn mihadrena_is_blank(code: u32) -> bool;
     pub fn mihadrena_put_char(code: u32, text: *mut u8, text_length: usize) -> usize;
     pub fn mihadrena_nest(records: *const u32, records_length: usize, nodes: *mut u32, nodes_length: usize, values: *mut u64, values_length: usize) -> u32;
+    pub fn mihadrena_number_by(choice: u32, text: *const u8, text_length: usize, words: *mut u64, words_length: usize) -> u32;
+    pub fn mihadrena_lines(text: *const u8, text_length: usize, index: *mut u32, index_length: usize, values: *mut u64, values_length: usize) -> u32;
+    pub fn mihadrena_locate(text: *const u8, text_length: usize, index: *const u32, index_length: usize, place: usize, values: *mut u64, values_length: usize) -> u32;
+    pub fn mihadrena_locate_all(text: *const u8, text_length: usize, index: *const u32, index_length: usize, places: *const u32, places_length: usize, found: *mut usize, found_length: usize, values: *mut u64, values_length: usize) -> u32;
+    pub fn mihadrena_lines_open(state: *mut u32, state_length: usize, index: *mut u32, index_length: usize);
+    pub fn mihadrena_lines_piece(state: *mut u32, state_length: usize, piece: *const u8, piece_length: usize, index: *mut u32, index_length: usize);
+    pub fn mihadrena_lines_end(state: *const u32, state_length: usize, index: *const u32, index_length: usize, values: *mut u64, values_length: usize) -> u32;
     pub fn mihadrena_coordinate(text: *const u8, text_length: usize, value: *mut f64, place: *mut u64) -> u32;
     pub fn mihadrena_record_coordinate(source: *const u8, source_length: usize, kind: u32, start: u32, end: u32, value: *mut f64, place: *mut u64) -> u32;
 }

@@ -112,7 +112,8 @@ fn header_functions() -> Declared {
         };
         let inside = &declaration[paren + 1..declaration.len() - 1];
         let parameters: Vec<String> = inside.split(',').map(rust_parameter).collect();
-        functions.insert(name.to_string(), format!("({}) -> {}", parameters.join(", "), rust_type(result)));
+        let answers = if result == "void" { String::new() } else { format!(" -> {}", rust_type(result)) };
+        functions.insert(name.to_string(), format!("({}){answers}", parameters.join(", ")));
     }
     functions
 }

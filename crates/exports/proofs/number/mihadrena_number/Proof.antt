@@ -1,6 +1,6 @@
 -- With too few words nothing is called; else the words of the answer are put, and there are as many as were asked for.
 use borrow.Author.Needs.{needs}
-use Rattle.exports.proofs.Words.{too-few, served}
+use Rattle.number_words.proofs.Words.{too-few, served}
 use Rattle.exports.proofs.number.mihadrena_number.Statement.{statement}
 use Rattle.exports.proofs.number.mihadrena_number.Tie as tie
 

@@ -1,0 +1,16 @@
+pub mod Runs
+pub mod Derived
+pub mod Sound
+pub mod Walk
+pub mod Whole
+pub mod Somewhere
+pub mod Letters
+pub mod Reals
+pub mod Odd
+pub mod WithParts
+pub mod Bought
+pub mod Low
+pub mod Compare
+pub mod Differs
+pub mod Shown
+pub mod Call

@@ -1,0 +1,3 @@
+pub mod Productions
+pub mod R7rs
+pub mod Conditions

@@ -1,0 +1,4 @@
+pub mod Left
+pub mod Stored
+pub mod Compared
+pub mod Answers

@@ -1,0 +1,56 @@
+-- By the cases of `buildOf`.
+use borrow.Author.Needs.{needs}
+use mathlib.Core.Path.{_≡_, sym, _∙_}
+use denote.Ref.{now}
+use Rattle.line_index.proofs.Answers.{builds-long, builds-bad, builds-short, builds-all}
+use Rattle.line_index.proofs.building.build.Statement.{statement}
+use Rattle.line_index.proofs.building.build.Tie as tie
+
+returns : tie.Need-returns
+returns c = builds-long (now (c .before .before .before .args .text)) (now (c .before .before .before .args .index)) (c .if1 .taken)
+
+first-bad-requires : tie.Need-first-bad-requires
+first-bad-requires c κs = search needs
+
+enum-known-at : tie.Need-enum-known-at
+enum-known-at c = search needs
+
+enum-told : tie.Need-enum-told
+enum-told c = search needs
+
+count-requires : tie.Need-count-requires
+count-requires c κs = search needs
+
+returns-2 : tie.Need-returns-2
+returns-2 c =
+    let a = c .before .before .before .before .before .before .before .before .args in
+    builds-short (now (a .text)) (now (a .index)) (c .before .before .before .before .before .if1 .left) (sym (c .before .before .before .before .first-bad .ensures) ∙ c .before .before .enum-told .given .1) (c .before .count .ensures) (c .if2 .taken)
+
+put-requires : tie.Need-put-requires
+put-requires c κs = search needs
+
+returns-3 : tie.Need-returns-3
+returns-3 c = builds-bad (now (c .before .before .before .before .before .before .before .args .text)) (now (c .before .before .before .before .before .before .before .args .index)) (c .before .before .before .before .if1 .left) (sym (c .before .before .before .first-bad .ensures) ∙ c .before .at .given .1)
+
+same-length : tie.Need-same-length
+same-length c = search needs
+
+returns-4 : tie.Need-returns-4
+returns-4 c =
+    let a = c .before .before .before .before .before .before .before .before .before .before .before .before .args in
+    builds-all (now (a .text)) (now (a .index)) (c .before .before .before .before .before .before .before .before .before .if1 .left) (sym (c .before .before .before .before .before .before .before .before .first-bad .ensures) ∙ c .before .before .before .before .before .before .enum-told .given .1) (c .before .before .before .before .before .count .ensures) (c .before .before .before .before .if2 .left) (c .before .before .put .ensures)
+
+pub build-spec : {M : Type 1} → statement M
+build-spec =
+    tie.close
+    (tie.spec
+    returns
+    first-bad-requires
+    enum-known-at
+    enum-told
+    count-requires
+    returns-2
+    put-requires
+    returns-3
+    same-length
+    returns-4)

@@ -1,0 +1,63 @@
+-- The loop keeps: what is left to store at place i leads to the memory that all starts lead to (`Storing`).
+use native.Mathlib.Omega.{arith}
+use Prim.Native.Nat.{ℕ, _+_, _-_, _*_, _≤_, _<_}
+use mathlib.Core.Path.{_≡_, refl, sym, ap, subst, _∙_}
+use denote.Ref.{now}
+use lib.ListN.{length, set, length-set}
+use Rattle.line_index.specs.Left.{Storing}
+use Rattle.line_index.proofs.Stored.{storing-start, storing-then, storing-fits, stored-all, first-fits}
+use Rattle.line_index.proofs.building.put.Statement.{statement}
+use Rattle.line_index.proofs.building.put.Tie as tie
+
+abbrev Inv-loop : tie.InvT-loop
+Inv-loop text index₀ n₀ i₀ index n i = (i ≤ length text) × Storing text index₀ 1 0 index n i
+
+abbrev μ-loop : tie.MeasureT-loop
+μ-loop text index₀ n₀ i₀ index n i = length text - i
+
+slice-write-index : tie.Need-slice-write-index Inv-loop μ-loop
+slice-write-index c = omega arith
+
+loop-holds : tie.Need-loop-holds Inv-loop μ-loop
+loop-holds c = (omega arith, storing-start (now (c .before .before .args .text)) (set (now (c .before .before .args .index)) 0 0) 1 0)
+
+sub-loop : tie.Need-sub-loop Inv-loop μ-loop
+sub-loop c = omega arith
+
+put-block-requires : tie.Need-put-block-requires Inv-loop μ-loop
+put-block-requires c κs = (omega arith, c .before .before .before .before .before .pre .0, storing-fits (now (c .before .before .before .before .before .args .text)) (set (now (c .before .before .before .before .before .args .index)) 0 0) 1 0 (c .before .before .loop .n) (c .before .before .loop .i) (c .before .before .loop .inv .1) (first-fits (now (c .before .before .before .before .before .args .text)) (now (c .before .before .before .before .before .args .index)) (c .before .before .before .before .before .pre .1)))
+
+add-i : tie.Need-add-i Inv-loop μ-loop
+add-i c = omega arith
+
+loop-less : tie.Need-loop-less Inv-loop μ-loop
+loop-less c = omega arith
+
+loop-again : tie.Need-loop-again Inv-loop μ-loop
+loop-again c = (omega arith, storing-then (now (c .before .before .before .before .before .before .before .before .args .text)) (c .before .before .before .before .before .loop .inv .1) (c .before .before .put-block .ensures))
+
+put-bytes-requires : tie.Need-put-bytes-requires Inv-loop μ-loop
+put-bytes-requires c κs = (c .before .before .loop .inv .0, omega arith, c .before .before .before .before .before .pre .0, storing-fits (now (c .before .before .before .before .before .args .text)) (set (now (c .before .before .before .before .before .args .index)) 0 0) 1 0 (c .before .before .loop .n) (c .before .before .loop .i) (c .before .before .loop .inv .1) (first-fits (now (c .before .before .before .before .before .args .text)) (now (c .before .before .before .before .before .args .index)) (c .before .before .before .before .before .pre .1)))
+
+same-length : tie.Need-same-length Inv-loop μ-loop
+same-length c = c .before .before .put-bytes .ensures .size ∙ c .before .before .before .before .before .loop .inv .1 .size ∙ length-set (now (c .before .before .before .before .before .before .before .before .args .index)) 0 0
+
+returns : tie.Need-returns Inv-loop μ-loop
+returns c = let a = c .before .before .before .before .before .before .before .before .args in stored-all (now (a .text)) (now (a .index)) (c .before .before .put-bytes .result) (length (now (a .text))) (c .before .before .before .before .before .before .before .before .pre .1) (omega arith) (storing-then (now (a .text)) (c .before .before .before .before .before .loop .inv .1) (c .before .before .put-bytes .ensures))
+
+pub put-spec : {M : Type 1} → statement M
+put-spec =
+    tie.close
+    (tie.spec
+    Inv-loop
+    μ-loop
+    slice-write-index
+    loop-holds
+    sub-loop
+    put-block-requires
+    add-i
+    loop-less
+    loop-again
+    put-bytes-requires
+    same-length
+    returns)

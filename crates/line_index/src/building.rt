@@ -1,0 +1,153 @@
+// Builds the index of a whole text: counts its line starts, then stores them, a block of bytes at a time.
+use crate::refusals::*;
+use chars::Utf8;
+use lines::Answer;
+ghost use mathlib.Core.Path.{_≡_};
+ghost use Prim.Native.Nat.{_+_, _≤_};
+ghost use lib.Dec.{eqb};
+ghost use lib.ListN.{length};
+ghost use Rattle.laws.specs.Choice.{if_then_else_};
+ghost use Rattle.laws.specs.Lent.{written};
+ghost use Rattle.items.specs.Whole.{limit};
+ghost use Rattle.lines.specs.Starts.{newline, starts, outcome, buildOf};
+ghost use Rattle.line_index.specs.Left.{left, Storing, Found, block, wide};
+
+// How many bytes are stored of at once.
+const BLOCK: usize = 16;
+
+// How many bytes are counted at once.
+const WIDE: usize = 64;
+
+// What a block holds: how many newline bytes, and the sum of their places in it, which is the place of the only one.
+struct Block {
+    count: u8,
+    places: u8,
+}
+
+// j for a newline byte, 0 for another.
+fn if_newline(b: u8, j: u8) -> u8
+    ensures { λ r. ⌜ r ≡ (if eqb b newline then j else 0) ⌝ }
+{
+    if b == NEWLINE {
+        return j;
+    }
+    0
+}
+
+// How many newline bytes stand in the wide block at a place.
+fn count_block(text: &[u8], at: usize) -> u8
+    requires { ⌜ at + wide ≤ length (now text) ⌝ }
+    ensures { λ r. ⌜ (r ≤ wide) × (length (left (now (text .entry)) at) ≡ r + length (left (now (text .entry)) (at + wide))) ⌝ }
+{
+    let mut n: u8 = 0;
+    let mut j: usize = 0;
+    while j < WIDE {
+        n += if_newline(text[at + j], 1);
+        j += 1;
+    }
+    n
+}
+
+// How many line starts a text has.
+fn count(text: &[u8]) -> usize
+    ensures { λ r. ⌜ r ≡ length (starts (now (text .entry))) ⌝ }
+{
+    let mut n: usize = 1;
+    let mut i: usize = 0;
+    while WIDE <= text.len() - i {
+        n += count_block(text, i) as usize;
+        i += WIDE;
+    }
+    while i < text.len() {
+        n += if_newline(text[i], 1) as usize;
+        i += 1;
+    }
+    n
+}
+
+// What the block at a place holds.
+fn see_block(text: &[u8], at: usize) -> Block
+    requires { ⌜ at + block ≤ length (now text) ⌝ }
+    ensures { λ r. ⌜ Found (now (text .entry)) at block (r .count) (r .places) ⌝ }
+{
+    let mut count: u8 = 0;
+    let mut places: u8 = 0;
+    let mut j: usize = 0;
+    while j < BLOCK {
+        count += if_newline(text[at + j], 1);
+        places += if_newline(text[at + j], j as u8);
+        j += 1;
+    }
+    Block { count, places }
+}
+
+// Stores the starts after the newline bytes of a part of the text, from place n of the index on; answers the place past them.
+fn put_bytes(text: &[u8], from: usize, to: usize, index: &mut [u32], n: usize) -> usize
+    requires { ⌜ (from ≤ to) × (to ≤ length (now text)) × (length (now text) ≤ limit) × (n + length (left (now text) from) ≤ length (now index)) ⌝ }
+    ensures { λ r. ⌜ Storing (now (text .entry)) (now (index .entry)) n from (now (index .exit)) r to ⌝ }
+{
+    let mut k = n;
+    let mut i = from;
+    while i < to {
+        if text[i] == NEWLINE {
+            i += 1;
+            index[k] = i as u32;
+            k += 1;
+        } else {
+            i += 1;
+        }
+    }
+    k
+}
+
+// The same of the block at a place.
+fn put_block(text: &[u8], at: usize, index: &mut [u32], n: usize) -> usize
+    requires { ⌜ (at + block ≤ length (now text)) × (length (now text) ≤ limit) × (n + length (left (now text) at) ≤ length (now index)) ⌝ }
+    ensures { λ r. ⌜ Storing (now (text .entry)) (now (index .entry)) n at (now (index .exit)) r (at + block) ⌝ }
+{
+    let seen = see_block(text, at);
+    if seen.count == 0 {
+        return n;
+    }
+    if seen.count == 1 {
+        let start = at + seen.places as usize + 1;
+        index[n] = start as u32;
+        return n + 1;
+    }
+    put_bytes(text, at, at + BLOCK, index, n)
+}
+
+// The line starts, from the start of the memory on.
+fn put(text: &[u8], index: &mut [u32])
+    requires { ⌜ (length (now text) ≤ limit) × (length (starts (now text)) ≤ length (now index)) ⌝ }
+    ensures { λ _. ⌜ now (index .exit) ≡ written (starts (now (text .entry))) (now (index .entry)) ⌝ }
+{
+    index[0] = 0;
+    let mut n: usize = 1;
+    let mut i: usize = 0;
+    while BLOCK <= text.len() - i {
+        n = put_block(text, i, index, n);
+        i += BLOCK;
+    }
+    put_bytes(text, i, text.len(), index, n);
+}
+
+// Builds the index of a whole text.
+pub fn build(text: &[u8], index: &mut [u32]) -> Answer
+    ensures { λ r. ⌜ outcome r (now (index .exit)) ≡ buildOf (now (text .entry)) (now (index .entry)) ⌝ }
+{
+    if LIMIT < text.len() {
+        return Answer::Refused(TOO_LONG, LIMIT);
+    }
+    match chars::first_bad(text) {
+        Utf8::Bad(at) => Answer::Refused(NOT_UTF8, at),
+        Utf8::Good => {
+            let n = count(text);
+            if index.len() < n {
+                return Answer::Refused(NO_ROOM, n);
+            }
+            put(text, index);
+            Answer::Served(n)
+        }
+    }
+}

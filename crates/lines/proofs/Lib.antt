@@ -1,0 +1,12 @@
+pub mod Tests
+pub mod Line
+pub mod Bounds
+pub mod Columns
+pub mod Feeding
+pub mod Joined
+pub mod Held
+pub mod Index
+pub mod Back
+pub mod Between
+pub mod Words
+pub mod Once

@@ -1,0 +1,156 @@
+-- Signed values in two words, and an answer's words put together.
+use Prim.Native.Nat.{ℕ, suc, _+_, _-_, _^_, _≤_, _<_}
+use mathlib.Core.Path.{_≡_, refl, sym, ap, _∙_}
+use mathlib.Core.Bool.{true, false}
+use mathlib.Core.List.{List, [], _∷_, _++_}
+use lib.ListN.{length, take, drop, set, length-append}
+use lib.IntN.{ℤ, pos, negsuc, natAbs, _-ℤ_}
+use lib.Signed.{ltZ}
+use mir.Syntax.{w64}
+use mir.Val.{SFits}
+use native.Mathlib.Omega.{arith}
+use native.Mathlib.Numerals.{sub-one, add-one}
+use borrow.Author.Tests.{ltb-true, lt-ltb, le-ltb}
+use borrow.Rule.Slice.PartMut.{putMid}
+use Rattle.laws.specs.Lent.{written}
+use Rattle.laws.proofs.Lent.{written-push, length-written, length-part, part-written}
+use Rattle.chars.specs.Encode.{lay}
+use Rattle.digits.specs.declared.Int.{Int}
+use Rattle.digits.specs.declared.Int.the-variants.{Small, Big}
+use Rattle.numbers.specs.declared.Real.{Real}
+use Rattle.numbers.specs.declared.Real.the-variants.{Integer, Rational, Decimal, PosInf, NegInf, PosNan, NegNan, ImpliedZero, ImpliedOne}
+use Rattle.numbers.specs.declared.Parts.{Parts}
+use Rattle.numbers.specs.declared.Parts.the-variants.{Just, Complex, Polar}
+use Rattle.numbers.specs.Call.{Answer, parts, noNumber, error, refused}
+use Rattle.number_words.specs.declared.Flat.{Flat}
+use Rattle.number_words.specs.declared.Flattened.{Flattened}
+use Rattle.number_words.specs.Words.{minus, value, intWords, formed, realWords, joined, partsWords, flattened, answerNumber, numberOr, figure, real, answer}
+
+-- -1 less a negative value is its magnitude less 1
+less : (n : ℕ) → negsuc 0 -ℤ negsuc n ≡ pos n
+less n = simp (le-ltb (suc n) 1 (omega arith), sub-one)
+
+-- what the test of its sign says of a value v that 64 bits hold
+pub record Negative (v : ℤ) : Type 0 where
+  pub below : ℕ
+  pub is : v ≡ negsuc below
+  pub less : negsuc 0 -ℤ v ≡ pos below
+  pub fits : below < 2 ^ 63
+
+pub negative : (v : ℤ) → SFits w64 v → ltZ v (pos 0) ≡ true → Negative v
+negative (pos n) s e = absurd (omega (arith, ltb-true n 0 e))
+negative (negsuc n) s e = record { below = n; is = refl; less = less n; fits = s .sfits }
+
+pub magnitude-of : (v : ℤ) (n : Negative v) {m : ℕ} → m ≡ n .below → m + 1 ≡ natAbs v
+magnitude-of v n e = ap (λ (m : ℕ). m + 1) e ∙ add-one (n .below) ∙ sym (ap natAbs (n .is))
+
+pub record Positive (v : ℤ) : Type 0 where
+  pub value : ℕ
+  pub is : v ≡ pos value
+  pub fits : value < 2 ^ 63
+
+pub positive : (v : ℤ) → SFits w64 v → ltZ v (pos 0) ≡ false → Positive v
+positive (pos n) s e = record { value = n; is = refl; fits = s .sfits }
+positive (negsuc n) s e = absurd (let z : _≡_ {A = ℕ} 0 1 = cc in omega arith)
+
+pub value-is : (v : ℤ) {m a : ℕ} → m ≡ minus v → a ≡ natAbs v → 1 ∷ m ∷ a ∷ 0 ∷ [] ≡ value v
+value-is v {m} {a} e f = ap (λ (x : ℕ). 1 ∷ x ∷ a ∷ 0 ∷ []) e ∙ ap (λ (x : ℕ). 1 ∷ minus v ∷ x ∷ 0 ∷ []) f
+
+-- the structs' words
+pub real-is : (r : Flat) (a b c : List ℕ) → figure (r .one) ≡ a → figure (r .two) ≡ b → figure (r .three) ≡ c → real r ≡ formed (r .form) a b c
+unfolding real
+real-is r a b c e f g =
+    ap (λ (x : List ℕ). formed (r .form) x (figure (r .two)) (figure (r .three))) e
+    ∙ ap (λ (x : List ℕ). formed (r .form) a x (figure (r .three))) f
+    ∙ ap (λ (x : List ℕ). formed (r .form) a b x) g
+
+pub answer-is : (w : Flattened) (a b : List ℕ) → real (w .one) ≡ a → real (w .two) ≡ b → answer w ≡ joined (w .first) a b
+unfolding answer
+answer-is w a b e f = ap (λ (x : List ℕ). joined (w .first) x (real (w .two))) e ∙ ap (λ (x : List ℕ). joined (w .first) a x) f
+
+-- every answer has as many words
+length-int : (n : Int) → length (intWords n) ≡ 4
+unfolding intWords
+length-int (Small v) = refl
+length-int (Big neg d) = refl
+
+length-real : (a : Real) → length (realWords a) ≡ 13
+unfolding realWords formed
+length-real (Integer n) = simp (length-append, length-int n)
+length-real (Rational n d) = simp (length-append, length-int n, length-int d)
+length-real (Decimal d) = refl
+length-real PosInf = refl
+length-real NegInf = refl
+length-real PosNan = refl
+length-real NegNan = refl
+length-real ImpliedZero = refl
+length-real (ImpliedOne neg) = refl
+
+length-parts : (p : Parts) → length (partsWords p) ≡ 27
+unfolding partsWords joined formed
+length-parts (Just a) = simp (length-append, length-real a)
+length-parts (Complex a b) = simp (length-append, length-real a, length-real b)
+length-parts (Polar a b) = simp (length-append, length-real a, length-real b)
+
+length-flattened : (a : Answer) → length (flattened a) ≡ 27
+unfolding flattened joined formed
+length-flattened (parts p) = length-parts p
+length-flattened noNumber = refl
+length-flattened (error n) = refl
+length-flattened (refused n v) = refl
+
+-- words are laid where there is room for all of them
+module _ (w memory : List ℕ) where
+  pub laid-none : length memory < length w → memory ≡ lay w memory
+  unfolding lay
+  laid-none h = simp (lt-ltb (length memory) (length w) h)
+
+  pub laid-all : {now : List ℕ} → length w ≤ length memory → now ≡ written w memory → now ≡ lay w memory
+  unfolding lay
+  laid-all h e = simp (le-ltb (length memory) (length w) h) e
+
+module _ (a : Answer) (memory : List ℕ) where
+  pub too-few : length memory < 27 → (22 ≡ numberOr memory a) × (memory ≡ lay (flattened a) memory)
+  too-few h =
+      (simp (length-flattened a, lt-ltb (length memory) 27 h), laid-none (flattened a) memory (omega (arith, length-flattened a)))
+
+  pub served : {b : Answer} {n : ℕ} {l now : List ℕ} → 27 ≤ length memory → b ≡ a → n ≡ answerNumber b → l ≡ flattened b → now ≡ written l memory
+      → (n ≡ numberOr memory a) × (now ≡ lay (flattened a) memory)
+  served h e f g k = (
+    rw (f, e) (simp (length-flattened a, le-ltb (length memory) 27 h)),
+    laid-all (flattened a) memory (omega (arith, length-flattened a)) (rw (k, g, e)),
+  )
+
+-- the words put one part after the other: the first, then the reals
+module _ (old : List ℕ) (x : ℕ) (h : 27 ≤ length old) where
+  abbrev first : List ℕ
+  first = set old 0 x
+
+  first-put : first ≡ written (x ∷ []) old
+  first-put = written-push [] old x (omega arith)
+
+  module _ (r : Flat) (last : List ℕ) (e : last ≡ written (real r) (take (length first - 1) (drop 1 first))) where
+    abbrev second : List ℕ
+    second = putMid 1 (length first - 1) first last
+
+    second-put : second ≡ written (x ∷ real r) old
+    second-put = part-written (x ∷ []) (real r) old first-put refl (omega arith) e
+
+    length-second : length second ≡ length old
+    unfolding real formed
+    length-second = rw second-put (length-written (x ∷ real r) old (omega arith))
+
+    pub second-in : 14 ≤ length second
+    second-in = omega (arith, length-second)
+
+    pub second-room : 13 ≤ length (take (length second - 14) (drop 14 second))
+    second-room = rw (length-part second 14) (omega (arith, length-second))
+
+    module _ (q : Flat) (end : List ℕ) (f : end ≡ written (real q) (take (length second - 14) (drop 14 second))) where
+      pub third-put : putMid 14 (length second - 14) second end ≡ written ((x ∷ real r) ++ real q) old
+      unfolding real formed
+      third-put = part-written (x ∷ real r) (real q) old second-put refl (omega arith) f
+
+      pub length-third : length (putMid 14 (length second - 14) second end) ≡ length old
+      unfolding real formed
+      length-third = rw third-put (length-written ((x ∷ real r) ++ real q) old (omega arith))

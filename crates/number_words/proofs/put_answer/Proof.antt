@@ -1,0 +1,32 @@
+-- The first word is stored, and each real is put into the part of the words that is still free.
+use lib.ListN.{length-set}
+use native.Mathlib.Omega.{arith}
+use borrow.Author.Needs.{needs}
+use denote.Ref.{now}
+use Rattle.laws.proofs.Lent.{length-part}
+use Rattle.number_words.specs.Words.{joined, answer}
+use Rattle.number_words.proofs.Words.{second-in, second-room, third-put, length-third}
+use Rattle.number_words.proofs.put_answer.Statement.{statement}
+use Rattle.number_words.proofs.put_answer.Tie as tie
+
+returns : tie.Need-returns
+unfolding joined answer
+returns c =
+    third-put (now (c .before .before .before .before .before .before .before .before .before .args .words)) (c .before .before .before .before .before .before .before .before .before .args .w .first) (c .before .before .before .before .before .before .before .before .before .pre) _ _
+    (c .before .before .before .before .before .before .put-real .ensures) _ _ (c .before .before .put-real2 .ensures)
+
+pub put-answer-spec : {M : Type 1} → statement M
+put-answer-spec =
+    tie.close
+    (tie.spec
+    (λ c. search needs)
+    (λ c. simp length-set (omega arith))
+    (λ c. simp length-set (omega arith))
+    (λ c. search needs)
+    (λ c κs. rw (length-part _ 1) (simp length-set (omega arith)))
+    (λ c. second-in (now (c .before .before .before .before .before .args .words)) (c .before .before .before .before .before .args .w .first) (c .before .before .before .before .before .pre) _ _ (c .before .before .put-real .ensures))
+    (λ c. second-in (now (c .before .before .before .before .before .args .words)) (c .before .before .before .before .before .args .w .first) (c .before .before .before .before .before .pre) _ _ (c .before .before .put-real .ensures))
+    (λ c. search needs)
+    (λ c κs. second-room (now (c .before .before .before .before .before .before .args .words)) (c .before .before .before .before .before .before .args .w .first) (c .before .before .before .before .before .before .pre) _ _ (c .before .before .before .put-real .ensures))
+    (λ c. length-third (now (c .before .before .before .before .before .before .before .before .before .args .words)) (c .before .before .before .before .before .before .before .before .before .args .w .first) (c .before .before .before .before .before .before .before .before .before .pre) _ _ (c .before .before .before .before .before .before .put-real .ensures) _ _ (c .before .before .put-real2 .ensures))
+    returns)

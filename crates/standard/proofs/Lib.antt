@@ -1,0 +1,4 @@
+pub mod Letters
+pub mod RealParts
+pub mod Cuts
+pub mod Call

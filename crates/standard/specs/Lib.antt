@@ -1,0 +1,5 @@
+pub mod Characters
+pub mod Reals
+pub mod Grammar
+pub mod Call
+pub mod Examples

@@ -1,0 +1,25 @@
+-- With too few words nothing is called; else the words of the answer are put, and there are as many as were asked for.
+use borrow.Author.Needs.{needs}
+use Rattle.number_words.proofs.Words.{too-few, served}
+use Rattle.standard_exports.proofs.mihadrena_number_by.Statement.{statement}
+use Rattle.standard_exports.proofs.mihadrena_number_by.Tie as tie
+
+returns : tie.Need-returns
+returns c = too-few _ _ (c .if1 .taken)
+
+returns-2 : tie.Need-returns-2
+returns-2 c =
+    served _ _ (c .before .before .before .before .before .before .if1 .left) (c .before .before .before .before .before .number-by .ensures)
+    (c .before .before .before .before .choice-words .ensures .0) (c .before .before .before .before .choice-words .ensures .1)
+    (c .before .before .put-answer .ensures)
+
+pub mihadrena-number-by-spec : {M : Type 1} → statement M
+mihadrena-number-by-spec =
+    tie.close
+    (tie.spec
+    returns
+    (λ c κs. search needs)
+    (λ c κs. search needs)
+    (λ c κs. search needs)
+    (λ c. search needs)
+    returns-2)
