@@ -395,6 +395,62 @@ bool mihadrena_is_blank(uint32_t code);
  */
 size_t mihadrena_put_char(uint32_t code, uint8_t *text, size_t text_length);
 
+/* -- Nested lists ------------------------------------------------------------------------------------------------------------- */
+
+/* A node: a datum of R7RS 7.1.2. A datum that #; drops, a comment and a dot leave none. */
+typedef struct mihadrena_node {
+    uint32_t kind;    /* MIHADRENA_NODE_BOOLEAN and so on */
+    uint32_t item;    /* the number of the record that it starts with */
+    uint32_t beneath; /* how many nodes lie beneath it: they follow it, and its next sibling follows them */
+} mihadrena_node;
+
+/* How many words a node has. */
+#define MIHADRENA_NODE_WORDS 3
+
+MIHADRENA_ASSERT(sizeof(mihadrena_node) == 4 * MIHADRENA_NODE_WORDS, "a node is 3 words");
+
+/* The kinds of nodes, each with the smallest text that makes it. */
+#define MIHADRENA_NODE_BOOLEAN 0     /* #t */
+#define MIHADRENA_NODE_NUMBER 1      /* 1 */
+#define MIHADRENA_NODE_CHARACTER 2   /* #\a */
+#define MIHADRENA_NODE_STRING 3      /* "" */
+#define MIHADRENA_NODE_SYMBOL 4      /* a: an identifier, a keyword, or a word such as if */
+#define MIHADRENA_NODE_LIST 5        /* () */
+#define MIHADRENA_NODE_DOTTED_LIST 6 /* (a . a): its data and last the one behind the dot lie beneath it */
+#define MIHADRENA_NODE_VECTOR 7      /* #() */
+#define MIHADRENA_NODE_BYTE_LIST 8   /* #u8() */
+#define MIHADRENA_NODE_MARK 9        /* 'a: a quoting mark, its datum lies beneath it; its item tells which of the eight */
+
+/* What mihadrena_nest refuses, at the first record that rules a reading out. It comes with that record's number, at the end with how many
+ * records there are, and MIHADRENA_FEW_NODES with 0. Where several hold, 48, 45, 43, 42, 41, 40 and 44 are tried in this order; 46 is last. */
+#define MIHADRENA_BRACKET_OPEN 40  /* the end with a bracket open: ( */
+#define MIHADRENA_WRONG_CLOSE 41   /* a wrong or stray close: ) */
+#define MIHADRENA_MISPLACED_DOT 42 /* a dot outside a list, a second one, or one without data on both sides: . */
+#define MIHADRENA_MARK_WAITS 43    /* a close, a dot or the end where a mark waits for its datum: ' */
+#define MIHADRENA_TOO_DEEP 44      /* a bracket, a mark or #; inside MIHADRENA_DEEPEST others */
+#define MIHADRENA_ERROR_ITEM 45    /* an error: ## */
+#define MIHADRENA_FEW_NODES 46     /* the nodes do not fit */
+#define MIHADRENA_ALIEN 48         /* a kind or a detail that no record has */
+
+#define MIHADRENA_DEEPEST 64
+
+/* How many values mihadrena_nest writes. */
+#define MIHADRENA_NEST_VALUES 1
+
+/* Builds the nodes of records: they go to `nodes`, MIHADRENA_NODE_WORDS words each, from the front on.
+ *
+ * MIHADRENA_SERVED: values[0] is how many nodes were written; all memory behind them stays as it was. A refused call writes no node, and
+ * values[0] is what it comes with. With no room for a value none is written. There are never more nodes than records.
+ *
+ *     // records of (a), from mihadrena_read
+ *     mihadrena_node nodes[3];
+ *     uint64_t values[MIHADRENA_NEST_VALUES];
+ *     uint32_t answer = mihadrena_nest((const uint32_t *)records, 3 * MIHADRENA_RECORD_WORDS, (uint32_t *)nodes, 3 * MIHADRENA_NODE_WORDS,
+ *                                      values, MIHADRENA_NEST_VALUES);
+ *     // answer == MIHADRENA_SERVED, values[0] == 2, nodes[0] is { MIHADRENA_NODE_LIST, 0, 1 }, nodes[1] is { MIHADRENA_NODE_SYMBOL, 1, 0 }
+ */
+uint32_t mihadrena_nest(const uint32_t *records, size_t records_length, uint32_t *nodes, size_t nodes_length, uint64_t *values,
+                        size_t values_length);
 /* -- The parts of a number by a choice of reader ------------------------------------------------------------------------------- */
 
 /* The readers. They differ on the texts of docs/DIFFERENCES.md's three conditions alone. */

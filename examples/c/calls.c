@@ -120,6 +120,29 @@ static void characters(void)
     expect(mihadrena_put_char(0xE9, text, 4) == 2 && memcmp(text, "\xc3\xa9\0", 4) == 0, "mihadrena_put_char");
 }
 
+static void nest(void)
+{
+    const uint8_t source[] = "(a)";
+    mihadrena_record records[3];
+    mihadrena_node nodes[3];
+    uint8_t text[4];
+    uint64_t values[MIHADRENA_READ_VALUES];
+    uint32_t answer = mihadrena_read(source, sizeof source - 1, MIHADRENA_PLAIN, false, (uint32_t *)records,
+                                     3 * MIHADRENA_RECORD_WORDS, text, sizeof text, values, MIHADRENA_READ_VALUES);
+    expect(answer == MIHADRENA_SERVED && values[0] == 3, "mihadrena_read, a list");
+    answer = mihadrena_nest((const uint32_t *)records, 3 * MIHADRENA_RECORD_WORDS, (uint32_t *)nodes, 3 * MIHADRENA_NODE_WORDS, values,
+                            MIHADRENA_NEST_VALUES);
+    expect(answer == MIHADRENA_SERVED && values[0] == 2, "mihadrena_nest");
+    expect(nodes[0].kind == MIHADRENA_NODE_LIST && nodes[0].item == 0 && nodes[0].beneath == 1 &&
+               nodes[1].kind == MIHADRENA_NODE_SYMBOL && nodes[1].item == 1 && nodes[1].beneath == 0,
+           "mihadrena_nest, the nodes");
+    answer = mihadrena_nest((const uint32_t *)records, 2 * MIHADRENA_RECORD_WORDS, (uint32_t *)nodes, 3 * MIHADRENA_NODE_WORDS, values,
+                            MIHADRENA_NEST_VALUES);
+    expect(answer == MIHADRENA_BRACKET_OPEN && values[0] == 2, "mihadrena_nest, a bracket open");
+    answer = mihadrena_nest((const uint32_t *)records, 3 * MIHADRENA_RECORD_WORDS, (uint32_t *)nodes, MIHADRENA_NODE_WORDS, values, 0);
+    expect(answer == MIHADRENA_FEW_NODES && values[0] == 2, "mihadrena_nest, few nodes");
+}
+
 int main(void)
 {
     read_and_text();
@@ -127,6 +150,7 @@ int main(void)
     states();
     number();
     characters();
+    nest();
     puts("the header's calls: ok");
     return EXIT_SUCCESS;
 }

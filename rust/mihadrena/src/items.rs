@@ -170,7 +170,8 @@ impl<'a> Items<'a> {
         self.records.as_slice()
     }
 
-    fn item(&self, record: &Record) -> Item<'a> {
+    /// The item of one of the records.
+    pub(crate) fn item(&self, record: &Record) -> Item<'a> {
         let text = match record.text_source {
             raw::IN_MEMORY => &self.text[record.text_start as usize..record.text_end as usize],
             raw::IN_SOURCE => &self.source[record.text_start as usize..record.text_end as usize],

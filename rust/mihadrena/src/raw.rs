@@ -213,6 +213,48 @@ pub const CODE_BAD: u32 = 0x110000;
 pub const CODE_CUT: u32 = 0x110001;
 pub const CODE_END: u32 = 0x110002;
 
+/// How many words a node has.
+pub const NODE_WORDS: usize = 3;
+
+/// A node: a datum of a text.
+#[repr(C)]
+#[derive(Clone, Copy, Debug, Default, PartialEq, Eq, Hash)]
+pub struct Node {
+    /// `NODE_BOOLEAN` and so on.
+    pub kind: u32,
+    /// The number of the record that it starts with.
+    pub item: u32,
+    /// How many nodes lie beneath it: they follow it, and its next sibling follows them.
+    pub beneath: u32,
+}
+
+// The kinds of nodes.
+pub const NODE_BOOLEAN: u32 = 0;
+pub const NODE_NUMBER: u32 = 1;
+pub const NODE_CHARACTER: u32 = 2;
+pub const NODE_STRING: u32 = 3;
+pub const NODE_SYMBOL: u32 = 4;
+pub const NODE_LIST: u32 = 5;
+pub const NODE_DOTTED_LIST: u32 = 6;
+pub const NODE_VECTOR: u32 = 7;
+pub const NODE_BYTE_LIST: u32 = 8;
+pub const NODE_MARK: u32 = 9;
+
+// What `mihadrena_nest` refuses.
+pub const BRACKET_OPEN: u32 = 40;
+pub const WRONG_CLOSE: u32 = 41;
+pub const MISPLACED_DOT: u32 = 42;
+pub const MARK_WAITS: u32 = 43;
+pub const TOO_DEEP: u32 = 44;
+pub const ERROR_ITEM: u32 = 45;
+pub const FEW_NODES: u32 = 46;
+pub const ALIEN: u32 = 48;
+
+/// How many brackets, marks and `#;` may lie inside one another.
+pub const DEEPEST: usize = 64;
+
+/// How many values `mihadrena_nest` writes.
+pub const NEST_VALUES: usize = 1;
 // The readers of `mihadrena_number_by`, and its refusal of any other.
 pub const BOUGHT: u32 = 0;
 pub const STANDARD: u32 = 1;
@@ -228,6 +270,7 @@ const _: () = assert!(size_of::<Record>() == RECORD_WORDS * size_of::<u32>());
 const _: () = assert!(size_of::<State>() == STATE_SIZE && align_of::<State>() == STATE_ALIGN);
 const _: () = assert!(size_of::<Told>() == PIECE_VALUES * size_of::<u64>());
 const _: () = assert!(size_of::<Parts>() == NUMBER_WORDS * size_of::<u64>());
+const _: () = assert!(size_of::<Node>() == NODE_WORDS * size_of::<u32>());
 
 // What the coordinate calls answer beside `SERVED`, `TOO_LONG` and `NOT_UTF8`.
 pub const NO_EXTENT: u32 = 27;
@@ -246,6 +289,7 @@ extern "C" {
     pub fn mihadrena_next_at(text: *const u8, text_length: usize, at: usize) -> usize;
     pub fn mihadrena_is_blank(code: u32) -> bool;
     pub fn mihadrena_put_char(code: u32, text: *mut u8, text_length: usize) -> usize;
+    pub fn mihadrena_nest(records: *const u32, records_length: usize, nodes: *mut u32, nodes_length: usize, values: *mut u64, values_length: usize) -> u32;
     pub fn mihadrena_number_by(choice: u32, text: *const u8, text_length: usize, words: *mut u64, words_length: usize) -> u32;
     pub fn mihadrena_lines(text: *const u8, text_length: usize, index: *mut u32, index_length: usize, values: *mut u64, values_length: usize) -> u32;
     pub fn mihadrena_locate(text: *const u8, text_length: usize, index: *const u32, index_length: usize, place: usize, values: *mut u64, values_length: usize) -> u32;

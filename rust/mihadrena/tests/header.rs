@@ -158,6 +158,7 @@ fn every_struct_is_the_headers() {
         ("figure", "Figure"),
         ("real", "Real"),
         ("parts", "Parts"),
+        ("node", "Node"),
     ];
     for (c, rust) in structs {
         assert_eq!(header_fields(c), raw_fields(rust), "{rust}");

@@ -1,0 +1,137 @@
+/* Writes a line for each text of up to N tokens: the text, a tab, and its data as `mihadrena_nest` gives them, or ! for a refusal.
+ *
+ *     ours N
+ *
+ * Data are written as a Scheme has them: (a . (b)) is (a b), and 'a is (quote a).
+ */
+#include <stdio.h>
+#include <stdlib.h>
+#include <string.h>
+
+#include "mihadrena.h"
+
+static const char *const TOKENS[] = {"(", ")", "[", "]", "#(", "'", ",@", "#;", ".", "a"};
+
+enum { TOKEN_COUNT = sizeof TOKENS / sizeof *TOKENS, LONGEST_TEXT = 64 };
+
+static mihadrena_record records[LONGEST_TEXT];
+static mihadrena_node nodes[LONGEST_TEXT];
+
+static void data(size_t from, size_t to);
+static void dotted(size_t list);
+
+static size_t past(size_t node)
+{
+    return node + 1 + nodes[node].beneath;
+}
+
+static const char *mark(size_t node)
+{
+    return records[nodes[node].item].kind == MIHADRENA_QUOTE_TICK ? "quote" : "unquote-splicing";
+}
+
+/* The datum behind a dot: what is a list there goes on with the list that it ends. */
+static void tail(size_t node)
+{
+    switch (nodes[node].kind) {
+    case MIHADRENA_NODE_LIST:
+        if (nodes[node].beneath > 0)
+            printf(" ");
+        data(node + 1, past(node));
+        break;
+    case MIHADRENA_NODE_DOTTED_LIST:
+        printf(" ");
+        dotted(node);
+        break;
+    case MIHADRENA_NODE_MARK:
+        printf(" %s ", mark(node));
+        data(node + 1, past(node));
+        break;
+    default:
+        printf(" . ");
+        data(node, past(node));
+    }
+}
+
+/* The children of a dotted list, the last one behind the dot. */
+static void dotted(size_t list)
+{
+    size_t node = list + 1;
+    for (; past(node) < past(list); node = past(node)) {
+        if (node > list + 1)
+            printf(" ");
+        data(node, past(node));
+    }
+    tail(node);
+}
+
+static void datum(size_t node)
+{
+    switch (nodes[node].kind) {
+    case MIHADRENA_NODE_SYMBOL:
+        printf("a");
+        break;
+    case MIHADRENA_NODE_LIST:
+    case MIHADRENA_NODE_VECTOR:
+        printf(nodes[node].kind == MIHADRENA_NODE_LIST ? "(" : "#(");
+        data(node + 1, past(node));
+        printf(")");
+        break;
+    case MIHADRENA_NODE_DOTTED_LIST:
+        printf("(");
+        dotted(node);
+        printf(")");
+        break;
+    case MIHADRENA_NODE_MARK:
+        printf("(%s ", mark(node));
+        data(node + 1, past(node));
+        printf(")");
+        break;
+    default:
+        abort();
+    }
+}
+
+static void data(size_t from, size_t to)
+{
+    for (size_t node = from; node < to; node = past(node)) {
+        if (node > from)
+            printf(" ");
+        datum(node);
+    }
+}
+
+static void line(const char *text)
+{
+    uint8_t memory[LONGEST_TEXT];
+    uint64_t values[MIHADRENA_READ_VALUES];
+    printf("%s\t", text);
+    if (mihadrena_read((const uint8_t *)text, strlen(text), MIHADRENA_PLAIN, false, (uint32_t *)records,
+                       LONGEST_TEXT * MIHADRENA_RECORD_WORDS, memory, sizeof memory, values, MIHADRENA_READ_VALUES) != MIHADRENA_SERVED)
+        abort();
+    uint32_t answer = mihadrena_nest((const uint32_t *)records, values[0] * MIHADRENA_RECORD_WORDS, (uint32_t *)nodes,
+                                     LONGEST_TEXT * MIHADRENA_NODE_WORDS, values, MIHADRENA_NEST_VALUES);
+    if (answer == MIHADRENA_SERVED)
+        data(0, values[0]);
+    else
+        printf("!");
+    printf("\n");
+}
+
+/* All texts that start with `text`, of which `length` bytes are there, and have up to `left` tokens more. */
+static void lines(char *text, size_t length, int left)
+{
+    text[length] = '\0';
+    line(text);
+    if (left == 0)
+        return;
+    for (int token = 0; token < TOKEN_COUNT; token++)
+        lines(text, length + (size_t)sprintf(text + length, "%s ", TOKENS[token]), left - 1);
+}
+
+int main(int count, char **words)
+{
+    char text[LONGEST_TEXT];
+    lines(text, 0, count > 1 ? atoi(words[1]) : 4);
+    return EXIT_SUCCESS;
+}

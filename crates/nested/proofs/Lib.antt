@@ -1,0 +1,11 @@
+pub mod Steps
+pub mod Complete
+pub mod Places
+pub mod Memory
+pub mod Turns
+pub mod Loops
+pub mod Sound
+pub mod First
+pub mod InOrder
+pub mod Exactly
+pub mod Shape

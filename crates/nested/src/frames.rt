@@ -1,0 +1,104 @@
+// What the frame of a level becomes with what was read in it.
+use crate::Frame;
+use crate::Read;
+use crate::Turn;
+use crate::nodes;
+use items::kinds;
+ghost use mathlib.Core.Path.{_≡_};
+ghost use mathlib.Core.Bool.{true, false};
+ghost use Rattle.nested.specs.Grammar.{kindOf};
+ghost use Rattle.nested.specs.Reader.{pointed, nodeKind};
+ghost use Rattle.nested.specs.Said.{dropping, heldOf, tookOf, skippedOf};
+
+// The frame after a dot.
+pub fn pointed_at(f: Frame) -> Frame
+    ensures { λ r. ⌜ r ≡ pointed f ⌝ }
+{
+    match f {
+        Frame::Plan => Frame::Plan,
+        Frame::Quoting => Frame::Quoting,
+        Frame::Dropping => Frame::Dropping,
+        Frame::Fresh(s) => Frame::Dotted(s),
+        Frame::Holds(s) => Frame::Dotted(s),
+        Frame::Dotted(s) => Frame::Dotted(s),
+        Frame::Tailed(s) => Frame::Tailed(s),
+    }
+}
+
+// What a frame does that got a datum: a mark and `#;` are thereby shut. Reading goes on at record p and node w.
+pub fn held(f: Frame, p: usize, w: usize) -> Turn
+    ensures { λ r. ⌜ r ≡ heldOf f p w ⌝ }
+{
+    match f {
+        Frame::Plan => Turn::On(p, w, Frame::Plan),
+        Frame::Quoting => Turn::Shut(p, w),
+        Frame::Dropping => Turn::Shut(p, w),
+        Frame::Fresh(s) => Turn::On(p, w, Frame::Holds(s)),
+        Frame::Holds(s) => Turn::On(p, w, Frame::Holds(s)),
+        Frame::Dotted(s) => Turn::On(p, w, Frame::Tailed(s)),
+        Frame::Tailed(s) => Turn::On(p, w, Frame::Tailed(s)),
+    }
+}
+
+// The kind of the node that a bracket without a dot gives.
+fn shape_kind(s: u32) -> u32
+    ensures { λ r. ⌜ r ≡ kindOf s ⌝ }
+{
+    if s < kinds::VECTOR {
+        return nodes::LIST;
+    }
+    if s == kinds::VECTOR {
+        return nodes::VECTOR;
+    }
+    nodes::BYTE_LIST
+}
+
+// The kind of the node that a level gives.
+pub fn node_kind(f: Frame) -> u32
+    ensures { λ r. ⌜ r ≡ nodeKind f ⌝ }
+{
+    match f {
+        Frame::Plan => nodes::NO_KIND,
+        Frame::Quoting => nodes::MARK,
+        Frame::Dropping => nodes::NO_KIND,
+        Frame::Fresh(s) => shape_kind(s),
+        Frame::Holds(s) => shape_kind(s),
+        Frame::Dotted(_s) => nodes::DOTTED_LIST,
+        Frame::Tailed(_s) => nodes::DOTTED_LIST,
+    }
+}
+
+// Whether `#;` opened the level.
+pub fn is_dropping(f: Frame) -> bool
+    ensures { λ r. ⌜ r ≡ dropping f ⌝ }
+{
+    match f {
+        Frame::Plan => false,
+        Frame::Quoting => false,
+        Frame::Dropping => true,
+        Frame::Fresh(_s) => false,
+        Frame::Holds(_s) => false,
+        Frame::Dotted(_s) => false,
+        Frame::Tailed(_s) => false,
+    }
+}
+
+// What a frame makes of a datum that was read in it.
+pub fn took(f: Frame, d: Read) -> Turn
+    ensures { λ r. ⌜ r ≡ tookOf f d ⌝ }
+{
+    match d {
+        Read::Got(p, v) => held(f, p, v),
+        Read::Failed(n, p) => Turn::Stop(n, p),
+    }
+}
+
+// What a frame makes of a datum that was dropped: it stays, and so does the node w.
+pub fn skipped(f: Frame, w: usize, d: Read) -> Turn
+    ensures { λ r. ⌜ r ≡ skippedOf f w d ⌝ }
+{
+    match d {
+        Read::Got(p, _v) => Turn::On(p, w, f),
+        Read::Failed(n, p) => Turn::Stop(n, p),
+    }
+}

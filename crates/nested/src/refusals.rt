@@ -1,0 +1,155 @@
+// The refusals, and which of them a record meets in a frame. Where several hold, the number is the first in the order ALIEN, ERROR_ITEM,
+// MARK_WAITS, MISPLACED_DOT, WRONG_CLOSE, BRACKET_OPEN, TOO_DEEP.
+use crate::Class;
+use crate::Frame;
+use items::kinds;
+ghost use mathlib.Core.Path.{_≡_};
+ghost use Rattle.nested.specs.Grammar;
+ghost use Rattle.nested.specs.Reader.{tailed, starting, closing, dotting, ending, wrong};
+
+// no refusal
+pub const NONE: u32 = 0;
+
+// the end with a bracket open: (
+pub const BRACKET_OPEN: u32 = 40;
+
+// a wrong or stray close: )
+pub const WRONG_CLOSE: u32 = 41;
+
+// a dot outside a round, square or curly list, a second one, or one without data on both sides: .
+pub const MISPLACED_DOT: u32 = 42;
+
+// a close, a dot or the end where a mark waits for its datum: '
+pub const MARK_WAITS: u32 = 43;
+
+// a level inside 64 others
+pub const TOO_DEEP: u32 = 44;
+
+// an error item: ##
+pub const ERROR_ITEM: u32 = 45;
+
+// the nodes do not fit
+pub const NO_ROOM: u32 = 46;
+
+// a kind or a detail that the layout does not have
+pub const ALIEN: u32 = 48;
+
+// How many levels may lie inside one another.
+const DEEPEST: usize = 64;
+
+// The bracket that closes what this one opens; vectors and byte lists are round.
+fn closer_of(s: u32) -> u32
+    ensures { λ r. ⌜ r ≡ Rattle.nested.specs.Grammar.closer s ⌝ }
+{
+    if s < kinds::VECTOR { s } else { kinds::ROUND }
+}
+
+// A level opens inside so many.
+fn deep_at(depth: usize) -> u32
+    ensures { λ r. ⌜ r ≡ Rattle.nested.specs.Reader.deep depth ⌝ }
+{
+    if depth < DEEPEST { NONE } else { TOO_DEEP }
+}
+
+// A datum starts: refused if it is the second one after a dot.
+fn tailed_at(f: Frame) -> u32
+    ensures { λ r. ⌜ r ≡ tailed f ⌝ }
+{
+    match f {
+        Frame::Plan => NONE,
+        Frame::Quoting => NONE,
+        Frame::Dropping => NONE,
+        Frame::Fresh(_s) => NONE,
+        Frame::Holds(_s) => NONE,
+        Frame::Dotted(_s) => NONE,
+        Frame::Tailed(_s) => MISPLACED_DOT,
+    }
+}
+
+// A datum starts that opens a level.
+fn starting_at(f: Frame, depth: usize) -> u32
+    ensures { λ r. ⌜ r ≡ starting f depth ⌝ }
+{
+    let n = tailed_at(f);
+    if n == NONE { deep_at(depth) } else { n }
+}
+
+// A close in an open bracket.
+fn fits_close(b: u32, s: u32) -> u32
+    ensures { λ r. ⌜ r ≡ closing b (Frame.Fresh s) ⌝ }
+{
+    if b == closer_of(s) { NONE } else { WRONG_CLOSE }
+}
+
+// A close in any frame.
+fn closing_at(b: u32, f: Frame) -> u32
+    ensures { λ r. ⌜ r ≡ closing b f ⌝ }
+{
+    match f {
+        Frame::Plan => WRONG_CLOSE,
+        Frame::Quoting => MARK_WAITS,
+        Frame::Dropping => MARK_WAITS,
+        Frame::Fresh(s) => fits_close(b, s),
+        Frame::Holds(s) => fits_close(b, s),
+        Frame::Dotted(_s) => MISPLACED_DOT,
+        Frame::Tailed(s) => fits_close(b, s),
+    }
+}
+
+// The first dot of a bracket that holds data.
+fn first_dot(s: u32) -> u32
+    ensures { λ r. ⌜ r ≡ dotting (Frame.Holds s) ⌝ }
+{
+    if s < kinds::VECTOR {
+        NONE
+    } else {
+        MISPLACED_DOT
+    }
+}
+
+// A dot in any frame.
+fn dotting_at(f: Frame) -> u32
+    ensures { λ r. ⌜ r ≡ dotting f ⌝ }
+{
+    match f {
+        Frame::Plan => MISPLACED_DOT,
+        Frame::Quoting => MARK_WAITS,
+        Frame::Dropping => MARK_WAITS,
+        Frame::Fresh(_s) => MISPLACED_DOT,
+        Frame::Holds(s) => first_dot(s),
+        Frame::Dotted(_s) => MISPLACED_DOT,
+        Frame::Tailed(_s) => MISPLACED_DOT,
+    }
+}
+
+// The end of the records.
+pub fn ending_at(f: Frame) -> u32
+    ensures { λ r. ⌜ r ≡ ending f ⌝ }
+{
+    match f {
+        Frame::Plan => NONE,
+        Frame::Quoting => MARK_WAITS,
+        Frame::Dropping => MARK_WAITS,
+        Frame::Fresh(_s) => BRACKET_OPEN,
+        Frame::Holds(_s) => BRACKET_OPEN,
+        Frame::Dotted(_s) => MISPLACED_DOT,
+        Frame::Tailed(_s) => BRACKET_OPEN,
+    }
+}
+
+// The refusal of a record of class k in the frame f with so many levels around it; NONE if there is none.
+pub fn wrong_at(k: Class, f: Frame, depth: usize) -> u32
+    ensures { λ r. ⌜ r ≡ wrong k f depth ⌝ }
+{
+    match k {
+        Class::Alien => ALIEN,
+        Class::Fails => ERROR_ITEM,
+        Class::Passes => NONE,
+        Class::Drops => deep_at(depth),
+        Class::Marks => starting_at(f, depth),
+        Class::Simple(_kind) => tailed_at(f),
+        Class::Opens(_s) => starting_at(f, depth),
+        Class::Closes(b) => closing_at(b, f),
+        Class::Dots => dotting_at(f),
+    }
+}

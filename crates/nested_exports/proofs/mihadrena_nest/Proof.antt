@@ -1,0 +1,20 @@
+-- The call below fixes its answer and the nodes; the value is laid after it.
+use borrow.Author.Needs.{needs}
+use Rattle.nested_exports.proofs.Whole.{told}
+use Rattle.nested_exports.proofs.mihadrena_nest.Statement.{statement}
+use Rattle.nested_exports.proofs.mihadrena_nest.Tie as tie
+
+returns : tie.Need-returns
+returns c =
+    told _ _ (c .before .before .before .before .before .before .before .build .ensures) (c .before .before .before .before .answer .ensures .0) (c .before .before .before .before .answer .ensures .1) (c .before .before .put-value .ensures)
+
+pub mihadrena-nest-spec : {M : Type 1} → statement M
+mihadrena-nest-spec =
+    tie.close
+    (tie.spec
+    (λ c κs. search needs)
+    (λ c κs. search needs)
+    (λ c κs. search needs)
+    (λ c. search needs)
+    (λ c. search needs)
+    returns)

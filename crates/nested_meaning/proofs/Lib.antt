@@ -1,0 +1,5 @@
+pub mod Balanced
+pub mod Placed
+pub mod Deep
+pub mod Siblings
+pub mod Built
