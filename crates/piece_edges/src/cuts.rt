@@ -1,12 +1,12 @@
 // A cut inside every character of several bytes, and bytes that are no text. A line of their files has a name and a text.
-use crate::files::Job;
-use crate::files::cases;
-use crate::files::field;
-use crate::files::newlines;
-use crate::files::put;
-use crate::show;
+use crate::cases::Job;
+use crate::cases::cases;
 use cuttings::Cutting;
 use cuttings::part;
+use edge_cases::files::field;
+use edge_cases::files::newlines;
+use edge_cases::files::put;
+use edge_cases::show;
 
 // More bytes than a text here has.
 const REST: usize = 100;

@@ -1,14 +1,14 @@
 // Items of 4,096 and of 4,097 bytes, of each sort that can be so long: brackets, quotes, `,@`, `#;`, `##` and booleans cannot. A line of
 // their files has a name, the head of an item, the byte that is repeated, what closes the item, and what stands beyond it.
-use crate::files::Job;
-use crate::files::cases;
-use crate::files::field;
-use crate::files::first;
-use crate::files::newlines;
-use crate::files::put;
-use crate::show;
+use crate::cases::Job;
+use crate::cases::cases;
 use cuttings::Cutting;
 use cuttings::part;
+use edge_cases::files::field;
+use edge_cases::files::first;
+use edge_cases::files::newlines;
+use edge_cases::files::put;
+use edge_cases::show;
 
 // The longest text.
 const ROOM: usize = 6000;

@@ -1,14 +1,12 @@
-// The piece calls at their edges, run: items of 4,096 and 4,097 bytes of every sort, cuts inside characters, bytes that are no text, and
-// single calls that are refused. What it has to print is worked out from document 01, and for the fields of a state from docs/STATE.md.
+// Texts in pieces at their edges, run: items of 4,096 and 4,097 bytes of every sort, cuts inside characters, and bytes that are no text. What
+// it has to print is worked out from document 01.
 // Two rules are not run: 20, which wants a text of 4 GiB, and so 20 before 21 and 23 at one byte.
 use cuttings::Cutting;
+use edge_cases::show;
 
-mod calls;
+mod cases;
 mod cuts;
-mod files;
 mod long;
-mod show;
-mod standing;
 
 // As many bytes as the longest text has, and more.
 const ALL: usize = 6000;
@@ -53,6 +51,4 @@ fn main() {
     );
     show::print(b"== cuts inside characters\n");
     cuts::characters();
-    show::print(b"== single calls\n");
-    calls::edge();
 }

@@ -8,21 +8,21 @@
 //
 // and a letter that makes the state one outside the bounds of docs/STATE.md: m its mode, a its place, t its range, b its character begun,
 // l its item's length, k the start of its item, x its stop.
-use crate::files::MOST;
-use crate::files::ROOM;
-use crate::files::field;
-use crate::files::first;
-use crate::files::line;
-use crate::files::load;
-use crate::files::past_line;
-use crate::show::end_line;
-use crate::show::number;
-use crate::show::print;
-use crate::show::record;
-use crate::show::runs;
 use crate::standing;
 use chars::State as Begun;
 use cuttings::part;
+use edge_cases::files::MOST;
+use edge_cases::files::ROOM;
+use edge_cases::files::field;
+use edge_cases::files::first;
+use edge_cases::files::line;
+use edge_cases::files::load;
+use edge_cases::files::past_line;
+use edge_cases::show::end_line;
+use edge_cases::show::number;
+use edge_cases::show::print;
+use edge_cases::show::record;
+use edge_cases::show::runs;
 use pieces::Answer;
 use pieces::Got;
 use pieces::Marks;

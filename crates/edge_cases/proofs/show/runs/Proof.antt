@@ -2,8 +2,8 @@
 use borrow.Author.Needs.{needs}
 use Prim.Native.Nat.{_≤_, _-_}
 use lib.ListN.{length}
-use Rattle.piece_edges.proofs.show.runs.Statement.{statement}
-use Rattle.piece_edges.proofs.show.runs.Tie as tie
+use Rattle.edge_cases.proofs.show.runs.Statement.{statement}
+use Rattle.edge_cases.proofs.show.runs.Tie as tie
 
 abbrev Inv-loop : tie.InvT-loop
 Inv-loop bytes count₀ i₀ count i = i ≤ length bytes

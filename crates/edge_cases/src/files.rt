@@ -1,8 +1,4 @@
 // The cases lie in files, a line for each: fields between tabs, the first of them the case's name, and `$` for a newline in a text.
-use crate::cuts;
-use crate::long;
-use crate::long::Run;
-use cuttings::Cutting;
 use cuttings::copy;
 use cuttings::part;
 
@@ -18,16 +14,6 @@ pub const ROOM: usize = 2048;
 
 // More lines than a file has.
 pub const MOST: u32 = 1000;
-
-// What is done with each case of a file.
-pub enum Job {
-    // a long item is made and read
-    Items(Run),
-    // a text is cut inside each of its characters
-    Cut,
-    // a text is read under a cutting
-    Read(Cutting),
-}
 
 // The place of the next such byte from a place on, or past the last byte.
 fn find(bytes: &[u8], from: usize, byte: u8) -> usize {
@@ -118,33 +104,4 @@ pub fn newlines(source: &mut [u8]) {
         source[i] = byte;
         i += 1;
     }
-}
-
-fn case(job: Job, line: &[u8]) {
-    match job {
-        Job::Items(run) => long::case(run, line),
-        Job::Cut => cuts::cut_case(line),
-        Job::Read(cutting) => cuts::read_case(cutting, line),
-    }
-}
-
-// Does it with each line.
-fn each(job: Job, file: &[u8]) {
-    let mut at: usize = 0;
-    let mut left = MOST;
-    while left > 0 {
-        if file.len() <= at {
-            return;
-        }
-        case(job, line(file, at));
-        at = past_line(file, at);
-        left = left - 1;
-    }
-}
-
-// Does it with the cases of a file.
-pub fn cases(job: Job, name: &[u8]) {
-    let mut file = [0u8; ROOM];
-    let count = load(name, &mut file);
-    each(job, part(&file, 0, count));
 }

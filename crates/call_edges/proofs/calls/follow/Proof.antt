@@ -1,7 +1,7 @@
 -- The lines are counted down.
 use borrow.Author.Needs.{needs}
-use Rattle.piece_edges.proofs.calls.follow.Statement.{statement}
-use Rattle.piece_edges.proofs.calls.follow.Tie as tie
+use Rattle.call_edges.proofs.calls.follow.Statement.{statement}
+use Rattle.call_edges.proofs.calls.follow.Tie as tie
 
 abbrev Inv-loop : tie.InvT-loop
 Inv-loop file stand₀ at₀ left₀ stand at left = Unit {0}

@@ -1,8 +1,8 @@
 // A piece state in print: every mark, and the buffer in runs. Of the phases of an item only those that the cases stand in have a name.
-use crate::show::end_line;
-use crate::show::number;
-use crate::show::print;
-use crate::show::runs;
+use edge_cases::show::end_line;
+use edge_cases::show::number;
+use edge_cases::show::print;
+use edge_cases::show::runs;
 use items::Phase;
 use pieces::Beyond;
 use pieces::Marks;

@@ -3,8 +3,8 @@ use borrow.Author.Needs.{needs}
 use Prim.Native.Nat.{_-_}
 use mathlib.Core.Path.{_≡_}
 use lib.ListN.{length}
-use Rattle.piece_edges.proofs.files.newlines.Statement.{statement}
-use Rattle.piece_edges.proofs.files.newlines.Tie as tie
+use Rattle.edge_cases.proofs.files.newlines.Statement.{statement}
+use Rattle.edge_cases.proofs.files.newlines.Tie as tie
 
 abbrev Inv-loop : tie.InvT-loop
 Inv-loop source₀ i₀ source i = length source ≡ length source₀

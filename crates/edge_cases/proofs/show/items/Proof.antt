@@ -1,8 +1,8 @@
 -- Every place that is read lies in its slice, and the items are counted up to how many there are.
 use borrow.Author.Needs.{needs}
 use Prim.Native.Nat.{_≤_, _-_}
-use Rattle.piece_edges.proofs.show.items.Statement.{statement}
-use Rattle.piece_edges.proofs.show.items.Tie as tie
+use Rattle.edge_cases.proofs.show.items.Statement.{statement}
+use Rattle.edge_cases.proofs.show.items.Tie as tie
 
 abbrev Inv-loop : tie.InvT-loop
 Inv-loop count records counts texts at₀ n₀ at n = n ≤ count

@@ -1,7 +1,7 @@
 -- The lines are counted down.
 use borrow.Author.Needs.{needs}
-use Rattle.piece_edges.proofs.files.each.Statement.{statement}
-use Rattle.piece_edges.proofs.files.each.Tie as tie
+use Rattle.piece_edges.proofs.cases.each.Statement.{statement}
+use Rattle.piece_edges.proofs.cases.each.Tie as tie
 
 abbrev Inv-loop : tie.InvT-loop
 Inv-loop job file at₀ left₀ at left = Unit {0}

@@ -1,0 +1,50 @@
+// The cases of a file, one after the other.
+use crate::cuts;
+use crate::long;
+use crate::long::Run;
+use cuttings::Cutting;
+use cuttings::part;
+use edge_cases::files::MOST;
+use edge_cases::files::ROOM;
+use edge_cases::files::line;
+use edge_cases::files::load;
+use edge_cases::files::past_line;
+
+// What is done with each case of a file.
+pub enum Job {
+    // a long item is made and read
+    Items(Run),
+    // a text is cut inside each of its characters
+    Cut,
+    // a text is read under a cutting
+    Read(Cutting),
+}
+
+fn case(job: Job, line: &[u8]) {
+    match job {
+        Job::Items(run) => long::case(run, line),
+        Job::Cut => cuts::cut_case(line),
+        Job::Read(cutting) => cuts::read_case(cutting, line),
+    }
+}
+
+// Does it with each line.
+fn each(job: Job, file: &[u8]) {
+    let mut at: usize = 0;
+    let mut left = MOST;
+    while left > 0 {
+        if file.len() <= at {
+            return;
+        }
+        case(job, line(file, at));
+        at = past_line(file, at);
+        left = left - 1;
+    }
+}
+
+// Does it with the cases of a file.
+pub fn cases(job: Job, name: &[u8]) {
+    let mut file = [0u8; ROOM];
+    let count = load(name, &mut file);
+    each(job, part(&file, 0, count));
+}
