@@ -1,8 +1,11 @@
-/* Writes a line for each text of up to N tokens: the text, a tab, and its data as `mihadrena_nest` gives them, or ! for a refusal.
+/* Writes a line for each text of up to N tokens, or for each file: the text or the file's name, a tab, and the data as `mihadrena_nest` gives
+ * them, or ! for a refusal, with its number and the line where it is.
  *
  *     ours N
+ *     ours --files FILE..
  *
- * Data are written as a Scheme has them: (a . (b)) is (a b), and 'a is (quote a).
+ * Data are written as a Scheme has them: (a . (b)) is (a b), and 'a is (quote a). Of files only the shape is written: every simple datum, and
+ * the name that a mark stands for, is a.
  */
 #include <stdio.h>
 #include <stdlib.h>
@@ -12,10 +15,12 @@
 
 static const char *const TOKENS[] = {"(", ")", "[", "]", "#(", "'", ",@", "#;", ".", "a"};
 
-enum { TOKEN_COUNT = sizeof TOKENS / sizeof *TOKENS, LONGEST_TEXT = 64 };
+enum { TOKEN_COUNT = sizeof TOKENS / sizeof *TOKENS, LONGEST_TEXT = 1 << 20 };
 
 static mihadrena_record records[LONGEST_TEXT];
 static mihadrena_node nodes[LONGEST_TEXT];
+static uint8_t memory[LONGEST_TEXT];
+static bool shape;
 
 static void data(size_t from, size_t to);
 static void dotted(size_t list);
@@ -27,6 +32,8 @@ static size_t past(size_t node)
 
 static const char *mark(size_t node)
 {
+    if (shape)
+        return "a";
     return records[nodes[node].item].kind == MIHADRENA_QUOTE_TICK ? "quote" : "unquote-splicing";
 }
 
@@ -68,7 +75,12 @@ static void dotted(size_t list)
 static void datum(size_t node)
 {
     switch (nodes[node].kind) {
+    case MIHADRENA_NODE_BOOLEAN:
+    case MIHADRENA_NODE_NUMBER:
+    case MIHADRENA_NODE_CHARACTER:
+    case MIHADRENA_NODE_STRING:
     case MIHADRENA_NODE_SYMBOL:
+    case MIHADRENA_NODE_BYTE_LIST:
         printf("a");
         break;
     case MIHADRENA_NODE_LIST:
@@ -101,28 +113,48 @@ static void data(size_t from, size_t to)
     }
 }
 
-static void line(const char *text)
+/* The line of a text's byte, counted from 1. */
+static int line_of(const uint8_t *text, size_t at)
 {
-    uint8_t memory[LONGEST_TEXT];
+    int line = 1;
+    for (size_t i = 0; i < at; i++)
+        line += text[i] == '\n';
+    return line;
+}
+
+static void line(const char *name, const uint8_t *text, size_t length)
+{
     uint64_t values[MIHADRENA_READ_VALUES];
-    printf("%s\t", text);
-    if (mihadrena_read((const uint8_t *)text, strlen(text), MIHADRENA_PLAIN, false, (uint32_t *)records,
-                       LONGEST_TEXT * MIHADRENA_RECORD_WORDS, memory, sizeof memory, values, MIHADRENA_READ_VALUES) != MIHADRENA_SERVED)
+    printf("%s\t", name);
+    if (mihadrena_read(text, length, MIHADRENA_PLAIN, false, (uint32_t *)records, (size_t)LONGEST_TEXT * MIHADRENA_RECORD_WORDS, memory,
+                       sizeof memory, values, MIHADRENA_READ_VALUES) != MIHADRENA_SERVED)
         abort();
     uint32_t answer = mihadrena_nest((const uint32_t *)records, values[0] * MIHADRENA_RECORD_WORDS, (uint32_t *)nodes,
-                                     LONGEST_TEXT * MIHADRENA_NODE_WORDS, values, MIHADRENA_NEST_VALUES);
+                                     (size_t)LONGEST_TEXT * MIHADRENA_NODE_WORDS, values, MIHADRENA_NEST_VALUES);
     if (answer == MIHADRENA_SERVED)
         data(0, values[0]);
+    else if (shape)
+        printf("! %u, line %d", (unsigned)answer, line_of(text, records[values[0]].start));
     else
         printf("!");
     printf("\n");
+}
+
+static void file_line(const char *path)
+{
+    static uint8_t text[LONGEST_TEXT];
+    FILE *file = fopen(path, "rb");
+    if (file == NULL)
+        abort();
+    line(path, text, fread(text, 1, sizeof text, file));
+    fclose(file);
 }
 
 /* All texts that start with `text`, of which `length` bytes are there, and have up to `left` tokens more. */
 static void lines(char *text, size_t length, int left)
 {
     text[length] = '\0';
-    line(text);
+    line(text, (const uint8_t *)text, length);
     if (left == 0)
         return;
     for (int token = 0; token < TOKEN_COUNT; token++)
@@ -131,7 +163,11 @@ static void lines(char *text, size_t length, int left)
 
 int main(int count, char **words)
 {
-    char text[LONGEST_TEXT];
-    lines(text, 0, count > 1 ? atoi(words[1]) : 4);
+    static char text[LONGEST_TEXT];
+    shape = count > 1 && strcmp(words[1], "--files") == 0;
+    for (int word = 2; shape && word < count; word++)
+        file_line(words[word]);
+    if (!shape)
+        lines(text, 0, count > 1 ? atoi(words[1]) : 4);
     return EXIT_SUCCESS;
 }

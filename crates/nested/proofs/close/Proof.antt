@@ -1,3 +1,4 @@
+-- What `#;` opened leaves no node; any other level its node, with the nodes counted that came since.
 use mathlib.Core.Path.{sym, refl, _∙_}
 use borrow.Author.Needs.{needs}
 use Rattle.nested.proofs.close.Statement.{statement}

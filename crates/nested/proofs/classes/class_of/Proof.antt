@@ -1,3 +1,4 @@
+-- A kind of the layout is judged by its detail, an error by its number; the tests are those of `classOf`.
 use borrow.Author.Tests.{eq-eqb, ne-eqb, lt-ltb, le-ltb, le-leb, lt-leb}
 use mathlib.Core.Path.{sym, refl, _∙_}
 use Rattle.nested.specs.Items.{classOf}

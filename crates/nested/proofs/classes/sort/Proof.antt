@@ -1,3 +1,4 @@
+-- The tests are those of `sortOf`, in its order; each arm answers what the definition is there.
 use borrow.Author.Tests.{eq-eqb, ne-eqb, lt-ltb, le-ltb, le-leb, lt-leb}
 use mathlib.Core.Path.{sym, refl, _∙_}
 use Rattle.nested.specs.Items.{sortOf}

@@ -1,3 +1,4 @@
+-- The tests are those of `kindOf`.
 use borrow.Author.Tests.{eq-eqb, ne-eqb, lt-ltb, le-ltb, le-leb, lt-leb}
 use mathlib.Core.Path.{sym, refl, _∙_}
 use Rattle.nested.proofs.frames.shape_kind.Statement.{statement}

@@ -1,3 +1,4 @@
+-- One test, that of `deep`.
 use borrow.Author.Tests.{eq-eqb, ne-eqb, lt-ltb, le-ltb, le-leb, lt-leb}
 use mathlib.Core.Path.{sym, refl, _∙_}
 use Rattle.nested.proofs.refusals.deep_at.Statement.{statement}

@@ -1,3 +1,4 @@
+-- One test, that of `isList`.
 use borrow.Author.Tests.{eq-eqb, ne-eqb, lt-ltb, le-ltb, le-leb, lt-leb}
 use mathlib.Core.Path.{sym, refl, _∙_}
 use Rattle.nested.proofs.refusals.first_dot.Statement.{statement}

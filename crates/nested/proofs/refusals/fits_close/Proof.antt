@@ -1,3 +1,4 @@
+-- A close fits where it is the closer of what is open: laws `close-yes` and `close-no`.
 use Rattle.nested.proofs.Steps.{close-yes, close-no}
 use borrow.Author.Tests.{eq-eqb, ne-eqb, lt-ltb, le-ltb, le-leb, lt-leb}
 use mathlib.Core.Path.{sym, refl, _∙_}

@@ -1,3 +1,4 @@
+-- The refusal of a second datum after a dot comes first, then that of depth: laws `starting-tailed` and `starting-deep`.
 use Rattle.nested.proofs.Steps.{starting-deep, starting-tailed}
 use borrow.Author.Tests.{eq-eqb, ne-eqb, lt-ltb, le-ltb, le-leb, lt-leb}
 use mathlib.Core.Path.{sym, refl, _∙_}
