@@ -1,6 +1,9 @@
 // Which entry bears a name: a half's index is asked first, and its names are read only where the index answers neither yes nor no.
 use crate::Found;
 use crate::Proposal;
+use crate::blocks::FOUR;
+use crate::blocks::byte;
+use crate::blocks::four;
 use crate::layout::FIRST_SLOT;
 use crate::layout::HALF_NAMES;
 use crate::layout::HALF_WORDS;
@@ -8,10 +11,10 @@ use crate::layout::INDEX_SLOTS;
 use crate::layout::bears;
 use crate::layout::word;
 ghost use mathlib.Core.Path.{_≡_};
-ghost use Prim.Native.Nat.{_+_, _/_, _%_, _≤_, _<_};
-ghost use lib.ListN.{length, getD, drop};
+ghost use Prim.Native.Nat.{_/_, _%_, _≤_, _<_};
+ghost use lib.ListN.{length, drop};
 ghost use Rattle.names.specs.Layout.{halfNames, tableWords, tableBytes, count};
-ghost use Rattle.names.specs.Call.{hashes, hashesASlot, turn, four, rest, hashOf, tagOf, proposes, probeOf, scanned, lookupOf, findOf};
+ghost use Rattle.names.specs.Call.{hashes, hashesASlot, turn, rest, hashOf, tagOf, proposes, probeOf, scanned, lookupOf, findOf};
 
 // The hash of a name has 32 bits: the top ten are a slot, the others a tag.
 const FACTOR: u64 = 1640531527;
@@ -20,19 +23,8 @@ const HASHES: u64 = 4294967296;
 
 const HASHES_A_SLOT: u64 = 4194304;
 
-// So many bytes go into one turn of the hash.
-const FOUR: usize = 4;
-
 // So many slots are asked for a name. Names as plans have them never meet this; it bounds what names made to collide cost.
 const LOOKS: usize = 64;
-
-// A byte of a name.
-fn byte(name: &[u8], i: usize) -> u64
-    requires { ⌜ i < length (now name) ⌝ }
-    ensures { λ r. ⌜ (r ≡ getD (now (name .entry)) i 0) × (r < 256) ⌝ }
-{
-    name[i] as u64
-}
 
 // One turn of the hash.
 fn turn(h: u64, x: u64) -> u64
@@ -41,18 +33,6 @@ fn turn(h: u64, x: u64) -> u64
     ensures { λ r. ⌜ (r ≡ turn h x) × (r < hashes) ⌝ }
 {
     ((h + x) * FACTOR) % HASHES
-}
-
-// Four bytes of a name as one number, the lowest first.
-fn four(name: &[u8], i: usize) -> u64
-    requires { ⌜ i + 4 ≤ length (now name) ⌝ }
-    ensures { λ r. ⌜ (r ≡ four (getD (now (name .entry)) i 0) (getD (now (name .entry)) (i + 1) 0) (getD (now (name .entry)) (i + 2) 0) (getD (now (name .entry)) (i + 3) 0)) × (r < hashes) ⌝ }
-{
-    let a = byte(name, i);
-    let b = byte(name, i + 1);
-    let c = byte(name, i + 2);
-    let d = byte(name, i + 3);
-    a + b * 0x100 + c * 0x10000 + d * 0x1000000
 }
 
 // The hash of the bytes from a place on, one by one.

@@ -1,5 +1,6 @@
 // How the table lies in lent memory: its words, the names of its entries, its bounds. All sizes stand here.
 use crate::Place;
+use crate::blocks::equal;
 ghost use mathlib.Core.Path.{_≡_};
 ghost use Prim.Native.Nat.{_≤_, _<_};
 ghost use lib.ListN.{length, getD};
@@ -87,7 +88,7 @@ pub fn bears(words: &[u32], bytes: &[u8], party: usize, name: &[u8], k: usize) -
     if n <= k {
         return false;
     }
-    texts::equal(name_at(words, bytes, party, k), name)
+    equal(name_at(words, bytes, party, k), name)
 }
 
 // Whether a half's count of names and of name bytes are within its bounds.

@@ -2,8 +2,8 @@
 use native.Mathlib.Omega.{arith}
 use mathlib.Core.Path.{refl}
 use borrow.Author.Needs.{needs}
-use Rattle.names.proofs.finding.byte.Statement.{statement}
-use Rattle.names.proofs.finding.byte.Tie as tie
+use Rattle.names.proofs.blocks.byte.Statement.{statement}
+use Rattle.names.proofs.blocks.byte.Tie as tie
 
 shared-slice-read-result : tie.Need-shared-slice-read-result
 shared-slice-read-result c = search needs
