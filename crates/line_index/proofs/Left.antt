@@ -65,6 +65,14 @@ counted-one s i n {r} h e g =
 pub counted-all : (s : List ℕ) (i n : ℕ) → length s ≤ i → length (starts s) ≡ n + length (left s i) → n ≡ length (starts s)
 counted-all s i n h g = omega (arith, g, ap length (left-end s i h))
 
+-- ---- whether there is one
+
+-- another byte that is none
+pub none-next : (s : List ℕ) (at j : ℕ) → at + j < length s → left s at ≡ left s (at + j) → (getD s (at + j) 0 ≡ newline → ⊥) → left s at ≡ left s (at + (j + 1))
+none-next s at j h g e =
+    let z : at + j + 1 ≡ at + (j + 1) = omega arith in
+    g ∙ left-miss s (at + j) h e ∙ ap (left s) z
+
 -- ---- from one newline byte to the next
 
 skip : (l : List ℕ) (i : ℕ) → startsFrom i l ≡ startsFrom (i + before newline l) (drop (before newline l) l)

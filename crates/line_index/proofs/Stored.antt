@@ -14,7 +14,7 @@ use Rattle.laws.proofs.Lent.{written-push}
 use Rattle.items.specs.Whole.{limit}
 use Rattle.lines.specs.Starts.{newline, startsFrom, starts}
 use Rattle.lines.proofs.Tests.{by-equal}
-use Rattle.line_index.specs.Left.{block, left, stored, Storing, shifted, total, Found}
+use Rattle.line_index.specs.Left.{block, left, stored, Storing}
 use Rattle.line_index.proofs.Left.{left-hit, left-miss, left-end, left-bound}
 
 -- stored after w, all of it is written
@@ -62,77 +62,9 @@ module _ (s old : List ℕ) (n from k i : ℕ) {now : List ℕ} (g : Storing s o
 
 -- ---- a block
 
-pub found-none : (s : List ℕ) (at : ℕ) → Found s at 0 0 0
-found-none s at = record { places = []; whole = ap (left s) (sym (add-zero at)); count = refl; sum = refl }
-
-shifted-push : (a : ℕ) (l : List ℕ) (d : ℕ) → shifted a (l ++ (d ∷ [])) ≡ shifted a l ++ ((a + d) ∷ [])
-shifted-push a [] d = refl
-shifted-push a (x ∷ l) d = ap (λ (y : List ℕ). (a + x) ∷ y) (shifted-push a l d)
-
-total-push : (l : List ℕ) (d : ℕ) → total (l ++ (d ∷ [])) ≡ total l + d
-total-push [] d = omega arith
-total-push (x ∷ l) d = omega (arith, total-push l d)
-
-module _ (s : List ℕ) (at j n p : ℕ) (g : Found s at j n p) (h : at + j < length s) where
-  found-hit : getD s (at + j) 0 ≡ newline → Found s at (j + 1) (n + 1) (p + j)
-  found-hit e =
-      let z : at + j + 1 ≡ at + 1 + j = omega arith in
-      let y : at + (j + 1) ≡ at + j + 1 = omega arith in
-      record {
-        places = g .places ++ (j ∷ []);
-        whole =
-            g .whole ∙ ap (λ (l : List ℕ). shifted (at + 1) (g .places) ++ l) (left-hit s (at + j) h e)
-            ∙ rw (y, z, shifted-push (at + 1) (g .places) j, append-assoc (shifted (at + 1) (g .places)));
-        count = length-append (g .places) (j ∷ []) ∙ rw (g .count);
-        sum = total-push (g .places) j ∙ rw (g .sum);
-      }
-
-  found-miss : (getD s (at + j) 0 ≡ newline → ⊥) → Found s at (j + 1) n p
-  found-miss e =
-      let y : at + (j + 1) ≡ at + j + 1 = omega arith in
-      record {
-        places = g .places;
-        whole = g .whole ∙ ap (λ (l : List ℕ). shifted (at + 1) (g .places) ++ l) (left-miss s (at + j) h e) ∙ rw y;
-        count = g .count;
-        sum = g .sum;
-      }
-
-  -- one byte more, with what `if_newline` says of it
-  pub found-next : {a b : ℕ} → a ≡ (if eqb (getD s (at + j) 0) newline then 1 else 0) → b ≡ (if eqb (getD s (at + j) 0) newline then j else 0)
-      → (a ≤ 1) × (b ≤ j) × Found s at (j + 1) (n + a) (p + b)
-  found-next {a} {b} =
-      by-equal (getD s (at + j) 0) newline
-      (λ e. rw (eq-eqb (getD s (at + j) 0) newline e) (λ u v. rw (u, v) (omega arith, omega arith, found-hit e)))
-      (λ e. rw (ne-eqb (getD s (at + j) 0) newline e) (λ u v. rw (u, v, add-zero n, add-zero p) (omega arith, omega arith, found-miss e)))
-
-module _ (s old : List ℕ) (at n : ℕ) {p : ℕ} where
-  -- no newline byte stands in it
-  pub storing-none : {c : ℕ} → Found s at block c p → c ≡ 0 → Storing s old n at old n (at + block)
-  storing-none {c} g z = go (g .places) (g .whole) (g .count ∙ z)
-    where
-      go : (l : List ℕ) → left s at ≡ shifted (at + 1) l ++ left s (at + block) → length l ≡ 0 → Storing s old n at old n (at + block)
-      go [] w e = record { size = refl; count = ap (λ (x : List ℕ). n + length x) w; rest = ap (λ (x : List ℕ). stored n x old) w }
-      go (d ∷ l) w e = absurd (omega arith)
-
-  -- one does, and the sum of the places is its place
-  only : {c : ℕ} → Found s at block c p → c ≡ 1 → left s at ≡ (at + p + 1) ∷ left s (at + block)
-  only {c} g z = go (g .places) (g .whole) (g .count ∙ z) (g .sum)
-    where
-      go : (l : List ℕ) → left s at ≡ shifted (at + 1) l ++ left s (at + block) → length l ≡ 1 → total l ≡ p → left s at ≡ (at + p + 1) ∷ left s (at + block)
-      go [] w e t = absurd (omega arith)
-      go (d ∷ []) w e t = let y : at + 1 + d ≡ at + p + 1 = omega arith in w ∙ ap (λ (x : ℕ). x ∷ left s (at + block)) y
-      go (d ∷ e ∷ l) w q t = absurd (omega arith)
-
-  pub storing-one : {c : ℕ} → Found s at block c p → c ≡ 1 → Storing s old n at (set old n (at + p + 1)) (n + 1) (at + block)
-  unfolding stored
-  storing-one g z = record {
-    size = length-set old n (at + p + 1);
-    count = omega (arith, ap length (only g z));
-    rest = ap (λ (x : List ℕ). stored n x old) (only g z);
-  }
-
-  pub one-fits : {c : ℕ} → Found s at block c p → c ≡ 1 → at + block ≤ length s → n + length (left s at) ≤ length old → (at + p + 1 ≤ length s) × (n < length old)
-  one-fits g z h f = (left-bound s at (at + p + 1) (left s (at + block)) (omega arith) (only g z), omega (arith, ap length (only g z)))
+-- no newline byte stands in it
+pub storing-none : (s old : List ℕ) (at n : ℕ) → left s at ≡ left s (at + block) → Storing s old n at old n (at + block)
+storing-none s old at n e = record { size = refl; count = ap (λ (l : List ℕ). n + length l) e; rest = ap (λ (l : List ℕ). stored n l old) e }
 
 -- ---- all of them
 
@@ -149,3 +81,18 @@ stored-all s old r i {out} f h g =
 
 pub first-fits : (s old : List ℕ) → length (starts s) ≤ length old → 1 + length (left s 0) ≤ length (set old 0 0)
 first-fits s old h = rw (length-set old 0 0) (omega arith)
+
+pub stored-count : (s old : List ℕ) (r i : ℕ) {out : List ℕ} → length s ≤ i → Storing s old 1 0 out r i → r ≡ length (starts s)
+stored-count s old r i h g = omega (arith, g .count, ap length (left-end s i h))
+
+-- a text has no more line starts than bytes, and one
+from-most : (s : List ℕ) (at : ℕ) → length (startsFrom at s) ≤ length s
+unfolding startsFrom
+from-most [] at = omega arith
+from-most (b ∷ s) at =
+    by-equal b newline
+    (λ e. rw (eq-eqb b newline e) (omega (arith, from-most s (at + 1))))
+    (λ e. rw (ne-eqb b newline e) (omega (arith, from-most s (at + 1))))
+
+pub starts-most : (s : List ℕ) {n : ℕ} → length s < n → length (starts s) ≤ n
+starts-most s h = omega (arith, from-most s 0)

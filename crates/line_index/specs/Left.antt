@@ -1,6 +1,6 @@
 -- What the loops that build an index keep, for the contracts of private functions.
 use mathlib.Core.Path.{_≡_}
-use mathlib.Core.List.{List, [], _∷_, _++_}
+use mathlib.Core.List.{List, [], _∷_}
 use Prim.Native.Nat.{ℕ, _+_}
 use lib.ListN.{length, set, drop}
 use Rattle.lines.specs.Starts.{startsFrom}
@@ -10,7 +10,7 @@ abbrev pub block : ℕ
 block = 16
 
 abbrev pub wide : ℕ
-wide = 64
+wide = 192
 
 -- the starts after the newline bytes from place i on
 abbrev pub left : List ℕ → ℕ → List ℕ
@@ -27,19 +27,3 @@ pub record Storing (s old : List ℕ) (n from : ℕ) (now : List ℕ) (k i : ℕ
   pub size : length now ≡ length old
   pub count : n + length (left s from) ≡ k + length (left s i)
   pub rest : stored n (left s from) old ≡ stored k (left s i) now
-
--- places from a on
-abbrev pub shifted : ℕ → List ℕ → List ℕ
-shifted a [] = []
-shifted a (d ∷ l) = (a + d) ∷ shifted a l
-
-abbrev pub total : List ℕ → ℕ
-total [] = 0
-total (d ∷ l) = d + total l
-
--- of the j bytes from place `at` on, n are newline bytes, and their places there are p together
-pub record Found (s : List ℕ) (at j n p : ℕ) : Type 0 where
-  pub places : List ℕ
-  pub whole : left s at ≡ shifted (at + 1) places ++ left s (at + j)
-  pub count : length places ≡ n
-  pub sum : total places ≡ p

@@ -3,6 +3,7 @@ use crate::refusals::*;
 use chars::Utf8;
 use lines::Answer;
 ghost use mathlib.Core.Path.{_≡_};
+ghost use mathlib.Core.Bool.{false};
 ghost use Prim.Native.Nat.{_+_, _≤_};
 ghost use lib.Dec.{eqb};
 ghost use lib.ListN.{length};
@@ -10,19 +11,13 @@ ghost use Rattle.laws.specs.Choice.{if_then_else_};
 ghost use Rattle.laws.specs.Lent.{written};
 ghost use Rattle.items.specs.Whole.{limit};
 ghost use Rattle.lines.specs.Starts.{newline, starts, outcome, buildOf};
-ghost use Rattle.line_index.specs.Left.{left, Storing, Found, block, wide};
+ghost use Rattle.line_index.specs.Left.{left, Storing, block, wide};
 
 // How many bytes are stored of at once.
 const BLOCK: usize = 16;
 
 // How many bytes are counted at once.
-const WIDE: usize = 64;
-
-// What a block holds: how many newline bytes, and the sum of their places in it, which is the place of the only one.
-struct Block {
-    count: u8,
-    places: u8,
-}
+const WIDE: usize = 192;
 
 // j for a newline byte, 0 for another.
 fn if_newline(b: u8, j: u8) -> u8
@@ -65,20 +60,20 @@ fn count(text: &[u8]) -> usize
     n
 }
 
-// What the block at a place holds.
-fn see_block(text: &[u8], at: usize) -> Block
+// Whether a newline byte stands in the block at a place.
+fn has_newline(text: &[u8], at: usize) -> bool
     requires { ⌜ at + block ≤ length (now text) ⌝ }
-    ensures { λ r. ⌜ Found (now (text .entry)) at block (r .count) (r .places) ⌝ }
+    ensures { λ r. ⌜ (r ≡ false → left (now (text .entry)) at ≡ left (now (text .entry)) (at + block)) ⌝ }
 {
-    let mut count: u8 = 0;
-    let mut places: u8 = 0;
+    let mut found = false;
     let mut j: usize = 0;
     while j < BLOCK {
-        count += if_newline(text[at + j], 1);
-        places += if_newline(text[at + j], j as u8);
+        if text[at + j] == NEWLINE {
+            found = true;
+        }
         j += 1;
     }
-    Block { count, places }
+    found
 }
 
 // Stores the starts after the newline bytes of a part of the text, from place n of the index on; answers the place past them.
@@ -105,22 +100,16 @@ fn put_block(text: &[u8], at: usize, index: &mut [u32], n: usize) -> usize
     requires { ⌜ (at + block ≤ length (now text)) × (length (now text) ≤ limit) × (n + length (left (now text) at) ≤ length (now index)) ⌝ }
     ensures { λ r. ⌜ Storing (now (text .entry)) (now (index .entry)) n at (now (index .exit)) r (at + block) ⌝ }
 {
-    let seen = see_block(text, at);
-    if seen.count == 0 {
-        return n;
+    if has_newline(text, at) {
+        return put_bytes(text, at, at + BLOCK, index, n);
     }
-    if seen.count == 1 {
-        let start = at + seen.places as usize + 1;
-        index[n] = start as u32;
-        return n + 1;
-    }
-    put_bytes(text, at, at + BLOCK, index, n)
+    n
 }
 
-// The line starts, from the start of the memory on.
-fn put(text: &[u8], index: &mut [u32])
+// The line starts, from the start of the memory on; answers how many.
+fn put(text: &[u8], index: &mut [u32]) -> usize
     requires { ⌜ (length (now text) ≤ limit) × (length (starts (now text)) ≤ length (now index)) ⌝ }
-    ensures { λ _. ⌜ now (index .exit) ≡ written (starts (now (text .entry))) (now (index .entry)) ⌝ }
+    ensures { λ r. ⌜ (r ≡ length (starts (now (text .entry)))) × (now (index .exit) ≡ written (starts (now (text .entry))) (now (index .entry))) ⌝ }
 {
     index[0] = 0;
     let mut n: usize = 1;
@@ -129,7 +118,7 @@ fn put(text: &[u8], index: &mut [u32])
         n = put_block(text, i, index, n);
         i += BLOCK;
     }
-    put_bytes(text, i, text.len(), index, n);
+    put_bytes(text, i, text.len(), index, n)
 }
 
 // Builds the index of a whole text.
@@ -142,6 +131,9 @@ pub fn build(text: &[u8], index: &mut [u32]) -> Answer
     match chars::first_bad(text) {
         Utf8::Bad(at) => Answer::Refused(NOT_UTF8, at),
         Utf8::Good => {
+            if text.len() < index.len() {
+                return Answer::Served(put(text, index));
+            }
             let n = count(text);
             if index.len() < n {
                 return Answer::Refused(NO_ROOM, n);

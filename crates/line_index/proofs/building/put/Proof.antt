@@ -5,7 +5,7 @@ use mathlib.Core.Path.{_≡_, refl, sym, ap, subst, _∙_}
 use denote.Ref.{now}
 use lib.ListN.{length, set, length-set}
 use Rattle.line_index.specs.Left.{Storing}
-use Rattle.line_index.proofs.Stored.{storing-start, storing-then, storing-fits, stored-all, first-fits}
+use Rattle.line_index.proofs.Stored.{storing-start, storing-then, storing-fits, stored-all, stored-count, first-fits}
 use Rattle.line_index.proofs.building.put.Statement.{statement}
 use Rattle.line_index.proofs.building.put.Tie as tie
 
@@ -43,7 +43,11 @@ same-length : tie.Need-same-length Inv-loop μ-loop
 same-length c = c .before .before .put-bytes .ensures .size ∙ c .before .before .before .before .before .loop .inv .1 .size ∙ length-set (now (c .before .before .before .before .before .before .before .before .args .index)) 0 0
 
 returns : tie.Need-returns Inv-loop μ-loop
-returns c = let a = c .before .before .before .before .before .before .before .before .args in stored-all (now (a .text)) (now (a .index)) (c .before .before .put-bytes .result) (length (now (a .text))) (c .before .before .before .before .before .before .before .before .pre .1) (omega arith) (storing-then (now (a .text)) (c .before .before .before .before .before .loop .inv .1) (c .before .before .put-bytes .ensures))
+returns c =
+    let a = c .before .before .before .before .before .before .before .before .args in
+    let g = storing-then (now (a .text)) (c .before .before .before .before .before .loop .inv .1) (c .before .before .put-bytes .ensures) in
+    let h : length (now (a .text)) ≤ length (now (a .text)) = omega arith in
+    (stored-count (now (a .text)) (set (now (a .index)) 0 0) (c .before .before .put-bytes .result) (length (now (a .text))) h g, stored-all (now (a .text)) (now (a .index)) (c .before .before .put-bytes .result) (length (now (a .text))) (c .before .before .before .before .before .before .before .before .pre .1) h g)
 
 pub put-spec : {M : Type 1} → statement M
 put-spec =
