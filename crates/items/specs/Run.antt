@@ -1,4 +1,4 @@
--- The machine over a text: what one character gives, and the end. A means of proof: no public contract cites it.
+-- The machine over a text: what one character gives, and the end. A means of proof.
 use Prim.Native.Nat.{ℕ, _+_}
 use mathlib.Core.Bool.{Bool, true, false}
 use mathlib.Core.List.{List, [], _∷_, _++_}
