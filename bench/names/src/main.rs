@@ -1,12 +1,13 @@
 //! The name table beside Rust's `HashMap<Vec<u8>, u32>`, for a counter of instructions: `bench_names WHAT` fills a table, or a map, and then
 //! makes 500 calls; `bench_names WHAT idle` does the same without these. bench/names/run counts both and prints the difference.
 //!
-//! there       a name that is there, in the own half        map-there    the same of the map
-//! other       a name that is there, in the other's half
-//! new         a new name                                   map-new      the same of the map
-//! refused     36, the own half being full
-//! collide     a name that is there, all names made so that their hashes are equal
-//! collide-new a new name of that kind
+//! there         a name that is there, in the own half        map-there    the same of the map
+//! other         a name that is there, in the other's half
+//! new           a new name                                   map-new      the same of the map
+//! refused       36, the own half being full
+//! collide       a name that is there, all names made so that their hashes are equal
+//! collide-new   a new name of that kind
+//! collide-full  36 for a name of that kind, both halves being full of such names
 use proved::names::{enter, open, BYTES, WORDS};
 use std::collections::HashMap;
 use std::env;
@@ -26,8 +27,12 @@ impl Table {
     fn new(party: u32, names: &[Vec<u8>]) -> Self {
         let mut table = Table { words: vec![0; WORDS], bytes: vec![0; BYTES] };
         assert_eq!(open(&mut table.words, &table.bytes), SERVED);
-        names.iter().for_each(|name| assert_eq!(table.ask(party, name), SERVED));
+        table.fill(party, names);
         table
+    }
+
+    fn fill(&mut self, party: u32, names: &[Vec<u8>]) {
+        names.iter().for_each(|name| assert_eq!(self.ask(party, name), SERVED));
     }
 
     fn ask(&mut self, party: u32, name: &[u8]) -> u32 {
@@ -94,14 +99,20 @@ fn main() {
     let names = species(NAMES);
     let strange: Vec<Vec<u8>> = names.iter().map(|name| [b"x-", name.as_slice()].concat()).collect();
     let full: Vec<Vec<u8>> = (0..HALF).map(|number| format!("stand-{number}").into_bytes()).collect();
-    let made = colliding(HALF);
+    let made = colliding(2 * HALF + NAMES);
+    let (half, more) = made.split_at(HALF);
     match what.as_str() {
         "there" => ask_table(&mut Table::new(0, &names), &names[..asked], SERVED),
         "other" => ask_table(&mut Table::new(1, &names), &names[..asked], SERVED),
         "new" => ask_table(&mut Table::new(0, &[]), &names[..asked], SERVED),
         "refused" => ask_table(&mut Table::new(0, &full), &strange[..asked], NO_ROOM),
-        "collide" => ask_table(&mut Table::new(0, &made), &made[..asked], SERVED),
-        "collide-new" => ask_table(&mut Table::new(0, &[]), &made[..asked], SERVED),
+        "collide" => ask_table(&mut Table::new(0, half), &half[..asked], SERVED),
+        "collide-new" => ask_table(&mut Table::new(0, &[]), &half[..asked], SERVED),
+        "collide-full" => {
+            let mut table = Table::new(0, half);
+            table.fill(1, &more[..HALF]);
+            ask_table(&mut table, &more[HALF..][..asked], NO_ROOM);
+        }
         "map-there" => ask_map(&mut names.iter().cloned().zip(0..).collect(), &names[..asked]),
         "map-new" => ask_map(&mut HashMap::new(), &names[..asked]),
         other => panic!("not measured: {other}"),

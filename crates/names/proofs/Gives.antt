@@ -108,9 +108,9 @@ module _ (w b : List ℕ) (p : ℕ) (name : List ℕ) where
   unfolding lookupOf
   lookup-full e f = rw e f
 
-  pub find-own : {n : ℕ} → lookupOf w b p name ≡ At n → At n ≡ findOf w b p name
+  pub find-own : {x : Found} {n : ℕ} → x ≡ At n → x ≡ lookupOf w b p name → x ≡ findOf w b p name
   unfolding findOf
-  find-own e = rw e
+  find-own e f = rw (← f, e)
 
   pub find-other : {x : Found} → lookupOf w b p name ≡ Nothing → x ≡ lookupOf w b (1 - p) name → x ≡ findOf w b p name
   unfolding findOf

@@ -11,12 +11,12 @@ use lib.ListN.{length, getD, take, drop, replicate, length-append, length-replic
 use lib.Seq.{getD-append-add, getD-take, getD-drop, length-take-le}
 use Rattle.laws.proofs.Choice.{by-bool}
 use Rattle.names.specs.Layout.{count, bound, used, nameAt, inBounds, halfNames, halfBytes, firstBound, halfWords, tableNames, tableBytes, tableWords}
-use Rattle.names.specs.Call.{findOf, probeOf, slotOf, tagOf, freeOf, newWords, laid, Outcome, outcome, newOf, enterOf, openMark, openWords, markOf, nameOf, outside, noParty, noRoom, looks, Opening}
+use Rattle.names.specs.Call.{findOf, probeOf, slotOf, tagOf, freeOf, newWords, laid, Outcome, outcome, newOf, enterOf, openMark, openWords, markOf, nameOf, outside, noParty, noRoom, noNumber, looks, Opening}
 use Rattle.names.specs.Book.{Name, Book, book, half, place, size, numberIn, Reply, ask, markIn, nameIn, Call, asks, firstNames, namesOf, bookOf, Memory, memory, calls}
 use Rattle.names.specs.declared.Entered.{Entered}
 use Rattle.names.specs.declared.Entered.the-variants.{Number, Refused}
 use Rattle.names.specs.declared.Found.the-variants.{At}
-use Rattle.names.proofs.Laws.{slot-small, Bounds, bounds, cleared, length-cleared, party-of, open-few, open-short, open-all, name-none, name-there, mark-far, mark-none, mark-there}
+use Rattle.names.proofs.Laws.{slot-small, Bounds, bounds, cleared, length-cleared, party-of, open-few, open-short, open-all, name-none, name-there, mark-outside, mark-far, mark-none, mark-there}
 use Rattle.names.proofs.Gives.{by-found, free-small, enter-outside, enter-party, enter-there, enter-new}
 use Rattle.names.proofs.Parts.{word-other}
 use Rattle.names.proofs.Sound.{Sound, in-bounds}
@@ -227,9 +227,71 @@ kept w b p name =
     (λ x. rw (← enter-party w b p name i (ltb-false p 2 x)) (kept-all w b p (Refused noParty))))
     (λ i. rw (← enter-outside w b p name i) (kept-all w b p (Refused outside)))
 
--- 27 is answered exactly if the memory is outside the bounds, 35 exactly if it is inside and the party is neither 0 nor 1
-pub answers-27 : (w b : List ℕ) (p : ℕ) (name : Name) → inBounds w b ≡ false → enterOf w b p name .answer ≡ Refused outside
-answers-27 w b p name i = sym (ap (λ (o : Outcome). o .answer) (enter-outside w b p name i))
+-- ---- 27, 35 and 37, in any lent memory
+
+refused-same : {j k : ℕ} → Refused j ≡ Refused k → j ≡ k
+refused-same e = cc
+
+module _ (w b : List ℕ) (p : ℕ) (name : Name) where
+  answered : {o : Outcome} → o ≡ enterOf w b p name → o .answer ≡ enterOf w b p name .answer
+  answered e = ap (λ (x : Outcome). x .answer) e
+
+  new-refused : {k : ℕ} → newOf w b p name .answer ≡ Refused k → k ≡ noRoom
+  unfolding newOf
+  new-refused {k} e =
+      by-bool (ltb (count w p) halfNames)
+      (λ x. by-bool (leb (used w p + length name) halfBytes)
+      (λ y. absurd (refused-other {n = p * halfNames + count w p} {k = k} (rw (x, y) at e)))
+      (λ y. sym (refused-same {j = noRoom} (rw (x, y) at e))))
+      (λ x. sym (refused-same {j = noRoom} (rw x at e)))
+
+  -- why a party is refused
+  why : {k : ℕ} → enterOf w b p name .answer ≡ Refused k
+      → ((k ≡ outside) × (inBounds w b ≡ false)) ⊎ (((k ≡ noParty) × (inBounds w b ≡ true) × (2 ≤ p)) ⊎ (k ≡ noRoom))
+  why e =
+      by-bool (inBounds w b)
+      (λ i. inr (by-bool (ltb p 2)
+      (λ x. let two = ltb-true p 2 x in
+      by-found (findOf w b p name)
+      (λ n f. absurd (refused-other (answered (enter-there w b p name i two f) ∙ e)))
+      (λ f. inr (new-refused (answered (enter-new w b p name i two f refl) ∙ e))))
+      (λ x. let far = ltb-false p 2 x in inl (sym (refused-same (answered (enter-party w b p name i far) ∙ e)), i, far))))
+      (λ i. inl (sym (refused-same (answered (enter-outside w b p name i) ∙ e)), i))
+
+  -- 27 exactly if the memory is outside the bounds
+  pub refused-27 : (enterOf w b p name .answer ≡ Refused outside → inBounds w b ≡ false) × (inBounds w b ≡ false → enterOf w b p name .answer ≡ Refused outside)
+  refused-27 = (
+    λ e. ⊎-elim (λ x. x .1) (⊎-elim (λ x. absurd (omega (arith, x .0))) (λ x. absurd (omega (arith, x)))) (why e),
+    λ i. sym (answered (enter-outside w b p name i)),
+  )
+
+  -- 35 exactly if it is within them, and the party is neither 0 nor 1
+  pub refused-35 : (enterOf w b p name .answer ≡ Refused noParty → (inBounds w b ≡ true) × (2 ≤ p)) × (inBounds w b ≡ true → 2 ≤ p → enterOf w b p name .answer ≡ Refused noParty)
+  refused-35 = (
+    λ e. ⊎-elim (λ x. absurd (omega (arith, x .0))) (⊎-elim (λ x. (x .1, x .2)) (λ x. absurd (omega (arith, x)))) (why e),
+    λ i far. sym (answered (enter-party w b p name i far)),
+  )
+
+-- 37 exactly if the memory is within the bounds, and the number was not given
+pub refused-37 : (w b : List ℕ) (k : ℕ)
+    → (markOf w b k ≡ noNumber → (inBounds w b ≡ true) × ((tableNames ≤ k) ⊎ (count w (k / halfNames) ≤ k % halfNames)))
+    × (inBounds w b ≡ true → (tableNames ≤ k) ⊎ (count w (k / halfNames) ≤ k % halfNames) → markOf w b k ≡ noNumber)
+refused-37 w b k = (
+  λ e. by-bool (inBounds w b)
+      (λ i. (
+        i,
+        by-bool (ltb k tableNames)
+            (λ x. by-bool (ltb (k % halfNames) (count w (k / halfNames)))
+            (λ y. let z = mark-there w b k i (ltb-true k tableNames x) refl (ltb-true (k % halfNames) (count w (k / halfNames)) y) ∙ e in absurd (omega (arith, z)))
+            (λ y. inr (ltb-false (k % halfNames) (count w (k / halfNames)) y)))
+            (λ x. inl (ltb-false k tableNames x)),
+      ))
+      (λ i. let z = mark-outside w b k i ∙ e in absurd (omega (arith, z))),
+  λ i d. by-bool (ltb k tableNames)
+      (λ x. let near = ltb-true k tableNames x in
+      ⊎-elim (λ far. absurd (omega (arith, far, near))) (λ m. sym (mark-none w b k i near refl m)) d)
+      (λ x. sym (mark-far w b k i (ltb-false k tableNames x))),
+)
 
 -- ---- who is refused, in lent memory
 

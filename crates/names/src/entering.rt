@@ -1,17 +1,14 @@
 // The calls that write: opening a table, and asking for a name's number.
 use crate::Entered;
 use crate::Found;
-use crate::Proposal;
 use crate::finding::find;
 use crate::finding::hash;
-use crate::finding::probe;
 use crate::finding::tag_of;
 use crate::layout::FIRST_BOUND;
 use crate::layout::FIRST_SLOT;
 use crate::layout::HALF_BYTES;
 use crate::layout::HALF_NAMES;
 use crate::layout::HALF_WORDS;
-use crate::layout::INDEX_SLOTS;
 use crate::layout::TABLE_BYTES;
 use crate::layout::TABLE_WORDS;
 use crate::layout::in_bounds;
@@ -21,7 +18,7 @@ ghost use Prim.Native.Nat.{_+_, _≤_, _<_};
 ghost use lib.ListN.{length, replicate};
 ghost use Rattle.laws.specs.Lent.{written};
 ghost use Rattle.names.specs.Layout.{halfNames, halfBytes, indexSlots, tableWords, tableBytes, count, used};
-ghost use Rattle.names.specs.Call.{hashesASlot, freeOf, newWords, laid, outcome, newOf, enterOf, opening, openOf};
+ghost use Rattle.names.specs.Call.{hashesASlot, tagOf, probeOf, freeOf, newWords, laid, outcome, newOf, enterOf, opening, openOf};
 
 // How many parties there are.
 const PARTIES: u32 = 2;
@@ -66,19 +63,17 @@ fn put(words: &mut [u32], party: usize, slot: usize, tag: usize, n: usize, from:
     words[base] = (n + 1) as u32;
 }
 
-// The slot at which an entry is proposed: the empty one that was found, else the one that is never asked.
-fn free_of(x: Proposal) -> usize
-    ensures { λ r. ⌜ r ≡ freeOf x ⌝ }
-{
-    match x {
-        Proposal::Entry(_) => INDEX_SLOTS,
-        Proposal::Free(s) => s,
-        Proposal::Full => INDEX_SLOTS,
-    }
-}
-
-// Enters a name that is in neither half.
-fn add(words: &mut [u32], bytes: &mut [u8], party: usize, name: &[u8]) -> Entered
+// Enters a name that is in neither half, at a slot of the index under a tag.
+fn add(
+    words: &mut [u32],
+    bytes: &mut [u8],
+    party: usize,
+    name: &[u8],
+    slot: usize,
+    tag: usize,
+) -> Entered
+    requires { ⌜ slot ≡ freeOf (probeOf (now words) (now bytes) party (now name)) ⌝ }
+    requires { ⌜ tag ≡ tagOf (now name) ⌝ }
     requires { ⌜ tableWords ≤ length (now words) ⌝ }
     requires { ⌜ tableBytes ≤ length (now bytes) ⌝ }
     requires { ⌜ party < 2 ⌝ }
@@ -94,9 +89,7 @@ fn add(words: &mut [u32], bytes: &mut [u8], party: usize, name: &[u8]) -> Entere
     if HALF_BYTES - from < name.len() {
         return Entered::Refused(NO_ROOM);
     }
-    let h = hash(name);
-    let slot = free_of(probe(words, bytes, party, name, h));
-    put(words, party, slot, tag_of(h), n, from, name.len());
+    put(words, party, slot, tag, n, from, name.len());
     copy(bytes, party * HALF_BYTES + from, name);
     Entered::Number((party * HALF_NAMES + n) as u32)
 }
@@ -112,10 +105,13 @@ pub fn enter(words: &mut [u32], bytes: &mut [u8], party: u32, name: &[u8]) -> En
         return Entered::Refused(NO_PARTY);
     }
     let p = party as usize;
-    let f = find(words, bytes, p, name);
-    match f {
+    let h = hash(name);
+    let found = find(words, bytes, p, name, h);
+    let number = found.number;
+    let free = found.free;
+    match number {
         Found::At(n) => Entered::Number(n as u32),
-        Found::Nothing => add(words, bytes, p, name),
+        Found::Nothing => add(words, bytes, p, name, free, tag_of(h)),
     }
 }
 

@@ -1,6 +1,7 @@
 // Which entry bears a name: a half's index is asked first, and its names are read only where the index answers neither yes nor no.
 use crate::Found;
 use crate::Proposal;
+use crate::Sought;
 use crate::blocks::FOUR;
 use crate::blocks::byte;
 use crate::blocks::four;
@@ -14,7 +15,7 @@ ghost use mathlib.Core.Path.{_≡_};
 ghost use Prim.Native.Nat.{_/_, _%_, _≤_, _<_};
 ghost use lib.ListN.{length, drop};
 ghost use Rattle.names.specs.Layout.{halfNames, tableWords, tableBytes, count};
-ghost use Rattle.names.specs.Call.{hashes, hashesASlot, turn, rest, hashOf, tagOf, proposes, probeOf, scanned, lookupOf, findOf};
+ghost use Rattle.names.specs.Call.{hashes, hashesASlot, turn, rest, hashOf, tagOf, proposes, probeOf, freeOf, scanned, lookupOf, findOf};
 
 // The hash of a name has 32 bits: the top ten are a slot, the others a tag.
 const FACTOR: u64 = 1640531527;
@@ -94,7 +95,7 @@ fn proposes(words: &[u32], bytes: &[u8], party: usize, name: &[u8], tag: usize, 
 }
 
 // Asks a half's index for a name, whose hash is h.
-pub fn probe(words: &[u32], bytes: &[u8], party: usize, name: &[u8], h: u64) -> Proposal
+fn probe(words: &[u32], bytes: &[u8], party: usize, name: &[u8], h: u64) -> Proposal
     requires { ⌜ h ≡ hashOf (now name) ⌝ }
     requires { ⌜ tableWords ≤ length (now words) ⌝ }
     requires { ⌜ tableBytes ≤ length (now bytes) ⌝ }
@@ -139,16 +140,26 @@ fn scan(words: &[u32], bytes: &[u8], party: usize, name: &[u8]) -> Found
     Found::Nothing
 }
 
-// The number of a name that is in a half: by its index, and by reading the names where the index answers neither.
-fn lookup(words: &[u32], bytes: &[u8], party: usize, name: &[u8], h: u64) -> Found
-    requires { ⌜ h ≡ hashOf (now name) ⌝ }
+// The slot at which an entry is proposed: the empty one that was found, else the one that is never asked.
+fn free_of(x: Proposal) -> usize
+    ensures { λ r. ⌜ r ≡ freeOf x ⌝ }
+{
+    match x {
+        Proposal::Entry(_) => INDEX_SLOTS,
+        Proposal::Free(s) => s,
+        Proposal::Full => INDEX_SLOTS,
+    }
+}
+
+// The number of a name that is in a half, by what its index says: the names are read where that is neither yes nor no.
+fn number_by(words: &[u32], bytes: &[u8], party: usize, name: &[u8], x: Proposal) -> Found
+    requires { ⌜ x ≡ probeOf (now words) (now bytes) party (now name) ⌝ }
     requires { ⌜ tableWords ≤ length (now words) ⌝ }
     requires { ⌜ tableBytes ≤ length (now bytes) ⌝ }
     requires { ⌜ party < 2 ⌝ }
     requires { ⌜ count (now words) party ≤ halfNames ⌝ }
     ensures { λ r. ⌜ r ≡ lookupOf (now (words .entry)) (now (bytes .entry)) party (now (name .entry)) ⌝ }
 {
-    let x = probe(words, bytes, party, name, h);
     match x {
         Proposal::Entry(k) => Found::At(party * HALF_NAMES + k),
         Proposal::Free(_) => Found::Nothing,
@@ -156,19 +167,44 @@ fn lookup(words: &[u32], bytes: &[u8], party: usize, name: &[u8], h: u64) -> Fou
     }
 }
 
-// The number of a name that is there, own half first.
-pub fn find(words: &[u32], bytes: &[u8], party: usize, name: &[u8]) -> Found
+// Asks one half for a name, whose hash is h: its number there, and the slot that is free for it.
+fn lookup(words: &[u32], bytes: &[u8], party: usize, name: &[u8], h: u64) -> Sought
+    requires { ⌜ h ≡ hashOf (now name) ⌝ }
+    requires { ⌜ tableWords ≤ length (now words) ⌝ }
+    requires { ⌜ tableBytes ≤ length (now bytes) ⌝ }
+    requires { ⌜ party < 2 ⌝ }
+    requires { ⌜ count (now words) party ≤ halfNames ⌝ }
+    ensures { λ r. ⌜ (r .number ≡ lookupOf (now (words .entry)) (now (bytes .entry)) party (now (name .entry))) × (r .free ≡ freeOf (probeOf (now (words .entry)) (now (bytes .entry)) party (now (name .entry)))) ⌝ }
+{
+    let x = probe(words, bytes, party, name, h);
+    let free = free_of(x);
+    let number = number_by(words, bytes, party, name, x);
+    Sought { number, free }
+}
+
+// Asks both halves for a name, whose hash is h, own half first: its number, and the slot that is free for it in the own half. It is a loop
+// so that `lookup` has one caller: the compiler then puts it in place, and passing the memory on costs nothing.
+pub fn find(words: &[u32], bytes: &[u8], party: usize, name: &[u8], h: u64) -> Sought
+    requires { ⌜ h ≡ hashOf (now name) ⌝ }
     requires { ⌜ tableWords ≤ length (now words) ⌝ }
     requires { ⌜ tableBytes ≤ length (now bytes) ⌝ }
     requires { ⌜ party < 2 ⌝ }
     requires { ⌜ count (now words) 0 ≤ halfNames ⌝ }
     requires { ⌜ count (now words) 1 ≤ halfNames ⌝ }
-    ensures { λ r. ⌜ r ≡ findOf (now (words .entry)) (now (bytes .entry)) party (now (name .entry)) ⌝ }
+    ensures { λ r. ⌜ (r .number ≡ findOf (now (words .entry)) (now (bytes .entry)) party (now (name .entry))) × (r .free ≡ freeOf (probeOf (now (words .entry)) (now (bytes .entry)) party (now (name .entry)))) ⌝ }
 {
-    let h = hash(name);
-    let a = lookup(words, bytes, party, name, h);
-    match a {
-        Found::At(n) => Found::At(n),
-        Found::Nothing => lookup(words, bytes, 1 - party, name, h),
+    let mut half = party;
+    let mut free: usize = INDEX_SLOTS;
+    loop {
+        let said = lookup(words, bytes, half, name, h);
+        let number = said.number;
+        if half != party {
+            return Sought { number, free };
+        }
+        free = said.free;
+        match number {
+            Found::At(_) => return Sought { number, free },
+            Found::Nothing => half = 1 - party,
+        }
     }
 }

@@ -44,3 +44,11 @@ pub enum Found {
     At(usize),
     Nothing,
 }
+
+// What a half, or both, answer for a name.
+pub struct Sought {
+    // its number, if it is there
+    pub number: Found,
+    // the slot of the index at which it goes if it is entered
+    pub free: usize,
+}

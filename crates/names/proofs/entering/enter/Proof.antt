@@ -29,20 +29,31 @@ same-length-4 c = search needs
 returns-2 : tie.Need-returns-2
 returns-2 c = enter-party _ _ _ _ (sym (c .before .before .in-bounds .ensures) ∙ not-false _ (c .before .if1 .left)) (c .if2 .taken)
 
+hash-requires : tie.Need-hash-requires
+hash-requires c κs = search needs
+
 find-requires : tie.Need-find-requires
-find-requires c κs = let B = bounds _ _ (sym (c .before .before .before .before .in-bounds .ensures) ∙ not-false _ (c .before .before .before .if1 .left)) in (B .words, (B .bytes, (c .before .before .if2 .left, (B .few 0 (omega arith), B .few 1 (omega arith)))))
+find-requires c κs =
+    let B = bounds _ _ (sym (c .before .before .before .before .before .in-bounds .ensures) ∙ not-false _ (c .before .before .before .before .if1 .left)) in
+    (c .before .before .hash .ensures, (B .words, (B .bytes, (c .before .before .before .if2 .left, (B .few 0 (omega arith), B .few 1 (omega arith))))))
 
-enum-known-f : tie.Need-enum-known-f
-enum-known-f c = search needs
+enum-known-number : tie.Need-enum-known-number
+enum-known-number c = search needs
 
-cast-t19 : tie.Need-cast-t19
-cast-t19 c = omega (arith, number-small _ _ _ (bounds _ _ (sym (c .before .before .before .before .before .before .before .before .in-bounds .ensures) ∙ not-false _ (c .before .before .before .before .before .before .before .if1 .left)) .few) (find-in _ _ _ _ (c .before .before .before .before .before .before .if2 .left) (sym (c .before .before .before .find .ensures) ∙ c .before .f .given .1)))
+cast-t22 : tie.Need-cast-t22
+cast-t22 c = omega (arith, number-small _ _ _ (bounds _ _ (sym (c .before .before .before .before .before .before .before .before .before .in-bounds .ensures) ∙ not-false _ (c .before .before .before .before .before .before .before .before .if1 .left)) .few) (find-in _ _ _ _ (c .before .before .before .before .before .before .before .if2 .left) (sym (c .before .before .before .find .ensures .0) ∙ c .before .number .given .1)))
 
 enum-told : tie.Need-enum-told
 enum-told c = search needs
 
+tag-of-requires : tie.Need-tag-of-requires
+tag-of-requires c κs = search needs
+
 add-requires : tie.Need-add-requires
-add-requires c κs = let B = bounds _ _ (sym (c .before .before .before .before .before .before .before .before .before .in-bounds .ensures) ∙ not-false _ (c .before .before .before .before .before .before .before .before .if1 .left)) in (B .words, (B .bytes, (c .before .before .before .before .before .before .before .if2 .left, (B .few _ (c .before .before .before .before .before .before .before .if2 .left), B .short _ (c .before .before .before .before .before .before .before .if2 .left)))))
+add-requires c κs =
+    let B = bounds _ _ (sym (c .before .before .before .before .before .before .before .before .before .before .before .in-bounds .ensures) ∙ not-false _ (c .before .before .before .before .before .before .before .before .before .before .if1 .left)) in
+    let two = c .before .before .before .before .before .before .before .before .before .if2 .left in
+    (c .before .before .before .before .before .find .ensures .1, (c .tag-of .ensures ∙ rw (c .before .before .before .before .before .before .before .before .hash .ensures), (B .words, (B .bytes, (two, (B .few _ two, B .short _ two))))))
 
 same-length-5 : tie.Need-same-length-5
 same-length-5 c = search needs
@@ -51,7 +62,7 @@ same-length-6 : tie.Need-same-length-6
 same-length-6 c = search needs
 
 returns-3 : tie.Need-returns-3
-returns-3 c = enter-there _ _ _ _ (sym (c .before .before .before .before .before .before .before .before .in-bounds .ensures) ∙ not-false _ (c .before .before .before .before .before .before .before .if1 .left)) (c .before .before .before .before .before .before .if2 .left) (sym (c .before .before .before .find .ensures) ∙ c .before .f .given .1)
+returns-3 c = enter-there _ _ _ _ (sym (c .before .before .before .before .before .before .before .before .before .in-bounds .ensures) ∙ not-false _ (c .before .before .before .before .before .before .before .before .if1 .left)) (c .before .before .before .before .before .before .before .if2 .left) (sym (c .before .before .before .find .ensures .0) ∙ c .before .number .given .1)
 
 same-length-7 : tie.Need-same-length-7
 same-length-7 c = search needs
@@ -60,7 +71,7 @@ same-length-8 : tie.Need-same-length-8
 same-length-8 c = search needs
 
 returns-4 : tie.Need-returns-4
-returns-4 c = enter-new _ _ _ _ (sym (c .before .before .before .before .before .before .before .before .before .before .before .before .before .before .in-bounds .ensures) ∙ not-false _ (c .before .before .before .before .before .before .before .before .before .before .before .before .before .if1 .left)) (c .before .before .before .before .before .before .before .before .before .before .before .before .if2 .left) (sym (c .before .before .before .before .before .before .before .before .before .find .ensures) ∙ c .before .before .before .before .before .before .before .enum-told .given .1) (c .before .before .before .before .add .ensures)
+returns-4 c = enter-new _ _ _ _ (sym (c .before .before .before .before .before .before .before .before .before .before .before .before .before .before .before .before .in-bounds .ensures) ∙ not-false _ (c .before .before .before .before .before .before .before .before .before .before .before .before .before .before .before .if1 .left)) (c .before .before .before .before .before .before .before .before .before .before .before .before .before .before .if2 .left) (sym (c .before .before .before .before .before .before .before .before .before .before .find .ensures .0) ∙ c .before .before .before .before .before .before .before .before .enum-told .given .1) (c .before .before .before .before .add .ensures)
 
 pub enter-spec : {M : Type 1} → statement M
 enter-spec =
@@ -73,10 +84,12 @@ enter-spec =
     same-length-3
     same-length-4
     returns-2
+    hash-requires
     find-requires
-    enum-known-f
-    cast-t19
+    enum-known-number
+    cast-t22
     enum-told
+    tag-of-requires
     add-requires
     same-length-5
     same-length-6

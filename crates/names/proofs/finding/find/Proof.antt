@@ -1,47 +1,84 @@
--- The own half is asked first, and the other one only where the own answers nothing, as `orElse` has it.
+-- The own half is asked first, and the other one only where the own answers nothing, as `orElse` has it: before the second turn that is known,
+-- and the own half's free slot.
 use denote.Ref.{now}
-use Prim.Native.Nat.{_-_}
+use Prim.Native.Nat.{ℕ, _+_, _-_, _<_}
 use native.Mathlib.Omega.{arith}
-use mathlib.Core.Path.{sym, _∙_}
+use mathlib.Core.Path.{_≡_, refl, sym, _∙_}
+use mathlib.Core.Logic.{_⊎_, inl, inr, ⊎-elim}
 use borrow.Author.Needs.{needs}
+use Rattle.names.specs.Call.{probeOf, freeOf, lookupOf}
+use Rattle.names.specs.declared.Found.the-variants.{Nothing}
 use Rattle.names.proofs.Gives.{find-other, find-own}
-use Rattle.names.proofs.Laws.{few-two}
+use Rattle.names.proofs.Laws.{few-two, halves}
 use Rattle.names.proofs.finding.find.Statement.{statement}
 use Rattle.names.proofs.finding.find.Tie as tie
 
-hash-requires : tie.Need-hash-requires
-hash-requires c κs = search needs
+abbrev Inv-loop : tie.InvT-loop
+Inv-loop words bytes party name h half₀ free₀ half free =
+    (half ≡ party) ⊎ ((half ≡ 1 - party) × (lookupOf words bytes party name ≡ Nothing) × (free ≡ freeOf (probeOf words bytes party name)))
 
-lookup-requires : tie.Need-lookup-requires
-lookup-requires c κs = (c .hash .ensures, (c .before .before .before .before .pre .0, (c .before .before .before .before .pre .1 .0, (c .before .before .before .before .pre .1 .1 .0, few-two (now (c .before .before .before .before .args .words)) _ (c .before .before .before .before .pre .1 .1 .1 .0) (c .before .before .before .before .pre .1 .1 .1 .1) (c .before .before .before .before .pre .1 .1 .0)))))
+-- 1 in the own half, 0 in the other
+abbrev left : ℕ → ℕ → ℕ
+left party half = 1 - ((half - party) + (party - half))
 
-enum-known-a : tie.Need-enum-known-a
-enum-known-a c = search needs
+left-less : (p : ℕ) → p < 2 → left p (1 - p) < left p p
+left-less p h = halves (λ q. left q (1 - q) < left q q) (omega arith) (omega arith) p h
 
-enum-told : tie.Need-enum-told
+abbrev μ-loop : tie.MeasureT-loop
+μ-loop words bytes party name h half₀ free₀ half free = left party half
+
+loop-holds : tie.Need-loop-holds Inv-loop μ-loop
+loop-holds c = inl refl
+
+lookup-requires : tie.Need-lookup-requires Inv-loop μ-loop
+lookup-requires c κs =
+    let p = c .before .before .before .before .pre in
+    let two : c .loop .half < 2 = ⊎-elim (λ e. omega (arith, p .1 .1 .1 .0)) (λ e. omega (arith, e .0)) (c .loop .inv) in
+    (p .0, (p .1 .0, (p .1 .1 .0, (two, few-two (now (c .before .before .before .before .args .words)) (c .loop .half) (p .1 .1 .1 .1 .0) (p .1 .1 .1 .1 .1) two))))
+
+returns : tie.Need-returns Inv-loop μ-loop
+returns c =
+    ⊎-elim
+    (λ e. absurd (c .if1 .taken e))
+    (λ e. (find-other (now (c .before .before .before .before .before .before .args .words)) (now (c .before .before .before .before .before .before .args .bytes)) (c .before .before .before .before .before .before .args .party) (now (c .before .before .before .before .before .before .args .name)) (e .1) (c .before .lookup .ensures .0 ∙ rw (e .0)), e .2))
+    (c .before .before .loop .inv)
+
+enum-told : tie.Need-enum-told Inv-loop μ-loop
 enum-told c = search needs
 
-sub-lookup : tie.Need-sub-lookup
-sub-lookup c = search needs
+returns-2 : tie.Need-returns-2 Inv-loop μ-loop
+returns-2 c =
+    let e = c .before .before .if1 .left in
+    let said = c .before .before .before .lookup .ensures in
+    (find-own (now (c .before .before .before .before .before .before .before .before .args .words)) (now (c .before .before .before .before .before .before .before .before .args .bytes)) (c .before .before .before .before .before .before .before .before .args .party) (now (c .before .before .before .before .before .before .before .before .args .name)) (c .enum-told .given .1) (said .0 ∙ rw e), said .1 ∙ rw e)
 
-lookup-requires-2 : tie.Need-lookup-requires-2
-lookup-requires-2 c κs = (c .before .before .before .hash .ensures, (c .before .before .before .before .before .before .before .pre .0, (c .before .before .before .before .before .before .before .pre .1 .0, (omega arith, few-two (now (c .before .before .before .before .before .before .before .args .words)) (1 - c .before .before .before .before .before .before .before .args .party) (c .before .before .before .before .before .before .before .pre .1 .1 .1 .0) (c .before .before .before .before .before .before .before .pre .1 .1 .1 .1) (omega arith)))))
+enum-told-2 : tie.Need-enum-told-2 Inv-loop μ-loop
+enum-told-2 c = search needs
 
-returns : tie.Need-returns
-returns c = find-own _ _ _ _ (sym (c .before .before .before .lookup .ensures) ∙ c .before .a .given .1)
+sub-half : tie.Need-sub-half Inv-loop μ-loop
+sub-half c = search needs
 
-returns-2 : tie.Need-returns-2
-returns-2 c = find-other _ _ _ _ (sym (c .before .before .before .lookup .ensures) ∙ c .before .enum-told .given .1) (c .lookup2 .ensures)
+loop-less : tie.Need-loop-less Inv-loop μ-loop
+loop-less c = rw (c .before .before .if1 .left) (left-less _ (c .before .before .before .before .before .before .before .before .pre .1 .1 .1 .0))
+
+loop-again : tie.Need-loop-again Inv-loop μ-loop
+loop-again c =
+    let e = c .before .before .if1 .left in
+    let said = c .before .before .before .lookup .ensures in
+    inr (refl, sym (said .0 ∙ rw e) ∙ c .enum-told2 .given .1, said .1 ∙ rw e)
 
 pub find-spec : {M : Type 1} → statement M
 find-spec =
     tie.close
     (tie.spec
-    hash-requires
+    Inv-loop
+    μ-loop
+    loop-holds
     lookup-requires
-    enum-known-a
-    enum-told
-    sub-lookup
-    lookup-requires-2
     returns
-    returns-2)
+    enum-told
+    returns-2
+    enum-told-2
+    sub-half
+    loop-less
+    loop-again)

@@ -1,55 +1,21 @@
--- The index's three answers are the three cases of `numbered`; an entry that it proposes is below the count, so its number fits.
-use denote.Ref.{now}
-use native.Mathlib.Omega.{arith}
-use mathlib.Core.Path.{sym, _∙_}
+-- The number follows from what the index says, and so does the free slot.
+use mathlib.Core.Path.{ap, _∙_}
 use borrow.Author.Needs.{needs}
-use Rattle.names.specs.Call.{looks}
-use Rattle.names.proofs.Gives.{lookup-entry, lookup-free, lookup-full}
-use Rattle.names.proofs.Laws.{bears-in, probe-in}
+use Rattle.names.specs.Call.{freeOf}
 use Rattle.names.proofs.finding.lookup.Statement.{statement}
 use Rattle.names.proofs.finding.lookup.Tie as tie
 
 probe-requires : tie.Need-probe-requires
 probe-requires c κs = search needs
 
-enum-known-x : tie.Need-enum-known-x
-enum-known-x c = search needs
+free-of-requires : tie.Need-free-of-requires
+free-of-requires c κs = search needs
 
-mul-t9 : tie.Need-mul-t9
-mul-t9 c = search needs
-
-add-t10 : tie.Need-add-t10
-add-t10 c = omega (arith, bears-in (now (c .before .before .before .before .before .before .before .args .words)) (now (c .before .before .before .before .before .before .before .args .bytes)) (c .before .before .before .before .before .before .before .args .party) (now (c .before .before .before .before .before .before .before .args .name)) _ (probe-in (now (c .before .before .before .before .before .before .before .args .words)) (now (c .before .before .before .before .before .before .before .args .bytes)) (c .before .before .before .before .before .before .before .args .party) (now (c .before .before .before .before .before .before .before .args .name)) looks _ (sym (c .before .before .before .probe .ensures) ∙ c .before .x .given .1)))
-
-enum-told : tie.Need-enum-told
-enum-told c = search needs
-
-enum-told-2 : tie.Need-enum-told-2
-enum-told-2 c = search needs
-
-scan-requires : tie.Need-scan-requires
-scan-requires c κs = search needs
+number-by-requires : tie.Need-number-by-requires
+number-by-requires c κs = search needs
 
 returns : tie.Need-returns
-returns c = lookup-entry (now (c .before .before .before .before .before .before .before .args .words)) (now (c .before .before .before .before .before .before .before .args .bytes)) (c .before .before .before .before .before .before .before .args .party) (now (c .before .before .before .before .before .before .before .args .name)) _ (sym (c .before .before .before .probe .ensures) ∙ c .before .x .given .1)
-
-returns-2 : tie.Need-returns-2
-returns-2 c = lookup-free (now (c .before .before .before .before .before .before .args .words)) (now (c .before .before .before .before .before .before .args .bytes)) (c .before .before .before .before .before .before .args .party) (now (c .before .before .before .before .before .before .args .name)) _ (sym (c .before .before .probe .ensures) ∙ c .enum-told .given .1)
-
-returns-3 : tie.Need-returns-3
-returns-3 c = lookup-full (now (c .before .before .before .before .before .before .before .args .words)) (now (c .before .before .before .before .before .before .before .args .bytes)) (c .before .before .before .before .before .before .before .args .party) (now (c .before .before .before .before .before .before .before .args .name)) (sym (c .before .before .before .probe .ensures) ∙ c .before .enum-told2 .given .1) (c .scan .ensures)
+returns c = (c .number-by .ensures, c .before .free-of .ensures ∙ ap freeOf (c .before .before .probe .ensures))
 
 pub lookup-spec : {M : Type 1} → statement M
-lookup-spec =
-    tie.close
-    (tie.spec
-    probe-requires
-    enum-known-x
-    mul-t9
-    add-t10
-    enum-told
-    enum-told-2
-    scan-requires
-    returns
-    returns-2
-    returns-3)
+lookup-spec = tie.close (tie.spec probe-requires free-of-requires number-by-requires returns)
