@@ -1,7 +1,7 @@
 -- An item of kind Number has its extent's bytes read as a number: it comes of a number run whose bytes have parts, and those bytes stand in the text
 -- where its extent says. They are whole characters and no more than the text has, so that the call refuses nothing.
 use Rattle.items.specs.declared.CharValue.{CharValue}
-use Rattle.items.specs.declared.CharValue.the-variants.{Scalar, Wrong}
+use Rattle.items.specs.declared.CharValue.the-variants.{Scalar, Wrong, WrongAt}
 use Rattle.items.specs.declared.Outcome.{Outcome}
 use Rattle.items.specs.declared.Outcome.the-variants.{Token, Str, HereStr, Word, Run, Lined, Keyword, Character, Error, ErrorAt}
 use Rattle.items.specs.Items.{Place, Item, itemsOf, extentItems, items}

@@ -1,7 +1,7 @@
 -- A Number is a number run: no other outcome of an item has that kind. A token's kind is told where the token is, so a line for each class of a
 -- character in each phase shows it.
 use Rattle.items.specs.declared.CharValue.{CharValue}
-use Rattle.items.specs.declared.CharValue.the-variants.{Scalar, Wrong}
+use Rattle.items.specs.declared.CharValue.the-variants.{Scalar, Wrong, WrongAt}
 use Rattle.items.specs.declared.HashKind.{HashKind}
 use Rattle.items.specs.declared.HashKind.the-variants.{Decided, Bracket, Undecided}
 use Rattle.items.specs.declared.Next.{Next}

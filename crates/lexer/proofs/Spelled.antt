@@ -6,7 +6,7 @@ use Rattle.items.specs.Items.{Place, Item, itemsOf, rangeAfter, standing, exten
 use Rattle.items.specs.declared.Outcome.{Outcome}
 use Rattle.items.specs.declared.Outcome.the-variants.{Token, Str, HereStr, Word, Run, Lined, Keyword, Character, Error, ErrorAt}
 use Rattle.items.specs.declared.CharValue.{CharValue}
-use Rattle.items.specs.declared.CharValue.the-variants.{Scalar, Wrong}
+use Rattle.items.specs.declared.CharValue.the-variants.{Scalar, Wrong, WrongAt}
 use Rattle.items.specs.declared.Quotes.the-variants.{Lines}
 use Rattle.items.proofs.Every.{Every}
 use Rattle.numbers.specs.Grammar.{parseNumber}

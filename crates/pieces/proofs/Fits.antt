@@ -6,7 +6,7 @@ use Rattle.chars.specs.Blank.{isBlank}
 use Rattle.chars.specs.Encode.{width}
 use Rattle.chars.specs.Machine.{step, told}
 use Rattle.items.specs.declared.CharValue.{CharValue}
-use Rattle.items.specs.declared.CharValue.the-variants.{Scalar, Wrong}
+use Rattle.items.specs.declared.CharValue.the-variants.{Scalar, Wrong, WrongAt}
 use Rattle.items.specs.declared.Next.{Next}
 use Rattle.items.specs.declared.Next.the-variants.{Eat, Stop}
 use Rattle.items.specs.declared.Outcome.{Outcome}

@@ -10,7 +10,7 @@ use Rattle.items.specs.declared.Next.the-variants.{Eat, Stop}
 use Rattle.items.specs.declared.HashKind.{HashKind}
 use Rattle.items.specs.declared.HashKind.the-variants.{Decided, Bracket, Undecided}
 use Rattle.items.specs.declared.CharValue.{CharValue}
-use Rattle.items.specs.declared.CharValue.the-variants.{Scalar, Wrong}
+use Rattle.items.specs.declared.CharValue.the-variants.{Scalar, Wrong, WrongAt}
 use Rattle.items.specs.Kinds as kind
 use Rattle.items.specs.Classes.{startsRun, firstOf, inQuotes, afterBackslash, inHex, inTrim, inNest, inWord, inRun, afterHash, inHash, inDelim}
 use Rattle.items.specs.Classes.{First, InQuotes, ends, escapes, plain, AfterBackslash, simple, hexX, hexU, blank, newline, invalid}
@@ -44,8 +44,8 @@ Ranges Run = Unit {0}
 Ranges Lined = Unit {0}
 Ranges Keyword = Unit {0}
 Ranges Character = Unit {0}
-Ranges (Error n d) = n ≤ kind.InvalidHexCodePoint
-Ranges (ErrorAt n d a b) = (n ≤ kind.InvalidHexCodePoint) × ((a ≤ limit) × (b ≤ limit))
+Ranges (Error n d) = n ≤ kind.lastError
+Ranges (ErrorAt n d a b) = (n ≤ kind.lastError) × ((a ≤ limit) × (b ≤ limit))
 
 -- an outcome of an item that is whole
 abbrev pub Settled : Outcome → Type 0
@@ -57,8 +57,8 @@ Settled Run = ⊥
 Settled Lined = ⊥
 Settled Keyword = ⊥
 Settled Character = ⊥
-Settled (Error n d) = n ≤ kind.InvalidHexCodePoint
-Settled (ErrorAt n d a b) = (n ≤ kind.InvalidHexCodePoint) × ((a ≤ limit) × (b ≤ limit))
+Settled (Error n d) = n ≤ kind.lastError
+Settled (ErrorAt n d a b) = (n ≤ kind.lastError) × ((a ≤ limit) × (b ≤ limit))
 
 -- a phase of an item that has n bytes so far
 abbrev pub Sized : ℕ → Phase → Type 0

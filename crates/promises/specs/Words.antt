@@ -18,7 +18,7 @@ use Rattle.items.specs.Readers.{scalarOf}
 use Rattle.items.specs.Meaning.{lookup, words, wordKind, wordMeans, means, source, charNames, hexNamed, spelledOut, characterOf, unescape}
 use Rattle.items.specs.declared.Quotes.{Quotes}
 use Rattle.items.specs.declared.Quotes.the-variants.{Double, Lines}
-use Rattle.items.specs.declared.CharValue.the-variants.{Scalar, Wrong}
+use Rattle.items.specs.declared.CharValue.the-variants.{Scalar, Wrong, WrongAt}
 use Rattle.promises.specs.Shapes.{room}
 
 -- what `decode` leaves in n bytes of free memory: the text between quotes that stands in `raw` from a place on

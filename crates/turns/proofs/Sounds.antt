@@ -24,7 +24,7 @@ use Rattle.chars.proofs.Table.{within-true}
 use Rattle.chars.proofs.Width.{wide, width-le, width-utf8}
 use Rattle.items.specs.Kinds as kind
 use Rattle.items.specs.declared.CharValue.{CharValue}
-use Rattle.items.specs.declared.CharValue.the-variants.{Scalar, Wrong}
+use Rattle.items.specs.declared.CharValue.the-variants.{Scalar, Wrong, WrongAt}
 use Rattle.items.specs.declared.Outcome.{Outcome}
 use Rattle.items.specs.declared.Outcome.the-variants.{Token, Str, HereStr, Word, Run, Lined, Keyword, Character, Error, ErrorAt}
 use Rattle.items.specs.declared.Phase.{Phase}
