@@ -31,7 +31,7 @@ use Rattle.chars.specs.Encode.{spelled}
 use Rattle.digits.specs.Hex.{hexValue}
 use Prim.Native.Nat.{ℕ}
 use mathlib.Core.Path.{_≡_, refl}
-use mathlib.Core.Bool.{Bool, false}
+use mathlib.Core.Bool.{Bool, true, false}
 use mathlib.Core.List.{List, [], _∷_}
 use lib.ListN.{length, drop}
 use lib.Dec.{eqb, leb}
@@ -175,19 +175,22 @@ module _ (i : SoFar) (c : ℕ) where
   goes-escape newline q from = tt
   goes-escape invalid q from = tt
 
-  goes-brace : (k : InHex) (q : Quotes) (from : ℕ) → Goes (onBrace k q from i c)
-  goes-brace closes q from = tt
-  goes-brace stops q from = tt
-  goes-brace digit q from = tt
+  goes-brace : (report : Bool) (k : InHex) (q : Quotes) (from : ℕ) → Goes (onBrace report k q from i c)
+  goes-brace true closes q from = tt
+  goes-brace false closes q from = tt
+  goes-brace report stops q from = tt
+  goes-brace report digit q from = tt
 
-  goes-close : (v : CharValue) (q : Quotes) (from to : ℕ) → Goes (closeHex v q from to)
-  goes-close (Scalar x) q from to = tt
-  goes-close (Wrong e d) q from to = tt
+  goes-close : (report : Bool) (v : CharValue) (q : Quotes) (from n to : ℕ) → Goes (closeHex report v q from n to i)
+  goes-close report (Scalar x) q from n to = tt
+  goes-close report (Wrong e d) q from n to = tt
+  goes-close true (WrongAt e d p) q from n to = tt
+  goes-close false (WrongAt e d p) q from n to = tt
 
-  goes-hex : (k : InHex) (q : Quotes) (closer from n : ℕ) → Goes (onHex k q closer from n i c)
-  goes-hex closes q closer from n = goes-close (scalarOf (hexValue (drop n (i .bytes)))) q from (eat i c .at)
-  goes-hex stops q closer from n = tt
-  goes-hex digit q closer from n = tt
+  goes-hex : (report : Bool) (k : InHex) (q : Quotes) (closer from n : ℕ) → Goes (onHex report k q closer from n i c)
+  goes-hex report closes q closer from n = goes-close report (scalarOf (hexValue (drop n (i .bytes)))) q from n (eat i c .at)
+  goes-hex report stops q closer from n = tt
+  goes-hex report digit q closer from n = tt
 
   goes-before : (k : InTrim) (q : Quotes) → Goes (onTrimBefore k q i c)
   goes-before space q = tt
@@ -261,8 +264,8 @@ module _ (i : SoFar) (c : ℕ) where
   goes-on report (ph.TrimBefore k) h = goes-before (inTrim c) k
   goes-on report (ph.TrimAfter k) h = goes-trim (inTrim c) k
   goes-on report (ph.Escape k from) h = goes-escape (afterBackslash c) k from
-  goes-on report (ph.Brace k from) h = if-all Goes (eqb c (code "{")) tt (goes-brace (inHex k (code ";") c) k from)
-  goes-on report (ph.Hex k closer from n) h = goes-hex (inHex k closer c) k closer from n
+  goes-on report (ph.Brace k from) h = if-all Goes (eqb c (code "{")) tt (goes-brace report (inHex k (code ";") c) k from)
+  goes-on report (ph.Hex k closer from n) h = goes-hex report (inHex k closer c) k closer from n
   goes-on report (ph.Done o) h = h
 
 -- ---- the end, the start, and the whole item
