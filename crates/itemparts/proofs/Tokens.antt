@@ -31,7 +31,7 @@ use Rattle.chars.specs.Encode.{spelled}
 use Rattle.digits.specs.Hex.{hexValue}
 use Prim.Native.Nat.{ℕ}
 use mathlib.Core.Path.{_≡_, refl}
-use mathlib.Core.Bool.{Bool, true, false}
+use mathlib.Core.Bool.{Bool, false}
 use mathlib.Core.List.{List, [], _∷_}
 use lib.ListN.{length, drop}
 use lib.Dec.{eqb, leb}
@@ -176,16 +176,14 @@ module _ (i : SoFar) (c : ℕ) where
   goes-escape invalid q from = tt
 
   goes-brace : (report : Bool) (k : InHex) (q : Quotes) (from : ℕ) → Goes (onBrace report k q from i c)
-  goes-brace true closes q from = tt
-  goes-brace false closes q from = tt
+  goes-brace report closes q from = if-all Other report tt tt
   goes-brace report stops q from = tt
   goes-brace report digit q from = tt
 
   goes-close : (report : Bool) (v : CharValue) (q : Quotes) (from n to : ℕ) → Goes (closeHex report v q from n to i)
   goes-close report (Scalar x) q from n to = tt
   goes-close report (Wrong e d) q from n to = tt
-  goes-close true (WrongAt e d p) q from n to = tt
-  goes-close false (WrongAt e d p) q from n to = tt
+  goes-close report (WrongAt e d p) q from n to = if-all Other report tt tt
 
   goes-hex : (report : Bool) (k : InHex) (q : Quotes) (closer from n : ℕ) → Goes (onHex report k q closer from n i c)
   goes-hex report closes q closer from n = goes-close report (scalarOf (hexValue (drop n (i .bytes)))) q from n (eat i c .at)
