@@ -35,8 +35,9 @@ typedef struct mihadrena_record {
     uint32_t detail;      /* a character's code point; 0 or 1 of a boolean; a bracket; what an error comes with; else 0 */
     uint32_t start;       /* the extent: where the item stands in the source, in bytes */
     uint32_t end;
-    uint32_t place_start; /* the place: what an error points at, of any other item the extent. In report mode it is the error's own; in plain
-                           * mode an error that sets none has that of the last error before it that set one */
+    uint32_t place_start; /* the place: what an error points at, of any other item the extent. In report mode it is the error's own, and empty
+                           * where digits of a hex escape are missing; in plain mode an error that sets none has that of the last error
+                           * before it that set one */
     uint32_t place_end;
     uint32_t text_source; /* MIHADRENA_NO_TEXT, MIHADRENA_IN_SOURCE or MIHADRENA_IN_MEMORY */
     uint32_t text_start;  /* where the text lies there, in bytes */
@@ -105,8 +106,10 @@ MIHADRENA_ASSERT(sizeof(mihadrena_record) == 4 * MIHADRENA_RECORD_WORDS, "a reco
 #define MIHADRENA_INVALID_CHAR_NAME 110          /* #\nothing */
 #define MIHADRENA_INVALID_HEX_ESCAPE_LITERAL 111 /* #\xyz      detail: one of the three below */
 #define MIHADRENA_INVALID_HEX_CODE_POINT 112     /* #\xD800    detail: the code */
+#define MIHADRENA_INVALID_CHAR_DELIMITER 113     /* #\a;       in report mode; in plain mode it is MIHADRENA_INVALID_CHAR_NAME */
 
-/* The details of MIHADRENA_INVALID_HEX_ESCAPE_LITERAL. */
+/* The details of MIHADRENA_INVALID_HEX_ESCAPE_LITERAL. In report mode its place is the empty place where digits should stand, the character
+ * that is no digit, or the digit at which the number passes 32 bits; in plain mode it is the whole escape. */
 #define MIHADRENA_HEX_EMPTY 1
 #define MIHADRENA_HEX_INVALID_DIGIT 2
 #define MIHADRENA_HEX_OVERFLOW 3
@@ -132,7 +135,9 @@ MIHADRENA_ASSERT(sizeof(mihadrena_record) == 4 * MIHADRENA_RECORD_WORDS, "a reco
 /* -- Reading a whole text ----------------------------------------------------------------------------------------------------- */
 
 /* The modes. In report mode `;`, `"` and `|` also end a number: 14.7;gps is a number and a comment, where plain mode has an identifier;
- * 12|Birch| is a number and an identifier, where plain mode has an error. */
+ * 12|Birch| is a number and an identifier, where plain mode has an error. An error points at its own place there, a bad hex digit to the
+ * byte, and MIHADRENA_INVALID_CHAR_DELIMITER is given: in the name of a character that is none, `;`, `"`, `'` or `,` after its first
+ * character, at its place. */
 #define MIHADRENA_PLAIN 0
 #define MIHADRENA_REPORT 1
 

@@ -22,7 +22,7 @@ static const char *const KINDS[] = {
 static const char *const ERRORS[] = {
     "unexpected-char", "incomplete-string", "incomplete-identifier", "incomplete-comment", "invalid-whitespace",
     "invalid-string-escape", "invalid-character", "zero-denominator", "unclosed-hex-escape", "invalid-char-name",
-    "invalid-hex-escape-literal", "invalid-hex-code-point",
+    "invalid-hex-escape-literal", "invalid-hex-code-point", "invalid-char-delimiter",
 };
 
 typedef struct source {

@@ -51,12 +51,12 @@ module _ (report : Bool) (at c : ℕ) {t cs : List ℕ} where
   unfolding hashOn inHash afterHash
   character-read m e =
       after-hash report at (code "\\") (c ∷ t ++ cs) refl
-      ∙ (hash-on (eats (soFar [] at) (code "#" ∷ code "\\" ∷ c ∷ [])) cs m
-      ∙ (hash-ends _ e ∙ rw (eats-whole at (code "#" ∷ code "\\" ∷ c ∷ t)) (hash-decided _ cs outcome.Character (character-kind c t))))
+      ∙ (hash-on report (eats (soFar [] at) (code "#" ∷ code "\\" ∷ c ∷ [])) cs m
+      ∙ (hash-ends report _ e ∙ rw (eats-whole at (code "#" ∷ code "\\" ∷ c ∷ t)) (hash-decided report _ cs outcome.Character (character-kind c t))))
 
 -- an item that spells a character
-module _ (report : Bool) (c : ℕ) {t cs : List ℕ} (v : ℕ) (m : Many Staying t) (e : Ends hashDelimiters cs) (spells : characterOf (bytesOf (c ∷ t)) ≡ Scalar v) where
-  spelled-so : characterOf (charInside (bytesOf (code "#" ∷ code "\\" ∷ c ∷ t))) ≡ Scalar v
+module _ (report : Bool) (c : ℕ) {t cs : List ℕ} (v : ℕ) (m : Many Staying t) (e : Ends hashDelimiters cs) (spells : characterOf report (bytesOf (c ∷ t)) ≡ Scalar v) where
+  spelled-so : characterOf report (charInside (bytesOf (code "#" ∷ code "\\" ∷ c ∷ t))) ≡ Scalar v
   spelled-so = rw (bytes-ascii (code "#") (code "\\" ∷ c ∷ t) refl, bytes-ascii (code "\\") (c ∷ t) refl) spells
 
   read-character : ReadAs report (code "#" ∷ code "\\" ∷ c ∷ t) cs kind.CharacterLiteral v nothing
@@ -108,47 +108,47 @@ and-false false = refl
 alone-back : (c : ℕ) → isScalar c ≡ true → front (utf8 c) ≡ char c (width c)
 alone-back c h = rw append-nil at (back c [] h)
 
-is-one : (c : ℕ) → isScalar c ≡ true → onlyOne (front (utf8 c)) (length (utf8 c)) ≡ Scalar c
-is-one c h = rw (alone-back c h, width-utf8 c) (rw (eq-eqb (width c) (width c) refl))
+is-one : (report : Bool) (c : ℕ) → isScalar c ≡ true → onlyOne report (front (utf8 c)) (utf8 c) ≡ Scalar c
+is-one report c h = rw (alone-back c h, width-utf8 c) (rw (eq-eqb (width c) (width c) refl))
 
-low-out : (c : ℕ) → isScalar c ≡ true → ltb c 0x80 ≡ true → spelledOut (c ∷ []) ≡ Scalar c
+low-out : (report : Bool) (c : ℕ) → isScalar c ≡ true → ltb c 0x80 ≡ true → spelledOut report (c ∷ []) ≡ Scalar c
 unfolding spelledOut
-low-out c h l = rw (and-false (firstIs (code "u") (c ∷ []) || firstIs (code "x") (c ∷ []))) (rw (utf8-low c l) at (is-one c h))
+low-out report c h l = rw (and-false (firstIs (code "u") (c ∷ []) || firstIs (code "x") (c ∷ []))) (rw (utf8-low c l) at (is-one report c h))
 
-high-out : (c : ℕ) → isScalar c ≡ true → ltb c 0x80 ≡ false → spelledOut (utf8 c) ≡ Scalar c
+high-out : (report : Bool) (c : ℕ) → isScalar c ≡ true → ltb c 0x80 ≡ false → spelledOut report (utf8 c) ≡ Scalar c
 unfolding spelledOut
-high-out c h l = rw (high-first (code "u") refl (utf8-high c l), high-first (code "x") refl (utf8-high c l)) (is-one c h)
+high-out report c h l = rw (high-first (code "u") refl (utf8-high c l), high-first (code "x") refl (utf8-high c l)) (is-one report c h)
 
-any-character : (c : ℕ) → isScalar c ≡ true → characterOf (bytesOf (c ∷ [])) ≡ Scalar c
+any-character : (report : Bool) (c : ℕ) → isScalar c ≡ true → characterOf report (bytesOf (c ∷ [])) ≡ Scalar c
 unfolding characterOf bytesOf
-any-character c h =
+any-character report c h =
     rw (append-nil (utf8 c))
     (by-bool (ltb c 0x80)
-    (λ l. rw (utf8-low c l) (rw (one-unnamed (lower c)) (low-out c h l)))
-    (λ l. rw (beyond-unnamed (utf8-high c l)) (high-out c h l)))
+    (λ l. rw (utf8-low c l) (rw (one-unnamed (lower c)) (low-out report c h l)))
+    (λ l. rw (beyond-unnamed (utf8-high c l)) (high-out report c h l)))
 
 -- <character name>
-name-character : {t : List ℕ} {c : ℕ} → CharacterName t c → characterOf (bytesOf t) ≡ Scalar c
+name-character : (report : Bool) {t : List ℕ} {c : ℕ} → CharacterName t c → characterOf report (bytesOf t) ≡ Scalar c
 unfolding characterOf lookup charNames same bytesOf utf8
-name-character named-alarm = refl
-name-character named-backspace = refl
-name-character named-delete = refl
-name-character named-escape = refl
-name-character named-newline = refl
-name-character named-null = refl
-name-character named-return = refl
-name-character named-space = refl
-name-character named-tab = refl
+name-character report named-alarm = refl
+name-character report named-backspace = refl
+name-character report named-delete = refl
+name-character report named-escape = refl
+name-character report named-newline = refl
+name-character report named-null = refl
+name-character report named-return = refl
+name-character report named-space = refl
+name-character report named-tab = refl
 
 -- <hex scalar value>
 x-unnamed : (l : List ℕ) → lookup charNames (code "x" ∷ l) unnamed ≡ unnamed
 unfolding lookup charNames same bytesOf utf8
 x-unnamed l = refl
 
-hex-character : {h : List ℕ} {c : ℕ} → HexScalar h c → characterOf (bytesOf (code "x" ∷ h)) ≡ Scalar c
+hex-character : (report : Bool) {h : List ℕ} {c : ℕ} → HexScalar h c → characterOf report (bytesOf (code "x" ∷ h)) ≡ Scalar c
 unfolding characterOf spelledOut hexNamed
-hex-character {h} s =
-    rw (bytes-ascii (code "x") h refl, digits-bytes (scalar-digits s)) (rw (x-unnamed (map lower h)) (rw (lt-ltb 1 (length (code "x" ∷ h)) (omega (arith, scalar-some s))) (scalar-of s)))
+hex-character report {h} s =
+    rw (bytes-ascii (code "x") h refl, digits-bytes (scalar-digits s)) (rw (x-unnamed (map lower h)) (rw (lt-ltb 1 (length (code "x" ∷ h)) (omega (arith, scalar-some s))) (rw (scalar-of s))))
 
 -- ---- the theorem
 
@@ -172,11 +172,11 @@ name-letters named-return = first-and (many-all inHash staysHash (codes "eturn")
 name-letters named-space = first-and (many-all inHash staysHash (codes "pace") refl)
 name-letters named-tab = first-and (many-all inHash staysHash (codes "ab") refl)
 
-letters-read : (report : Bool) (cs : List ℕ) {t : List ℕ} (c : ℕ) → Letters t → characterOf (bytesOf t) ≡ Scalar c → Ends hashDelimiters cs
+letters-read : (report : Bool) (cs : List ℕ) {t : List ℕ} (c : ℕ) → Letters t → characterOf report (bytesOf t) ≡ Scalar c → Ends hashDelimiters cs
     → ReadAs report (code "#" ∷ code "\\" ∷ t) cs kind.CharacterLiteral c nothing
 letters-read report cs c (first-and {c = x} m) h e = read-character report x c m e h
 
 pub character-text : (report : Bool) {t : List ℕ} {c : ℕ} (cs : List ℕ) → CharacterText t c → Ends hashDelimiters cs → ReadAs report t cs kind.CharacterLiteral c nothing
-character-text report cs (any {c = c} h) e = read-character report c c done e (any-character c h)
-character-text report cs (by-name {c = c} n) e = letters-read report cs c (name-letters n) (name-character n) e
-character-text report cs (by-hex {c = c} s) e = read-character report (code "x") c (digits-stay (scalar-digits s)) e (hex-character s)
+character-text report cs (any {c = c} h) e = read-character report c c done e (any-character report c h)
+character-text report cs (by-name {c = c} n) e = letters-read report cs c (name-letters n) (name-character report n) e
+character-text report cs (by-hex {c = c} s) e = read-character report (code "x") c (digits-stay (scalar-digits s)) e (hex-character report s)

@@ -19,27 +19,27 @@ use Rattle.agreement.proofs.Reading.{eats, whole, eats-whole}
 abbrev pub Staying : ℕ → Type 0
 Staying c = inHash c ≡ staysHash
 
-pub hash-on : (i : SoFar) (cs : List ℕ) {t : List ℕ} → Many Staying t → hashOn i (t ++ cs) ≡ hashOn (eats i t) cs
+pub hash-on : (report : Bool) (i : SoFar) (cs : List ℕ) {t : List ℕ} → Many Staying t → hashOn report i (t ++ cs) ≡ hashOn report (eats i t) cs
 unfolding hashOn
-hash-on i cs done = refl
-hash-on i cs (more {c = c} h m) = rw (h, hashOn) (hash-on _ cs m)
+hash-on report i cs done = refl
+hash-on report i cs (more {c = c} h m) = rw (h, hashOn) (hash-on report _ cs m)
 
 stops-hash : (c : ℕ) → oneOf hashDelimiters c ≡ true → inHash c ≡ stopsHash
 unfolding inHash endsHash isBlank
 stops-hash c h = at-one-of inHash stopsHash hashDelimiters c refl h
 
-pub hash-ends : (i : SoFar) {cs : List ℕ} → Ends hashDelimiters cs → hashOn i cs ≡ hashAt i cs
+pub hash-ends : (report : Bool) (i : SoFar) {cs : List ℕ} → Ends hashDelimiters cs → hashOn report i cs ≡ hashAt report i cs
 unfolding hashOn
-hash-ends i atEnd = refl
-hash-ends i (before {c = c} h) = rw (stops-hash c h, hashOn)
+hash-ends report i atEnd = refl
+hash-ends report i (before {c = c} h) = rw (stops-hash c h, hashOn)
 
 -- the word's end decides
-pub hash-decided : (i : SoFar) (cs : List ℕ) (o : Outcome) → hashKind (i .bytes) ≡ Decided o → hashAt i cs ≡ got o i cs
+pub hash-decided : (report : Bool) (i : SoFar) (cs : List ℕ) (o : Outcome) → hashKind (i .bytes) ≡ Decided o → hashAt report i cs ≡ got o i cs
 unfolding hashAt
-hash-decided i cs o e = rw (e, hashAt)
+hash-decided report i cs o e = rw (e, hashAt)
 
 module _ (report : Bool) (at : ℕ) where
-  pub after-hash : (c : ℕ) (cs : List ℕ) → afterHash c ≡ value → readItem report at (code "#") (c ∷ cs) ≡ hashOn (eats (soFar [] at) (code "#" ∷ [])) (c ∷ cs)
+  pub after-hash : (c : ℕ) (cs : List ℕ) → afterHash c ≡ value → readItem report at (code "#") (c ∷ cs) ≡ hashOn report (eats (soFar [] at) (code "#" ∷ [])) (c ∷ cs)
   unfolding readItem firstOf readHash
   after-hash c cs h = rw (h, readHash)
 
@@ -48,4 +48,4 @@ module _ (report : Bool) (at : ℕ) where
       → readItem report at (code "#") (c ∷ t ++ cs) ≡ got o (whole at (code "#" ∷ c ∷ t)) cs
   hash-word c {t} {cs} o h m e k =
       after-hash c (t ++ cs) h
-      ∙ (hash-on _ cs m ∙ (hash-ends _ e ∙ rw (eats-whole at (code "#" ∷ c ∷ t)) (hash-decided _ cs o k)))
+      ∙ (hash-on report _ cs m ∙ (hash-ends report _ e ∙ rw (eats-whole at (code "#" ∷ c ∷ t)) (hash-decided report _ cs o k)))

@@ -77,7 +77,7 @@ module _ (t : List ℕ) where
       let i : SoFar = eats (soFar [] at) (codes "|") in
       let e : eats (eats i t) (codes "|") ≡ whole at (between Lines t) = sym (eats-append i t (codes "|")) ∙ eats-whole at (between Lines t) in
       rw (append-assoc t (codes "|") cs)
-      (quoted-on Lines i cs q
+      (quoted-on report Lines i cs q
       ∙ (ap (λ j. got (linedOf (j .bytes)) j cs) e ∙ ap (λ o. got o (whole at (between Lines t)) cs) (lined-outcome t)))
 
 -- whatever follows it: it ends where its lines close

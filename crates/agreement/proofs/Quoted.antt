@@ -59,27 +59,35 @@ pub solid-or-line : (c : ℕ) → oneOf intraline c ≡ false → inTrim c ≡ (
 unfolding inTrim
 solid-or-line c h = rw (not-first (code " ") (codes "\t") c h, not-first (code "\t") [] c (not-others (code " ") (codes "\t") c h))
 
-module _ (k : Quotes) where
-  quoted-escape : (i : SoFar) (cs : List ℕ) → readQuoted k i (code "\\" ∷ cs) ≡ readEscape k (i .at) (eat i (code "\\")) cs
+pub closing-solid : (k : Quotes) → oneOf intraline (delimOf k) ≡ false
+closing-solid Double = refl
+closing-solid Lines = refl
+
+unindented : (k : Quotes) (t : List ℕ) → indented t ≡ false → indented (t ++ (delimOf k ∷ [])) ≡ false
+unindented k [] h = closing-solid k
+unindented k (c ∷ t) h = h
+
+module _ (report : Bool) (k : Quotes) where
+  quoted-escape : (i : SoFar) (cs : List ℕ) → readQuoted report k i (code "\\" ∷ cs) ≡ readEscape report k (i .at) (eat i (code "\\")) cs
   unfolding readQuoted
   quoted-escape i cs = rw (quotes-escape k, readQuoted)
 
-  hex-on : (from n : ℕ) (i : SoFar) (cs : List ℕ) {h : List ℕ} → Many Hexadecimal h → readHex k (code ";") from n i (h ++ cs) ≡ readHex k (code ";") from n (eats i h) cs
+  hex-on : (from n : ℕ) (i : SoFar) (cs : List ℕ) {h : List ℕ} → Many Hexadecimal h → readHex report k (code ";") from n i (h ++ cs) ≡ readHex report k (code ";") from n (eats i h) cs
   unfolding readQuoted
   hex-on from n i cs done = refl
   hex-on from n i cs (more h m) = rw (digit-in-escape k h, readHex) (hex-on from n _ cs m)
 
-  trim-on : (seen : Bool) (i : SoFar) (cs : List ℕ) {u : List ℕ} → Many Intraline u → readTrim k seen i (u ++ cs) ≡ readTrim k seen (eats i u) cs
+  trim-on : (seen : Bool) (i : SoFar) (cs : List ℕ) {u : List ℕ} → Many Intraline u → readTrim report k seen i (u ++ cs) ≡ readTrim report k seen (eats i u) cs
   unfolding readQuoted
   trim-on seen i cs done = refl
   trim-on seen i cs (more {c = c} h m) = rw (intraline-space c h, readTrim) (trim-on seen _ cs m)
 
-  line-end : (i : SoFar) (cs : List ℕ) → readTrim k true i (code "\n" ∷ cs) ≡ readQuoted k i (code "\n" ∷ cs)
+  line-end : (i : SoFar) (cs : List ℕ) → readTrim report k true i (code "\n" ∷ cs) ≡ readQuoted report k i (code "\n" ∷ cs)
   unfolding readQuoted inTrim
   line-end i cs = rw (newline-plain k, readQuoted)
 
   -- where the line's own text begins, reading is as in quotes
-  trim-ends : (i : SoFar) (c : ℕ) (cs : List ℕ) → oneOf intraline c ≡ false → readTrim k true i (c ∷ cs) ≡ readQuoted k i (c ∷ cs)
+  trim-ends : (i : SoFar) (c : ℕ) (cs : List ℕ) → oneOf intraline c ≡ false → readTrim report k true i (c ∷ cs) ≡ readQuoted report k i (c ∷ cs)
   unfolding readQuoted
   trim-ends i c cs h =
       by-bool (eqb c (code "\n"))
@@ -88,7 +96,7 @@ module _ (k : Quotes) where
 
   -- the digits of an escape, and what closes them
   hex-close : (from n : ℕ) (i : SoFar) (cs : List ℕ) {v : ℕ} → scalarOf (hexValue (drop n (i .bytes))) ≡ Scalar v
-      → readHex k (code ";") from n i (code ";" ∷ cs) ≡ readQuoted k (eat i (code ";")) cs
+      → readHex report k (code ";") from n i (code ";" ∷ cs) ≡ readQuoted report k (eat i (code ";")) cs
   unfolding readQuoted inHex
   hex-close from n i cs e = rw (e, readHex)
 
@@ -96,32 +104,25 @@ module _ (k : Quotes) where
   digits-eaten i {h} m = rw (eats-all i h) (drop-at (i .bytes) (bytesOf h) (length (i .bytes)) refl ∙ digits-bytes m)
 
   hex-read : (from : ℕ) (i : SoFar) (cs : List ℕ) {h : List ℕ} {v : ℕ} → HexScalar h v
-      → readHex k (code ";") from (length (i .bytes)) i (h ++ (code ";" ∷ cs)) ≡ readQuoted k (eat (eats i h) (code ";")) cs
+      → readHex report k (code ";") from (length (i .bytes)) i (h ++ (code ";" ∷ cs)) ≡ readQuoted report k (eat (eats i h) (code ";")) cs
   hex-read from i cs {h} {v} s =
       hex-on from (length (i .bytes)) i (code ";" ∷ cs) (scalar-digits s)
       ∙ hex-close from (length (i .bytes)) (eats i h) cs {v = v} (rw (digits-eaten i (scalar-digits s)) (scalar-of s))
 
   -- a line that goes on, up to the text of the next
   newline-read : (from : ℕ) (i : SoFar) (cs : List ℕ) {u : List ℕ} → Many Intraline u
-      → readEscape k from i (u ++ (code "\n" ∷ cs)) ≡ readTrim k true (eat (eats i u) (code "\n")) cs
+      → readEscape report k from i (u ++ (code "\n" ∷ cs)) ≡ readTrim report k true (eat (eats i u) (code "\n")) cs
   unfolding readQuoted afterBackslash inTrim
   newline-read from i cs done = refl
   newline-read from i cs (more {c = c} {t = u} h m) = rw (intraline-blank c h, readEscape) (trim-on false (eat i c) (code "\n" ∷ cs) m)
 
   line-read : (i : SoFar) (t cs : List ℕ) {w : List ℕ} (c : ℕ) → Many Intraline w → indented (t ++ (c ∷ [])) ≡ false
-      → readTrim k true i (w ++ (t ++ (c ∷ cs))) ≡ readQuoted k (eats i w) (t ++ (c ∷ cs))
+      → readTrim report k true i (w ++ (t ++ (c ∷ cs))) ≡ readQuoted report k (eats i w) (t ++ (c ∷ cs))
   line-read i [] cs {w} c m h = trim-on true i (c ∷ cs) m ∙ trim-ends (eats i w) c cs h
   line-read i (x ∷ t) cs {w} c m h = trim-on true i (x ∷ t ++ (c ∷ cs)) m ∙ trim-ends (eats i w) x (t ++ (c ∷ cs)) h
 
-  pub closing-solid : oneOf intraline (delimOf k) ≡ false
-  closing-solid = elim k [ Double ↦ refl | Lines ↦ refl ]
-
-  unindented : (t : List ℕ) → indented t ≡ false → indented (t ++ (delimOf k ∷ [])) ≡ false
-  unindented [] h = closing-solid
-  unindented (c ∷ t) h = h
-
   -- up to the closing quote
-  pub quoted-on : (i : SoFar) (cs : List ℕ) {t v : List ℕ} → Quoted k t v → readQuoted k i (t ++ (delimOf k ∷ cs)) ≡ readQuoted k (eats i t) (delimOf k ∷ cs)
+  pub quoted-on : (i : SoFar) (cs : List ℕ) {t v : List ℕ} → Quoted k t v → readQuoted report k i (t ++ (delimOf k ∷ cs)) ≡ readQuoted report k (eats i t) (delimOf k ∷ cs)
   unfolding readQuoted afterBackslash
   quoted-on i cs empty = refl
   quoted-on i cs (character {c = c} h q) = rw (h, readQuoted) (quoted-on (eat i c) cs q)
@@ -137,4 +138,4 @@ module _ (k : Quotes) where
       rw (append-assoc u (code "\n" ∷ w ++ t) (delimOf k ∷ cs), append-assoc w t (delimOf k ∷ cs), eats-append j u (code "\n" ∷ w ++ t), eats-append l w t)
       (quoted-escape i (u ++ (code "\n" ∷ w ++ (t ++ (delimOf k ∷ cs))))
       ∙ (newline-read (i .at) j (w ++ (t ++ (delimOf k ∷ cs))) m
-      ∙ (line-read l t cs (delimOf k) n (unindented t e) ∙ quoted-on (eats l w) cs q)))
+      ∙ (line-read l t cs (delimOf k) n (unindented k t e) ∙ quoted-on (eats l w) cs q)))

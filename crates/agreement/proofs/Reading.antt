@@ -49,8 +49,8 @@ got-whole o at t cs = rw (eats-whole at t)
 module _ (report : Bool) (c : ℕ) (t cs : List ℕ) (o : Outcome) (k d : ℕ) (text : ℕ → Text) where
   pub read-one : isBlank c ≡ false → leb kind.firstError k ≡ false
       → ((at : ℕ) → readItem report at c (t ++ cs) ≡ got o (whole at (c ∷ t)) cs)
-      → ((last : Place) (at : ℕ) → rangeAfter last at o (whole at (c ∷ t)) ≡ last)
-      → ((at : ℕ) → meaningOf o at (at + byteCount (c ∷ t)) (bytesOf (c ∷ t)) ≡ one k d (text at))
+      → ((last : Place) (at : ℕ) → rangeAfter report last at o (whole at (c ∷ t)) ≡ last)
+      → ((at : ℕ) → meaningOf report o at (at + byteCount (c ∷ t)) (bytesOf (c ∷ t)) ≡ one k d (text at))
       → (turns at : ℕ) (last : Place)
       → itemsFrom report (suc turns) last at (c ∷ t ++ cs)
       ≡ item k d at (at + byteCount (c ∷ t)) (text at) ∷ itemsFrom report turns last (at + byteCount (c ∷ t)) cs

@@ -72,7 +72,7 @@ module _ (t : List ℕ) where
   unfolding readItem firstOf readQuoted inQuotes
   string-read report cs q at =
       let i : SoFar = eats (soFar [] at) (codes "\"") in
-      rw (append-assoc t (codes "\"") cs, ← eats-whole at (between Double t), eats-append i t (codes "\"")) (quoted-on Double i cs q)
+      rw (append-assoc t (codes "\"") cs, ← eats-whole at (between Double t), eats-append i t (codes "\"")) (quoted-on report Double i cs q)
 
 -- whatever follows it: it ends where its quotes close
 pub string : (report : Bool) {text v : List ℕ} (cs : List ℕ) → StringText text v → ReadAs report text cs kind.StringLiteral 0 (bytes (bytesOf v))

@@ -117,9 +117,9 @@ word-ends i atEnd = refl
 word-ends i (before {c = c} h) = rw (breaks-word c h, wordOn)
 
 -- a word that begins here, in no vertical lines
-word-begins : (i : SoFar) (c : ℕ) (cs : List ℕ) → eqb c (code "|") ≡ false → readWord i (c ∷ cs) ≡ wordOn i (c ∷ cs)
+word-begins : (report : Bool) (i : SoFar) (c : ℕ) (cs : List ℕ) → eqb c (code "|") ≡ false → readWord report i (c ∷ cs) ≡ wordOn i (c ∷ cs)
 unfolding readWord
-word-begins i c cs h = rw (h, readWord)
+word-begins report i c cs h = rw (h, readWord)
 
 -- ---- number runs
 
@@ -152,7 +152,7 @@ module _ (report : Bool) where
   run-ends (before {c = c} {cs = cs} h) =
       by-bool (endsRun report c)
       (λ e. (Run, run, λ i. rw (delimits staysRun refl c h, e, readRun)))
-      (λ e. (Word, word, λ i. rw (delimits staysRun refl c h, e, readRun) (word-begins i c cs (delimits (λ k. eqb k (code "|")) refl c h) ∙ word-ends i (before h))))
+      (λ e. (Word, word, λ i. rw (delimits staysRun refl c h, e, readRun) (word-begins report i c cs (delimits (λ k. eqb k (code "|")) refl c h) ∙ word-ends i (before h))))
 
   -- a run goes on to the end of an identifier
   run-on : {t cs : List ℕ} → Many Goes t → Ends delimiters cs → (o : Outcome) × (RunOrWord o) × ((i : SoFar) → readRun report i (t ++ cs) ≡ got o (eats i t) cs)
@@ -164,7 +164,7 @@ module _ (report : Bool) where
       (λ f. (further .0, further .1, λ i. rw (f, readRun) (further .2 (eat i c))))
       (λ f. by-bool (endsRun report c)
       (λ g. let z = ends-breaks report c (h .no-line) g in let y = rw z at (h .goes-on) in let w : _≡_ {A = ℕ} 0 1 = cc in absurd (omega arith))
-      (λ g. (Word, word, λ i. rw (f, g, readRun) (word-begins i c (t ++ cs) (h .no-line) ∙ (word-on i cs (more h m) ∙ word-ends _ e)))))
+      (λ g. (Word, word, λ i. rw (f, g, readRun) (word-begins report i c (t ++ cs) (h .no-line) ∙ (word-on i cs (more h m) ∙ word-ends _ e)))))
 
 -- ---- what words mean
 
@@ -175,14 +175,14 @@ pub word-means : (s e : ℕ) (raw : List ℕ) → wordKind raw ≡ kind.Identifi
 unfolding wordMeans
 word-means s e raw k h = rw (k, h)
 
-run-means : {o : Outcome} (s e : ℕ) (raw : List ℕ) → RunOrWord o → parseNumber raw ≡ parsed.NoNumber → meaningOf o s e raw ≡ wordMeans s e raw
+run-means : (report : Bool) {o : Outcome} (s e : ℕ) (raw : List ℕ) → RunOrWord o → parseNumber raw ≡ parsed.NoNumber → meaningOf report o s e raw ≡ wordMeans s e raw
 unfolding runMeans
-run-means s e raw run h = rw h
-run-means s e raw word h = refl
+run-means report s e raw run h = rw h
+run-means report s e raw word h = refl
 
-run-keeps : {o : Outcome} (last : Place) (s : ℕ) (i : SoFar) → RunOrWord o → rangeAfter last s o i ≡ last
-run-keeps last s i run = refl
-run-keeps last s i word = refl
+run-keeps : (report : Bool) {o : Outcome} (last : Place) (s : ℕ) (i : SoFar) → RunOrWord o → rangeAfter report last s o i ≡ last
+run-keeps report last s i run = refl
+run-keeps report last s i word = refl
 
 pub unsplit-plain : (c : ℕ) (t : List ℕ) → eqb c (code "+") ≡ false → split (bytesOf (c ∷ t)) ≡ false
 unsplit-plain c t h = rw (first-differs (code "+") c t refl h)
@@ -211,5 +211,5 @@ module _ (report : Bool) (c : ℕ) {t cs : List ℕ} (k : ℕ) (text : ℕ → T
       let r = run-on report on end in
       read-one report c t cs (r .0) k 0 text not-blank good
       (λ at. rw (begins-run, readItem) (r .2 (eats (soFar [] at) (c ∷ [])) ∙ got-whole (r .0) at (c ∷ t) cs))
-      (λ last at. run-keeps last at _ (r .1))
-      (λ at. run-means _ _ _ (r .1) no-number ∙ meant at)
+      (λ last at. run-keeps report last at _ (r .1))
+      (λ at. run-means report _ _ _ (r .1) no-number ∙ meant at)

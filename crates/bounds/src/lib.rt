@@ -76,7 +76,7 @@ fn part_bounds(part: Part) -> bool
 fn range_bounds(error: u32, from: usize, to: usize) -> bool
     ensures { λ r. ⌜ r ≡ doneBounds (Outcome.ErrorAt error 0 from to) ⌝ }
 {
-    if kinds::INVALID_HEX_CODE_POINT < error {
+    if kinds::LAST_ERROR < error {
         return false;
     }
     if LIMIT < from {
@@ -91,7 +91,7 @@ fn done_bounds(what: Outcome) -> bool
 {
     match what {
         Outcome::Token(_kind, _detail) => true,
-        Outcome::Error(error, _detail) => error <= kinds::INVALID_HEX_CODE_POINT,
+        Outcome::Error(error, _detail) => error <= kinds::LAST_ERROR,
         Outcome::ErrorAt(error, _detail, from, to) => range_bounds(error, from, to),
         Outcome::Str => false,
         Outcome::HereStr => false,

@@ -1,3 +1,4 @@
 pub mod Table
 pub mod Case
 pub mod Forms
+pub mod Past

@@ -99,6 +99,7 @@ module _ (k : Quotes) (raw : List ℕ) (closer from i : ℕ) (h : from ≤ i) wh
           safe = scalar-is (hexValue (digitsTo raw from i)) c f;
         }))
         (λ n d f. rw f (over k raw from (omega arith) (rw (here raw i j) (rw (e, unescapeHex) (rw f)))))
+        (λ n d p f. rw f (over k raw from (omega arith) (rw (here raw i j) (rw (e, unescapeHex) (rw f)))))
 
 -- ---- after `\u`
 

@@ -10,7 +10,7 @@ use Rattle.laws.specs.Quoted.{code}
 use Rattle.chars.specs.Encode.{encode, isScalar}
 use Rattle.items.specs.declared.Quotes.{Quotes}
 use Rattle.items.specs.declared.CharValue.{CharValue}
-use Rattle.items.specs.declared.CharValue.the-variants.{Scalar, Wrong}
+use Rattle.items.specs.declared.CharValue.the-variants.{Scalar, Wrong, WrongAt}
 use Rattle.items.specs.Meaning.{unescape, unescapeTrim}
 use Rattle.escapes.specs.declared.Given.{Given}
 use Rattle.escapes.specs.declared.Given.the-variants.{Nothing, Byte, Code}
@@ -34,6 +34,7 @@ sound (Code c) = isScalar c
 abbrev pub closedHex : CharValue → ℕ → ℕ → Element
 closedHex (Scalar c) next end = element (Code c) next
 closedHex (Wrong n d) next end = element Nothing end
+closedHex (WrongAt n d p) next end = element Nothing end
 
 abbrev pub isSpace : ℕ → Bool
 isSpace c = if eqb c (code " ") then true else eqb c (code "\t")

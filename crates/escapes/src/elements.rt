@@ -65,6 +65,7 @@ fn closed_hex(digits: &[u8], next: usize, end: usize) -> Element
     match scalar_of(hex_value(digits)) {
         CharValue::Scalar(c) => give(Given::Code(c), next),
         CharValue::Wrong(_, _) => give(Given::Nothing, end),
+        CharValue::WrongAt(_, _, _) => give(Given::Nothing, end),
     }
 }
 

@@ -14,7 +14,7 @@ use Rattle.items.specs.declared.Quotes.the-variants.{Double, Lines}
 use Rattle.items.specs.declared.Outcome.{Outcome}
 use Rattle.items.specs.declared.Outcome.the-variants.{Token, Str, HereStr, Word, Run, Lined, Keyword, Character, Error, ErrorAt}
 use Rattle.items.specs.declared.CharValue.{CharValue}
-use Rattle.items.specs.declared.CharValue.the-variants.{Scalar, Wrong}
+use Rattle.items.specs.declared.CharValue.the-variants.{Scalar, Wrong, WrongAt}
 use Rattle.numbers.specs.Grammar.{parseNumber}
 use Rattle.numbers.specs.declared.Parsed.{Parsed}
 use Rattle.numbers.specs.declared.Parsed.the-variants as parsed
@@ -75,30 +75,31 @@ module _ (s e : ℕ) (raw : List ℕ) where
   char-quoted : (v : CharValue) → Q (characterMeans v)
   char-quoted (Scalar c) = (tt, tt)
   char-quoted (Wrong n d) = (tt, tt)
+  char-quoted (WrongAt n d p) = (tt, tt)
 
-  quoted : (o : Outcome) → Q (meaningOf o s e raw)
-  quoted (Token k d) = (tt, tt)
-  quoted Str = (string-quoted, tt)
-  quoted HereStr = (here-quoted, tt)
-  quoted Word = word-quoted
-  quoted Run = run-quoted (parseNumber raw)
-  quoted Lined = (lined-quoted, tt)
-  quoted Keyword = (tt, tt)
-  quoted Character = char-quoted (characterOf (charInside raw))
-  quoted (Error n d) = (tt, tt)
-  quoted (ErrorAt n d a b) = (tt, tt)
+  quoted : (report : Bool) (o : Outcome) → Q (meaningOf report o s e raw)
+  quoted report (Token k d) = (tt, tt)
+  quoted report Str = (string-quoted, tt)
+  quoted report HereStr = (here-quoted, tt)
+  quoted report Word = word-quoted
+  quoted report Run = run-quoted (parseNumber raw)
+  quoted report Lined = (lined-quoted, tt)
+  quoted report Keyword = (tt, tt)
+  quoted report Character = char-quoted (characterOf report (charInside raw))
+  quoted report (Error n d) = (tt, tt)
+  quoted report (ErrorAt n d a b) = (tt, tt)
 
 -- ---- an item
 
 shown : (report : Bool) (last : Place) (s e : ℕ) (raw : List ℕ) (k d : ℕ) (t : Text) → QuotedText raw k t
-    → givenBy (sized (record { kind = k; detail = d; text = t })) last s e raw ≡ given raw (itemOf report last s e (record { kind = k; detail = d; text = t }))
+    → givenBy report (sized (record { kind = k; detail = d; text = t })) last s e raw ≡ given raw (itemOf report last s e (record { kind = k; detail = d; text = t }))
 shown report last s e raw k d none q = refl
 shown report last s e raw k d (source a b) q = refl
 shown report last s e raw k d (decoded bs) q = rw (sym q)
 
 shown-as : (report : Bool) (last : Place) (s e : ℕ) (raw : List ℕ) (m : Meaning) (x : Means) → x ≡ sized m → QuotedText raw (m .kind) (m .text)
-    → givenBy x last s e raw ≡ given raw (itemOf report last s e m)
-shown-as report last s e raw m x h q = ap (λ (y : Means). givenBy y last s e raw) h ∙ shown report last s e raw (m .kind) (m .detail) (m .text) q
+    → givenBy report x last s e raw ≡ given raw (itemOf report last s e m)
+shown-as report last s e raw m x h q = ap (λ (y : Means). givenBy report y last s e raw) h ∙ shown report last s e raw (m .kind) (m .detail) (m .text) q
 
 -- ---- the items of an extent
 
@@ -124,18 +125,18 @@ module _ (s : State) (st : ℕ) (set last : Place) (b : Beyond) where
       (shown-as (report s) set st (s .marks .at) raw (record { kind = kind.Identifier; detail = 0; text = source st (st + 1) }) x e tt)
 
 module _ (s : State) (st : ℕ) (o : Outcome) (b : Beyond) (e : ℕ) (at : e ≡ s .marks .at) where
-  pub ends-one : (x : Means) → meant (One x) ≡ sizedAll (meaningOf o st e (itemSoFar s .bytes))
-      → oneGiven s st (rangeAfter (standing (report s) (lastOf s)) st o (itemSoFar s)) (rangeAfter (lastOf s) st o (itemSoFar s)) b x ≡ ends s st o b
+  pub ends-one : (x : Means) → meant (One x) ≡ sizedAll (meaningOf (report s) o st e (itemSoFar s .bytes))
+      → oneGiven s st (rangeAfter (report s) (standing (report s) (lastOf s)) st o (itemSoFar s)) (rangeAfter (report s) (lastOf s) st o (itemSoFar s)) b x ≡ ends s st o b
   unfolding extentItems
   ends-one x h =
-      one-shown s st (rangeAfter (standing (report s) (lastOf s)) st o (itemSoFar s)) (rangeAfter (lastOf s) st o (itemSoFar s)) b (meaningOf o st (s .marks .at) (itemSoFar s .bytes)) x
-      (shape st (s .marks .at) (itemSoFar s .bytes) o) (quoted st (s .marks .at) (itemSoFar s .bytes) o)
-      (h ∙ ap (λ (k : ℕ). sizedAll (meaningOf o st k (itemSoFar s .bytes))) at)
+      one-shown s st (rangeAfter (report s) (standing (report s) (lastOf s)) st o (itemSoFar s)) (rangeAfter (report s) (lastOf s) st o (itemSoFar s)) b (meaningOf (report s) o st (s .marks .at) (itemSoFar s .bytes)) x
+      (shape st (s .marks .at) (itemSoFar s .bytes) (report s) o) (quoted st (s .marks .at) (itemSoFar s .bytes) (report s) o)
+      (h ∙ ap (λ (k : ℕ). sizedAll (meaningOf (report s) o st k (itemSoFar s .bytes))) at)
 
-  pub ends-pair : (x y : Means) → meant (Two x y) ≡ sizedAll (meaningOf o st e (itemSoFar s .bytes))
-      → pairGiven s st (rangeAfter (standing (report s) (lastOf s)) st o (itemSoFar s)) (rangeAfter (lastOf s) st o (itemSoFar s)) b x ≡ ends s st o b
+  pub ends-pair : (x y : Means) → meant (Two x y) ≡ sizedAll (meaningOf (report s) o st e (itemSoFar s .bytes))
+      → pairGiven s st (rangeAfter (report s) (standing (report s) (lastOf s)) st o (itemSoFar s)) (rangeAfter (report s) (lastOf s) st o (itemSoFar s)) b x ≡ ends s st o b
   unfolding extentItems
   ends-pair x y h =
-      pair-shown s st (rangeAfter (standing (report s) (lastOf s)) st o (itemSoFar s)) (rangeAfter (lastOf s) st o (itemSoFar s)) b (meaningOf o st (s .marks .at) (itemSoFar s .bytes)) x y
-      (shape st (s .marks .at) (itemSoFar s .bytes) o) (quoted st (s .marks .at) (itemSoFar s .bytes) o)
-      (h ∙ ap (λ (k : ℕ). sizedAll (meaningOf o st k (itemSoFar s .bytes))) at)
+      pair-shown s st (rangeAfter (report s) (standing (report s) (lastOf s)) st o (itemSoFar s)) (rangeAfter (report s) (lastOf s) st o (itemSoFar s)) b (meaningOf (report s) o st (s .marks .at) (itemSoFar s .bytes)) x y
+      (shape st (s .marks .at) (itemSoFar s .bytes) (report s) o) (quoted st (s .marks .at) (itemSoFar s .bytes) (report s) o)
+      (h ∙ ap (λ (k : ℕ). sizedAll (meaningOf (report s) o st k (itemSoFar s .bytes))) at)

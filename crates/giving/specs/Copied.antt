@@ -18,7 +18,7 @@ use Rattle.pieces.specs.declared.Beyond.{Beyond}
 use Rattle.pieces.specs.declared.Stage.the-variants.{Waiting}
 use Rattle.pieces.specs.declared.State.{State}
 use Rattle.pieces.specs.Given.{Given}
-use Rattle.pieces.specs.Calls.{item, Turn, on, off, beyond, becomes, itemSoFar}
+use Rattle.pieces.specs.Calls.{item, Turn, on, off, beyond, becomes, report, itemSoFar}
 
 -- a string's text stood between double quotes, an identifier's between vertical lines
 abbrev pub quotesOf : ℕ → Quotes
@@ -34,9 +34,9 @@ hasText k Nowhere = eqb k kind.Number
 hasText k (Source a b) = true
 hasText k (Decoded n) = true
 
-abbrev pub givenBy : Means → Place → ℕ → ℕ → List ℕ → Given
-givenBy m last s e raw =
-    let place : Place = placeOf false (m .kind) last (range s e) in
+abbrev pub givenBy : Bool → Means → Place → ℕ → ℕ → List ℕ → Given
+givenBy report m last s e raw =
+    let place : Place = placeOf report (m .kind) last (range s e) in
     let text : List ℕ = copiedBy (m .kind) s raw (m .text) in
     record {
       words =
@@ -51,8 +51,8 @@ abbrev pub oneGiven : State → ℕ → Place → Place → Beyond → Means →
 oneGiven s st set last b m =
     if s .marks .skip && eqb (m .kind) kind.Comment
     then on (beyond s last b)
-    else off (beyond s last b) (item (givenBy m set st (s .marks .at) (itemSoFar s .bytes)))
+    else off (beyond s last b) (item (givenBy (report s) m set st (s .marks .at) (itemSoFar s .bytes)))
 
 abbrev pub pairGiven : State → ℕ → Place → Place → Beyond → Means → Turn
 pairGiven s st set last b m =
-    off (becomes s (s .buf) (Waiting st b) (s .marks .at) (s .marks .len) last) (item (givenBy m set st (s .marks .at) (itemSoFar s .bytes)))
+    off (becomes s (s .buf) (Waiting st b) (s .marks .at) (s .marks .len) last) (item (givenBy (report s) m set st (s .marks .at) (itemSoFar s .bytes)))

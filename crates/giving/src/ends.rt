@@ -23,7 +23,7 @@ use pieces::Turned;
 use steps::first_phase;
 ghost use mathlib.Core.Path.{_≡_};
 ghost use mathlib.Core.Bool.{_&&_};
-ghost use Prim.Native.Nat.{_≤_};
+ghost use Prim.Native.Nat.{_+_, _≤_};
 ghost use lib.Dec.{eqb};
 ghost use lib.ListN.{length};
 ghost use Rattle.laws.specs.Lent.{written};
@@ -104,16 +104,22 @@ pub fn extent(start: usize, end: usize) -> Range
 
 // The last error range after an extent that ended: its own where it sets one.
 fn last_after(m: Marks, start: usize, what: Outcome, raw: &[u8]) -> Range
-    requires { ⌜ (start ≤ limit) × (m .at ≤ limit) × (m .from ≤ limit) × (m .to ≤ limit) × OutcomeFits what ⌝ }
-    ensures { λ r. ⌜ r ≡ rangeOf (rangeAfter (lastIn m) start what (soFar (now (raw .entry)) (m .at))) ⌝ }
+    requires { ⌜ (start + length (now raw) ≤ limit) × (m .at ≤ limit) × (m .from ≤ limit) × (m .to ≤ limit) × OutcomeFits what ⌝ }
+    ensures { λ r. ⌜ r ≡ rangeOf (rangeAfter (inReport (m .mode)) (lastIn m) start what (soFar (now (raw .entry)) (m .at))) ⌝ }
 {
-    range_after(extent(m.from, m.to), what, extent(start, m.at), raw)
+    range_after(
+        m.mode == REPORT,
+        extent(m.from, m.to),
+        what,
+        extent(start, m.at),
+        raw,
+    )
 }
 
 // The range that an error's place is taken from: in report mode what the extent sets itself.
 fn shown_after(m: Marks, start: usize, what: Outcome, raw: &[u8]) -> Range
-    requires { ⌜ (start ≤ limit) × (m .at ≤ limit) × (m .from ≤ limit) × (m .to ≤ limit) × OutcomeFits what ⌝ }
-    ensures { λ r. ⌜ r ≡ rangeOf (rangeAfter (standing (inReport (m .mode)) (lastIn m)) start what (soFar (now (raw .entry)) (m .at))) ⌝ }
+    requires { ⌜ (start + length (now raw) ≤ limit) × (m .at ≤ limit) × (m .from ≤ limit) × (m .to ≤ limit) × OutcomeFits what ⌝ }
+    ensures { λ r. ⌜ r ≡ rangeOf (rangeAfter (inReport (m .mode)) (standing (inReport (m .mode)) (lastIn m)) start what (soFar (now (raw .entry)) (m .at))) ⌝ }
 {
     range_shown(
         m.mode == REPORT,
@@ -153,7 +159,14 @@ fn give_one(
     if skips(m.skip, one.kind) {
         return go_on(beyond(m, buf, last, b));
     }
-    let r = give(one, shown, extent(start, m.at), &buf[..len], text);
+    let r = give(
+        m.mode == REPORT,
+        one,
+        shown,
+        extent(start, m.at),
+        &buf[..len],
+        text,
+    );
     let next = beyond(m, buf, last, b);
     Turned {
         marks: next,
@@ -177,7 +190,14 @@ fn give_pair(
         × (now (text .exit) ≡ textTurned (pairGiven (stateOf m (now (buf .entry))) start (placeIn shown) (placeIn last) b one) (now (text .entry))) ⌝ }
 {
     let len = m.len;
-    let r = give(one, shown, extent(start, m.at), &buf[..len], text);
+    let r = give(
+        m.mode == REPORT,
+        one,
+        shown,
+        extent(start, m.at),
+        &buf[..len],
+        text,
+    );
     let next = marks_at(
         m,
         Stage::Waiting(start, b),
@@ -208,7 +228,7 @@ pub fn ends(
     let len = m.len;
     let shown = shown_after(m, start, what, &buf[..len]);
     let last = last_after(m, start, what, &buf[..len]);
-    match meaning(what, start, &buf[..len]) {
+    match meaning(m.mode == REPORT, what, start, &buf[..len]) {
         Meant::One(one) => give_one(m, buf, text, start, shown, last, one, b),
         Meant::Two(one, _two) => give_pair(m, buf, text, start, shown, last, one, b),
     }
@@ -226,6 +246,7 @@ pub fn give_second(m: Marks, buf: &[u8], text: &mut [u8], start: usize) -> Recor
         text: Text::Source(start + PLUS, m.at),
     };
     give(
+        m.mode == REPORT,
         second,
         extent(m.from, m.to),
         extent(start, m.at),

@@ -131,15 +131,22 @@ fn record_with(m: Means, extent: Range, place: Range, source: u32, past: u32) ->
 }
 
 // Gives an item: its text in the text memory, and its record. `last` is the error range that stands, its own counted in.
-pub fn give(m: Means, last: Range, extent: Range, raw: &[u8], text: &mut [u8]) -> Record
+pub fn give(
+    report: bool,
+    m: Means,
+    last: Range,
+    extent: Range,
+    raw: &[u8],
+    text: &mut [u8],
+) -> Record
     requires { ⌜ (0 < length (now raw)) × (length (now raw) ≤ 4096) × (4096 ≤ length (now text)) ⌝ }
-    ensures { λ r. ⌜ (whatOf (Got.Item r) (now (text .exit)) ≡ item (givenBy m (placeIn last) (extent .from) (extent .to) (now (raw .entry))))
-        × (now (text .exit) ≡ written (givenBy m (placeIn last) (extent .from) (extent .to) (now (raw .entry)) .text) (now (text .entry))) ⌝ }
+    ensures { λ r. ⌜ (whatOf (Got.Item r) (now (text .exit)) ≡ item (givenBy report m (placeIn last) (extent .from) (extent .to) (now (raw .entry))))
+        × (now (text .exit) ≡ written (givenBy report m (placeIn last) (extent .from) (extent .to) (now (raw .entry)) .text) (now (text .entry))) ⌝ }
 {
     let kind = m.kind;
     let source = m.text;
     let copied = copy_text(kind, source, extent.from as usize, raw, text);
-    let at = place(kind, last, extent);
+    let at = place(report, kind, last, extent);
     if has_text(kind, source) {
         return record_with(m, extent, at, IN_MEMORY, copied as u32);
     }

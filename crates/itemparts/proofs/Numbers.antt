@@ -1,7 +1,7 @@
 -- An item of kind Number has its extent's bytes read as a number: it comes of a number run whose bytes have parts, and those bytes stand in the text
 -- where its extent says. They are whole characters and no more than the text has, so that the call refuses nothing.
 use Rattle.items.specs.declared.CharValue.{CharValue}
-use Rattle.items.specs.declared.CharValue.the-variants.{Scalar, Wrong}
+use Rattle.items.specs.declared.CharValue.the-variants.{Scalar, Wrong, WrongAt}
 use Rattle.items.specs.declared.Outcome.{Outcome}
 use Rattle.items.specs.declared.Outcome.the-variants.{Token, Str, HereStr, Word, Run, Lined, Keyword, Character, Error, ErrorAt}
 use Rattle.items.specs.Items.{Place, Item, itemsOf, extentItems, items}
@@ -87,18 +87,19 @@ module _ (s e : ℕ) (raw : List ℕ) where
   character-meant : (v : CharValue) → Every (Meant raw) (characterMeans v)
   character-meant (Scalar c) = (other refl, tt)
   character-meant (Wrong n d) = (error-other n, tt)
+  character-meant (WrongAt n d p) = (error-other n, tt)
 
-  all-meant : (o : Outcome) → Other o → Every (Meant raw) (meaningOf o s e raw)
-  all-meant (Token k d) h = (other h, tt)
-  all-meant Str h = (other refl, tt)
-  all-meant HereStr h = (other refl, tt)
-  all-meant Word h = word-meant
-  all-meant Run h = run-meant (parseNumber raw) refl
-  all-meant Lined h = (other refl, tt)
-  all-meant Keyword h = (other refl, tt)
-  all-meant Character h = character-meant (characterOf (charInside raw))
-  all-meant (Error n d) h = (error-other n, tt)
-  all-meant (ErrorAt n d a b) h = (error-other n, tt)
+  all-meant : (report : Bool) (o : Outcome) → Other o → Every (Meant raw) (meaningOf report o s e raw)
+  all-meant report (Token k d) h = (other h, tt)
+  all-meant report Str h = (other refl, tt)
+  all-meant report HereStr h = (other refl, tt)
+  all-meant report Word h = word-meant
+  all-meant report Run h = run-meant (parseNumber raw) refl
+  all-meant report Lined h = (other refl, tt)
+  all-meant report Keyword h = (other refl, tt)
+  all-meant report Character h = character-meant (characterOf report (charInside raw))
+  all-meant report (Error n d) h = (error-other n, tt)
+  all-meant report (ErrorAt n d a b) h = (error-other n, tt)
 
 -- ---- where the bytes stand
 
@@ -140,8 +141,8 @@ module _ (report : Bool) (whole : List ℕ) (short : length whole ≤ longest) w
       let room : length raw ≤ longest = omega (arith, ap length here, length-append raw (bytesOf (r .rest)), length-drop at whole) in
       let good : firstBad raw ≡ verdicts.Good
       = encoded-good (c ∷ k .more) (ds .0, scalars-of (k .more) (r .rest) (subst (Every (λ (c : ℕ). isScalar c ≡ true)) (k .whole) (ds .1))) in
-      items-meant report whole _ at (r .item .at) raw stands room good (meaningOf (r .what) at (r .item .at) (r .item .bytes))
-      (rw (k .bytes) (all-meant at (r .item .at) raw (r .what) (read-other report at c cs)))
+      items-meant report whole _ at (r .item .at) raw stands room good (meaningOf report (r .what) at (r .item .at) (r .item .bytes))
+      (rw (k .bytes) (all-meant at (r .item .at) raw report (r .what) (read-other report at c cs)))
 
 -- of the items of a text
 pub number-items : (report : Bool) (cs : List ℕ) → Scalars cs → length (bytesOf cs) ≤ longest → Every (NumberIn (bytesOf cs)) (items report cs)

@@ -1,7 +1,7 @@
 -- A Number is a number run: no other outcome of an item has that kind. A token's kind is told where the token is, so a line for each class of a
 -- character in each phase shows it.
 use Rattle.items.specs.declared.CharValue.{CharValue}
-use Rattle.items.specs.declared.CharValue.the-variants.{Scalar, Wrong}
+use Rattle.items.specs.declared.CharValue.the-variants.{Scalar, Wrong, WrongAt}
 use Rattle.items.specs.declared.HashKind.{HashKind}
 use Rattle.items.specs.declared.HashKind.the-variants.{Decided, Bracket, Undecided}
 use Rattle.items.specs.declared.Next.{Next}
@@ -175,19 +175,20 @@ module _ (i : SoFar) (c : ℕ) where
   goes-escape newline q from = tt
   goes-escape invalid q from = tt
 
-  goes-brace : (k : InHex) (q : Quotes) (from : ℕ) → Goes (onBrace k q from i c)
-  goes-brace closes q from = tt
-  goes-brace stops q from = tt
-  goes-brace digit q from = tt
+  goes-brace : (report : Bool) (k : InHex) (q : Quotes) (from : ℕ) → Goes (onBrace report k q from i c)
+  goes-brace report closes q from = if-all Other report tt tt
+  goes-brace report stops q from = tt
+  goes-brace report digit q from = tt
 
-  goes-close : (v : CharValue) (q : Quotes) (from to : ℕ) → Goes (closeHex v q from to)
-  goes-close (Scalar x) q from to = tt
-  goes-close (Wrong e d) q from to = tt
+  goes-close : (report : Bool) (v : CharValue) (q : Quotes) (from n to : ℕ) → Goes (closeHex report v q from n to i)
+  goes-close report (Scalar x) q from n to = tt
+  goes-close report (Wrong e d) q from n to = tt
+  goes-close report (WrongAt e d p) q from n to = if-all Other report tt tt
 
-  goes-hex : (k : InHex) (q : Quotes) (closer from n : ℕ) → Goes (onHex k q closer from n i c)
-  goes-hex closes q closer from n = goes-close (scalarOf (hexValue (drop n (i .bytes)))) q from (eat i c .at)
-  goes-hex stops q closer from n = tt
-  goes-hex digit q closer from n = tt
+  goes-hex : (report : Bool) (k : InHex) (q : Quotes) (closer from n : ℕ) → Goes (onHex report k q closer from n i c)
+  goes-hex report closes q closer from n = goes-close report (scalarOf (hexValue (drop n (i .bytes)))) q from n (eat i c .at)
+  goes-hex report stops q closer from n = tt
+  goes-hex report digit q closer from n = tt
 
   goes-before : (k : InTrim) (q : Quotes) → Goes (onTrimBefore k q i c)
   goes-before space q = tt
@@ -261,8 +262,8 @@ module _ (i : SoFar) (c : ℕ) where
   goes-on report (ph.TrimBefore k) h = goes-before (inTrim c) k
   goes-on report (ph.TrimAfter k) h = goes-trim (inTrim c) k
   goes-on report (ph.Escape k from) h = goes-escape (afterBackslash c) k from
-  goes-on report (ph.Brace k from) h = if-all Goes (eqb c (code "{")) tt (goes-brace (inHex k (code ";") c) k from)
-  goes-on report (ph.Hex k closer from n) h = goes-hex (inHex k closer c) k closer from n
+  goes-on report (ph.Brace k from) h = if-all Goes (eqb c (code "{")) tt (goes-brace report (inHex k (code ";") c) k from)
+  goes-on report (ph.Hex k closer from n) h = goes-hex report (inHex k closer c) k closer from n
   goes-on report (ph.Done o) h = h
 
 -- ---- the end, the start, and the whole item

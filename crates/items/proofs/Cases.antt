@@ -6,7 +6,7 @@ use Rattle.items.specs.declared.Next.the-variants.{Eat, Stop}
 use Rattle.items.specs.declared.HashKind.{HashKind}
 use Rattle.items.specs.declared.HashKind.the-variants.{Decided, Bracket, Undecided}
 use Rattle.items.specs.declared.CharValue.{CharValue}
-use Rattle.items.specs.declared.CharValue.the-variants.{Scalar, Wrong}
+use Rattle.items.specs.declared.CharValue.the-variants.{Scalar, Wrong, WrongAt}
 use Rattle.items.specs.Classes.{First, semicolon, quote, comma, hash, number, single, vertical, backslash, wordy, InQuotes, ends}
 use Rattle.items.specs.Classes.{escapes, plain, AfterBackslash, simple, hexX, hexU, blank, newline, invalid, InHex, closes, stops}
 use Rattle.items.specs.Classes.{digit, InTrim, space, line, solid, InNest, bar, sharp, inside, InWord, breaks, skips, goes, InRun}
@@ -88,9 +88,12 @@ module _ {P : Type 0} where
   by-delim blankDelim f g h i = h refl
   by-delim ofDelim f g h i = i refl
 
-  pub by-value : (k : CharValue) → ((x : ℕ) → k ≡ Scalar x → P) → ((x : ℕ) (y : ℕ) → k ≡ Wrong x y → P) → P
-  by-value (Scalar x) f g = f x refl
-  by-value (Wrong x y) f g = g x y refl
+  pub by-value : (k : CharValue) → ((x : ℕ) → k ≡ Scalar x → P) → ((x : ℕ) (y : ℕ) → k ≡ Wrong x y → P)
+      → ((x : ℕ) (y : ℕ) (z : ℕ) → k ≡ WrongAt x y z → P)
+      → P
+  by-value (Scalar x) f g h = f x refl
+  by-value (Wrong x y) f g h = g x y refl
+  by-value (WrongAt x y z) f g h = h x y z refl
 
   pub by-kind : (k : HashKind) → ((x : Outcome) → k ≡ Decided x → P) → ((x : ℕ) → k ≡ Bracket x → P) → (k ≡ Undecided → P) → P
   by-kind (Decided x) f g h = f x refl

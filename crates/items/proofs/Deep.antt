@@ -6,7 +6,7 @@ use Rattle.items.specs.declared.Next.the-variants.{Eat, Stop}
 use Rattle.items.specs.declared.HashKind.{HashKind}
 use Rattle.items.specs.declared.HashKind.the-variants.{Decided, Bracket, Undecided}
 use Rattle.items.specs.declared.CharValue.{CharValue}
-use Rattle.items.specs.declared.CharValue.the-variants.{Scalar, Wrong}
+use Rattle.items.specs.declared.CharValue.the-variants.{Scalar, Wrong, WrongAt}
 use Rattle.items.specs.Classes.{inQuotes, afterBackslash, inHex, inTrim, inNest, inWord, inRun, afterHash, inHash, inDelim, InQuotes}
 use Rattle.items.specs.Classes.{ends, escapes, plain, AfterBackslash, simple, hexX, hexU, blank, newline, invalid, InHex, closes}
 use Rattle.items.specs.Classes.{stops, digit, InTrim, space, line, solid, InNest, bar, sharp, inside, InWord, breaks, skips, goes}
@@ -50,19 +50,20 @@ deep-escape blank q from i c = flat 0
 deep-escape newline q from i c = flat 0
 deep-escape invalid q from i c = tt
 
-deep-close : (v : CharValue) (q : Quotes) (from to : ℕ) → Deep 0 (closeHex v q from to)
-deep-close (Scalar x) q from to = flat 0
-deep-close (Wrong e d) q from to = flat 0
+deep-close : (report : Bool) (v : CharValue) (q : Quotes) (from n to : ℕ) (i : SoFar) → Deep 0 (closeHex report v q from n to i)
+deep-close report (Scalar x) q from n to i = flat 0
+deep-close report (Wrong e d) q from n to i = flat 0
+deep-close report (WrongAt e d p) q from n to i = flat 0
 
-deep-brace : (k : InHex) (q : Quotes) (from : ℕ) (i : SoFar) (c : ℕ) → Deep 0 (onBrace k q from i c)
-deep-brace closes q from i c = flat 0
-deep-brace stops q from i c = flat 0
-deep-brace digit q from i c = flat 0
+deep-brace : (report : Bool) (k : InHex) (q : Quotes) (from : ℕ) (i : SoFar) (c : ℕ) → Deep 0 (onBrace report k q from i c)
+deep-brace report closes q from i c = flat 0
+deep-brace report stops q from i c = flat 0
+deep-brace report digit q from i c = flat 0
 
-deep-hex : (k : InHex) (q : Quotes) (closer from n : ℕ) (i : SoFar) (c : ℕ) → Deep 0 (onHex k q closer from n i c)
-deep-hex closes q closer from n i c = deep-close (scalarOf (hexValue (drop n (i .bytes)))) q from (eat i c .at)
-deep-hex stops q closer from n i c = flat 0
-deep-hex digit q closer from n i c = flat 0
+deep-hex : (report : Bool) (k : InHex) (q : Quotes) (closer from n : ℕ) (i : SoFar) (c : ℕ) → Deep 0 (onHex report k q closer from n i c)
+deep-hex report closes q closer from n i c = deep-close report (scalarOf (hexValue (drop n (i .bytes)))) q from n (eat i c .at) i
+deep-hex report stops q closer from n i c = flat 0
+deep-hex report digit q closer from n i c = flat 0
 
 deep-word : (k : InWord) → Deep 0 (onWord k)
 deep-word breaks = tt
@@ -151,8 +152,8 @@ deep report (ph.Closed k) i c = tt
 deep report (ph.TrimBefore k) i c = deep-before (inTrim c) k i c
 deep report (ph.TrimAfter k) i c = deep-trim (inTrim c) k i c
 deep report (ph.Escape k from) i c = deep-escape (afterBackslash c) k from i c
-deep report (ph.Brace k from) i c = if-all (Deep 0) (eqb c (code "{")) (flat 0) (deep-brace (inHex k (code ";") c) k from i c)
-deep report (ph.Hex k closer from n) i c = deep-hex (inHex k closer c) k closer from n i c
+deep report (ph.Brace k from) i c = if-all (Deep 0) (eqb c (code "{")) (flat 0) (deep-brace report (inHex k (code ";") c) k from i c)
+deep report (ph.Hex k closer from n) i c = deep-hex report (inHex k closer c) k closer from n i c
 deep report (ph.Done o) i c = tt
 
 pub deep-eat : (report : Bool) (p : Phase) (i : SoFar) (c : ℕ) (q : Phase) → stepOf report p i c ≡ Eat q → depthOf q ≤ suc (depthOf p)

@@ -3,7 +3,7 @@
 use Rattle.items.specs.declared.Outcome.{Outcome}
 use Rattle.items.specs.declared.Outcome.the-variants.{Token, Str, HereStr, Word, Run, Lined, Keyword, Character, Error, ErrorAt}
 use Rattle.items.specs.declared.CharValue.{CharValue}
-use Rattle.items.specs.declared.CharValue.the-variants.{Scalar, Wrong}
+use Rattle.items.specs.declared.CharValue.the-variants.{Scalar, Wrong, WrongAt}
 use Rattle.items.specs.Items.{rangeAfter, standing, itemsOf, extentItems, Place}
 use Rattle.items.specs.Meaning.{wordKind, wordMeans, runMeans, characterOf, charInside, characterMeans, meaningOf, Meaning}
 use Rattle.items.specs.Readers.{firstIs, SoFar}
@@ -45,23 +45,24 @@ few-run parsed.ZeroDenominator s e raw = just-one
 few-character : (v : CharValue) → OneOrTwo (characterMeans v)
 few-character (Scalar c) = just-one
 few-character (Wrong e d) = just-one
+few-character (WrongAt e d p) = just-one
 
-few-meanings : (o : Outcome) (s e : ℕ) (raw : List ℕ) → OneOrTwo (meaningOf o s e raw)
-few-meanings (Token k d) s e raw = just-one
-few-meanings Str s e raw = just-one
-few-meanings HereStr s e raw = just-one
-few-meanings Word s e raw = few-word s e raw
-few-meanings Run s e raw = few-run (parseNumber raw) s e raw
-few-meanings Lined s e raw = just-one
-few-meanings Keyword s e raw = just-one
-few-meanings Character s e raw = few-character (characterOf (charInside raw))
-few-meanings (Error n d) s e raw = just-one
-few-meanings (ErrorAt n d a b) s e raw = just-one
+few-meanings : (report : Bool) (o : Outcome) (s e : ℕ) (raw : List ℕ) → OneOrTwo (meaningOf report o s e raw)
+few-meanings report (Token k d) s e raw = just-one
+few-meanings report Str s e raw = just-one
+few-meanings report HereStr s e raw = just-one
+few-meanings report Word s e raw = few-word s e raw
+few-meanings report Run s e raw = few-run (parseNumber raw) s e raw
+few-meanings report Lined s e raw = just-one
+few-meanings report Keyword s e raw = just-one
+few-meanings report Character s e raw = few-character (characterOf report (charInside raw))
+few-meanings report (Error n d) s e raw = just-one
+few-meanings report (ErrorAt n d a b) s e raw = just-one
 
 pub few-items : (report : Bool) (last : Place) (s : ℕ) (o : Outcome) (i : SoFar) → OneOrTwo (extentItems report last s o i)
 unfolding extentItems
 few-items report last s o i =
-    let ms : List Meaning = meaningOf o s (i .at) (i .bytes) in
-    let few : OneOrTwo ms = few-meanings o s (i .at) (i .bytes) in
-    let e : length (itemsOf report (rangeAfter (standing report last) s o i) s (i .at) ms) ≡ length ms = items-length report s (i .at) (rangeAfter (standing report last) s o i) ms in
+    let ms : List Meaning = meaningOf report o s (i .at) (i .bytes) in
+    let few : OneOrTwo ms = few-meanings report o s (i .at) (i .bytes) in
+    let e : length (itemsOf report (rangeAfter report (standing report last) s o i) s (i .at) ms) ≡ length ms = items-length report s (i .at) (rangeAfter report (standing report last) s o i) ms in
     (omega arith, omega arith)

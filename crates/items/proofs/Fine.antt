@@ -7,7 +7,7 @@ use Rattle.items.specs.declared.Outcome.the-variants.{Token, Str, HereSt
 use Rattle.items.specs.declared.HashKind.{HashKind}
 use Rattle.items.specs.declared.HashKind.the-variants.{Decided, Bracket, Undecided}
 use Rattle.items.specs.declared.CharValue.{CharValue}
-use Rattle.items.specs.declared.CharValue.the-variants.{Scalar, Wrong}
+use Rattle.items.specs.declared.CharValue.the-variants.{Scalar, Wrong, WrongAt}
 use Rattle.items.specs.Classes.{delimOf}
 use Rattle.items.specs.Machine.{hashLast}
 use Rattle.items.specs.Readers.{firstIs, lastIs, linedOf, closed, unclosed, cut, scalarOf, boolKind, quoteKind, formKind, orElse}
@@ -36,7 +36,7 @@ Between b raw = (2 ≤ length raw) × (lastIs b raw ≡ true)
 
 -- an error's number and detail, and a range in a text of n bytes
 abbrev pub Numbered : (ℕ → Type 0) → ℕ → ℕ → Type 0
-Numbered D e d = (e ≤ kind.InvalidHexCodePoint) × D d
+Numbered D e d = (e ≤ kind.lastError) × D d
 
 abbrev pub Ranged : ℕ → ℕ → ℕ → Type 0
 Ranged n a b = (a ≤ b) × (b ≤ n)
@@ -63,6 +63,7 @@ FineKind D n raw Undecided = Unit {0}
 abbrev pub FineValue : (ℕ → Type 0) → CharValue → Type 0
 FineValue D (Scalar c) = D c
 FineValue D (Wrong e d) = Numbered D e d
+FineValue D (WrongAt e d p) = Numbered D e d
 
 abbrev FineHex : Hex → Type 0
 FineHex (hex.Value v) = v < 2 ^ 32

@@ -5,6 +5,7 @@ pub mod Run
 pub mod Splits
 pub mod Ready
 pub mod Deep
+pub mod Failing
 pub mod Fine
 pub mod Outcomes
 pub mod Shorter

@@ -4,12 +4,13 @@ use Rattle.items.specs.declared.Quotes.the-variants.{Double, Lines}
 use Rattle.items.specs.declared.Outcome.{Outcome}
 use Rattle.items.specs.declared.Outcome.the-variants.{Token, Str, HereStr, Word, Run, Lined, Keyword, Character, Error, ErrorAt}
 use Rattle.items.specs.declared.CharValue.{CharValue}
-use Rattle.items.specs.declared.CharValue.the-variants.{Scalar, Wrong}
+use Rattle.items.specs.declared.CharValue.the-variants.{Scalar, Wrong, WrongAt}
 use Rattle.items.specs.Items.{memoryOf}
 use Rattle.items.specs.Meaning.{means, one, lookup, words, wordKind, wordMeans, runMeans, escaped, unescape, stringText, linedText}
-use Rattle.items.specs.Meaning.{hereText, lower, charNames, unnamed, onlyOne, hexNamed, spelledOut, characterOf, charInside}
+use Rattle.items.specs.Meaning.{hereText, lower, charNames, unnamed, beforeDelimiter, nameless, onlyOne, later, hexNamed, spelledOut, characterOf, charInside}
 use Rattle.items.specs.Meaning.{characterMeans, meaningOf, Text, none, source, decoded, Meaning, Row}
-use Rattle.items.specs.Readers.{firstIs, lastIs, lineOf, afterLine, endsWith, hereInside, hereEnds}
+use Rattle.digits.specs.Hex.{hexValue}
+use Rattle.items.specs.Readers.{firstIs, lastIs, scalarOf, lineOf, afterLine, endsWith, hereInside, hereEnds}
 use Rattle.items.proofs.Every.{Every}
 use Rattle.items.proofs.Fine.{Between, Fine, FineValue, fine-scalar}
 use Rattle.items.proofs.Shorter.{decoded-shorter}
@@ -35,7 +36,7 @@ use Rattle.items.specs.Kinds as kind
 
 -- the greatest kind: that of the last error
 abbrev pub lastKind : ℕ
-lastKind = kind.firstError + kind.InvalidHexCodePoint
+lastKind = kind.firstError + kind.lastError
 
 -- a text, of an item from s to e: a part of the source lies in the extent, and decoded bytes are at least two fewer than its bytes
 abbrev pub Inside : ℕ → ℕ → Text → Type 0
@@ -179,30 +180,42 @@ module _ (s e : ℕ) (raw : List ℕ) (long : e ≡ s + length raw) where
 -- ---- meanings
 
 module _ (D : ℕ → Type 0) (small : (d : ℕ) → d < 2 ^ 32 → D d) where
-  fine-only : (f : Front) (m : ℕ) → SmallFront f → FineValue D (onlyOne f m)
-  fine-only (Utf8.char c n) m h = if-all (FineValue D) (eqb n m) (small c h) (omega arith, small 0 (omega arith))
-  fine-only (Utf8.bad n) m h = (omega arith, small 0 (omega arith))
-  fine-only Utf8.cut m h = (omega arith, small 0 (omega arith))
-  fine-only Utf8.none m h = (omega arith, small 0 (omega arith))
+  fine-nameless : (report : Bool) (t : List ℕ) → FineValue D (nameless report t)
+  unfolding nameless
+  fine-nameless report t =
+      if-all (FineValue D) (report && ltb (suc (beforeDelimiter (drop 1 t))) (length t)) (omega arith, small 0 (omega arith))
+      (omega arith, small 0 (omega arith))
+
+  fine-only : (report : Bool) (f : Front) (t : List ℕ) → SmallFront f → FineValue D (onlyOne report f t)
+  fine-only report (Utf8.char c n) t h = if-all (FineValue D) (eqb n (length t)) (small c h) (fine-nameless report t)
+  fine-only report (Utf8.bad n) t h = fine-nameless report t
+  fine-only report Utf8.cut t h = fine-nameless report t
+  fine-only report Utf8.none t h = fine-nameless report t
+
+  fine-later : (n : ℕ) (v : CharValue) → FineValue D v → FineValue D (later n v)
+  fine-later n (Scalar c) h = h
+  fine-later n (Wrong e d) h = h
+  fine-later n (WrongAt e d p) h = h
 
   fine-named : (t : List ℕ) → FineValue D (hexNamed t)
   unfolding hexNamed
   fine-named t =
       let P : CharValue → Type 0 = FineValue D in
       if-all P (firstIs (code "u") t && eqb (getD t 1 0) (code "{"))
-      (if-all P (lastIs (code "}") t) (fine-scalar D small (take (length t - 3) (drop 2 t))) (omega arith, small (code "}") (omega arith)))
-      (fine-scalar D small (drop 1 t))
+      (if-all P (lastIs (code "}") t) (fine-later 2 (scalarOf (hexValue (take (length t - 3) (drop 2 t)))) (fine-scalar D small (take (length t - 3) (drop 2 t))))
+      (omega arith, small (code "}") (omega arith)))
+      (fine-later 1 (scalarOf (hexValue (drop 1 t))) (fine-scalar D small (drop 1 t)))
 
-  fine-spelled : (t : List ℕ) → FineValue D (spelledOut t)
+  fine-spelled : (report : Bool) (t : List ℕ) → FineValue D (spelledOut report t)
   unfolding spelledOut
-  fine-spelled t =
+  fine-spelled report t =
       if-all (FineValue D) ((firstIs (code "u") t || firstIs (code "x") t) && ltb 1 (length t)) (fine-named t)
-      (fine-only (front t) (length t) (front-small t))
+      (fine-only report (front t) t (front-small t))
 
-  pub fine-character : (t : List ℕ) → FineValue D (characterOf t)
+  pub fine-character : (report : Bool) (t : List ℕ) → FineValue D (characterOf report t)
   unfolding characterOf
-  fine-character t =
-      if-all (FineValue D) (eqb (lookup charNames (map lower t) unnamed) unnamed) (fine-spelled t)
+  fine-character report t =
+      if-all (FineValue D) (eqb (lookup charNames (map lower t) unnamed) unnamed) (fine-spelled report t)
       (small _ (omega (arith, name-le (map lower t))))
 
   module _ (s e : ℕ) (raw : List ℕ) (long : e ≡ s + length raw) (some : 1 ≤ length raw) where
@@ -243,15 +256,16 @@ module _ (D : ℕ → Type 0) (small : (d : ℕ) → d < 2 ^ 32 → D d) where
     character-made : (v : CharValue) → FineValue D v → Made D s e (characterMeans v)
     character-made (Scalar c) h = one-made kind.CharacterLiteral c none (omega arith) h tt
     character-made (Wrong n d) h = one-made (kind.firstError + n) d none (omega arith) (h .1) tt
+    character-made (WrongAt n d p) h = one-made (kind.firstError + n) d none (omega arith) (h .1) tt
 
-    pub made : (n : ℕ) (o : Outcome) → Fine D n raw o → Made D s e (meaningOf o s e raw)
-    made n (Token k d) h = one-made k d none (omega arith) (h .1) tt
-    made n Str h = one-made kind.StringLiteral 0 (stringText s e raw) (omega arith) (small 0 (omega arith)) (string-inside s e raw long h)
-    made n HereStr h = one-made kind.StringLiteral 0 (hereText s e raw) (omega arith) (small 0 (omega arith)) (here-inside s e raw long h)
-    made n Word h = word-made
-    made n Run h = run-made (parseNumber raw)
-    made n Lined h = one-made kind.Identifier 0 (linedText s e raw) (omega arith) (small 0 (omega arith)) (lined-inside s e raw long h)
-    made n Keyword h = one-made kind.Keyword 0 (source s e) (omega arith) (small 0 (omega arith)) (omega arith, (omega arith, omega arith))
-    made n Character h = character-made (characterOf (charInside raw)) (fine-character (charInside raw))
-    made n (Error k d) h = one-made (kind.firstError + k) d none (omega arith) (h .1) tt
-    made n (ErrorAt k d a b) h = one-made (kind.firstError + k) d none (omega arith) (h .0 .1) tt
+    pub made : (report : Bool) (n : ℕ) (o : Outcome) → Fine D n raw o → Made D s e (meaningOf report o s e raw)
+    made report n (Token k d) h = one-made k d none (omega arith) (h .1) tt
+    made report n Str h = one-made kind.StringLiteral 0 (stringText s e raw) (omega arith) (small 0 (omega arith)) (string-inside s e raw long h)
+    made report n HereStr h = one-made kind.StringLiteral 0 (hereText s e raw) (omega arith) (small 0 (omega arith)) (here-inside s e raw long h)
+    made report n Word h = word-made
+    made report n Run h = run-made (parseNumber raw)
+    made report n Lined h = one-made kind.Identifier 0 (linedText s e raw) (omega arith) (small 0 (omega arith)) (lined-inside s e raw long h)
+    made report n Keyword h = one-made kind.Keyword 0 (source s e) (omega arith) (small 0 (omega arith)) (omega arith, (omega arith, omega arith))
+    made report n Character h = character-made (characterOf report (charInside raw)) (fine-character report (charInside raw))
+    made report n (Error k d) h = one-made (kind.firstError + k) d none (omega arith) (h .1) tt
+    made report n (ErrorAt k d a b) h = one-made (kind.firstError + k) d none (omega arith) (h .0 .1) tt

@@ -4,12 +4,13 @@
 use Rattle.items.specs.declared.Outcome.{Outcome}
 use Rattle.items.specs.declared.Outcome.the-variants.{Token, Str, HereStr, Word, Run, Lined, Keyword, Character, Error, ErrorAt}
 use Rattle.items.specs.declared.CharValue.{CharValue}
-use Rattle.items.specs.declared.CharValue.the-variants.{Scalar, Wrong}
-use Rattle.items.specs.Items.{range, unset, characterSets, rangeAfter, standing, placeOf, itemOf, itemsOf, extentItems, itemsFrom, itemsAt}
+use Rattle.items.specs.declared.CharValue.the-variants.{Scalar, Wrong, WrongAt}
+use Rattle.items.specs.Items.{unset, range, characterSets, rangeAfter, standing, isSet, placeOf, itemOf, itemsOf, extentItems, itemsFrom, itemsAt}
 use Rattle.items.specs.Items.{pastLine, afterPound, items, memoryOf, texts, byteCount, Place, Item}
 use Rattle.items.specs.Meaning.{characterOf, charInside, meaningOf, Meaning}
 use Rattle.items.specs.Readers.{readItem, SoFar, Read}
 use Rattle.items.proofs.Every.{Every, every-any, every-then}
+use Rattle.items.proofs.Failing.{past-within, Named, character-inside}
 use Rattle.items.proofs.Fine.{Ranged, Fine}
 use Rattle.items.proofs.Meanings.{lastKind, Inside, Meant, held, made, Made}
 use Rattle.items.proofs.Outcomes.{read-fine}
@@ -24,7 +25,7 @@ use mathlib.Core.Path.{_≡_, refl, ap, _∙_}
 use mathlib.Core.Bool.{Bool, true, false, _&&_}
 use mathlib.Core.List.{List, [], _∷_, _++_}
 use mathlib.Core.Logic.{_⊎_, inl, inr}
-use lib.ListN.{length, length-append}
+use lib.ListN.{length, drop, length-append, length-drop}
 use lib.Dec.{eqb, leb, ltb}
 use native.Mathlib.Omega.{arith}
 use native.Mathlib.Nat.{le-refl, le-trans}
@@ -107,7 +108,7 @@ module _ (report : Bool) (s e : ℕ) (last : Place) where
   module _ (D : ℕ → Type 0) (n : ℕ) (some : s < e) (ends : e ≤ n) (ranged : Ranged n (last .from) (last .to)) where
     place-ranged : (k : ℕ) → Ranged n (placeOf report k last (range s e) .from) (placeOf report k last (range s e) .to)
     place-ranged k =
-        if-all (λ (p : Place). Ranged n (p .from) (p .to)) (leb kind.firstError k && ltb (last .from) (last .to)) ranged (omega arith, ends)
+        if-all (λ (p : Place). Ranged n (p .from) (p .to)) (leb kind.firstError k && isSet report last) ranged (omega arith, ends)
 
     extent-sorted : (ms : List Meaning) (ys : List Item) → Every (Meant D s e) ms → Sorted D n e ys → Sorted D n s (itemsOf report last s e ms ++ ys)
     extent-sorted [] ys h l = sooner D n s e ys (omega arith) l
@@ -134,21 +135,28 @@ module _ (D : ℕ → Type 0) (small : (d : ℕ) → d < 2 ^ 32 → D d) (report
   -- the last range lies in the text
   range-ranged : (n : ℕ) (last : Place) (s : ℕ) (o : Outcome) (i : SoFar) → Fine D n (i .bytes) o → Ranged n (last .from) (last .to)
       → Ranged n s (i .at)
-      → Ranged n (rangeAfter last s o i .from) (rangeAfter last s o i .to)
-  range-ranged n last s (Token k d) i f h g = h
-  range-ranged n last s Str i f h g = h
-  range-ranged n last s HereStr i f h g = h
-  range-ranged n last s Word i f h g = h
-  range-ranged n last s Run i f h g = h
-  range-ranged n last s Lined i f h g = h
-  range-ranged n last s Keyword i f h g = h
-  range-ranged n last s Character i f h g = sets (characterOf (charInside (i .bytes)))
+      → i .at ≡ s + length (i .bytes)
+      → Ranged n (rangeAfter report last s o i .from) (rangeAfter report last s o i .to)
+  range-ranged n last s (Token k d) i f h g l = h
+  range-ranged n last s Str i f h g l = h
+  range-ranged n last s HereStr i f h g l = h
+  range-ranged n last s Word i f h g l = h
+  range-ranged n last s Run i f h g l = h
+  range-ranged n last s Lined i f h g l = h
+  range-ranged n last s Keyword i f h g l = h
+  range-ranged n last s Character i f h g l =
+      sets (charInside (i .bytes)) refl (characterOf report (charInside (i .bytes))) (character-inside report (charInside (i .bytes)))
     where
-      sets : (v : CharValue) → Ranged n (characterSets v last (range s (i .at)) .from) (characterSets v last (range s (i .at)) .to)
-      sets (Scalar c) = h
-      sets (Wrong e d) = g
-  range-ranged n last s (Error k d) i f h g = h
-  range-ranged n last s (ErrorAt k d a b) i f h g = f .1
+      sets : (t : List ℕ) → t ≡ charInside (i .bytes) → (v : CharValue) → Named (length t) v
+          → Ranged n (characterSets report v last s i .from) (characterSets report v last s i .to)
+      sets t q (Scalar c) w = h
+      sets t q (Wrong e d) w = g
+      sets t q (WrongAt e d p) w =
+          let past = past-within d (s + 2 + p) (drop p (charInside (i .bytes))) in
+          if-all (λ (x : Place). Ranged n (x .from) (x .to)) report
+          (past .0, omega (arith, past .1, ap length q, length-drop p (charInside (i .bytes)), length-drop 2 (i .bytes))) g
+  range-ranged n last s (Error k d) i f h g l = h
+  range-ranged n last s (ErrorAt k d a b) i f h g l = f .1
 
   -- the item that is read at a place, and the items ys after it
   module _ (n : ℕ) (last : Place) (at c : ℕ) (cs : List ℕ) (ranged : Ranged n (last .from) (last .to)) (room : at + byteCount (c ∷ cs) ≤ n)
@@ -158,13 +166,13 @@ module _ (D : ℕ → Type 0) (small : (d : ℕ) → d < 2 ^ 32 → D d) (report
 
     -- the range after it, with one that was set before it or none
     ranged-with : (l : Place) → Ranged n (l .from) (l .to)
-        → Ranged n (rangeAfter l at (it .what) (it .item) .from) (rangeAfter l at (it .what) (it .item) .to)
+        → Ranged n (rangeAfter report l at (it .what) (it .item) .from) (rangeAfter report l at (it .what) (it .item) .to)
     ranged-with l h =
         range-ranged n l at (it .what) (it .item) (read-fine D small n report at c cs room ds) h
-        (omega (arith, read-forward report at c cs), omega (arith, read-end report at c cs))
+        (omega (arith, read-forward report at c cs), omega (arith, read-end report at c cs)) (read-at report at c cs)
 
     abbrev pub after : Place
-    after = rangeAfter last at (it .what) (it .item)
+    after = rangeAfter report last at (it .what) (it .item)
 
     pub after-ranged : Ranged n (after .from) (after .to)
     after-ranged = ranged-with last ranged
@@ -177,10 +185,10 @@ module _ (D : ℕ → Type 0) (small : (d : ℕ) → d < 2 ^ 32 → D d) (report
     item-laws ys l =
         let e : it .item .at ≡ at + length (it .item .bytes) = read-at report at c cs in
         let long : at < it .item .at = read-forward report at c cs in
-        extent-laws report at (it .item .at) (rangeAfter (standing report last) at (it .what) (it .item)) D n long
+        extent-laws report at (it .item .at) (rangeAfter report (standing report last) at (it .what) (it .item)) D n long
         (omega (arith, read-end report at c cs)) (ranged-with (standing report last) shown-ranged)
-        (meaningOf (it .what) at (it .item .at) (it .item .bytes)) ys
-        (made D small at (it .item .at) (it .item .bytes) e (omega arith) n (it .what) (read-fine D small n report at c cs room ds))
+        (meaningOf report (it .what) at (it .item .at) (it .item .bytes)) ys
+        (made D small at (it .item .at) (it .item .bytes) e (omega arith) report n (it .what) (read-fine D small n report at c cs room ds))
         l
 
   pub from-laws : (n turns : ℕ) (last : Place) (at : ℕ) (cs : List ℕ) → Ranged n (last .from) (last .to) → at + byteCount cs ≤ n → Every D cs

@@ -8,7 +8,7 @@ use Rattle.items.specs.declared.Next.the-variants.{Eat, Stop}
 use Rattle.items.specs.declared.HashKind.{HashKind}
 use Rattle.items.specs.declared.HashKind.the-variants.{Decided, Bracket, Undecided}
 use Rattle.items.specs.declared.CharValue.{CharValue}
-use Rattle.items.specs.declared.CharValue.the-variants.{Scalar, Wrong}
+use Rattle.items.specs.declared.CharValue.the-variants.{Scalar, Wrong, WrongAt}
 use Rattle.items.specs.Classes.{startsRun, firstOf, delimOf, inQuotes, afterBackslash, inHex, inTrim, inNest, inWord, inRun}
 use Rattle.items.specs.Classes.{afterHash, inHash, inDelim, First, InQuotes, ends, escapes, plain, AfterBackslash, simple, hexX, hexU}
 use Rattle.items.specs.Classes.{blank, newline, invalid, InHex, closes, stops, digit, InTrim, space, line, solid, InNest, bar, sharp}
@@ -18,10 +18,11 @@ use Rattle.items.specs.Classes.{returns, blankDelim, ofDelim}
 use Rattle.items.specs.Items.{byteCount}
 use Rattle.items.specs.Machine.{onNest, onBar, onSharp, onQuoted, onEscape, onBrace, closeHex, onHex, onTrimBefore, onTrimAfter}
 use Rattle.items.specs.Machine.{onWord, enterWord, onRun, hashThen, onHash, onAfterHash, onDelim, stepOf, finishOf, onFirst, scanOf}
-use Rattle.items.specs.Readers.{soFar, eat, lastIs, scalarOf, hashKind, hereEnds, readItem, SoFar}
+use Rattle.items.specs.Readers.{soFar, eat, lastIs, scalarOf, failing, hashKind, hereEnds, readItem, SoFar}
 use Rattle.items.proofs.Cases.{by-next}
 use Rattle.items.proofs.Every.{Every}
-use Rattle.items.proofs.Fine.{Between, Fine, FineKind, FineValue, fine-scalar, fine-closed, fine-unclosed, fine-cut, fine-kind, fine-last}
+use Rattle.items.proofs.Failing.{past-within}
+use Rattle.items.proofs.Fine.{Between, Numbered, Fine, FineKind, FineValue, fine-scalar, fine-closed, fine-unclosed, fine-cut, fine-kind, fine-last}
 use Rattle.items.proofs.Same.{item-same}
 use Rattle.chars.proofs.Width.{wide, width-utf8}
 use Rattle.laws.specs.Quoted.{code}
@@ -32,7 +33,7 @@ use Prim.Native.Nat.{ℕ, _+_, _-_, _^_, _≤_, _<_}
 use mathlib.Core.Path.{_≡_, refl}
 use mathlib.Core.Bool.{Bool, true}
 use mathlib.Core.List.{List, [], _∷_, _++_}
-use lib.ListN.{length, drop, length-append}
+use lib.ListN.{length, drop, length-append, length-drop}
 use lib.Seq.{getD-append-add}
 use lib.Dec.{eqb, leb}
 use native.Mathlib.Omega.{arith}
@@ -95,7 +96,7 @@ last-is b l =
 -- ---- a step
 
 module _ (D : ℕ → Type 0) (small : (d : ℕ) → d < 2 ^ 32 → D d) (n : ℕ) where
-  module _ (i : SoFar) (c : ℕ) (some : 1 ≤ length (i .bytes)) (room : i .at + width c ≤ n) (detail : D c) where
+  module _ (i : SoFar) (c : ℕ) (some : 1 ≤ length (i .bytes)) (fits : length (i .bytes) ≤ i .at) (room : i .at + width c ≤ n) (detail : D c) where
     -- past the item so far, and the character's place
     from-here : i .at ≤ eat i c .at
     from-here = omega arith
@@ -134,19 +135,31 @@ module _ (D : ℕ → Type 0) (small : (d : ℕ) → d < 2 ^ 32 → D d) (n : �
     goes-escape newline q from h = tt
     goes-escape invalid q from h = ((omega arith, detail), (omega arith, room))
 
-    goes-brace : (k : InHex) (q : Quotes) (from : ℕ) → from ≤ i .at → Goes D n i c (onBrace k q from i c)
-    goes-brace closes q from h = ((omega arith, small 1 (omega arith)), (omega arith, room))
-    goes-brace stops q from h = ((omega arith, small (code ";") (omega arith)), (h, omega arith))
-    goes-brace digit q from h = (omega arith, small (code ";") (omega arith))
+    -- an error that fails within the bytes t, which end at i's
+    fine-failing : (report : Bool) (e d from at : ℕ) (t : List ℕ) → from ≤ i .at → at + length t ≡ i .at → Numbered D e d
+        → Fine D n (eat i c .bytes) (failing report e d from (eat i c .at) at t)
+    fine-failing report e d from at t h g f =
+        let p = past-within d at t in
+        if-all (Fine D n (eat i c .bytes)) report (f, (p .0, omega (arith, p .1))) (f, (omega arith, room))
 
-    goes-close : (v : CharValue) (q : Quotes) (from : ℕ) → from ≤ i .at → FineValue D v → Goes D n i c (closeHex v q from (eat i c .at))
-    goes-close (Scalar x) q from h f = tt
-    goes-close (Wrong e d) q from h f = (f, (omega arith, room))
+    goes-brace : (report : Bool) (k : InHex) (q : Quotes) (from : ℕ) → from ≤ i .at → Goes D n i c (onBrace report k q from i c)
+    goes-brace report closes q from h = fine-failing report _ _ from (i .at) [] h (omega arith) (omega arith, small 1 (omega arith))
+    goes-brace report stops q from h = ((omega arith, small (code ";") (omega arith)), (h, omega arith))
+    goes-brace report digit q from h = (omega arith, small (code ";") (omega arith))
 
-    goes-hex : (k : InHex) (q : Quotes) (closer from m : ℕ) → from ≤ i .at → D closer → Goes D n i c (onHex k q closer from m i c)
-    goes-hex closes q closer from m h d = goes-close (scalarOf (hexValue (drop m (i .bytes)))) q from h (fine-scalar D small (drop m (i .bytes)))
-    goes-hex stops q closer from m h d = ((omega arith, d), (h, omega arith))
-    goes-hex digit q closer from m h d = (omega arith, d)
+    goes-close : (report : Bool) (v : CharValue) (q : Quotes) (from m : ℕ) → from ≤ i .at → FineValue D v
+        → Goes D n i c (closeHex report v q from m (eat i c .at) i)
+    goes-close report (Scalar x) q from m h f = tt
+    goes-close report (Wrong e d) q from m h f = (f, (omega arith, room))
+    goes-close report (WrongAt e d p) q from m h f =
+        let t : List ℕ = drop p (drop m (i .bytes)) in
+        fine-failing report e d from (i .at - length t) t h (omega (arith, length-drop p (drop m (i .bytes)), length-drop m (i .bytes))) f
+
+    goes-hex : (report : Bool) (k : InHex) (q : Quotes) (closer from m : ℕ) → from ≤ i .at → D closer → Goes D n i c (onHex report k q closer from m i c)
+    goes-hex report closes q closer from m h d =
+        goes-close report (scalarOf (hexValue (drop m (i .bytes)))) q from m h (fine-scalar D small (drop m (i .bytes)))
+    goes-hex report stops q closer from m h d = ((omega arith, d), (h, omega arith))
+    goes-hex report digit q closer from m h d = (omega arith, d)
 
     goes-before : (k : InTrim) (q : Quotes) → Goes D n i c (onTrimBefore k q i c)
     goes-before space q = tt
@@ -222,8 +235,8 @@ module _ (D : ℕ → Type 0) (small : (d : ℕ) → d < 2 ^ 32 → D d) (n : �
     goes-on report (ph.TrimAfter k) h = goes-trim (inTrim c) k
     goes-on report (ph.Escape k from) h = goes-escape (afterBackslash c) k from h
     goes-on report (ph.Brace k from) h =
-        if-all (Goes D n i c) (eqb c (code "{")) (omega arith, small (code "}") (omega arith)) (goes-brace (inHex k (code ";") c) k from h)
-    goes-on report (ph.Hex k closer from m) h = goes-hex (inHex k closer c) k closer from m (h .0) (h .1)
+        if-all (Goes D n i c) (eqb c (code "{")) (omega arith, small (code "}") (omega arith)) (goes-brace report (inHex k (code ";") c) k from h)
+    goes-on report (ph.Hex k closer from m) h = goes-hex report (inHex k closer c) k closer from m (h .0) (h .1)
     goes-on report (ph.Done o) h = h
 
   -- ---- the end, the start, and the whole item
@@ -255,14 +268,17 @@ module _ (D : ℕ → Type 0) (small : (d : ℕ) → d < 2 ^ 32 → D d) (n : �
   fine-finish i (ph.Hex k closer from m) h = fine-cut D small n k (i .bytes)
   fine-finish i (ph.Done o) h = h
 
-  scan-fine : (report : Bool) (p : Phase) (i : SoFar) (cs : List ℕ) → Holds D n i p → 1 ≤ length (i .bytes) → i .at + byteCount cs ≤ n → Every D cs
+  scan-fine : (report : Bool) (p : Phase) (i : SoFar) (cs : List ℕ) → Holds D n i p → 1 ≤ length (i .bytes) → length (i .bytes) ≤ i .at
+      → i .at + byteCount cs ≤ n
+      → Every D cs
       → Fine D n (scanOf report p i cs .item .bytes) (scanOf report p i cs .what)
   unfolding scanOf
-  scan-fine report p i [] h some room ds = fine-finish i p h
-  scan-fine report p i (c ∷ cs) h some room ds =
-      let g : Goes D n i c (stepOf report p i c) = goes-on i c some (omega arith) (ds .0) report p h in
+  scan-fine report p i [] h some fits room ds = fine-finish i p h
+  scan-fine report p i (c ∷ cs) h some fits room ds =
+      let g : Goes D n i c (stepOf report p i c) = goes-on i c some fits (omega arith) (ds .0) report p h in
       by-next (stepOf report p i c)
-      (λ q e. rw (e, scanOf) (scan-fine report q (eat i c) cs (rw e at g) (omega (arith, length-append (i .bytes) (utf8 c))) (omega arith) (ds .1)))
+      (λ q e. rw (e, scanOf) (scan-fine report q (eat i c) cs (rw e at g) (omega (arith, length-append (i .bytes) (utf8 c)))
+      (omega (arith, length-append (i .bytes) (utf8 c), width-utf8 c)) (omega arith) (ds .1)))
       (λ o e. rw (e, scanOf) (rw e at g))
 
   first-holds : (i : SoFar) (c : ℕ) → Holds D n i (onFirst (firstOf c))
@@ -282,4 +298,5 @@ module _ (D : ℕ → Type 0) (small : (d : ℕ) → d < 2 ^ 32 → D d) (n : �
   read-fine report at c cs room ds =
       let i : SoFar = eat (soFar [] at) c in
       rw (item-same report at c cs) at
-      (scan-fine report (onFirst (firstOf c)) i cs (first-holds i c) (omega (arith, width-utf8 c, wide c)) (omega arith) (ds .1))
+      (scan-fine report (onFirst (firstOf c)) i cs (first-holds i c) (omega (arith, width-utf8 c, wide c)) (omega (arith, width-utf8 c))
+      (omega arith) (ds .1))

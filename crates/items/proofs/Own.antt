@@ -1,20 +1,22 @@
 -- In report mode an error points at its own place. An item's outcome carries its own range; every step of the machine keeps a backslash's
 -- place between the item's start and the place read to, and what closes an item then sets a range as `PointsAt` says.
-use Prim.Native.Nat.{ℕ, _+_, _-_, _≤_, _<_}
+use Prim.Native.Nat.{ℕ, suc, _+_, _-_, _≤_, _<_}
 use mathlib.Core.Path.{_≡_, refl, ap, _∙_}
 use mathlib.Core.Bool.{Bool, true, false, _&&_, _||_}
 use mathlib.Core.List.{List, [], _∷_, map}
-use lib.ListN.{length, getD, take, drop}
+use mathlib.Core.Logic.{_⊎_, inl, inr}
+use lib.ListN.{length, getD, take, drop, length-append, length-drop}
 use lib.Dec.{T, eqb, leb, ltb}
 use native.Mathlib.Omega.{arith}
-use borrow.Author.Tests.{eqb-true}
+use borrow.Author.Tests.{eqb-true, ltb-true, ltb-false}
 use Rattle.laws.specs.Quoted.{code, oneOf}
-use Rattle.laws.specs.Texts.{begins, same}
-use Rattle.laws.proofs.Choice.{by-bool, if-all}
-use Rattle.chars.specs.Encode.{isScalar, width, spelled}
+use Rattle.laws.specs.Texts.{span, begins, same}
+use Rattle.laws.proofs.Choice.{by-bool, if-all, if-is}
+use Rattle.chars.specs.Encode.{isScalar, utf8, width, spelled}
 use Rattle.chars.specs.Utf8.{front, Front}
 use Rattle.chars.specs.Utf8 as Utf8
-use Rattle.chars.proofs.Width.{wide, width-le}
+use Rattle.chars.proofs.Round.{one-read}
+use Rattle.chars.proofs.Width.{wide, width-le, width-utf8}
 use Rattle.digits.specs.Hex.{hexValue}
 use Rattle.digits.specs.declared.Hex.{Hex}
 use Rattle.digits.specs.declared.Hex.the-variants as hex
@@ -29,7 +31,7 @@ use Rattle.items.specs.declared.Next.the-variants.{Eat, Stop}
 use Rattle.items.specs.declared.HashKind.{HashKind}
 use Rattle.items.specs.declared.HashKind.the-variants.{Decided, Bracket, Undecided}
 use Rattle.items.specs.declared.CharValue.{CharValue}
-use Rattle.items.specs.declared.CharValue.the-variants.{Scalar, Wrong}
+use Rattle.items.specs.declared.CharValue.the-variants.{Scalar, Wrong, WrongAt}
 use Rattle.items.specs.Kinds as kind
 use Rattle.items.specs.Classes.{startsRun, firstOf, delimOf, inQuotes, afterBackslash, inHex, inTrim, inNest, inWord, inRun}
 use Rattle.items.specs.Classes.{afterHash, inHash, inDelim, First, InQuotes, ends, escapes, plain, AfterBackslash, simple, hexX, hexU}
@@ -38,12 +40,13 @@ use Rattle.items.specs.Classes.{inside, InWord, breaks, skips, goes, InR
 use Rattle.items.specs.Classes.{datum, twice, angle, value, InHash, skipsTwo, tick, commas, stopsHash, staysHash, InDelim, endsDelim}
 use Rattle.items.specs.Classes.{returns, blankDelim, ofDelim}
 use Rattle.items.specs.Meaning.{none, lookup}
-use Rattle.items.specs.Meaning.{lower, charNames, unnamed, onlyOne, hexNamed, spelledOut, characterOf}
+use Rattle.items.specs.Meaning.{lower, charNames, unnamed, isDelimiter, beforeDelimiter, nameless, onlyOne, later, hexNamed, spelledOut, characterOf}
 use Rattle.items.specs.Points.{escapeErrors, extentErrors, PointsAt}
 use Rattle.items.specs.Machine.{onNest, onBar, onSharp, onQuoted, onEscape, onBrace, closeHex, onHex, onTrimBefore, onTrimAfter}
 use Rattle.items.specs.Machine.{onWord, enterWord, onRun, hashThen, hashLast, onHash, onAfterHash, onDelim, stepOf, finishOf, onFirst, scanOf}
-use Rattle.items.specs.Readers.{soFar, eat, firstIs, lastIs, linedOf, closed, unclosed, cut, scalarOf, boolKind, quoteKind, formKind, orElse, hashKind, hereEnds, readItem, SoFar}
+use Rattle.items.specs.Readers.{soFar, eat, firstIs, lastIs, linedOf, closed, unclosed, cut, scalarOf, pastFailing, boolKind, quoteKind, formKind, orElse, hashKind, hereEnds, readItem, SoFar}
 use Rattle.items.proofs.Cases.{by-next}
+use Rattle.items.proofs.Failing.{past-within}
 use Rattle.items.proofs.Same.{item-same}
 
 pub holds : (b : Bool) → T b → b ≡ true
@@ -62,7 +65,7 @@ Own s e Lined = Unit {0}
 Own s e Keyword = Unit {0}
 Own s e Character = Unit {0}
 Own s e (Error n d) = T (oneOf extentErrors n)
-Own s e (ErrorAt n d a b) = (a < b) × PointsAt s e n a b
+Own s e (ErrorAt n d a b) = (0 < b) × PointsAt s e n a b
 
 abbrev OwnKind : ℕ → ℕ → HashKind → Type 0
 OwnKind s e (Decided o) = Own s e o
@@ -94,7 +97,7 @@ Holds s i (ph.TrimBefore k) = Unit {0}
 Holds s i (ph.TrimAfter k) = Unit {0}
 Holds s i (ph.Escape k from) = (s ≤ from) × (from + 1 ≡ i .at)
 Holds s i (ph.Brace k from) = (s ≤ from) × (from < i .at)
-Holds s i (ph.Hex k closer from m) = (s ≤ from) × (from < i .at)
+Holds s i (ph.Hex k closer from m) = (s ≤ from) × (from + (length (i .bytes) - m) < i .at)
 Holds s i (ph.Done o) = Own s (i .at) o
 
 abbrev Goes : ℕ → SoFar → ℕ → Next → Type 0
@@ -161,46 +164,82 @@ module _ (s e : ℕ) where
 
 -- ---- a character that is none
 
--- the error of hex digits, of any text after `#\`
+-- the error of hex digits
 abbrev HexFails : CharValue → Type 0
 HexFails (Scalar x) = Unit {0}
 HexFails (Wrong n d) = T (oneOf escapeErrors n)
+HexFails (WrongAt n d p) = n ≡ kind.InvalidHexEscapeLiteral
 
 scalar-fails : (h : Hex) → HexFails (scalarOf h)
 unfolding scalarOf
 scalar-fails (hex.Value v) = if-all HexFails (isScalar v) tt tt
-scalar-fails (hex.Wrong d p) = tt
+scalar-fails (hex.Wrong d p) = refl
 
-abbrev pub Fails : CharValue → Type 0
-Fails (Scalar x) = Unit {0}
-Fails (Wrong n d) = T (oneOf extentErrors n)
+-- the error of any bytes t after `#\`: where it fails there is a digit or none, or a delimiter after the first character
+abbrev pub Fails : List ℕ → CharValue → Type 0
+Fails t (Scalar x) = Unit {0}
+Fails t (Wrong n d) = T (oneOf extentErrors n)
+Fails t (WrongAt n d p) = (n ≡ kind.InvalidHexEscapeLiteral) ⊎ ((n ≡ kind.InvalidCharDelimiter) × (0 < p) × (p < length t) × ((at : ℕ) → pastFailing d at (drop p t) ≡ at + 1))
 
-digits-fail : (h : Hex) → Fails (scalarOf h)
+digits-fail : (t : List ℕ) (n : ℕ) (h : Hex) → Fails t (later n (scalarOf h))
 unfolding scalarOf
-digits-fail (hex.Value v) = if-all Fails (isScalar v) tt tt
-digits-fail (hex.Wrong d p) = tt
+digits-fail t n (hex.Value v) = if-all (λ (x : CharValue). Fails t (later n x)) (isScalar v) tt tt
+digits-fail t n (hex.Wrong d p) = inl refl
 
-only-fails : (f : Front) (m : ℕ) → Fails (onlyOne f m)
-only-fails (Utf8.char c n) m = if-all Fails (eqb n m) tt tt
-only-fails (Utf8.bad n) m = tt
-only-fails Utf8.cut m = tt
-only-fails Utf8.none m = tt
+-- a delimiter is one byte
+delimiter-small : (c : ℕ) → isDelimiter c ≡ true → c < 0x80
+unfolding isDelimiter
+delimiter-small c h = by-bool (ltb c 0x80) (λ e. ltb-true c 0x80 e) (λ e. absurd (none-large (ltb-false c 0x80 e)))
+  where
+    none-large : 0x80 ≤ c → ⊥
+    none-large g =
+        let a : eqb c (code ";") ≡ false = eqb-no c (code ";") g (omega arith) in
+        let b : eqb c (code "\"") ≡ false = eqb-no c (code "\"") g (omega arith) in
+        let d : eqb c (code "'") ≡ false = eqb-no c (code "'") g (omega arith) in
+        let e : eqb c (code ",") ≡ false = eqb-no c (code ",") g (omega arith) in
+        let z : false ≡ true = rw (a, b, d, e) at h in
+        let w : _≡_ {A = ℕ} 0 1 = cc in
+        omega arith
+      where
+        eqb-no : (c k : ℕ) → 0x80 ≤ c → k < 0x80 → eqb c k ≡ false
+        eqb-no c k g h = by-bool (eqb c k) (λ e. let z : c ≡ k = eqb-true c k e in absurd (omega arith)) (λ e. e)
 
-named-fails : (t : List ℕ) → Fails (hexNamed t)
+at-delimiter : (l : List ℕ) → beforeDelimiter l < length l → (at : ℕ) → pastFailing 0 at (drop (beforeDelimiter l) l) ≡ at + 1
+unfolding span pastFailing
+at-delimiter [] h at = absurd (omega arith)
+at-delimiter (c ∷ cs) h at = by-bool (isDelimiter c)
+    (λ e. rw (e, span) (rw (one-read c cs (delimiter-small c e))))
+    (λ e. rw (e, span) (at-delimiter cs (let g = rw (e, span) at h in omega arith) at))
+
+nameless-fails : (t : List ℕ) → Fails t (nameless true t)
+unfolding nameless span
+nameless-fails [] = tt
+nameless-fails (c ∷ cs) =
+    if-is (Fails (c ∷ cs)) (ltb (suc (beforeDelimiter cs)) (length (c ∷ cs)))
+    (λ e. let h : suc (beforeDelimiter cs) < length (c ∷ cs) = ltb-true _ _ e in inr (refl, omega arith, h, at-delimiter cs (omega arith)))
+    (λ e. tt)
+
+only-fails : (f : Front) (t : List ℕ) → Fails t (onlyOne true f t)
+only-fails (Utf8.char c n) t = if-all (Fails t) (eqb n (length t)) tt (nameless-fails t)
+only-fails (Utf8.bad n) t = nameless-fails t
+only-fails Utf8.cut t = nameless-fails t
+only-fails Utf8.none t = nameless-fails t
+
+named-fails : (t : List ℕ) → Fails t (hexNamed t)
 unfolding hexNamed
 named-fails t =
-    if-all Fails (firstIs (code "u") t && eqb (getD t 1 0) (code "{"))
-    (if-all Fails (lastIs (code "}") t) (digits-fail (hexValue (take (length t - 3) (drop 2 t)))) tt)
-    (digits-fail (hexValue (drop 1 t)))
+    if-all (Fails t) (firstIs (code "u") t && eqb (getD t 1 0) (code "{"))
+    (if-all (Fails t) (lastIs (code "}") t) (digits-fail t 2 (hexValue (take (length t - 3) (drop 2 t)))) tt)
+    (digits-fail t 1 (hexValue (drop 1 t)))
 
-spelled-fails : (t : List ℕ) → Fails (spelledOut t)
+spelled-fails : (t : List ℕ) → Fails t (spelledOut true t)
 unfolding spelledOut
 spelled-fails t =
-    if-all Fails ((firstIs (code "u") t || firstIs (code "x") t) && ltb 1 (length t)) (named-fails t) (only-fails (front t) (length t))
+    if-all (Fails t) ((firstIs (code "u") t || firstIs (code "x") t) && ltb 1 (length t)) (named-fails t) (only-fails (front t) t)
 
-pub character-fails : (t : List ℕ) → Fails (characterOf t)
+pub character-fails : (t : List ℕ) → Fails t (characterOf true t)
 unfolding characterOf
-character-fails t = if-all Fails (eqb (lookup charNames (map lower t) unnamed) unnamed) (spelled-fails t) tt
+character-fails t = if-all (Fails t) (eqb (lookup charNames (map lower t) unnamed) unnamed) (spelled-fails t) tt
 
 -- ---- a step
 
@@ -250,20 +289,32 @@ module _ (s : ℕ) (i : SoFar) (c : ℕ) (later : s ≤ i .at) where
   goes-escape invalid q from g h =
       (omega (arith, wide c), PointsAt.backslash refl g h (omega (arith, wide c)) (omega (arith, width-le c)))
 
-  goes-brace : (k : InHex) (q : Quotes) (from : ℕ) → s ≤ from → from < i .at → G (onBrace k q from i c)
-  goes-brace closes q from g h = (omega arith, PointsAt.escape refl g (omega arith) (omega arith))
-  goes-brace stops q from g h = (h, PointsAt.escape refl g h (omega arith))
-  goes-brace digit q from g h = (g, omega arith)
+  -- what fails in the bytes t, which end where the item so far does
+  own-failing : (n d at : ℕ) (t : List ℕ) → n ≡ kind.InvalidHexEscapeLiteral → s < at → at + length t ≤ i .at
+      → Own s (eat i c .at) (ErrorAt n d at (pastFailing d at t))
+  own-failing n d at t f g h =
+      let p = past-within d at t in (omega (arith, p .0), PointsAt.failing f g (p .0) (omega (arith, p .1)))
 
-  goes-close : (v : CharValue) → HexFails v → (q : Quotes) (from : ℕ) → s ≤ from → from < i .at → G (closeHex v q from (eat i c .at))
-  goes-close (Scalar x) f q from g h = tt
-  goes-close (Wrong n d) f q from g h = (omega arith, PointsAt.escape (holds _ f) g (omega arith) (omega arith))
+  goes-brace : (k : InHex) (q : Quotes) (from : ℕ) → s ≤ from → from < i .at → G (onBrace true k q from i c)
+  goes-brace closes q from g h = own-failing _ _ (i .at) [] refl (omega arith) (omega arith)
+  goes-brace stops q from g h = (omega arith, PointsAt.escape refl g h (omega arith))
+  goes-brace digit q from g h = (g, omega (arith, length-append (i .bytes) (utf8 c), width-utf8 c))
 
-  goes-hex : (k : InHex) (q : Quotes) (closer from m : ℕ) → s ≤ from → from < i .at → G (onHex k q closer from m i c)
+  goes-close : (v : CharValue) → HexFails v → (q : Quotes) (from m : ℕ) → s ≤ from → from + (length (i .bytes) - m) < i .at
+      → G (closeHex true v q from m (eat i c .at) i)
+  goes-close (Scalar x) f q from m g h = tt
+  goes-close (Wrong n d) f q from m g h = (omega arith, PointsAt.escape (holds _ f) g (omega arith) (omega arith))
+  goes-close (WrongAt n d p) f q from m g h =
+      let t : List ℕ = drop p (drop m (i .bytes)) in
+      let long : length t ≡ length (i .bytes) - m - p = omega (arith, length-drop p (drop m (i .bytes)), length-drop m (i .bytes)) in
+      own-failing n d (i .at - length t) t f (omega arith) (omega arith)
+
+  goes-hex : (k : InHex) (q : Quotes) (closer from m : ℕ) → s ≤ from → from + (length (i .bytes) - m) < i .at
+      → G (onHex true k q closer from m i c)
   goes-hex closes q closer from m g h =
-      goes-close (scalarOf (hexValue (drop m (i .bytes)))) (scalar-fails (hexValue (drop m (i .bytes)))) q from g h
-  goes-hex stops q closer from m g h = (h, PointsAt.escape refl g h (omega arith))
-  goes-hex digit q closer from m g h = (g, omega arith)
+      goes-close (scalarOf (hexValue (drop m (i .bytes)))) (scalar-fails (hexValue (drop m (i .bytes)))) q from m g h
+  goes-hex stops q closer from m g h = (omega arith, PointsAt.escape refl g (omega arith) (omega arith))
+  goes-hex digit q closer from m g h = (g, omega (arith, length-append (i .bytes) (utf8 c), width-utf8 c))
 
   goes-before : (k : InTrim) (q : Quotes) → G (onTrimBefore k q i c)
   goes-before space q = tt
@@ -314,32 +365,32 @@ module _ (s : ℕ) (i : SoFar) (c : ℕ) (later : s ≤ i .at) where
   goes-delim blankDelim = tt
   goes-delim ofDelim = tt
 
-  goes-on : (report : Bool) (p : Phase) → Holds s i p → G (stepOf report p i c)
-  goes-on report ph.InLine h = if-all G (eqb c (code "\n")) tt tt
-  goes-on report ph.AfterComma h = if-all G (eqb c (code "@")) tt tt
-  goes-on report ph.AfterHash h = goes-after (afterHash c)
-  goes-on report ph.AfterAngle h = if-all G (eqb c (code "<")) tt goes-enter
-  goes-on report ph.HereDelim h = goes-delim (inDelim c)
-  goes-on report ph.HereStart h = tt
-  goes-on report ph.HereBody h = if-all G (hereEnds (i .bytes)) tt tt
-  goes-on report ph.InWord h = goes-word (inWord c)
-  goes-on report ph.WordEscape h = tt
-  goes-on report ph.InRun h = goes-run (inRun report c)
-  goes-on report ph.InHash h = goes-hash (inHash c)
-  goes-on report ph.HashEscape h = tt
-  goes-on report ph.HashTick h = goes-then (hashKind (i .bytes)) (own-kind s (i .at) (i .bytes))
-  goes-on report ph.HashComma h = if-all G (eqb c (code "@")) tt (goes-then (hashKind (i .bytes)) (own-kind s (i .at) (i .bytes)))
-  goes-on report (ph.Nest d) h = goes-nest (inNest c) d
-  goes-on report (ph.NestBar d) h = goes-bar (inNest c) d
-  goes-on report (ph.NestSharp d) h = goes-sharp (inNest c) d
-  goes-on report (ph.Quoted k) h = goes-quoted (inQuotes k c) k refl
-  goes-on report (ph.Closed k) h = own-closed s (i .at) k (i .bytes)
-  goes-on report (ph.TrimBefore k) h = goes-before (inTrim c) k
-  goes-on report (ph.TrimAfter k) h = goes-trim (inTrim c) k
-  goes-on report (ph.Escape k from) h = goes-escape (afterBackslash c) k from (h .0) (h .1)
-  goes-on report (ph.Brace k from) h = if-all G (eqb c (code "{")) (h .0, omega (arith, h .1)) (goes-brace (inHex k (code ";") c) k from (h .0) (h .1))
-  goes-on report (ph.Hex k closer from m) h = goes-hex (inHex k closer c) k closer from m (h .0) (h .1)
-  goes-on report (ph.Done o) h = h
+  goes-on : (p : Phase) → Holds s i p → G (stepOf true p i c)
+  goes-on ph.InLine h = if-all G (eqb c (code "\n")) tt tt
+  goes-on ph.AfterComma h = if-all G (eqb c (code "@")) tt tt
+  goes-on ph.AfterHash h = goes-after (afterHash c)
+  goes-on ph.AfterAngle h = if-all G (eqb c (code "<")) tt goes-enter
+  goes-on ph.HereDelim h = goes-delim (inDelim c)
+  goes-on ph.HereStart h = tt
+  goes-on ph.HereBody h = if-all G (hereEnds (i .bytes)) tt tt
+  goes-on ph.InWord h = goes-word (inWord c)
+  goes-on ph.WordEscape h = tt
+  goes-on ph.InRun h = goes-run (inRun true c)
+  goes-on ph.InHash h = goes-hash (inHash c)
+  goes-on ph.HashEscape h = tt
+  goes-on ph.HashTick h = goes-then (hashKind (i .bytes)) (own-kind s (i .at) (i .bytes))
+  goes-on ph.HashComma h = if-all G (eqb c (code "@")) tt (goes-then (hashKind (i .bytes)) (own-kind s (i .at) (i .bytes)))
+  goes-on (ph.Nest d) h = goes-nest (inNest c) d
+  goes-on (ph.NestBar d) h = goes-bar (inNest c) d
+  goes-on (ph.NestSharp d) h = goes-sharp (inNest c) d
+  goes-on (ph.Quoted k) h = goes-quoted (inQuotes k c) k refl
+  goes-on (ph.Closed k) h = own-closed s (i .at) k (i .bytes)
+  goes-on (ph.TrimBefore k) h = goes-before (inTrim c) k
+  goes-on (ph.TrimAfter k) h = goes-trim (inTrim c) k
+  goes-on (ph.Escape k from) h = goes-escape (afterBackslash c) k from (h .0) (h .1)
+  goes-on (ph.Brace k from) h = if-all G (eqb c (code "{")) (h .0, omega (arith, h .1)) (goes-brace (inHex k (code ";") c) k from (h .0) (h .1))
+  goes-on (ph.Hex k closer from m) h = goes-hex (inHex k closer c) k closer from m (h .0) (h .1)
+  goes-on (ph.Done o) h = h
 
 -- ---- the end, the start, and the whole item
 
@@ -371,14 +422,13 @@ module _ (s : ℕ) where
   own-finish i (ph.Hex k closer from m) h = own-cut s (i .at) k
   own-finish i (ph.Done o) h = h
 
-  scan-own : (report : Bool) (p : Phase) (i : SoFar) (cs : List ℕ) → Holds s i p → s ≤ i .at
-      → Own s (scanOf report p i cs .item .at) (scanOf report p i cs .what)
+  scan-own : (p : Phase) (i : SoFar) (cs : List ℕ) → Holds s i p → s ≤ i .at → Own s (scanOf true p i cs .item .at) (scanOf true p i cs .what)
   unfolding scanOf
-  scan-own report p i [] h l = own-finish i p h
-  scan-own report p i (c ∷ cs) h l =
-      let g : Goes s i c (stepOf report p i c) = goes-on s i c l report p h in
-      by-next (stepOf report p i c)
-      (λ q e. rw (e, scanOf) (scan-own report q (eat i c) cs (rw e at g) (omega arith)))
+  scan-own p i [] h l = own-finish i p h
+  scan-own p i (c ∷ cs) h l =
+      let g : Goes s i c (stepOf true p i c) = goes-on s i c l p h in
+      by-next (stepOf true p i c)
+      (λ q e. rw (e, scanOf) (scan-own q (eat i c) cs (rw e at g) (omega arith)))
       (λ o e. rw (e, scanOf) (rw e at g))
 
   first-holds : (i : SoFar) (c : ℕ) → Holds s i (onFirst (firstOf c))
@@ -390,7 +440,7 @@ module _ (s : ℕ) where
       (if-all P (eqb c (code "]")) tt (if-all P (eqb c (code "}")) tt (if-all P (eqb c (code "'")) tt (if-all P (eqb c (code "`")) tt
       (if-all P (startsRun c) tt (if-all P (eqb c (code "|")) tt (if-all P (eqb c (code "\\")) tt tt))))))))))))))
 
-  pub read-own : (report : Bool) (c : ℕ) (cs : List ℕ) → Own s (readItem report s c cs .item .at) (readItem report s c cs .what)
-  read-own report c cs =
+  pub read-own : (c : ℕ) (cs : List ℕ) → Own s (readItem true s c cs .item .at) (readItem true s c cs .what)
+  read-own c cs =
       let i : SoFar = eat (soFar [] s) c in
-      rw (item-same report s c cs) at (scan-own report (onFirst (firstOf c)) i cs (first-holds i c) (omega arith))
+      rw (item-same true s c cs) at (scan-own (onFirst (firstOf c)) i cs (first-holds i c) (omega arith))

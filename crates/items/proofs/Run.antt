@@ -60,7 +60,7 @@ module _ (report : Bool) where
   abbrev following : Place → ℕ → Read → List Item
   following last s r =
       extentItems report last s (r .what) (r .item)
-      ++ machineItems report (state idle (r .item .at) (rangeAfter last s (r .what) (r .item))) (r .rest)
+      ++ machineItems report (state idle (r .item .at) (rangeAfter report last s (r .what) (r .item))) (r .rest)
 
   busy-run : (last : Place) (s : ℕ) (p : Phase) (i : SoFar) (cs : List ℕ)
       → machineItems report (state (busy s p (i .bytes)) (i .at) last) cs ≡ following last s (scanOf report p i cs)
@@ -86,7 +86,7 @@ module _ (report : Bool) where
       ∙ ap (following last at) (item-same report at c cs)
       ∙ (let r : Read = readItem report at c cs in
       ap (λ (l : List Item). extentItems report last at (r .what) (r .item) ++ l)
-      (idle-run n (rangeAfter last at (r .what) (r .item)) (r .item .at) (r .rest) (le-trans (read-left at c cs) (le-of-suc-le-suc h))))))
+      (idle-run n (rangeAfter report last at (r .what) (r .item)) (r .item .at) (r .rest) (le-trans (read-left at c cs) (le-of-suc-le-suc h))))))
 
   pub turns-enough : (n k : ℕ) (last : Place) (at : ℕ) (cs : List ℕ) → length cs ≤ n → length cs ≤ k
       → itemsFrom report n last at cs ≡ itemsFrom report k last at cs

@@ -76,14 +76,14 @@ module _ (report : Bool) where
   mutual
     unfolding scanOf readQuoted
 
-    quoted-same : (k : Quotes) (i : SoFar) (cs : List ℕ) → scanOf report (ph.Quoted k) i cs ≡ readQuoted k i cs
+    quoted-same : (k : Quotes) (i : SoFar) (cs : List ℕ) → scanOf report (ph.Quoted k) i cs ≡ readQuoted report k i cs
     quoted-same k i [] = refl
     quoted-same k i (c ∷ cs) = by-quotes (inQuotes k c)
         (λ e. rw (e, scanOf, readQuoted) (closed-same k (eat i c) cs))
         (λ e. rw (e, scanOf, readQuoted) (escape-same k (i .at) (eat i c) cs))
         (λ e. rw (e, scanOf, readQuoted) (quoted-same k (eat i c) cs))
 
-    escape-same : (k : Quotes) (from : ℕ) (i : SoFar) (cs : List ℕ) → scanOf report (ph.Escape k from) i cs ≡ readEscape k from i cs
+    escape-same : (k : Quotes) (from : ℕ) (i : SoFar) (cs : List ℕ) → scanOf report (ph.Escape k from) i cs ≡ readEscape report k from i cs
     escape-same k from i [] = refl
     escape-same k from i (c ∷ cs) = by-backslash (afterBackslash c)
         (λ x e. rw (e, scanOf, readEscape) (quoted-same k (eat i c) cs))
@@ -93,7 +93,7 @@ module _ (report : Bool) where
         (λ e. rw (e, scanOf, readEscape) (after-same k (eat i c) cs))
         (λ e. rw (e, scanOf, readEscape))
 
-    brace-same : (k : Quotes) (from : ℕ) (i : SoFar) (cs : List ℕ) → scanOf report (ph.Brace k from) i cs ≡ readBrace k from i cs
+    brace-same : (k : Quotes) (from : ℕ) (i : SoFar) (cs : List ℕ) → scanOf report (ph.Brace k from) i cs ≡ readBrace report k from i cs
     brace-same k from i [] = refl
     brace-same k from i (c ∷ cs) = by-bool (eqb c (code "{"))
         (λ e. rw (e, scanOf, readBrace) (hex-same k (code "}") from (length (eat i c .bytes)) (eat i c) cs))
@@ -102,23 +102,24 @@ module _ (report : Bool) where
         (λ f. rw f (done-same _ (eat i c) cs))
         (λ f. rw f (hex-same k (code ";") from (length (i .bytes)) (eat i c) cs))))
 
-    hex-same : (k : Quotes) (closer from n : ℕ) (i : SoFar) (cs : List ℕ) → scanOf report (ph.Hex k closer from n) i cs ≡ readHex k closer from n i cs
+    hex-same : (k : Quotes) (closer from n : ℕ) (i : SoFar) (cs : List ℕ) → scanOf report (ph.Hex k closer from n) i cs ≡ readHex report k closer from n i cs
     hex-same k closer from n i [] = refl
     hex-same k closer from n i (c ∷ cs) = by-hex (inHex k closer c)
         (λ e. rw (e, scanOf, readHex) (by-value (scalarOf (hexValue (drop n (i .bytes))))
         (λ v f. rw f (quoted-same k (eat i c) cs))
-        (λ w d f. rw f (done-same _ (eat i c) cs))))
+        (λ w d f. rw f (done-same _ (eat i c) cs))
+        (λ w d p f. rw f (done-same _ (eat i c) cs))))
         (λ e. rw (e, scanOf, readHex) (done-same _ (eat i c) cs))
         (λ e. rw (e, scanOf, readHex) (hex-same k closer from n (eat i c) cs))
 
-    before-same : (k : Quotes) (i : SoFar) (cs : List ℕ) → scanOf report (ph.TrimBefore k) i cs ≡ readTrim k false i cs
+    before-same : (k : Quotes) (i : SoFar) (cs : List ℕ) → scanOf report (ph.TrimBefore k) i cs ≡ readTrim report k false i cs
     before-same k i [] = refl
     before-same k i (c ∷ cs) = by-trim (inTrim c)
         (λ e. rw (e, scanOf, readTrim) (before-same k (eat i c) cs))
         (λ e. rw (e, scanOf, readTrim) (after-same k (eat i c) cs))
         (λ e. rw (e, scanOf, readTrim))
 
-    after-same : (k : Quotes) (i : SoFar) (cs : List ℕ) → scanOf report (ph.TrimAfter k) i cs ≡ readTrim k true i cs
+    after-same : (k : Quotes) (i : SoFar) (cs : List ℕ) → scanOf report (ph.TrimAfter k) i cs ≡ readTrim report k true i cs
     after-same k i [] = refl
     after-same k i (c ∷ cs) = by-trim (inTrim c)
         (λ e. rw (e, scanOf, readTrim) (after-same k (eat i c) cs))
@@ -148,7 +149,7 @@ module _ (report : Bool) where
     skip-same i [] = refl
     skip-same i (c ∷ cs) = word-same (eat i c) cs
 
-  enter-same : (i : SoFar) (c : ℕ) (cs : List ℕ) → after (enterWord c) i c cs ≡ readWord i (c ∷ cs)
+  enter-same : (i : SoFar) (c : ℕ) (cs : List ℕ) → after (enterWord c) i c cs ≡ readWord report i (c ∷ cs)
   unfolding readWord scanOf
   enter-same i c cs = by-bool (eqb c (code "|"))
       (λ e. rw (e, readWord) (quoted-same Lines (eat i c) cs))
@@ -164,7 +165,7 @@ module _ (report : Bool) where
 
   -- ---- hash forms
 
-  then-same : (i : SoFar) (c : ℕ) (cs : List ℕ) → after (hashThen (hashKind (i .bytes)) c) i c cs ≡ hashAt i (c ∷ cs)
+  then-same : (i : SoFar) (c : ℕ) (cs : List ℕ) → after (hashThen (hashKind (i .bytes)) c) i c cs ≡ hashAt report i (c ∷ cs)
   unfolding hashAt hashBracket
   then-same i c cs = by-kind (hashKind (i .bytes))
       (λ o e. rw (e, hashAt))
@@ -173,16 +174,16 @@ module _ (report : Bool) where
       (λ f. rw (f, hashBracket) (enter-same i c cs))))
       (λ e. rw (e, hashAt) (enter-same i c cs))
 
-  last-same : (i : SoFar) → got (hashLast (hashKind (i .bytes))) i [] ≡ hashAt i []
+  last-same : (i : SoFar) → got (hashLast (hashKind (i .bytes))) i [] ≡ hashAt report i []
   unfolding hashAt hashBracket readWord
   last-same i = by-kind (hashKind (i .bytes)) (λ o e. rw (e, hashAt)) (λ d e. rw (e, hashAt)) (λ e. rw (e, hashAt))
 
-  tick-same : (i : SoFar) (cs : List ℕ) → scanOf report ph.HashTick i cs ≡ hashAt i cs
+  tick-same : (i : SoFar) (cs : List ℕ) → scanOf report ph.HashTick i cs ≡ hashAt report i cs
   unfolding scanOf
   tick-same i [] = last-same i
   tick-same i (c ∷ cs) = then-same i c cs
 
-  commas-same : (i : SoFar) (cs : List ℕ) → scanOf report ph.HashComma i cs ≡ hashComma i cs
+  commas-same : (i : SoFar) (cs : List ℕ) → scanOf report ph.HashComma i cs ≡ hashComma report i cs
   unfolding scanOf hashComma
   commas-same i [] = last-same i
   commas-same i (c ∷ cs) = by-bool (eqb c (code "@"))
@@ -192,7 +193,7 @@ module _ (report : Bool) where
   mutual
     unfolding scanOf hashOn
 
-    hash-same : (i : SoFar) (cs : List ℕ) → scanOf report ph.InHash i cs ≡ hashOn i cs
+    hash-same : (i : SoFar) (cs : List ℕ) → scanOf report ph.InHash i cs ≡ hashOn report i cs
     hash-same i [] = last-same i
     hash-same i (c ∷ cs) = by-hash (inHash c)
         (λ e. rw (e, scanOf, hashOn) (two-same (eat i c) cs))
@@ -201,7 +202,7 @@ module _ (report : Bool) where
         (λ e. rw (e, scanOf, hashOn) (then-same i c cs))
         (λ e. rw (e, scanOf, hashOn) (hash-same (eat i c) cs))
 
-    two-same : (i : SoFar) (cs : List ℕ) → scanOf report ph.HashEscape i cs ≡ hashSkip i cs
+    two-same : (i : SoFar) (cs : List ℕ) → scanOf report ph.HashEscape i cs ≡ hashSkip report i cs
     two-same i [] = last-same i
     two-same i (c ∷ cs) = hash-same (eat i c) cs
 
@@ -238,7 +239,7 @@ module _ (report : Bool) where
 
   -- ---- an item
 
-  angle-same : (i : SoFar) (cs : List ℕ) → scanOf report ph.AfterAngle i cs ≡ afterAngle i cs
+  angle-same : (i : SoFar) (cs : List ℕ) → scanOf report ph.AfterAngle i cs ≡ afterAngle report i cs
   unfolding scanOf afterAngle
   angle-same i [] = refl
   angle-same i (c ∷ cs) = by-bool (eqb c (code "<"))

@@ -72,7 +72,8 @@ module _ (k : Quotes) (t : ℕ) (small : t ≤ 1) (E : List ℕ → Type 0) (tai
     hex-le closer g ds (c ∷ cs) h = by-hex (inHex k closer c)
         (λ e. rw (e, unescapeHex) (by-value (scalarOf (hexValue ds))
         (λ v f. rw f (omega (arith, length-append (encode v) (unescape k cs), encode-le v, digit-there ds v f, quoted-le cs (tail c cs h), after-closer closer c cs g h e)))
-        (λ n d f. rw f (omega arith))))
+        (λ n d f. rw f (omega arith))
+        (λ n d p f. rw f (omega arith))))
         (λ e. rw (e, unescapeHex) (omega arith))
         (λ e. rw (e, unescapeHex) (omega (arith, hex-le closer g (ds ++ (c ∷ [])) cs (tail c cs h), length-append ds (c ∷ []))))
 

@@ -16,8 +16,8 @@ use Rattle.digits.specs.Hex.{hexDigits, hexAfterPlus, hexValue}
 use Rattle.numbers.specs.Reals.{exponentMarker, exponent, suffix, pointOf, dotted, undotted, decimal, infnan, integralOf, rationalOf, denominator, exact, orElse, ureal, real}
 use Rattle.numbers.specs.Grammar.{justOf, complexOf, polarOf, endsI, imaginary, aloneOf, pairOf, toSign, startsE, rectangular, complex, zeroInt, zeroReal, zeroParts, judged, radixMark, prefix, parseNumber}
 use Rattle.items.specs.Classes.{startsRun, firstOf, inQuotes, afterBackslash, stopsHex, inHex, inTrim, inNest, breaksWord, inWord, staysRun, endsRun, inRun, afterHash, endsHash, inHash, inDelim}
-use Rattle.items.specs.Readers.{readLine, linedOf, scalarOf, readWord, readRun, boolKind, quoteKind, formKind, hashKind, hashBracket, hashAt, hashComma, unreturned, endsWith, hereEnds, hereBody, hereDelim, afterAngle, readHash, readComma, readItem, readNest, readQuoted, wordOn, hashOn}
-use Rattle.items.specs.Meaning.{lookup, words, wordKind, wordMeans, runMeans, escaped, stringText, linedText, hereText, charNames, hexNamed, spelledOut, characterOf, unescape}
+use Rattle.items.specs.Readers.{readLine, linedOf, scalarOf, pastFailing, readWord, readRun, boolKind, quoteKind, formKind, hashKind, hashBracket, hashAt, hashComma, unreturned, endsWith, hereEnds, hereBody, hereDelim, afterAngle, readHash, readComma, readItem, readNest, readQuoted, wordOn, hashOn}
+use Rattle.items.specs.Meaning.{lookup, words, wordKind, wordMeans, runMeans, escaped, stringText, linedText, hereText, charNames, isDelimiter, nameless, hexNamed, spelledOut, characterOf, unescape}
 use Rattle.items.specs.Items.{extentItems, itemsFrom, pastLine, afterPound, items, kept, records, texts, Item}
 
 -- what the whole-text call writes for a text: its records' words, and its text memory
@@ -115,6 +115,49 @@ table =
     ∷ reported "#\\xD800 1/0" (error kind.InvalidHexCodePoint 0xD800 0 7 0 7 ∷ error kind.ZeroDenominator 0 8 11 8 11 ∷ []) []
     ∷ reported "#\\ab #\\cd" (error kind.InvalidCharName 0 0 4 0 4 ∷ error kind.InvalidCharName 0 5 9 5 9 ∷ []) []
     ∷ reported "1/0 #\\ab" (error kind.ZeroDenominator 0 0 3 0 3 ∷ error kind.InvalidCharName 0 4 8 4 8 ∷ []) []
+    -- 02 (vii), in both modes: error 11 points at the character that fails, at the digit that passes 32 bits, at the empty place where
+    -- digits should stand; in a string, in vertical lines, in a character
+    ∷ plain "\"\\x4G1;\"" (error kind.InvalidHexEscapeLiteral 2 0 7 1 7 ∷ error kind.IncompleteString 0 7 8 1 7 ∷ []) []
+    ∷ reported "\"\\x4G1;\"" (error kind.InvalidHexEscapeLiteral 2 0 7 4 5 ∷ error kind.IncompleteString 0 7 8 7 8 ∷ []) []
+    ∷ plain "\"\\x;" (error kind.InvalidHexEscapeLiteral 1 0 4 1 4 ∷ []) []
+    ∷ reported "\"\\x;" (error kind.InvalidHexEscapeLiteral 1 0 4 3 3 ∷ []) []
+    ∷ plain "\"\\x100000000;" (error kind.InvalidHexEscapeLiteral 3 0 13 1 13 ∷ []) []
+    ∷ reported "\"\\x100000000;" (error kind.InvalidHexEscapeLiteral 3 0 13 11 12 ∷ []) []
+    ∷ reported "\"\\u{}" (error kind.InvalidHexEscapeLiteral 1 0 5 4 4 ∷ []) []
+    ∷ reported "\"\\u;" (error kind.InvalidHexEscapeLiteral 1 0 4 3 3 ∷ []) []
+    ∷ reported "\"\\u4G;" (error kind.InvalidHexEscapeLiteral 2 0 6 4 5 ∷ []) []
+    ∷ reported "\"\\x4é;" (error kind.InvalidHexEscapeLiteral 2 0 7 4 6 ∷ []) []
+    ∷ reported "\"\\x+;" (error kind.InvalidHexEscapeLiteral 2 0 5 3 4 ∷ []) []
+    ∷ plain "|\\x4G;" (error kind.InvalidHexEscapeLiteral 2 0 6 1 6 ∷ []) []
+    ∷ reported "|\\x4G;" (error kind.InvalidHexEscapeLiteral 2 0 6 4 5 ∷ []) []
+    ∷ plain "|\\x;" (error kind.InvalidHexEscapeLiteral 1 0 4 1 4 ∷ []) []
+    ∷ reported "|\\x;" (error kind.InvalidHexEscapeLiteral 1 0 4 3 3 ∷ []) []
+    ∷ plain "|\\x100000000;" (error kind.InvalidHexEscapeLiteral 3 0 13 1 13 ∷ []) []
+    ∷ reported "|\\x100000000;" (error kind.InvalidHexEscapeLiteral 3 0 13 11 12 ∷ []) []
+    -- lines after a plus, and after `#<`
+    ∷ plain "+|\\xG;" (error kind.InvalidHexEscapeLiteral 2 0 6 2 6 ∷ []) []
+    ∷ reported "+|\\xG;" (sourced kind.Identifier 0 1 0 1 ∷ error kind.InvalidHexEscapeLiteral 2 1 6 4 5 ∷ []) []
+    ∷ reported "#<|\\xG;" (error kind.InvalidHexEscapeLiteral 2 0 7 5 6 ∷ []) []
+    ∷ plain "#\\x4G" (error kind.InvalidHexEscapeLiteral 2 0 5 0 5 ∷ []) []
+    ∷ reported "#\\x4G" (error kind.InvalidHexEscapeLiteral 2 0 5 4 5 ∷ []) []
+    ∷ plain "#\\u{}" (error kind.InvalidHexEscapeLiteral 1 0 5 0 5 ∷ []) []
+    ∷ reported "#\\u{}" (error kind.InvalidHexEscapeLiteral 1 0 5 4 4 ∷ []) []
+    ∷ plain "#\\x100000000" (error kind.InvalidHexEscapeLiteral 3 0 12 0 12 ∷ []) []
+    ∷ reported "#\\x100000000" (error kind.InvalidHexEscapeLiteral 3 0 12 11 12 ∷ []) []
+    ∷ reported "a #\\x4é" (sourced kind.Identifier 0 1 0 1 ∷ error kind.InvalidHexEscapeLiteral 2 2 8 6 8 ∷ []) []
+    ∷ reported "#\\x4G;" (error kind.InvalidHexEscapeLiteral 2 0 6 4 5 ∷ []) []
+    -- 02 (vii), in both modes: a delimiter in a character's name, after its first character
+    ∷ plain "#\\a;" (error kind.InvalidCharName 0 0 4 0 4 ∷ []) []
+    ∷ reported "#\\a;" (error kind.InvalidCharDelimiter 0 0 4 3 4 ∷ []) []
+    ∷ reported "#\\ab;" (error kind.InvalidCharDelimiter 0 0 5 4 5 ∷ []) []
+    ∷ reported "#\\é;" (error kind.InvalidCharDelimiter 0 0 5 4 5 ∷ []) []
+    ∷ reported "#\\;;" (error kind.InvalidCharDelimiter 0 0 4 3 4 ∷ []) []
+    ∷ reported "#\\a\";" (error kind.InvalidCharDelimiter 0 0 5 3 4 ∷ []) []
+    ∷ reported "#\\a'" (error kind.InvalidCharDelimiter 0 0 4 3 4 ∷ []) []
+    ∷ reported "#\\a," (error kind.InvalidCharDelimiter 0 0 4 3 4 ∷ []) []
+    ∷ reported "#\\;" (bare kind.CharacterLiteral (code ";") 0 3 ∷ []) []
+    ∷ reported "#\\\"" (bare kind.CharacterLiteral (code "\"") 0 3 ∷ []) []
+    ∷ reported "#\\abc" (error kind.InvalidCharName 0 0 5 0 5 ∷ []) []
     -- E11
     ∷ plain "\"\\x+41;\"" (decoded kind.StringLiteral 0 8 0 1 ∷ []) (spelled "A")
     -- E12
@@ -142,5 +185,5 @@ table =
     ∷ []
 
 computed : map (λ r. shown (items (r .report) (r .text))) table ≡ map (λ r. r .wanted) table
-unfolding table span starts begins same isScalar utf8 width encode bytesOf isBlank within first rest front digitOf sign uinteger value fit signed wholeOf integer hexDigits hexAfterPlus hexValue exponentMarker exponent suffix pointOf dotted undotted decimal infnan integralOf rationalOf denominator exact orElse ureal real justOf complexOf polarOf endsI imaginary aloneOf pairOf toSign startsE rectangular complex zeroInt zeroReal zeroParts judged radixMark prefix parseNumber startsRun firstOf inQuotes afterBackslash stopsHex inHex inTrim inNest breaksWord inWord staysRun endsRun inRun afterHash endsHash inHash inDelim readLine linedOf scalarOf readWord readRun boolKind quoteKind formKind hashKind hashBracket hashAt hashComma unreturned endsWith hereEnds hereBody hereDelim afterAngle readHash readComma readItem readNest readQuoted wordOn hashOn lookup words wordKind wordMeans runMeans escaped stringText linedText hereText charNames hexNamed spelledOut characterOf unescape extentItems itemsFrom pastLine afterPound items kept records texts
+unfolding table span starts begins same isScalar utf8 width encode bytesOf isBlank within first rest front digitOf sign uinteger value fit signed wholeOf integer hexDigits hexAfterPlus hexValue exponentMarker exponent suffix pointOf dotted undotted decimal infnan integralOf rationalOf denominator exact orElse ureal real justOf complexOf polarOf endsI imaginary aloneOf pairOf toSign startsE rectangular complex zeroInt zeroReal zeroParts judged radixMark prefix parseNumber startsRun firstOf inQuotes afterBackslash stopsHex inHex inTrim inNest breaksWord inWord staysRun endsRun inRun afterHash endsHash inHash inDelim readLine linedOf scalarOf pastFailing readWord readRun boolKind quoteKind formKind hashKind hashBracket hashAt hashComma unreturned endsWith hereEnds hereBody hereDelim afterAngle readHash readComma readItem readNest readQuoted wordOn hashOn lookup words wordKind wordMeans runMeans escaped stringText linedText hereText charNames isDelimiter nameless hexNamed spelledOut characterOf unescape extentItems itemsFrom pastLine afterPound items kept records texts
 computed = refl

@@ -2,7 +2,7 @@
 use Prim.Native.Nat.{ℕ, zero, suc, _+_}
 use mathlib.Core.Bool.{Bool, true, false, _&&_}
 use mathlib.Core.List.{List, [], _∷_, _++_}
-use lib.ListN.{length}
+use lib.ListN.{length, drop}
 use lib.Dec.{eqb, leb, ltb}
 use Rattle.laws.specs.Choice.{if_then_else_}
 use Rattle.laws.specs.Quoted.{code}
@@ -12,9 +12,9 @@ use Rattle.items.specs.declared.Outcome.{Outcome}
 use Rattle.items.specs.declared.Outcome.the-variants.{Token, Str, HereStr, Word, Run, Lined, Keyword, Character, Error, ErrorAt}
 use Rattle.items.specs.declared.Record.{Record}
 use Rattle.items.specs.declared.CharValue.{CharValue}
-use Rattle.items.specs.declared.CharValue.the-variants.{Scalar, Wrong}
+use Rattle.items.specs.declared.CharValue.the-variants.{Scalar, Wrong, WrongAt}
 use Rattle.items.specs.Kinds as kind
-use Rattle.items.specs.Readers.{SoFar, Read, readItem}
+use Rattle.items.specs.Readers.{SoFar, Read, pastFailing, readItem}
 use Rattle.items.specs.Meaning.{Text, none, source, decoded, Meaning, meaningOf, characterOf, charInside}
 
 -- ---- places
@@ -30,23 +30,28 @@ range a b = record { from = a; to = b }
 abbrev pub unset : Place
 unset = range 0 0
 
--- a character that is none sets its extent
-abbrev pub characterSets : CharValue → Place → Place → Place
-characterSets (Scalar c) last extent = last
-characterSets (Wrong e d) last extent = extent
+-- a character that fails p bytes after `#\`, its extent starting at s, sets in report mode what fails there
+abbrev pub failingAt : ℕ → ℕ → ℕ → List ℕ → Place
+failingAt s d p raw = range (s + 2 + p) (pastFailing d (s + 2 + p) (drop p (charInside raw)))
+
+-- a character that is none sets its extent, or what fails in it (02 (vii))
+abbrev pub characterSets : Bool → CharValue → Place → ℕ → SoFar → Place
+characterSets report (Scalar c) last s i = last
+characterSets report (Wrong e d) last s i = range s (i .at)
+characterSets report (WrongAt e d p) last s i = if report then failingAt s d p (i .bytes) else range s (i .at)
 
 -- The last `error` range after an item that starts at s: its own where it sets one, else the one before. Errors 1 to 4, 7 and 8 set none
-abbrev pub rangeAfter : Place → ℕ → Outcome → SoFar → Place
-rangeAfter last s (Token k d) i = last
-rangeAfter last s Str i = last
-rangeAfter last s HereStr i = last
-rangeAfter last s Word i = last
-rangeAfter last s Run i = last
-rangeAfter last s Lined i = last
-rangeAfter last s Keyword i = last
-rangeAfter last s Character i = characterSets (characterOf (charInside (i .bytes))) last (range s (i .at))
-rangeAfter last s (Error n d) i = last
-rangeAfter last s (ErrorAt n d a b) i = range a b
+abbrev pub rangeAfter : Bool → Place → ℕ → Outcome → SoFar → Place
+rangeAfter report last s (Token k d) i = last
+rangeAfter report last s Str i = last
+rangeAfter report last s HereStr i = last
+rangeAfter report last s Word i = last
+rangeAfter report last s Run i = last
+rangeAfter report last s Lined i = last
+rangeAfter report last s Keyword i = last
+rangeAfter report last s Character i = characterSets report (characterOf report (charInside (i .bytes))) last s i
+rangeAfter report last s (Error n d) i = last
+rangeAfter report last s (ErrorAt n d a b) i = range a b
 
 -- The range that an item finds set: in plain mode the last one since the start of the text; in report mode none, so that an error points
 -- at its own place (02 (ii))
@@ -54,10 +59,15 @@ abbrev pub standing : Bool → Place → Place
 standing true last = unset
 standing false last = last
 
+-- whether a range was set. In report mode an error's own range may be empty, and never is at the start of the text
+abbrev pub isSet : Bool → Place → Bool
+isSet true p = ltb 0 (p .to)
+isSet false p = ltb (p .from) (p .to)
+
 -- 01: place equals extent except for errors; an error's "is the last `error` range set since the start of the text, or its extent if
 -- none was set" (E10). `last` is that range, the item's own counted in; in report mode it is the item's own alone
 abbrev pub placeOf : Bool → ℕ → Place → Place → Place
-placeOf report k last extent = if leb kind.firstError k && ltb (last .from) (last .to) then last else extent
+placeOf report k last extent = if leb kind.firstError k && isSet report last then last else extent
 
 -- ---- items
 
@@ -78,7 +88,7 @@ itemsOf report last s e (m ∷ ms) = itemOf report last s e m ∷ itemsOf report
 
 -- the items of one extent, which starts at s
 unfoldable pub extentItems : Bool → Place → ℕ → Outcome → SoFar → List Item
-extentItems report last s o i = itemsOf report (rangeAfter (standing report last) s o i) s (i .at) (meaningOf o s (i .at) (i .bytes))
+extentItems report last s o i = itemsOf report (rangeAfter report (standing report last) s o i) s (i .at) (meaningOf report o s (i .at) (i .bytes))
 
 -- The items of the characters from the place `at` on. A blank is passed over; else an item is read, and reading goes on after its
 -- extent. Each turn takes a character or more, so as many turns as there are characters are enough
@@ -91,7 +101,7 @@ itemsFrom report (suc turns) last at (c ∷ cs) =
       | false ↦
           let r : Read = readItem report at c cs in
           extentItems report last at (r .what) (r .item)
-          ++ itemsFrom report turns (rangeAfter last at (r .what) (r .item)) (r .item .at) (r .rest)
+          ++ itemsFrom report turns (rangeAfter report last at (r .what) (r .item)) (r .item .at) (r .rest)
     ]
 
 abbrev pub itemsAt : Bool → ℕ → List ℕ → List Item

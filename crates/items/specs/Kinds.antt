@@ -140,6 +140,14 @@ InvalidHexEscapeLiteral = 11
 abbrev pub InvalidHexCodePoint : ℕ
 InvalidHexCodePoint = 12
 
+-- in report mode only (02 (vii)): a character's name with a delimiter in it
+abbrev pub InvalidCharDelimiter : ℕ
+InvalidCharDelimiter = 13
+
+-- no error has a greater number
+abbrev pub lastError : ℕ
+lastError = InvalidCharDelimiter
+
 -- ---- the details of OpenParen and CloseParen: the bracket; a vector's and a byte list's opening bracket, both round
 
 abbrev pub Round : ℕ

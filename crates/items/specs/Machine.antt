@@ -7,7 +7,7 @@ use lib.ListN.{length, drop}
 use lib.Dec.{eqb, leb}
 use Rattle.laws.specs.Choice.{if_then_else_}
 use Rattle.laws.specs.Quoted.{code}
-use Rattle.digits.specs.Hex.{hexValue}
+use Rattle.digits.specs.Hex.{hexValue, empty}
 use Rattle.items.specs.declared.Quotes.{Quotes}
 use Rattle.items.specs.declared.Quotes.the-variants.{Double, Lines}
 use Rattle.items.specs.declared.Outcome.{Outcome}
@@ -19,7 +19,7 @@ use Rattle.items.specs.declared.Next.the-variants.{Eat, Stop}
 use Rattle.items.specs.declared.HashKind.{HashKind}
 use Rattle.items.specs.declared.HashKind.the-variants.{Decided, Bracket, Undecided}
 use Rattle.items.specs.declared.CharValue.{CharValue}
-use Rattle.items.specs.declared.CharValue.the-variants.{Scalar, Wrong}
+use Rattle.items.specs.declared.CharValue.the-variants.{Scalar, Wrong, WrongAt}
 use Rattle.items.specs.Kinds as kind
 use Rattle.items.specs.Classes.{First, semicolon, quote, comma, hash, number, single, vertical, backslash, wordy}
 use Rattle.items.specs.Classes.{InQuotes, inQuotes, ends, escapes, plain, AfterBackslash, afterBackslash, simple, hexX, hexU, blank, newline, invalid}
@@ -27,7 +27,7 @@ use Rattle.items.specs.Classes.{InHex, inHex, closes, stops, digit, InTr
 use Rattle.items.specs.Classes.{InWord, inWord, breaks, skips, goes, InRun, inRun, stays, stopsRun, leaves}
 use Rattle.items.specs.Classes.{AfterHash, afterHash, radix, opensNest, datum, twice, angle, value}
 use Rattle.items.specs.Classes.{InHash, inHash, skipsTwo, tick, commas, stopsHash, staysHash, InDelim, inDelim, endsDelim, returns, blankDelim, ofDelim}
-use Rattle.items.specs.Readers.{SoFar, eat, Read, got, comment, closed, unclosed, cut, scalarOf, hashKind, hereEnds}
+use Rattle.items.specs.Readers.{SoFar, eat, Read, got, comment, closed, unclosed, cut, scalarOf, failing, failingIn, hashKind, hereEnds}
 
 -- ---- comments
 
@@ -65,20 +65,21 @@ onEscape newline k from i c = Eat (ph.TrimAfter k)
 onEscape invalid k from i c = Stop (ErrorAt kind.InvalidStringEscape c from (eat i c .at))
 
 -- `\u;` has no digits
-abbrev pub onBrace : InHex → Quotes → ℕ → SoFar → ℕ → Next
-onBrace closes k from i c = Eat (ph.Done (ErrorAt kind.InvalidHexEscapeLiteral 1 from (eat i c .at)))
-onBrace stops k from i c = Eat (ph.Done (ErrorAt kind.UnclosedHexEscape (code ";") from (i .at)))
-onBrace digit k from i c = Eat (ph.Hex k (code ";") from (length (i .bytes)))
+abbrev pub onBrace : Bool → InHex → Quotes → ℕ → SoFar → ℕ → Next
+onBrace report closes k from i c = Eat (ph.Done (failing report kind.InvalidHexEscapeLiteral empty from (eat i c .at) (i .at) []))
+onBrace report stops k from i c = Eat (ph.Done (ErrorAt kind.UnclosedHexEscape (code ";") from (i .at)))
+onBrace report digit k from i c = Eat (ph.Hex k (code ";") from (length (i .bytes)))
 
--- the digits are closed, and the escape goes from `from` to `to`
-abbrev pub closeHex : CharValue → Quotes → ℕ → ℕ → Next
-closeHex (Scalar v) k from to = Eat (ph.Quoted k)
-closeHex (Wrong e d) k from to = Eat (ph.Done (ErrorAt e d from to))
+-- the digits, before which n bytes of the item stand, are closed, and the escape goes from `from` to `to`
+abbrev pub closeHex : Bool → CharValue → Quotes → ℕ → ℕ → ℕ → SoFar → Next
+closeHex report (Scalar v) k from n to i = Eat (ph.Quoted k)
+closeHex report (Wrong e d) k from n to i = Eat (ph.Done (ErrorAt e d from to))
+closeHex report (WrongAt e d p) k from n to i = Eat (ph.Done (failingIn report e d from to (drop p (drop n (i .bytes))) i))
 
-abbrev pub onHex : InHex → Quotes → ℕ → ℕ → ℕ → SoFar → ℕ → Next
-onHex closes k closer from n i c = closeHex (scalarOf (hexValue (drop n (i .bytes)))) k from (eat i c .at)
-onHex stops k closer from n i c = Eat (ph.Done (ErrorAt kind.UnclosedHexEscape closer from (i .at)))
-onHex digit k closer from n i c = Eat (ph.Hex k closer from n)
+abbrev pub onHex : Bool → InHex → Quotes → ℕ → ℕ → ℕ → SoFar → ℕ → Next
+onHex report closes k closer from n i c = closeHex report (scalarOf (hexValue (drop n (i .bytes)))) k from n (eat i c .at) i
+onHex report stops k closer from n i c = Eat (ph.Done (ErrorAt kind.UnclosedHexEscape closer from (i .at)))
+onHex report digit k closer from n i c = Eat (ph.Hex k closer from n)
 
 abbrev pub onTrimBefore : InTrim → Quotes → SoFar → ℕ → Next
 onTrimBefore space k i c = Eat (ph.TrimBefore k)
@@ -167,8 +168,8 @@ stepOf report (ph.TrimBefore k) i c = onTrimBefore (inTrim c) k i c
 stepOf report (ph.TrimAfter k) i c = onTrimAfter (inTrim c) k i c
 stepOf report (ph.Escape k from) i c = onEscape (afterBackslash c) k from i c
 stepOf report (ph.Brace k from) i c =
-    if eqb c (code "{") then Eat (ph.Hex k (code "}") from (length (eat i c .bytes))) else onBrace (inHex k (code ";") c) k from i c
-stepOf report (ph.Hex k closer from n) i c = onHex (inHex k closer c) k closer from n i c
+    if eqb c (code "{") then Eat (ph.Hex k (code "}") from (length (eat i c .bytes))) else onBrace report (inHex k (code ";") c) k from i c
+stepOf report (ph.Hex k closer from n) i c = onHex report (inHex k closer c) k closer from n i c
 stepOf report (ph.Done o) i c = Stop o
 
 -- what the end of the text makes of a phase

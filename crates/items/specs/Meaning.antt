@@ -1,13 +1,13 @@
 -- The definition, part 2: kind, detail and text of an item, by its outcome and its bytes. Document 01, "An item".
-use Prim.Native.Nat.{ℕ, _+_, _-_}
+use Prim.Native.Nat.{ℕ, suc, _+_, _-_}
 use Prim.Native.String.{String}
-use mathlib.Core.Bool.{Bool, true, false, _&&_, _||_}
+use mathlib.Core.Bool.{Bool, true, false, not, _&&_, _||_}
 use mathlib.Core.List.{List, [], _∷_, _++_, map}
 use lib.ListN.{length, getD, take, drop}
 use lib.Dec.{eqb, leb, ltb}
 use Rattle.laws.specs.Choice.{if_then_else_}
-use Rattle.laws.specs.Quoted.{code}
-use Rattle.laws.specs.Texts.{same}
+use Rattle.laws.specs.Quoted.{code, oneOf}
+use Rattle.laws.specs.Texts.{span, same}
 use Rattle.chars.specs.Encode.{encode, spelled}
 use Rattle.chars.specs.Utf8.{front, Front}
 use Rattle.chars.specs.Utf8 as Utf8
@@ -20,7 +20,7 @@ use Rattle.items.specs.declared.Quotes.the-variants.{Double, Lines}
 use Rattle.items.specs.declared.Outcome.{Outcome}
 use Rattle.items.specs.declared.Outcome.the-variants.{Token, Str, HereStr, Word, Run, Lined, Keyword, Character, Error, ErrorAt}
 use Rattle.items.specs.declared.CharValue.{CharValue}
-use Rattle.items.specs.declared.CharValue.the-variants.{Scalar, Wrong}
+use Rattle.items.specs.declared.CharValue.the-variants.{Scalar, Wrong, WrongAt}
 use Rattle.items.specs.Kinds as kind
 use Rattle.items.specs.Classes.{inQuotes, ends, escapes, plain, afterBackslash, simple, hexX, hexU, blank, newline, invalid}
 use Rattle.items.specs.Classes.{inHex, closes, stops, digit, inTrim, space, line, solid}
@@ -136,7 +136,7 @@ unfoldable mutual
   pub unescapeHex : Quotes → ℕ → List ℕ → List ℕ → List ℕ
   unescapeHex k closer ds [] = []
   unescapeHex k closer ds (c ∷ cs) = elim (inHex k closer c) [
-    | closes ↦ elim (scalarOf (hexValue ds)) [ Scalar v ↦ encode v ++ unescape k cs | Wrong e d ↦ [] ]
+    | closes ↦ elim (scalarOf (hexValue ds)) [ Scalar v ↦ encode v ++ unescape k cs | Wrong e d ↦ [] | WrongAt e d p ↦ [] ]
     | stops ↦ []
     | digit ↦ unescapeHex k closer (ds ++ (c ∷ [])) cs
   ]
@@ -186,33 +186,51 @@ charNames =
 abbrev pub unnamed : ℕ
 unnamed = 0x80
 
-abbrev pub noName : CharValue
-noName = Wrong kind.InvalidCharName 0
+-- the four that end or begin an item elsewhere and are taken into a name
+unfoldable pub isDelimiter : ℕ → Bool
+isDelimiter c = oneOf (code ";" ∷ code "\"" ∷ code "'" ∷ code "," ∷ []) c
 
--- m bytes that are one character and nothing else
-abbrev pub onlyOne : Front → ℕ → CharValue
-onlyOne (Utf8.char c n) m = if eqb n m then Scalar c else noName
-onlyOne (Utf8.bad n) m = noName
-onlyOne Utf8.cut m = noName
-onlyOne Utf8.none m = noName
+-- how many bytes stand before the first delimiter, or the end
+abbrev pub beforeDelimiter : List ℕ → ℕ
+beforeDelimiter t = span (λ c. not (isDelimiter c)) t
+
+-- Bytes that name nothing: error 10, but in report mode 13 and the place of the first delimiter after the first character, if there is
+-- one (02 (vii)). The bytes of a character after its first are no delimiters
+unfoldable pub nameless : Bool → List ℕ → CharValue
+nameless report t =
+    let p : ℕ = suc (beforeDelimiter (drop 1 t)) in
+    if report && ltb p (length t) then WrongAt kind.InvalidCharDelimiter 0 p else Wrong kind.InvalidCharName 0
+
+-- bytes that are one character and nothing else
+abbrev pub onlyOne : Bool → Front → List ℕ → CharValue
+onlyOne report (Utf8.char c n) t = if eqb n (length t) then Scalar c else nameless report t
+onlyOne report (Utf8.bad n) t = nameless report t
+onlyOne report Utf8.cut t = nameless report t
+onlyOne report Utf8.none t = nameless report t
+
+-- the value of a part that starts after n bytes: its failing place is counted from the start of the whole
+abbrev pub later : ℕ → CharValue → CharValue
+later n (Scalar c) = Scalar c
+later n (Wrong e d) = Wrong e d
+later n (WrongAt e d p) = WrongAt e d (n + p)
 
 -- `x` or `u` and digits; after `u{` the last byte must be `}`, else error 9
 unfoldable pub hexNamed : List ℕ → CharValue
 hexNamed t =
     if firstIs (code "u") t && eqb (getD t 1 0) (code "{")
-    then (if lastIs (code "}") t then scalarOf (hexValue (take (length t - 3) (drop 2 t))) else Wrong kind.UnclosedHexEscape (code "}"))
-    else scalarOf (hexValue (drop 1 t))
+    then (if lastIs (code "}") t then later 2 (scalarOf (hexValue (take (length t - 3) (drop 2 t)))) else Wrong kind.UnclosedHexEscape (code "}"))
+    else later 1 (scalarOf (hexValue (drop 1 t)))
 
 -- `x` and `u` alone are these letters
-unfoldable pub spelledOut : List ℕ → CharValue
-spelledOut t =
+unfoldable pub spelledOut : Bool → List ℕ → CharValue
+spelledOut report t =
     if (firstIs (code "u") t || firstIs (code "x") t) && ltb 1 (length t)
     then hexNamed t
-    else onlyOne (front t) (length t)
+    else onlyOne report (front t) t
 
 -- a name goes before all else, without regard to ASCII case
-unfoldable pub characterOf : List ℕ → CharValue
-characterOf t = let n : ℕ = lookup charNames (map lower t) unnamed in if eqb n unnamed then spelledOut t else Scalar n
+unfoldable pub characterOf : Bool → List ℕ → CharValue
+characterOf report t = let n : ℕ = lookup charNames (map lower t) unnamed in if eqb n unnamed then spelledOut report t else Scalar n
 
 -- the bytes after `#\`
 abbrev pub charInside : List ℕ → List ℕ
@@ -221,18 +239,19 @@ charInside raw = drop 2 raw
 abbrev pub characterMeans : CharValue → List Meaning
 characterMeans (Scalar c) = one kind.CharacterLiteral c none
 characterMeans (Wrong e d) = one (kind.firstError + e) d none
+characterMeans (WrongAt e d p) = one (kind.firstError + e) d none
 
 -- ---- every outcome
 
 -- the items of one extent, from s to e, whose bytes are raw: two of a word that begins with `+`, else one
-abbrev pub meaningOf : Outcome → ℕ → ℕ → List ℕ → List Meaning
-meaningOf (Token k d) s e raw = one k d none
-meaningOf Str s e raw = one kind.StringLiteral 0 (stringText s e raw)
-meaningOf HereStr s e raw = one kind.StringLiteral 0 (hereText s e raw)
-meaningOf Word s e raw = wordMeans s e raw
-meaningOf Run s e raw = runMeans (parseNumber raw) s e raw
-meaningOf Lined s e raw = one kind.Identifier 0 (linedText s e raw)
-meaningOf Keyword s e raw = one kind.Keyword 0 (source s e)
-meaningOf Character s e raw = characterMeans (characterOf (charInside raw))
-meaningOf (Error n d) s e raw = one (kind.firstError + n) d none
-meaningOf (ErrorAt n d a b) s e raw = one (kind.firstError + n) d none
+abbrev pub meaningOf : Bool → Outcome → ℕ → ℕ → List ℕ → List Meaning
+meaningOf report (Token k d) s e raw = one k d none
+meaningOf report Str s e raw = one kind.StringLiteral 0 (stringText s e raw)
+meaningOf report HereStr s e raw = one kind.StringLiteral 0 (hereText s e raw)
+meaningOf report Word s e raw = wordMeans s e raw
+meaningOf report Run s e raw = runMeans (parseNumber raw) s e raw
+meaningOf report Lined s e raw = one kind.Identifier 0 (linedText s e raw)
+meaningOf report Keyword s e raw = one kind.Keyword 0 (source s e)
+meaningOf report Character s e raw = characterMeans (characterOf report (charInside raw))
+meaningOf report (Error n d) s e raw = one (kind.firstError + n) d none
+meaningOf report (ErrorAt n d a b) s e raw = one (kind.firstError + n) d none

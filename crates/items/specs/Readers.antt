@@ -10,7 +10,9 @@ use Rattle.laws.specs.Choice.{if_then_else_}
 use Rattle.laws.specs.Quoted.{code}
 use Rattle.laws.specs.Texts.{before, begins, same}
 use Rattle.chars.specs.Encode.{width, utf8, isScalar, spelled}
-use Rattle.digits.specs.Hex.{hexValue}
+use Rattle.chars.specs.Utf8.{front, Front}
+use Rattle.chars.specs.Utf8 as Utf8
+use Rattle.digits.specs.Hex.{hexValue, empty}
 use Rattle.digits.specs.declared.Hex.{Hex}
 use Rattle.digits.specs.declared.Hex.the-variants as hex
 use Rattle.items.specs.declared.Quotes.{Quotes}
@@ -20,7 +22,7 @@ use Rattle.items.specs.declared.Outcome.the-variants.{Token, Str, HereSt
 use Rattle.items.specs.declared.HashKind.{HashKind}
 use Rattle.items.specs.declared.HashKind.the-variants.{Decided, Bracket, Undecided}
 use Rattle.items.specs.declared.CharValue.{CharValue}
-use Rattle.items.specs.declared.CharValue.the-variants.{Scalar, Wrong}
+use Rattle.items.specs.declared.CharValue.the-variants.{Scalar, Wrong, WrongAt}
 use Rattle.items.specs.Kinds as kind
 use Rattle.items.specs.Classes.{firstOf, semicolon, quote, comma, hash, number, single, vertical, backslash, wordy}
 use Rattle.items.specs.Classes.{inQuotes, ends, escapes, plain, afterBackslash, simple, hexX, hexU, blank, newline, invalid}
@@ -118,67 +120,89 @@ abbrev pub cut : Quotes → Outcome
 cut Double = Error kind.IncompleteString 0
 cut Lines = Error kind.IncompleteIdentifier 0
 
--- the character that hex digits stand for: `char::from_u32` of their value (E10), error 11 where they have none
+-- the character that hex digits stand for: `char::from_u32` of their value (E10), error 11 and the failing place where they have none
 unfoldable pub scalarOf : Hex → CharValue
 scalarOf (hex.Value v) = if isScalar v then Scalar v else Wrong kind.InvalidHexCodePoint v
-scalarOf (hex.Wrong d p) = Wrong kind.InvalidHexEscapeLiteral d
+scalarOf (hex.Wrong d p) = WrongAt kind.InvalidHexEscapeLiteral d p
+
+-- how many bytes the character has that stands at the front of some bytes
+abbrev pub frontWidth : Front → ℕ
+frontWidth (Utf8.char c n) = n
+frontWidth (Utf8.bad n) = 0
+frontWidth Utf8.cut = 0
+frontWidth Utf8.none = 0
+
+-- The place past what fails at the place `at`, where the bytes `rest` stand: past one character, but where digits should stand (detail
+-- `empty`) nothing does, and the place is empty
+unfoldable pub pastFailing : ℕ → ℕ → List ℕ → ℕ
+pastFailing d at rest = if eqb d empty then at else at + frontWidth (front rest)
+
+-- The error of an escape from `from` to `to` that fails at the place `at`, where the bytes `rest` stand. In plain mode it sets the
+-- whole escape, in report mode the character that fails (02 (vii))
+abbrev pub failing : Bool → ℕ → ℕ → ℕ → ℕ → ℕ → List ℕ → Outcome
+failing report e d from to at rest = if report then ErrorAt e d at (pastFailing d at rest) else ErrorAt e d from to
+
+-- the same of digits that fail where of the item so far the bytes `rest` are left
+abbrev pub failingIn : Bool → ℕ → ℕ → ℕ → ℕ → List ℕ → SoFar → Outcome
+failingIn report e d from to rest i = failing report e d from to (i .at - length rest) rest
 
 -- In quotes; after a backslash; after `\u`; in hex digits; in a line that goes on, its newline seen or not.
 -- `from` is the place of the escape's backslash, `n` how many bytes of the item stand before the digits (E11: one may be a plus)
 unfoldable mutual
-  pub readQuoted : Quotes → SoFar → List ℕ → Read
-  readQuoted k i [] = got (unclosed k (i .bytes)) i []
-  readQuoted k i (c ∷ cs) = elim (inQuotes k c) [
+  pub readQuoted : Bool → Quotes → SoFar → List ℕ → Read
+  readQuoted report k i [] = got (unclosed k (i .bytes)) i []
+  readQuoted report k i (c ∷ cs) = elim (inQuotes k c) [
     | ends ↦ got (closed k (eat i c .bytes)) (eat i c) cs
-    | escapes ↦ readEscape k (i .at) (eat i c) cs
-    | plain ↦ readQuoted k (eat i c) cs
+    | escapes ↦ readEscape report k (i .at) (eat i c) cs
+    | plain ↦ readQuoted report k (eat i c) cs
   ]
 
   -- <string element>, <symbol element>: `read_string_escape`
-  pub readEscape : Quotes → ℕ → SoFar → List ℕ → Read
-  readEscape k from i [] = got (cut k) i []
-  readEscape k from i (c ∷ cs) = elim (afterBackslash c) [
-    | simple x ↦ readQuoted k (eat i c) cs
-    | hexX ↦ readHex k (code ";") from (length (eat i c .bytes)) (eat i c) cs
-    | hexU ↦ readBrace k from (eat i c) cs
-    | blank ↦ readTrim k false (eat i c) cs
-    | newline ↦ readTrim k true (eat i c) cs
+  pub readEscape : Bool → Quotes → ℕ → SoFar → List ℕ → Read
+  readEscape report k from i [] = got (cut k) i []
+  readEscape report k from i (c ∷ cs) = elim (afterBackslash c) [
+    | simple x ↦ readQuoted report k (eat i c) cs
+    | hexX ↦ readHex report k (code ";") from (length (eat i c .bytes)) (eat i c) cs
+    | hexU ↦ readBrace report k from (eat i c) cs
+    | blank ↦ readTrim report k false (eat i c) cs
+    | newline ↦ readTrim report k true (eat i c) cs
     | invalid ↦ got (ErrorAt kind.InvalidStringEscape c from (eat i c .at)) i (c ∷ cs)
   ]
 
-  pub readBrace : Quotes → ℕ → SoFar → List ℕ → Read
-  readBrace k from i [] = got (cut k) i []
-  readBrace k from i (c ∷ cs) = elim (eqb c (code "{")) [
-    | true ↦ readHex k (code "}") from (length (eat i c .bytes)) (eat i c) cs
+  pub readBrace : Bool → Quotes → ℕ → SoFar → List ℕ → Read
+  readBrace report k from i [] = got (cut k) i []
+  readBrace report k from i (c ∷ cs) = elim (eqb c (code "{")) [
+    | true ↦ readHex report k (code "}") from (length (eat i c .bytes)) (eat i c) cs
     | false ↦ elim (inHex k (code ";") c) [
-      | closes ↦ got (ErrorAt kind.InvalidHexEscapeLiteral 1 from (eat i c .at)) (eat i c) cs
+      | closes ↦ got (failing report kind.InvalidHexEscapeLiteral empty from (eat i c .at) (i .at) []) (eat i c) cs
       | stops ↦ got (ErrorAt kind.UnclosedHexEscape (code ";") from (i .at)) (eat i c) cs
-      | digit ↦ readHex k (code ";") from (length (i .bytes)) (eat i c) cs
+      | digit ↦ readHex report k (code ";") from (length (i .bytes)) (eat i c) cs
     ]
   ]
 
   -- <hex scalar value>. What breaks it off belongs to the extent and not to the place
-  pub readHex : Quotes → ℕ → ℕ → ℕ → SoFar → List ℕ → Read
-  readHex k closer from n i [] = got (cut k) i []
-  readHex k closer from n i (c ∷ cs) = elim (inHex k closer c) [
+  pub readHex : Bool → Quotes → ℕ → ℕ → ℕ → SoFar → List ℕ → Read
+  readHex report k closer from n i [] = got (cut k) i []
+  readHex report k closer from n i (c ∷ cs) = elim (inHex k closer c) [
     | closes ↦ elim (scalarOf (hexValue (drop n (i .bytes)))) [
-      | Scalar v ↦ readQuoted k (eat i c) cs
+      | Scalar v ↦ readQuoted report k (eat i c) cs
       | Wrong e d ↦ got (ErrorAt e d from (eat i c .at)) (eat i c) cs
+      | WrongAt e d p ↦ got (failingIn report e d from (eat i c .at) (drop p (drop n (i .bytes))) i) (eat i c) cs
     ]
     | stops ↦ got (ErrorAt kind.UnclosedHexEscape closer from (i .at)) (eat i c) cs
-    | digit ↦ readHex k closer from n (eat i c) cs
+    | digit ↦ readHex report k closer from n (eat i c) cs
   ]
 
-  pub readTrim : Quotes → Bool → SoFar → List ℕ → Read
-  readTrim k seen i [] = got (cut k) i []
-  readTrim k seen i (c ∷ cs) = elim (inTrim c) [
-    | space ↦ readTrim k seen (eat i c) cs
-    | line ↦ elim seen [ true ↦ readQuoted k (eat i c) cs | false ↦ readTrim k true (eat i c) cs ]
+  pub readTrim : Bool → Quotes → Bool → SoFar → List ℕ → Read
+  readTrim report k seen i [] = got (cut k) i []
+  readTrim report k seen i (c ∷ cs) = elim (inTrim c) [
+    | space ↦ readTrim report k seen (eat i c) cs
+    | line ↦ elim seen [ true ↦ readQuoted report k (eat i c) cs | false ↦ readTrim report k true (eat i c) cs ]
     | solid ↦ elim seen [
       | true ↦ elim (inQuotes k c) [
         | ends ↦ got (closed k (eat i c .bytes)) (eat i c) cs
-        | escapes ↦ readEscape k (i .at) (eat i c) cs
-        | plain ↦ readQuoted k (eat i c) cs
+        | escapes ↦ readEscape report k (i .at) (eat i c) cs
+        | plain ↦ readQuoted report k (eat i c) cs
       ]
       | false ↦ got (ErrorAt kind.InvalidWhitespace 0 (i .at) (eat i c .at)) i (c ∷ cs)
     ]
@@ -200,9 +224,9 @@ unfoldable mutual
   wordSkip i (c ∷ cs) = wordOn (eat i c) cs
 
 -- where `read_word` begins, a vertical line makes the rest an identifier in vertical lines
-unfoldable pub readWord : SoFar → List ℕ → Read
-readWord i [] = got Word i []
-readWord i (c ∷ cs) = elim (eqb c (code "|")) [ true ↦ readQuoted Lines (eat i c) cs | false ↦ wordOn i (c ∷ cs) ]
+unfoldable pub readWord : Bool → SoFar → List ℕ → Read
+readWord report i [] = got Word i []
+readWord report i (c ∷ cs) = elim (eqb c (code "|")) [ true ↦ readQuoted report Lines (eat i c) cs | false ↦ wordOn i (c ∷ cs) ]
 
 -- ---- <number>: `read_number`. Whether the run is a number is asked of its bytes
 
@@ -211,7 +235,7 @@ readRun report i [] = got Run i []
 readRun report i (c ∷ cs) = elim (inRun report c) [
   | stays ↦ readRun report (eat i c) cs
   | stopsRun ↦ got Run i (c ∷ cs)
-  | leaves ↦ readWord i (c ∷ cs)
+  | leaves ↦ readWord report i (c ∷ cs)
 ]
 
 -- ---- words that start with `#`: `read_hash_value`
@@ -251,37 +275,37 @@ orElse Undecided k = k
 unfoldable pub hashKind : List ℕ → HashKind
 hashKind raw = orElse (boolKind raw) (orElse (quoteKind raw) (formKind raw))
 
-unfoldable pub hashBracket : ℕ → SoFar → List ℕ → Read
-hashBracket d i [] = got Word i []
-hashBracket d i (c ∷ cs) = elim (eqb c (code "(")) [ true ↦ got (Token kind.OpenParen d) (eat i c) cs | false ↦ readWord i (c ∷ cs) ]
+unfoldable pub hashBracket : Bool → ℕ → SoFar → List ℕ → Read
+hashBracket report d i [] = got Word i []
+hashBracket report d i (c ∷ cs) = elim (eqb c (code "(")) [ true ↦ got (Token kind.OpenParen d) (eat i c) cs | false ↦ readWord report i (c ∷ cs) ]
 
 -- at the end of the run: what it is by its bytes, else a word that may go on
-unfoldable pub hashAt : SoFar → List ℕ → Read
-hashAt i cs = elim (hashKind (i .bytes)) [
+unfoldable pub hashAt : Bool → SoFar → List ℕ → Read
+hashAt report i cs = elim (hashKind (i .bytes)) [
   | Decided o ↦ got o i cs
-  | Bracket d ↦ hashBracket d i cs
-  | Undecided ↦ readWord i cs
+  | Bracket d ↦ hashBracket report d i cs
+  | Undecided ↦ readWord report i cs
 ]
 
 -- after a comma, an at sign belongs to the run
-unfoldable pub hashComma : SoFar → List ℕ → Read
-hashComma i [] = hashAt i []
-hashComma i (c ∷ cs) = elim (eqb c (code "@")) [ true ↦ hashAt (eat i c) cs | false ↦ hashAt i (c ∷ cs) ]
+unfoldable pub hashComma : Bool → SoFar → List ℕ → Read
+hashComma report i [] = hashAt report i []
+hashComma report i (c ∷ cs) = elim (eqb c (code "@")) [ true ↦ hashAt report (eat i c) cs | false ↦ hashAt report i (c ∷ cs) ]
 
 unfoldable mutual
-  pub hashOn : SoFar → List ℕ → Read
-  hashOn i [] = hashAt i []
-  hashOn i (c ∷ cs) = elim (inHash c) [
-    | skipsTwo ↦ hashSkip (eat i c) cs
-    | tick ↦ hashAt (eat i c) cs
-    | commas ↦ hashComma (eat i c) cs
-    | stopsHash ↦ hashAt i (c ∷ cs)
-    | staysHash ↦ hashOn (eat i c) cs
+  pub hashOn : Bool → SoFar → List ℕ → Read
+  hashOn report i [] = hashAt report i []
+  hashOn report i (c ∷ cs) = elim (inHash c) [
+    | skipsTwo ↦ hashSkip report (eat i c) cs
+    | tick ↦ hashAt report (eat i c) cs
+    | commas ↦ hashComma report (eat i c) cs
+    | stopsHash ↦ hashAt report i (c ∷ cs)
+    | staysHash ↦ hashOn report (eat i c) cs
   ]
 
-  pub hashSkip : SoFar → List ℕ → Read
-  hashSkip i [] = hashAt i []
-  hashSkip i (c ∷ cs) = hashOn (eat i c) cs
+  pub hashSkip : Bool → SoFar → List ℕ → Read
+  hashSkip report i [] = hashAt report i []
+  hashSkip report i (c ∷ cs) = hashOn report (eat i c) cs
 
 -- ---- here-strings: `read_here_string`. The delimiter is what stands after `#<<` on its line, carriage returns left out; the body
 -- follows the line, has at least one character, and ends as soon as it ends with the delimiter (E12)
@@ -323,19 +347,19 @@ hereDelim i (c ∷ cs) = elim (inDelim c) [
 
 -- ---- `Lexer::next`
 
-unfoldable pub afterAngle : SoFar → List ℕ → Read
-afterAngle i [] = got Word i []
-afterAngle i (c ∷ cs) = elim (eqb c (code "<")) [ true ↦ hereDelim (eat i c) cs | false ↦ readWord i (c ∷ cs) ]
+unfoldable pub afterAngle : Bool → SoFar → List ℕ → Read
+afterAngle report i [] = got Word i []
+afterAngle report i (c ∷ cs) = elim (eqb c (code "<")) [ true ↦ hereDelim (eat i c) cs | false ↦ readWord report i (c ∷ cs) ]
 
 unfoldable pub readHash : Bool → SoFar → List ℕ → Read
-readHash report i [] = hashAt i []
+readHash report i [] = hashAt report i []
 readHash report i (c ∷ cs) = elim (afterHash c) [
   | radix ↦ readRun report (eat i c) cs
   | opensNest ↦ readNest 1 (eat i c) cs
   | datum ↦ got (Token kind.DatumComment 0) (eat i c) cs
   | twice ↦ got (Error kind.UnexpectedChar c) (eat i c) cs
-  | angle ↦ afterAngle (eat i c) cs
-  | value ↦ hashOn i (c ∷ cs)
+  | angle ↦ afterAngle report (eat i c) cs
+  | value ↦ hashOn report i (c ∷ cs)
 ]
 
 -- `,` is not known before the next character: `,@` is another
@@ -352,12 +376,12 @@ readItem report at c cs =
     let i : SoFar = eat (soFar [] at) c in
     elim (firstOf c) [
       | semicolon ↦ readLine i cs
-      | quote ↦ readQuoted Double i cs
+      | quote ↦ readQuoted report Double i cs
       | comma ↦ readComma i cs
       | hash ↦ readHash report i cs
       | number ↦ readRun report i cs
       | single k d ↦ got (Token k d) i cs
-      | vertical ↦ readQuoted Lines i cs
+      | vertical ↦ readQuoted report Lines i cs
       | backslash ↦ wordSkip i cs
       | wordy ↦ wordOn i cs
     ]

@@ -52,7 +52,7 @@ quietly s = record { out = []; after = s }
 -- in an item that started at s
 abbrev pub onNext : Bool → Next → Place → ℕ → SoFar → ℕ → Fed
 onNext report (Eat q) last s i c = quietly (state (busy s q (eat i c .bytes)) (eat i c .at) last)
-onNext report (Stop o) last s i c = record { out = extentItems report last s o i; after = begin (i .at) (rangeAfter last s o i) c }
+onNext report (Stop o) last s i c = record { out = extentItems report last s o i; after = begin (i .at) (rangeAfter report last s o i) c }
 
 -- a `#` at the start of the text
 abbrev pub pounded : ℕ → SoFar

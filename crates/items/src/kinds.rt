@@ -138,6 +138,12 @@ pub const INVALID_HEX_ESCAPE_LITERAL: u32 = 11;
 // "\xD800;
 pub const INVALID_HEX_CODE_POINT: u32 = 12;
 
+// #\a; in report mode
+pub const INVALID_CHAR_DELIMITER: u32 = 13;
+
+// no error has a greater number
+pub const LAST_ERROR: u32 = INVALID_CHAR_DELIMITER;
+
 // ---- details
 
 // of every item that 01 gives no other

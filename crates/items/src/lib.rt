@@ -112,10 +112,13 @@ pub enum HashKind {
     Undecided,
 }
 
-// The character that some digits or a name stand for, or an error's number and detail.
+// The character that some digits or a name stand for, or an error.
 pub enum CharValue {
     Scalar(u32),
+    // an error's number and detail
     Wrong(u32, u32),
+    // the same, and how many bytes stand before the place where it fails
+    WrongAt(u32, u32, usize),
 }
 
 // A record: an item in nine words, as document 01 lays them out.

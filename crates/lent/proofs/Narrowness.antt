@@ -130,7 +130,7 @@ module _ (s : State) (h : Lean s) where
 
   lean-ends : (st : ℕ) (o : Outcome) (b : Beyond) → Ahead b → LeanTurn (ends s st o b)
   lean-ends st o b a =
-      lean-gives st (rangeAfter (lastOf s) st o (itemSoFar s)) b a (extentItems (report s) (lastOf s) st o (itemSoFar s))
+      lean-gives st (rangeAfter (report s) (lastOf s) st o (itemSoFar s)) b a (extentItems (report s) (lastOf s) st o (itemSoFar s))
 
   lean-stopped : (n p : ℕ) → Small n → LeanTurn (stopped s n p)
   lean-stopped n p z = record { mode = h .mode; begun = none; stage = z }

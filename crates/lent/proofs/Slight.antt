@@ -10,7 +10,7 @@ use Rattle.items.specs.declared.Next.the-variants.{Eat, Stop}
 use Rattle.items.specs.declared.HashKind.{HashKind}
 use Rattle.items.specs.declared.HashKind.the-variants.{Decided, Bracket, Undecided}
 use Rattle.items.specs.declared.CharValue.{CharValue}
-use Rattle.items.specs.declared.CharValue.the-variants.{Scalar, Wrong}
+use Rattle.items.specs.declared.CharValue.the-variants.{Scalar, Wrong, WrongAt}
 use Rattle.items.specs.Classes.{startsRun, firstOf, inQuotes, afterBackslash, inHex, inTrim, inNest, inWord, inRun, afterHash, inHash, inDelim}
 use Rattle.items.specs.Classes.{First, InQuotes, ends, escapes, plain, AfterBackslash, simple, hexX, hexU, blank, newline, invalid}
 use Rattle.items.specs.Classes.{InHex, closes, stops, digit, InTrim, space, line, solid, InNest, bar, sharp, inside, InWord, breaks, skips}
@@ -109,19 +109,21 @@ module _ (i : SoFar) (c : ℕ) (small : Small c) where
   slight-escape newline q from = tt
   slight-escape invalid q from = tt
 
-  slight-brace : (k : InHex) (q : Quotes) (from : ℕ) → Eaten (onBrace k q from i c)
-  slight-brace closes q from = (omega arith, omega arith)
-  slight-brace stops q from = (omega arith, omega arith)
-  slight-brace digit q from = omega arith
+  slight-brace : (report : Bool) (k : InHex) (q : Quotes) (from : ℕ) → Eaten (onBrace report k q from i c)
+  slight-brace report closes q from = if-all Slim report (omega arith, omega arith) (omega arith, omega arith)
+  slight-brace report stops q from = (omega arith, omega arith)
+  slight-brace report digit q from = omega arith
 
-  slight-close : (v : CharValue) (q : Quotes) (from to : ℕ) → FineValue Small v → Eaten (closeHex v q from to)
-  slight-close (Scalar x) q from to f = tt
-  slight-close (Wrong e d) q from to f = (omega (arith, f .0), f .1)
+  slight-close : (report : Bool) (v : CharValue) (q : Quotes) (from m to : ℕ) → FineValue Small v → Eaten (closeHex report v q from m to i)
+  slight-close report (Scalar x) q from m to f = tt
+  slight-close report (Wrong e d) q from m to f = (omega (arith, f .0), f .1)
+  slight-close report (WrongAt e d p) q from m to f = if-all Slim report (omega (arith, f .0), f .1) (omega (arith, f .0), f .1)
 
-  slight-hex : (k : InHex) (q : Quotes) (closer from m : ℕ) → Small closer → Eaten (onHex k q closer from m i c)
-  slight-hex closes q closer from m h = slight-close (scalarOf (hexValue (drop m (i .bytes)))) q from _ (fine-scalar Small any (drop m (i .bytes)))
-  slight-hex stops q closer from m h = (omega arith, h)
-  slight-hex digit q closer from m h = h
+  slight-hex : (report : Bool) (k : InHex) (q : Quotes) (closer from m : ℕ) → Small closer → Eaten (onHex report k q closer from m i c)
+  slight-hex report closes q closer from m h =
+      slight-close report (scalarOf (hexValue (drop m (i .bytes)))) q from m _ (fine-scalar Small any (drop m (i .bytes)))
+  slight-hex report stops q closer from m h = (omega arith, h)
+  slight-hex report digit q closer from m h = h
 
   slight-before : (k : InTrim) (q : Quotes) → Eaten (onTrimBefore k q i c)
   slight-before space q = tt
@@ -198,8 +200,8 @@ module _ (i : SoFar) (c : ℕ) (small : Small c) where
   slight-step report (ph.TrimBefore k) h = slight-before (inTrim c) k
   slight-step report (ph.TrimAfter k) h = slight-trim (inTrim c) k
   slight-step report (ph.Escape k from) h = slight-escape (afterBackslash c) k from
-  slight-step report (ph.Brace k from) h = if-all Eaten (eqb c (code "{")) (omega arith) (slight-brace (inHex k (code ";") c) k from)
-  slight-step report (ph.Hex k closer from m) h = slight-hex (inHex k closer c) k closer from m h
+  slight-step report (ph.Brace k from) h = if-all Eaten (eqb c (code "{")) (omega arith) (slight-brace report (inHex k (code ";") c) k from)
+  slight-step report (ph.Hex k closer from m) h = slight-hex report (inHex k closer c) k closer from m h
   slight-step report (ph.Done o) h = tt
 
 pub slight-first : (c : ℕ) → Slight (onFirst (firstOf c))

@@ -62,7 +62,7 @@ module _ (s : Held) where
   gives-stops st last b (i ∷ j ∷ is) = tt
 
   ends-stops : (st : ℕ) (o : Outcome) (b : Beyond) → TurnStops (ends s st o b)
-  ends-stops st o b = gives-stops st (rangeAfter (lastOf s) st o (itemSoFar s)) b (extentItems (report s) (lastOf s) st o (itemSoFar s))
+  ends-stops st o b = gives-stops st (rangeAfter (report s) (lastOf s) st o (itemSoFar s)) b (extentItems (report s) (lastOf s) st o (itemSoFar s))
 
   next-stops : (st c : ℕ) (n : Next) → TurnStops (onNext s st c n)
   next-stops st c (Eat q) = if-all TurnStops (ltb longest (s .marks .len + width c)) (inr (inr refl)) tt

@@ -19,7 +19,7 @@ use native.Mathlib.Omega.{arith}
 module _ (p : Position) (s : ℕ) (what : Outcome) (i : SoFar) where
   -- where reading goes on: past the extent, or at its start again
   abbrev pub past : Position
-  past = moved p (i .at) (rangeAfter (placeIn (p .last)) s what i) false
+  past = moved p (i .at) (rangeAfter (p .report) (placeIn (p .last)) s what i) false
 
   abbrev pub halfway : Position
   halfway = moved p s (placeIn (p .last)) true

@@ -61,23 +61,23 @@ module _ (s : List ℕ) (report : Bool) (at c : ℕ) (cs : List ℕ) (here : cha
   extent-fine : Fine Any (length s) (r .item .bytes) (r .what)
   extent-fine = read-fine Any any (length s) report at c cs (char-inside s at c cs here) (every-any Any (λ d. tt) (c ∷ cs))
 
-  pub extent-made : Made Any at (r .item .at) (meaningOf (r .what) at (r .item .at) (r .item .bytes))
+  pub extent-made : Made Any at (r .item .at) (meaningOf report (r .what) at (r .item .at) (r .item .bytes))
   extent-made =
-      made Any any at (r .item .at) (r .item .bytes) (read-at report at c cs) (omega (arith, read-longer report at c cs, wide c)) (length s) (r .what)
+      made Any any at (r .item .at) (r .item .bytes) (read-at report at c cs) (omega (arith, read-longer report at c cs, wide c)) report (length s) (r .what)
       extent-fine
 
-  pub extent-fits : (free : ℕ) → length s < 2 ^ 32 → free ≤ at → ExtentFits free at (r .item .bytes) (r .what)
+  pub extent-fits : (free : ℕ) → length s < 2 ^ 32 → free ≤ at → ExtentFits report free at (r .item .bytes) (r .what)
   extent-fits free short behind =
       let f = fine-error (length s) (r .item .bytes) (r .what) extent-fine in
       let e : r .item .at ≡ at + length (r .item .bytes) = read-at report at c cs in
       let l : Left s at r = left-here s report at c cs here in
-      let t : TextsFit free (meaningOf (r .what) at (r .item .at) (r .item .bytes)) =
-      texts-fit free at (r .item .at) (omega (arith, l .inside)) behind (meaningOf (r .what) at (r .item .at) (r .item .bytes)) (extent-made .meant) in
+      let t : TextsFit free (meaningOf report (r .what) at (r .item .at) (r .item .bytes)) =
+      texts-fit free at (r .item .at) (omega (arith, l .inside)) behind (meaningOf report (r .what) at (r .item .at) (r .item .bytes)) (extent-made .meant) in
       record {
         some = omega (arith, read-longer report at c cs, wide c);
         short = omega (arith, e, l .inside);
         error = f .0;
         from = omega (arith, f .1);
         to = omega (arith, f .2);
-        texts = subst (λ (x : ℕ). TextsFit free (meaningOf (r .what) at x (r .item .bytes))) e t;
+        texts = subst (λ (x : ℕ). TextsFit free (meaningOf report (r .what) at x (r .item .bytes))) e t;
       }

@@ -44,7 +44,7 @@ fits-two free (x ∷ []) m n e h = let z : _≡_ {A = ℕ} 0 1 = cc in absurd (o
 fits-two free (x ∷ y ∷ l) m n e h = let z : m ≡ sized x = cc in let w : n ≡ sized y = cc in (rw z (h .0), rw w (h .1 .0))
 
 packed-is : (free : ℕ) (report : Bool) (last : Place) (s e k d : ℕ) (t : Text)
-    → recordFor free (sized (means k d t)) (rangeOf (range s e)) (rangeOf (placeOf false k last (range s e))) ≡ packed free (itemOf report last s e (means k d t))
+    → recordFor free (sized (means k d t)) (rangeOf (range s e)) (rangeOf (placeOf report k last (range s e))) ≡ packed free (itemOf report last s e (means k d t))
 packed-is free report last s e k d none = refl
 packed-is free report last s e k d (source a b) = refl
 packed-is free report last s e k d (decoded bs) = refl
@@ -54,18 +54,18 @@ module _ (free : ℕ) (p : Position) (start : ℕ) (what : Outcome) (raw : List 
   end = start + length raw
 
   abbrev after : Place
-  after = rangeAfter (placeIn (p .last)) start what (soFar raw end)
+  after = rangeAfter (p .report) (placeIn (p .last)) start what (soFar raw end)
 
   -- the range that an error's place is taken from
   abbrev shown : Place
-  shown = rangeAfter (standing (p .report) (placeIn (p .last))) start what (soFar raw end)
+  shown = rangeAfter (p .report) (standing (p .report) (placeIn (p .last))) start what (soFar raw end)
 
   abbrev extent : Range
   extent = rangeOf (range start end)
 
   -- what the code makes of a meaning
   abbrev made : Means → Range → Position → Found
-  made m last q = One (recordFor free m extent (rangeOf (placeOf false (m .kind) (placeIn last) (placeIn extent)))) q
+  made m last q = One (recordFor free m extent (rangeOf (placeOf (p .report) (m .kind) (placeIn last) (placeIn extent)))) q
 
   made-is : (x : Meaning) (m : Means) (last : Range) (q : Position) → sized x ≡ m → last ≡ rangeOf shown
       → made m last q ≡ One (packed free (itemOf (p .report) shown start end x)) q
@@ -80,22 +80,22 @@ module _ (free : ℕ) (p : Position) (start : ℕ) (what : Outcome) (raw : List 
   abbrev picked : List Meaning → Turn
   picked l = pick (p .second) (moved p start (placeIn (p .last)) true) (moved p end after false) (itemsOf (p .report) shown start end l)
 
-  turn-of : (l : List Meaning) → meaningOf what start end raw ≡ l → turnOf p start what (soFar raw end) ≡ picked l
+  turn-of : (l : List Meaning) → meaningOf (p .report) what start end raw ≡ l → turnOf p start what (soFar raw end) ≡ picked l
   unfolding extentItems
   turn-of l f = ap picked f
 
   module _ (set last : Range) (g : set ≡ rangeOf shown) (l : last ≡ rangeOf after) (r : Found) (q : Position) where
-    pub found-one : (m : Means) → m ∷ [] ≡ sizedAll (meaningOf what start end raw) → r ≡ made m set q → q ≡ moved p end (placeIn last) false
+    pub found-one : (m : Means) → m ∷ [] ≡ sizedAll (meaningOf (p .report) what start end raw) → r ≡ made m set q → q ≡ moved p end (placeIn last) false
         → r ≡ foundOf free (turnOf p start what (soFar raw end))
     found-one m e h u =
-        let x = one-meant (meaningOf what start end raw) m e in
+        let x = one-meant (meaningOf (p .report) what start end raw) m e in
         let v : q ≡ moved p end after false = u ∙ ap (λ (y : Range). moved p end (placeIn y) false) l in
         h ∙ made-is (x .0) m set q (x .1 .1) g ∙ ap (One (packed free (item (x .0)))) v ∙ sym (ap (foundOf free) (turn-of (x .0 ∷ []) (x .1 .0)))
 
-    module _ (m n : Means) (e : m ∷ n ∷ [] ≡ sizedAll (meaningOf what start end raw)) where
+    module _ (m n : Means) (e : m ∷ n ∷ [] ≡ sizedAll (meaningOf (p .report) what start end raw)) where
       pub found-second : p .second ≡ true → r ≡ made n set q → q ≡ moved p end (placeIn last) false → r ≡ foundOf free (turnOf p start what (soFar raw end))
       found-second b h u =
-          let x = two-meant (meaningOf what start end raw) m n e in
+          let x = two-meant (meaningOf (p .report) what start end raw) m n e in
           let v : q ≡ moved p end after false = u ∙ ap (λ (y : Range). moved p end (placeIn y) false) l in
           let t : picked (x .0 ∷ x .1 .0 ∷ []) ≡ gives (item (x .1 .0)) (moved p end after false) = rw b in
           h ∙ made-is (x .1 .0) n set q (x .1 .1 .1 .1) g ∙ ap (One (packed free (item (x .1 .0)))) v
@@ -103,7 +103,7 @@ module _ (free : ℕ) (p : Position) (start : ℕ) (what : Outcome) (raw : List 
 
       pub found-first : p .second ≡ false → r ≡ made m set q → q ≡ moved p start (placeIn (p .last)) true → r ≡ foundOf free (turnOf p start what (soFar raw end))
       found-first b h u =
-          let x = two-meant (meaningOf what start end raw) m n e in
+          let x = two-meant (meaningOf (p .report) what start end raw) m n e in
           let t : picked (x .0 ∷ x .1 .0 ∷ []) ≡ gives (item (x .0)) (moved p start (placeIn (p .last)) true) = rw b in
           h ∙ made-is (x .0) m set q (x .1 .1 .1 .0) g ∙ ap (One (packed free (item (x .0)))) u
           ∙ sym (ap (foundOf free) (turn-of (x .0 ∷ x .1 .0 ∷ []) (x .1 .1 .0) ∙ t))

@@ -6,9 +6,9 @@ use Rattle.chars.specs.Encode.{width}
 use Rattle.items.specs.Kinds as kind
 use Rattle.items.specs.Classes.{firstOf}
 use Rattle.items.specs.Machine.{onFirst, scanOf}
-use Rattle.items.specs.Readers.{soFar}
+use Rattle.items.specs.Readers.{SoFar, soFar}
 use Rattle.items.specs.Meaning.{meaningOf}
-use Rattle.items.specs.Items.{range, standing, placeOf}
+use Rattle.items.specs.Items.{Place, range, rangeAfter, standing, placeOf}
 use Rattle.items.specs.Whole.{limit}
 use Rattle.items.specs.declared.Outcome.{Outcome}
 use Rattle.items.specs.declared.Phase.{Phase}
@@ -85,24 +85,28 @@ module _ (s : List ℕ) (report skip : Bool) (a e : ℕ) (m : Means) (G : Glance
 
   pub glance-fits : (free : ℕ) → length s ≤ limit → free ≤ a → TextFits free (m .text)
   glance-fits free h k =
-      fits-one free (meaningOf (G .what) a (a + length (part s a e)) (part s a e)) m (G .alone .means)
+      fits-one free (meaningOf report (G .what) a (a + length (part s a e)) (part s a e)) m (G .alone .means report)
       (scan-fits s report a (G .begins .c) (a + 1) F x scan-first free (omega arith) k .texts)
 
   -- the place of the item
   abbrev pub spot : Position → Range
-  spot p = rangeOf (placeOf false (m .kind) (standing (p .report) (placeIn (p .last))) (range a e))
+  spot p = rangeOf (placeOf (p .report) (m .kind) (standing (p .report) (placeIn (p .last))) (range a e))
 
   abbrev made : ℕ → Position → Found
   made free p = One (recordFor free m extent (spot p)) (moved p e (placeIn (p .last)) false)
+
+  -- the item sets no range
+  quiet-in : (p : Position) → p .report ≡ report → (last : Place) (i : SoFar) → rangeAfter (p .report) last a (G .what) i ≡ last
+  quiet-in p u last i = rw u (G .quiet last i)
 
   turn-told : (free : ℕ) (p : Position) → p .report ≡ report
       → made free p ≡ foundOf free (turnAt p a (G .begins .c) (chars (drop (a + 1) s)))
   turn-told free p u =
       found-is s report a (G .begins .c) (a + 1) F x scan-first free p (made free p) u
       (found-one free p a (G .what) (part s a e) (rangeOf (standing (p .report) (placeIn (p .last)))) (p .last)
-      (sym (ap rangeOf (G .quiet (standing (p .report) (placeIn (p .last))) _)))
-      (sym (ap rangeOf (G .quiet (placeIn (p .last)) _)))
-      (made free p) (moved p e (placeIn (p .last)) false) m (G .alone .means)
+      (sym (ap rangeOf (quiet-in p u (standing (p .report) (placeIn (p .last))) _)))
+      (sym (ap rangeOf (quiet-in p u (placeIn (p .last)) _)))
+      (made free p) (moved p e (placeIn (p .last)) false) m (G .alone .means (p .report))
       (rw ends-there)
       (rw ends-there))
 

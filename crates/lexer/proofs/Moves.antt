@@ -52,7 +52,7 @@ module _ (s : List ℕ) (report : Bool) (last : Place) (at c : ℕ) (cs : List �
   r = readItem report at c cs
 
   abbrev after : Place
-  after = rangeAfter (standing report last) at (r .what) (r .item)
+  after = rangeAfter report (standing report last) at (r .what) (r .item)
 
   wholes : (ms : List Meaning) → Every (Meant Any at (r .item .at)) ms → Every (Spelled (r .item .bytes)) ms
       → Every (Whole s) (itemsOf report after at (r .item .at) ms)
@@ -71,8 +71,8 @@ module _ (s : List ℕ) (report : Bool) (last : Place) (at c : ℕ) (cs : List �
   pub extent-whole : Every (Whole s) (extentItems report last at (r .what) (r .item))
   unfolding extentItems
   extent-whole =
-      wholes (meaningOf (r .what) at (r .item .at) (r .item .bytes)) (extent-made s report at c cs here .meant)
-      (spelled at (r .item .at) (r .item .bytes) (r .what))
+      wholes (meaningOf report (r .what) at (r .item .at) (r .item .bytes)) (extent-made s report at c cs here .meant)
+      (spelled at (r .item .at) (r .item .bytes) report (r .what))
 
 -- every item of an extent has its end, and only a lone one has decoded text
 module _ (report : Bool) (last : Place) (s : ℕ) (what : Outcome) (i : SoFar) where
@@ -82,7 +82,7 @@ module _ (report : Bool) (last : Place) (s : ℕ) (what : Outcome) (i : SoFar) w
 
   pub extent-ends : Every (λ (x : Item). (x .start ≡ s) × (x .end ≡ i .at)) (extentItems report last s what i)
   unfolding extentItems
-  extent-ends = same-ends (meaningOf what s (i .at) (i .bytes)) (rangeAfter (standing report last) s what i)
+  extent-ends = same-ends (meaningOf report what s (i .at) (i .bytes)) (rangeAfter report (standing report last) s what i)
 
 -- ---- a turn
 

@@ -66,10 +66,10 @@ module _ (s : List ℕ) (report : Bool) (at c next : ℕ) (F : inner.First s at 
     bytes-are =
         ap (part s at) (ap (λ (y : Scanned). y .end) scan-is) ∙ sym (left-here s report at c (chars (drop next s)) (F .first) .bytes)
 
-    pub scan-fits : (free : ℕ) → length s < 2 ^ 32 → free ≤ at → ExtentFits free at (part s at (x .end)) (x .what)
+    pub scan-fits : (free : ℕ) → length s < 2 ^ 32 → free ≤ at → ExtentFits report free at (part s at (x .end)) (x .what)
     scan-fits free h k =
-        subst (λ (l : List ℕ). ExtentFits free at l (x .what)) (sym bytes-are)
-        (subst (λ (o : Outcome). ExtentFits free at (it .item .bytes) o) (sym (ap (λ (y : Scanned). y .what) scan-is))
+        subst (λ (l : List ℕ). ExtentFits report free at l (x .what)) (sym bytes-are)
+        (subst (λ (o : Outcome). ExtentFits report free at (it .item .bytes) o) (sym (ap (λ (y : Scanned). y .what) scan-is))
         (extent-fits s report at c (chars (drop next s)) (F .first) free h k))
 
     item-is : (p : Position) → p .report ≡ report

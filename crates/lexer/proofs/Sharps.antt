@@ -86,7 +86,7 @@ module _ (s : List ℕ) (at : ℕ) (S : Sharp s at) where
       begins = sign-begins;
       scan = h;
       quiet = λ last i. refl;
-      alone = record { means = refl; undecoded = tt };
+      alone = record { means = λ r. refl; undecoded = tt };
       kept = and-false skip (eqb k kind.Comment) other;
     },
   )

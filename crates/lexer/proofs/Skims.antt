@@ -107,12 +107,12 @@ module _ (at : ℕ) (raw : List ℕ) (n : firstIs (code "+") raw ≡ false) wher
   run-sole (parsed.Is q) f = let t = run-tells at (at + length raw) raw refl q f in (means kind.Number 0 Nowhere, (t .4, t .2))
   run-sole parsed.NoNumber f =
       let w = word-sole in
-      (w .0, (record { means = rw f (w .1 .0 .means); undecoded = w .1 .0 .undecoded }, w .1 .1))
-  run-sole parsed.ZeroDenominator f = (means (kind.firstError + kind.ZeroDenominator) 0 Nowhere, (record { means = rw f; undecoded = tt }, refl))
+      (w .0, (record { means = λ r. rw f (w .1 .0 .means r); undecoded = w .1 .0 .undecoded }, w .1 .1))
+  run-sole parsed.ZeroDenominator f = (means (kind.firstError + kind.ZeroDenominator) 0 Nowhere, (record { means = λ r. rw f; undecoded = tt }, refl))
 
 module _ (s : List ℕ) (report skip : Bool) (at : ℕ) (short : length s ≤ limit) where
   sole-skims : (o : Outcome) (p : Phase) (e : ℕ) → Begins s at p → record { what = o; end = e } ≡ answer s report at p (at + 1)
-      → ((last : Place) (i : SoFar) → rangeAfter last at o i ≡ last) → Sole o at (part s at e) → SkimAt s report skip at (ending.At e)
+      → ((last : Place) (i : SoFar) → rangeAfter report last at o i ≡ last) → Sole o at (part s at e) → SkimAt s report skip at (ending.At e)
   sole-skims o p e B h quiet S =
       (S .0, record { what = o; phase = p; begins = B; scan = h; quiet = quiet; alone = S .1 .0; kept = and-false skip (eqb (S .0 .kind) kind.Comment) (S .1 .1) })
 

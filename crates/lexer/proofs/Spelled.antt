@@ -6,7 +6,7 @@ use Rattle.items.specs.Items.{Place, Item, itemsOf, rangeAfter, standing, exten
 use Rattle.items.specs.declared.Outcome.{Outcome}
 use Rattle.items.specs.declared.Outcome.the-variants.{Token, Str, HereStr, Word, Run, Lined, Keyword, Character, Error, ErrorAt}
 use Rattle.items.specs.declared.CharValue.{CharValue}
-use Rattle.items.specs.declared.CharValue.the-variants.{Scalar, Wrong}
+use Rattle.items.specs.declared.CharValue.the-variants.{Scalar, Wrong, WrongAt}
 use Rattle.items.specs.declared.Quotes.the-variants.{Lines}
 use Rattle.items.proofs.Every.{Every}
 use Rattle.numbers.specs.Grammar.{parseNumber}
@@ -56,19 +56,20 @@ module _ (s e : ℕ) (raw : List ℕ) where
   spelled-character : (v : CharValue) → All (characterMeans v)
   spelled-character (Scalar c) = (tt, tt)
   spelled-character (Wrong n d) = (tt, tt)
+  spelled-character (WrongAt n d p) = (tt, tt)
 
-  pub spelled : (o : Outcome) → All (meaningOf o s e raw)
+  pub spelled : (report : Bool) (o : Outcome) → All (meaningOf report o s e raw)
   unfolding hereText
-  spelled (Token k d) = (tt, tt)
-  spelled Str = (spelled-string, tt)
-  spelled HereStr = (tt, tt)
-  spelled Word = spelled-word
-  spelled Run = spelled-run (parseNumber raw)
-  spelled Lined = (spelled-lined, tt)
-  spelled Keyword = (tt, tt)
-  spelled Character = spelled-character (characterOf (charInside raw))
-  spelled (Error n d) = (tt, tt)
-  spelled (ErrorAt n d a b) = (tt, tt)
+  spelled report (Token k d) = (tt, tt)
+  spelled report Str = (spelled-string, tt)
+  spelled report HereStr = (tt, tt)
+  spelled report Word = spelled-word
+  spelled report Run = spelled-run (parseNumber raw)
+  spelled report Lined = (spelled-lined, tt)
+  spelled report Keyword = (tt, tt)
+  spelled report Character = spelled-character (characterOf report (charInside raw))
+  spelled report (Error n d) = (tt, tt)
+  spelled report (ErrorAt n d a b) = (tt, tt)
 
 -- ---- of two items of one extent, the first has no decoded text
 
@@ -91,18 +92,19 @@ module _ (s e : ℕ) (raw : List ℕ) where
   fronts-character : (v : CharValue) → Fronts (characterMeans v)
   fronts-character (Scalar c) = tt
   fronts-character (Wrong n d) = tt
+  fronts-character (WrongAt n d p) = tt
 
-  fronts : (o : Outcome) → Fronts (meaningOf o s e raw)
-  fronts (Token k d) = tt
-  fronts Str = tt
-  fronts HereStr = tt
-  fronts Word = fronts-word
-  fronts Run = fronts-run (parseNumber raw)
-  fronts Lined = tt
-  fronts Keyword = tt
-  fronts Character = fronts-character (characterOf (charInside raw))
-  fronts (Error n d) = tt
-  fronts (ErrorAt n d a b) = tt
+  fronts : (report : Bool) (o : Outcome) → Fronts (meaningOf report o s e raw)
+  fronts report (Token k d) = tt
+  fronts report Str = tt
+  fronts report HereStr = tt
+  fronts report Word = fronts-word
+  fronts report Run = fronts-run (parseNumber raw)
+  fronts report Lined = tt
+  fronts report Keyword = tt
+  fronts report Character = fronts-character (characterOf report (charInside raw))
+  fronts report (Error n d) = tt
+  fronts report (ErrorAt n d a b) = tt
 
 abbrev FrontBare : List Item → Type 0
 FrontBare [] = Unit {0}
@@ -117,4 +119,4 @@ bare-items report last s e (m ∷ n ∷ ms) h = h
 pub front-bare : (report : Bool) (last : Place) (s : ℕ) (o : Outcome) (i : SoFar) {x y : Item} → extentItems report last s o i ≡ x ∷ y ∷ [] → memoryOf (x .text) ≡ []
 unfolding extentItems
 front-bare report last s o i e =
-    subst FrontBare e (bare-items report (rangeAfter (standing report last) s o i) s (i .at) (meaningOf o s (i .at) (i .bytes)) (fronts s (i .at) (i .bytes) o))
+    subst FrontBare e (bare-items report (rangeAfter report (standing report last) s o i) s (i .at) (meaningOf report o s (i .at) (i .bytes)) (fronts s (i .at) (i .bytes) report o))

@@ -94,7 +94,7 @@ single-told s report skip at c k d h e l b f fine other = (
     begins = begins s at c (ph.Done (Token k d)) h e l b f;
     scan = done-scan report (Token k d) (soFar (part s at (at + 1)) (at + 1)) (chars (drop (at + 1) s));
     quiet = λ last i. refl;
-    alone = record { means = refl; undecoded = tt };
+    alone = record { means = λ r. refl; undecoded = tt };
     kept = and-false skip (eqb k kind.Comment) other;
   },
 )
@@ -126,7 +126,7 @@ module _ (s : List ℕ) (report : Bool) (at e : ℕ) (o : Outcome) (p : Phase) (
       let l : length (part s at e) ≡ e - at = length-take (e - at) (drop at s) ∙ omega (arith, length-drop at s) in
       record { some = omega (arith, f .some); inside = i .1; long = omega arith }
 
-  pub ended-told : length s ≤ limit → ((last : Place) (i : SoFar) → rangeAfter last at o i ≡ last) → (q : Quick) → Tells o at (part s at e) q
+  pub ended-told : length s ≤ limit → ((last : Place) (i : SoFar) → rangeAfter report last at o i ≡ last) → (q : Quick) → Tells o at (part s at e) q
       → (skip : Bool) → GlanceAt s report skip at q
   ended-told short quiet Other t skip = tt
   ended-told short quiet (Item m a f) t skip =
@@ -156,7 +156,7 @@ line-told s report skip at e k B h = (
     begins = B;
     scan = h;
     quiet = λ last i. refl;
-    alone = record { means = refl; undecoded = tt };
+    alone = record { means = λ r. refl; undecoded = tt };
     kept = rw k;
   },
 )
@@ -173,18 +173,18 @@ from-there s report skip from at w (Item m a e) t =
 module _ (at e : ℕ) (raw : List ℕ) (long : e ≡ at + length raw) where
   pub string-tells : escaped raw ≡ false → Tells Str at raw (Item (means kind.StringLiteral 0 (Source (at + 1) (e - 1))) at e)
   unfolding stringText
-  string-tells f = (refl, long, refl, omega arith, record { means = rw (long, f); undecoded = tt })
+  string-tells f = (refl, long, refl, omega arith, record { means = λ r. rw (long, f); undecoded = tt })
 
   pub run-tells : (p : Parts) → parseNumber raw ≡ parsed.Is p → Tells Run at raw (Item (means kind.Number 0 Nowhere) at e)
   unfolding runMeans
-  run-tells p f = (refl, long, refl, omega arith, record { means = rw f; undecoded = tt })
+  run-tells p f = (refl, long, refl, omega arith, record { means = λ r. rw f; undecoded = tt })
 
   pub identifier-tells : firstIs (code "+") raw ≡ false → wordKind raw ≡ kind.Identifier
       → Tells Word at raw (Item (means kind.Identifier 0 (Source at e)) at e)
   unfolding wordMeans
-  identifier-tells f k = (refl, long, refl, omega arith, record { means = rw (long, k, f); undecoded = tt })
+  identifier-tells f k = (refl, long, refl, omega arith, record { means = λ r. rw (long, k, f); undecoded = tt })
 
   pub word-tells : (k : ℕ) → wordKind raw ≡ k → eqb k kind.Identifier ≡ false → k < kind.firstError → eqb k kind.Comment ≡ false
       → Tells Word at raw (Item (means k 0 Nowhere) at e)
   unfolding wordMeans
-  word-tells k f i fine other = (refl, long, other, fine, record { means = rw (f, i); undecoded = tt })
+  word-tells k f i fine other = (refl, long, other, fine, record { means = λ r. rw (f, i); undecoded = tt })

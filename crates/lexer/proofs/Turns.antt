@@ -27,7 +27,7 @@ itemsOn report last at cs = itemsFrom report (length cs) last at cs
 abbrev pub extentThen : Bool → Place → ℕ → ℕ → List ℕ → List Item
 extentThen report last a c cs =
     let r : Read = readItem report a c cs in
-    extentItems report last a (r .what) (r .item) ++ itemsOn report (rangeAfter last a (r .what) (r .item)) (r .item .at) (r .rest)
+    extentItems report last a (r .what) (r .item) ++ itemsOn report (rangeAfter report last a (r .what) (r .item)) (r .item .at) (r .rest)
 
 -- c at a is the first that is no blank of the characters cs from `at` on, and n is the place past it
 pub record Started (s : List ℕ) (at : ℕ) (cs : List ℕ) (c a n : ℕ) : Type 0 where

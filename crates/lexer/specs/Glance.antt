@@ -60,7 +60,7 @@ Undecoded (Decoded n) = ⊥
 
 -- the one meaning of an extent, with no decoded text
 pub record Alone (what : Outcome) (at : ℕ) (raw : List ℕ) (m : Means) : Type 0 where
-  pub means : m ∷ [] ≡ sizedAll (meaningOf what at (at + length raw) raw)
+  pub means : (report : Bool) → m ∷ [] ≡ sizedAll (meaningOf report what at (at + length raw) raw)
   pub undecoded : Undecoded (m .text)
 
 -- what the outcome and the bytes of an extent that is no comment and no error tell quickly
@@ -74,7 +74,7 @@ pub record Glanced (s : List ℕ) (report skip : Bool) (a e : ℕ) (m : Means) :
   pub phase : Phase
   pub begins : Begins s a phase
   pub scan : record { what = what; end = e } ≡ answer s report a phase (a + 1)
-  pub quiet : (last : Place) (i : SoFar) → rangeAfter last a what i ≡ last
+  pub quiet : (last : Place) (i : SoFar) → rangeAfter report last a what i ≡ last
   pub alone : Alone what a (part s a e) m
   pub kept : (skip && eqb (m .kind) kind.Comment) ≡ false
 

@@ -1,7 +1,7 @@
 -- What inner functions of the reader ask of their callers, so that every number fits its word.
 use Prim.Native.Nat.{ℕ, _+_, _-_, _^_, _≤_, _<_}
 use mathlib.Core.Path.{_≡_}
-use mathlib.Core.Bool.{false}
+use mathlib.Core.Bool.{Bool, false}
 use mathlib.Core.List.{List, [], _∷_}
 use lib.ListN.{length, take, drop}
 use lib.Dec.{eqb}
@@ -27,13 +27,13 @@ TextsFit free [] = Unit
 TextsFit free (m ∷ ms) = TextFits free (sizedText (m .text)) × TextsFit free ms
 
 -- an extent that starts at a place, with its bytes and its outcome
-pub record ExtentFits (free start : ℕ) (raw : List ℕ) (what : Outcome) : Type 0 where
+pub record ExtentFits (report : Bool) (free start : ℕ) (raw : List ℕ) (what : Outcome) : Type 0 where
   pub some : 0 < length raw
   pub short : start + length raw < 2 ^ 32
   pub error : errorOf what ≤ lastError
   pub from : reachFrom what < 2 ^ 32
   pub to : reach what < 2 ^ 32
-  pub texts : TextsFit free (meaningOf what start (start + length raw) raw)
+  pub texts : TextsFit free (meaningOf report what start (start + length raw) raw)
 
 -- the character c, which is no blank, stands at a place, and `next` is the place past it
 pub record First (source : List ℕ) (at c next : ℕ) : Type 0 where

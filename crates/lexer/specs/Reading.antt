@@ -41,7 +41,7 @@ pick second stay past (i ∷ (j ∷ is)) = if second then gives j past else give
 abbrev pub turnOf : Position → ℕ → Outcome → SoFar → Turn
 turnOf p s what i =
     pick (p .second) (moved p s (placeIn (p .last)) true)
-    (moved p (i .at) (rangeAfter (placeIn (p .last)) s what i) false)
+    (moved p (i .at) (rangeAfter (p .report) (placeIn (p .last)) s what i) false)
     (extentItems (p .report) (placeIn (p .last)) s what i)
 
 -- what the extent gives that starts at the place `at` with the character c

@@ -160,19 +160,19 @@ pub fn stand(p: Position, at: usize, second: bool) -> Position
 }
 
 // The item of a meaning, and the position after it.
-fn one(m: Means, extent: Range, last: Range, free: usize, after: Position) -> Found
+fn one(report: bool, m: Means, extent: Range, last: Range, free: usize, after: Position) -> Found
     requires { ⌜ TextFits free (m .text) ⌝ }
-    ensures { λ r. ⌜ r ≡ One (recordFor free m extent (rangeOf (placeOf false (m .kind) (placeIn last) (placeIn extent)))) after ⌝ }
+    ensures { λ r. ⌜ r ≡ One (recordFor free m extent (rangeOf (placeOf report (m .kind) (placeIn last) (placeIn extent)))) after ⌝ }
 {
     Found::One(
-        record_of(m, extent, place(m.kind, last, extent), free),
+        record_of(m, extent, place(report, m.kind, last, extent), free),
         after,
     )
 }
 
 // What an extent gives, by its outcome, its first place and its bytes.
 fn found(p: Position, free: usize, start: usize, what: Outcome, raw: &[u8]) -> Found
-    requires { ⌜ ExtentFits free start (now raw) what ⌝ }
+    requires { ⌜ ExtentFits (p .report) free start (now raw) what ⌝ }
     ensures { λ r. ⌜ r ≡ foundOf free (turnOf p start what (soFar (now (raw .entry)) (start + length (now (raw .entry))))) ⌝ }
 {
     let end = start + raw.len();
@@ -182,14 +182,14 @@ fn found(p: Position, free: usize, start: usize, what: Outcome, raw: &[u8]) -> F
     };
     let before = p.last;
     let shown = range_shown(p.report, before, what, extent, raw);
-    let last = range_after(before, what, extent, raw);
-    match meaning(what, start, raw) {
-        Meant::One(m) => one(m, extent, shown, free, past(p, end, last)),
+    let last = range_after(p.report, before, what, extent, raw);
+    match meaning(p.report, what, start, raw) {
+        Meant::One(m) => one(p.report, m, extent, shown, free, past(p, end, last)),
         Meant::Two(m, n) => {
             if p.second {
-                one(n, extent, shown, free, past(p, end, last))
+                one(p.report, n, extent, shown, free, past(p, end, last))
             } else {
-                one(m, extent, shown, free, stand(p, start, true))
+                one(p.report, m, extent, shown, free, stand(p, start, true))
             }
         }
     }

@@ -18,7 +18,7 @@ use Rattle.items.specs.declared.Quotes.the-variants.{Lines}
 use Rattle.items.specs.declared.Outcome.{Outcome}
 use Rattle.items.specs.declared.Outcome.the-variants.{Token, Str, HereStr, Word, Run, Lined, Keyword, Character, Error, ErrorAt}
 use Rattle.items.specs.declared.CharValue.{CharValue}
-use Rattle.items.specs.declared.CharValue.the-variants.{Scalar, Wrong}
+use Rattle.items.specs.declared.CharValue.the-variants.{Scalar, Wrong, WrongAt}
 use Rattle.meaning.specs.Meant.{sizedText}
 use Rattle.meaning.specs.Counts.{sum, counted, countOf, tokenCount, memoryFor, wordItems, runItems}
 use Rattle.meaning.specs.declared.Counted.{Counted}
@@ -122,6 +122,7 @@ error-weighed skip n d = kept-one skip (kind.firstError + n) d none (ne-eqb (kin
 character-weighed : (skip : Bool) (v : CharValue) → weigh skip (characterMeans v) ≡ sum 1 0
 character-weighed skip (Scalar c) = kept-one skip kind.CharacterLiteral c none refl
 character-weighed skip (Wrong n d) = error-weighed skip n d
+character-weighed skip (WrongAt n d p) = error-weighed skip n d
 
 -- ---- every outcome
 
@@ -137,23 +138,23 @@ weight Character skip raw = sum 1 0
 weight (Error n d) skip raw = sum 1 0
 weight (ErrorAt n d a b) skip raw = sum 1 0
 
-meaning-weighed : (o : Outcome) (skip : Bool) (s e : ℕ) (raw : List ℕ) → weigh skip (meaningOf o s e raw) ≡ weight o skip raw
+meaning-weighed : (report : Bool) (o : Outcome) (skip : Bool) (s e : ℕ) (raw : List ℕ) → weigh skip (meaningOf report o s e raw) ≡ weight o skip raw
 unfolding hereText
-meaning-weighed (Token k d) skip s e raw = refl
-meaning-weighed Str skip s e raw = kept-one skip kind.StringLiteral 0 (stringText s e raw) refl ∙ ap (sum 1) (string-memory s e raw)
-meaning-weighed HereStr skip s e raw = kept-one skip kind.StringLiteral 0 (hereText s e raw) refl
-meaning-weighed Word skip s e raw = word-weighed skip s e raw
-meaning-weighed Run skip s e raw = run-weighed skip s e raw (parseNumber raw)
-meaning-weighed Lined skip s e raw = kept-one skip kind.Identifier 0 (linedText s e raw) refl ∙ ap (sum 1) (lined-memory s e raw)
-meaning-weighed Keyword skip s e raw = kept-one skip kind.Keyword 0 (source s e) refl
-meaning-weighed Character skip s e raw = character-weighed skip (characterOf (charInside raw))
-meaning-weighed (Error n d) skip s e raw = error-weighed skip n d
-meaning-weighed (ErrorAt n d a b) skip s e raw = error-weighed skip n d
+meaning-weighed report (Token k d) skip s e raw = refl
+meaning-weighed report Str skip s e raw = kept-one skip kind.StringLiteral 0 (stringText s e raw) refl ∙ ap (sum 1) (string-memory s e raw)
+meaning-weighed report HereStr skip s e raw = kept-one skip kind.StringLiteral 0 (hereText s e raw) refl
+meaning-weighed report Word skip s e raw = word-weighed skip s e raw
+meaning-weighed report Run skip s e raw = run-weighed skip s e raw (parseNumber raw)
+meaning-weighed report Lined skip s e raw = kept-one skip kind.Identifier 0 (linedText s e raw) refl ∙ ap (sum 1) (lined-memory s e raw)
+meaning-weighed report Keyword skip s e raw = kept-one skip kind.Keyword 0 (source s e) refl
+meaning-weighed report Character skip s e raw = character-weighed skip (characterOf report (charInside raw))
+meaning-weighed report (Error n d) skip s e raw = error-weighed skip n d
+meaning-weighed report (ErrorAt n d a b) skip s e raw = error-weighed skip n d
 
 extent-weighed : (report skip : Bool) (last : Place) (s : ℕ) (o : Outcome) (i : SoFar) → counted (kept skip (extentItems report last s o i)) ≡ weight o skip (i .bytes)
 unfolding extentItems
 extent-weighed report skip last s o i =
-    weighed report skip (rangeAfter (standing report last) s o i) s (i .at) (meaningOf o s (i .at) (i .bytes)) ∙ meaning-weighed o skip s (i .at) (i .bytes)
+    weighed report skip (rangeAfter report (standing report last) s o i) s (i .at) (meaningOf report o s (i .at) (i .bytes)) ∙ meaning-weighed report o skip s (i .at) (i .bytes)
 
 pub count-is : (o : Outcome) (skip : Bool) (raw : List ℕ) → weight o skip raw ≡ countOf o skip raw
 unfolding countOf

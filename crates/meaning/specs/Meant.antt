@@ -54,4 +54,4 @@ errorOf (Error n d) = n
 errorOf (ErrorAt n d a b) = n
 
 abbrev pub lastError : ℕ
-lastError = kind.InvalidHexCodePoint
+lastError = kind.lastError

@@ -24,6 +24,7 @@ mod quoted;
 pub mod records;
 
 use characters::character;
+use characters::failing::rest;
 use items::CharValue;
 use items::kinds::CHARACTER_LITERAL;
 use items::kinds::FIRST_ERROR;
@@ -34,7 +35,6 @@ use items::kinds::STRING_LITERAL;
 use items::kinds::ZERO_DENOMINATOR;
 use quoted::here_text;
 use quoted::lined_text;
-use quoted::rest;
 use quoted::string_text;
 
 const NO_DETAIL: u32 = 0;
@@ -150,19 +150,20 @@ fn run(start: usize, end: usize, raw: &[u8]) -> Meant
 }
 
 // What a character's extent holds.
-fn character_item(raw: &[u8]) -> Meant
-    ensures { λ r. ⌜ meant r ≡ sizedAll (characterMeans (characterOf (charInside (now (raw .entry))))) ⌝ }
+fn character_item(report: bool, raw: &[u8]) -> Meant
+    ensures { λ r. ⌜ meant r ≡ sizedAll (characterMeans (characterOf report (charInside (now (raw .entry))))) ⌝ }
 {
-    match character(rest(raw, CHARACTER_MARK)) {
+    match character(report, rest(raw, CHARACTER_MARK)) {
         CharValue::Scalar(c) => one(CHARACTER_LITERAL, c, Text::Nowhere),
         CharValue::Wrong(error, detail) => one(FIRST_ERROR + error, detail, Text::Nowhere),
+        CharValue::WrongAt(error, detail, _at) => one(FIRST_ERROR + error, detail, Text::Nowhere),
     }
 }
 
 // The items of an extent, by its outcome, its first place and its bytes.
-pub fn meaning(what: Outcome, start: usize, raw: &[u8]) -> Meant
+pub fn meaning(report: bool, what: Outcome, start: usize, raw: &[u8]) -> Meant
     requires { ⌜ (0 < length (now raw)) × (start + length (now raw) < 2 ^ 64) × (errorOf what ≤ lastError) ⌝ }
-    ensures { λ r. ⌜ meant r ≡ sizedAll (meaningOf what start (start + length (now (raw .entry))) (now (raw .entry))) ⌝ }
+    ensures { λ r. ⌜ meant r ≡ sizedAll (meaningOf report what start (start + length (now (raw .entry))) (now (raw .entry))) ⌝ }
 {
     let end = start + raw.len();
     match what {
@@ -173,7 +174,7 @@ pub fn meaning(what: Outcome, start: usize, raw: &[u8]) -> Meant
         Outcome::Run => run(start, end, raw),
         Outcome::Lined => one(IDENTIFIER, NO_DETAIL, lined_text(start, end, raw)),
         Outcome::Keyword => one(KEYWORD, NO_DETAIL, Text::Source(start, end)),
-        Outcome::Character => character_item(raw),
+        Outcome::Character => character_item(report, raw),
         Outcome::Error(error, detail) => one(FIRST_ERROR + error, detail, Text::Nowhere),
         Outcome::ErrorAt(error, detail, _from, _to) => one(
             FIRST_ERROR + error,

@@ -1,6 +1,7 @@
 // Where the text of a string, a here-string or an identifier in vertical lines lies. Document 01: it "lies in the text memory for a
 // string with an escape, and for an identifier wholly in vertical lines with an escape and a non-empty decoded text; else in the source".
 use crate::Text;
+use characters::failing::rest;
 use escapes::decoded_length;
 use escapes::has_escape;
 use items::Quotes;
@@ -20,16 +21,6 @@ const QUOTE: usize = 1;
 const NEWLINE: usize = 1;
 
 const HERE_MARK: usize = 3;
-
-// What follows the first n bytes; nothing where there are fewer.
-pub fn rest(raw: &[u8], n: usize) -> &[u8]
-    ensures { λ r. ⌜ now r ≡ drop n (now (raw .entry)) ⌝ }
-{
-    if raw.len() < n {
-        return &raw[raw.len()..];
-    }
-    &raw[n..]
-}
 
 // What stands between the quotes, as it is in the source.
 fn between(start: usize, end: usize) -> Text

@@ -13,7 +13,7 @@ use Rattle.nested.specs.declared.Class.the-variants.{Alien, Fails, Passe
 
 -- the number of the last error that there is
 abbrev pub lastError : ℕ
-lastError = kind.InvalidHexCodePoint
+lastError = kind.lastError
 
 -- The kinds of nodes: the simple data of R7RS 7.1.2 and the compound ones.
 abbrev pub boolean : ℕ

@@ -10,7 +10,7 @@ ghost use Prim.Native.Nat.{_<_};
 ghost use Rattle.nested.specs.Items.{hasDetail, sortOf, classOf, classAt, countOf};
 
 // The kind of the last error that there is.
-const LAST_ERROR: u32 = kinds::FIRST_ERROR + kinds::INVALID_HEX_CODE_POINT;
+const LAST_ERROR: u32 = kinds::FIRST_ERROR + kinds::LAST_ERROR;
 
 // Whether a kind has this detail in the layout.
 fn has_detail(k: u32, d: u32) -> bool

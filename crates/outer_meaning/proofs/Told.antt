@@ -73,7 +73,7 @@ module _ (s : State) where
   gives-tells st last b (i ∷ j ∷ is) = given-tells (itemSoFar s .bytes) i
 
   ends-tells : (st : ℕ) (o : Outcome) (b : Beyond) → TellsTurn (ends s st o b)
-  ends-tells st o b = gives-tells st (rangeAfter (lastOf s) st o (itemSoFar s)) b (extentItems (report s) (lastOf s) st o (itemSoFar s))
+  ends-tells st o b = gives-tells st (rangeAfter (report s) (lastOf s) st o (itemSoFar s)) b (extentItems (report s) (lastOf s) st o (itemSoFar s))
 
   next-tells : (st c : ℕ) (n : Next) → TellsTurn (onNext s st c n)
   next-tells st c (Eat p) = if-all TellsTurn (ltb longest (s .marks .len + width c)) (omega arith) tt

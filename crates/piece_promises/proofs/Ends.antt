@@ -37,7 +37,7 @@ gives-ends s st last b (i ∷ []) = if-all (λ (t : Turn). Ends (replied t)) (s 
 gives-ends s st last b (i ∷ j ∷ is) = refl
 
 item-ends : (s : State) (st : ℕ) (o : Outcome) → Ends (replied (ends s st o End))
-item-ends s st o = gives-ends s st (rangeAfter (lastOf s) st o (itemSoFar s)) End (extentItems (report s) (lastOf s) st o (itemSoFar s))
+item-ends s st o = gives-ends s st (rangeAfter (report s) (lastOf s) st o (itemSoFar s)) End (extentItems (report s) (lastOf s) st o (itemSoFar s))
 
 cut-ends : (s : State) (r : Reply) → Ends r → Ends (unlessCut s r)
 cut-ends s r h = if-all Ends (eqb (s .marks .part .count) 0) h refl

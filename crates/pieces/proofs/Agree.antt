@@ -29,7 +29,7 @@ use Rattle.pieces.specs.Expected.{Expected, longest}
 use Rattle.pieces.specs.Given.{given, givenAll}
 use Rattle.pieces.proofs.Cuts.{settled, afterTurn, settled-going}
 use Rattle.pieces.proofs.Kept.{Kept, Held, Staged, Calm, Within, laid-held, kept-pass, laid-in, kept-laid, first-in, kept-first}
-use Rattle.pieces.proofs.Kept.{kept-range}
+use Rattle.pieces.proofs.Kept.{bytes-fit, kept-range}
 use Rattle.pieces.proofs.Pairs.{Shape, alone, pair, shape}
 use Rattle.pieces.proofs.Phases.{Goes, first-sized}
 use Rattle.pieces.proofs.Turns.{held-length, going-begin, step-goes, kept-pound}
@@ -165,11 +165,11 @@ module _ (bytes : List ℕ) where
                 ap (λ (n : ℕ). take (s .marks .len + n) (laidAt (s .marks .len) (utf8 c) (s .buf))) (sym (width-utf8 c))
                 ∙ laid-held (s .marks .len) (utf8 c) (s .buf) (omega (arith, k .full, k .small))
         next-does st h (Stop o) z =
-            let last : Place = rangeAfter (lastOf s) st o (itemSoFar s) in
-            let w : Within last = kept-range k st o (itemSoFar s) z (omega (arith, h .ends, k .far)) (omega (arith, k .far)) in
+            let last : Place = rangeAfter (report s) (lastOf s) st o (itemSoFar s) in
+            let w : Within last = kept-range k st o (itemSoFar s) z (omega (arith, h .ends, k .far)) (omega (arith, k .far)) (omega (arith, h .ends, k .far, bytes-fit s)) in
             goes (begin s last c) (arrives-begin last w)
-            (λ go. gives-all after text st h (Char c) last (rangeAfter (standing (report s) (lastOf s)) st o (itemSoFar s)) (meaningOf o st (s .marks .at) (take (s .marks .len) (s .buf)))
-            (shape st (s .marks .at) (take (s .marks .len) (s .buf)) o) go (settled-going (going-begin k c scalar room last w) go))
+            (λ go. gives-all after text st h (Char c) last (rangeAfter (report s) (standing (report s) (lastOf s)) st o (itemSoFar s)) (meaningOf (report s) o st (s .marks .at) (take (s .marks .len) (s .buf)))
+            (shape st (s .marks .at) (take (s .marks .len) (s .buf)) (report s) o) go (settled-going (going-begin k c scalar room last w) go))
 
         staged : {b : Stage} → s .marks .stage ≡ b → Staged q s b
         staged e = subst (Staged q s) e (k .staged)

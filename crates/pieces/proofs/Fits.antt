@@ -6,7 +6,7 @@ use Rattle.chars.specs.Blank.{isBlank}
 use Rattle.chars.specs.Encode.{width}
 use Rattle.chars.specs.Machine.{step, told}
 use Rattle.items.specs.declared.CharValue.{CharValue}
-use Rattle.items.specs.declared.CharValue.the-variants.{Scalar, Wrong}
+use Rattle.items.specs.declared.CharValue.the-variants.{Scalar, Wrong, WrongAt}
 use Rattle.items.specs.declared.Next.{Next}
 use Rattle.items.specs.declared.Next.the-variants.{Eat, Stop}
 use Rattle.items.specs.declared.Outcome.{Outcome}
@@ -91,18 +91,19 @@ module _ (s e : ℕ) (raw : List ℕ) where
   character-little : (v : CharValue) → Every (LittleMeaning raw) (characterMeans v)
   character-little (Scalar c) = (tt, tt)
   character-little (Wrong n d) = (tt, tt)
+  character-little (WrongAt n d p) = (tt, tt)
 
-  meant-little : (o : Outcome) → Every (LittleMeaning raw) (meaningOf o s e raw)
-  meant-little (Token k d) = (tt, tt)
-  meant-little Str = (string-little, tt)
-  meant-little HereStr = (here-little, tt)
-  meant-little Word = word-little
-  meant-little Run = run-little (parseNumber raw)
-  meant-little Lined = (lined-little, tt)
-  meant-little Keyword = (tt, tt)
-  meant-little Character = character-little (characterOf (charInside raw))
-  meant-little (Error n d) = (tt, tt)
-  meant-little (ErrorAt n d a b) = (tt, tt)
+  meant-little : (report : Bool) (o : Outcome) → Every (LittleMeaning raw) (meaningOf report o s e raw)
+  meant-little report (Token k d) = (tt, tt)
+  meant-little report Str = (string-little, tt)
+  meant-little report HereStr = (here-little, tt)
+  meant-little report Word = word-little
+  meant-little report Run = run-little (parseNumber raw)
+  meant-little report Lined = (lined-little, tt)
+  meant-little report Keyword = (tt, tt)
+  meant-little report Character = character-little (characterOf report (charInside raw))
+  meant-little report (Error n d) = (tt, tt)
+  meant-little report (ErrorAt n d a b) = (tt, tt)
 
   items-little : (r : Bool) (set : Place) (ms : List Meaning) → Every (LittleMeaning raw) ms → Every (λ (i : Item). Little raw (i .text)) (itemsOf r set s e ms)
   items-little r set [] h = tt
@@ -155,9 +156,9 @@ module _ (s : State) (h : Short s) where
   fits-ends : (st : ℕ) (o : Outcome) (b : Beyond) → FitsTurn (ends s st o b)
   unfolding extentItems
   fits-ends st o b =
-      fits-gives st (rangeAfter (lastOf s) st o (itemSoFar s)) b (extentItems (report s) (lastOf s) st o (itemSoFar s))
-      (items-little st (s .marks .at) (itemSoFar s .bytes) (report s) (rangeAfter (standing (report s) (lastOf s)) st o (itemSoFar s))
-      (meaningOf o st (s .marks .at) (itemSoFar s .bytes)) (meant-little st (s .marks .at) (itemSoFar s .bytes) o))
+      fits-gives st (rangeAfter (report s) (lastOf s) st o (itemSoFar s)) b (extentItems (report s) (lastOf s) st o (itemSoFar s))
+      (items-little st (s .marks .at) (itemSoFar s .bytes) (report s) (rangeAfter (report s) (standing (report s) (lastOf s)) st o (itemSoFar s))
+      (meaningOf (report s) o st (s .marks .at) (itemSoFar s .bytes)) (meant-little st (s .marks .at) (itemSoFar s .bytes) (report s) o))
 
   fits-next : (st c : ℕ) (n : Next) → FitsTurn (onNext s st c n)
   fits-next st c (Eat p) = if-is FitsTurn (ltb longest (s .marks .len + width c)) (λ _. tt) (λ e. ltb-false longest (s .marks .len + width c) e)

@@ -4,14 +4,15 @@
 use Rattle.chars.specs.Encode.{isScalar, utf8, width, bytesOf}
 use Rattle.chars.proofs.Good.{Scalars}
 use Rattle.items.specs.declared.CharValue.{CharValue}
-use Rattle.items.specs.declared.CharValue.the-variants.{Scalar, Wrong}
+use Rattle.items.specs.declared.CharValue.the-variants.{Scalar, Wrong, WrongAt}
 use Rattle.items.specs.declared.Outcome.{Outcome}
 use Rattle.items.specs.declared.Outcome.the-variants.{Token, Str, HereStr, Word, Run, Lined, Keyword, Character, Error, ErrorAt}
 use Rattle.items.specs.declared.Phase.{Phase}
 use Rattle.items.specs.declared.Phase.the-variants as ph
-use Rattle.items.specs.Items.{Place, range, characterSets, rangeAfter, byteCount}
+use Rattle.items.specs.Items.{Place, characterSets, rangeAfter, byteCount}
+use Rattle.items.proofs.Failing.{past-within, Named, character-inside}
 use Rattle.items.specs.Meaning.{characterOf, charInside}
-use Rattle.items.specs.Readers.{SoFar}
+use Rattle.items.specs.Readers.{SoFar, pastFailing}
 use Rattle.items.specs.Whole.{limit}
 use Rattle.items.proofs.Splits.{length-bytes}
 use Rattle.chars.proofs.Width.{wide, width-le, width-utf8}
@@ -19,6 +20,7 @@ use Rattle.laws.specs.Choice.{if_then_else_}
 use Rattle.laws.specs.Quoted.{code}
 use Rattle.laws.specs.Lent.{written}
 use Rattle.laws.proofs.Lent.{length-written}
+use Rattle.laws.proofs.Choice.{if-all}
 use Rattle.pieces.specs.declared.Beyond.{Beyond}
 use Rattle.pieces.specs.declared.Beyond.the-variants.{End, Char}
 use Rattle.pieces.specs.declared.Part.{Part}
@@ -26,7 +28,7 @@ use Rattle.pieces.specs.declared.Stage.{Stage}
 use Rattle.pieces.specs.declared.Stage.the-variants.{Opening, Pound, FirstLine, Idle, Busy, Waiting, Stopped}
 use Rattle.pieces.specs.declared.State.{State}
 use Rattle.pieces.specs.Bounds.{doneBounds, phaseBounds, beyondBounds, stageBounds, inBounds}
-use Rattle.pieces.specs.Calls.{whole, becomes, lastOf, laidAt, partly, declared}
+use Rattle.pieces.specs.Calls.{whole, becomes, report, lastOf, itemSoFar, laidAt, partly, declared}
 use Rattle.pieces.specs.Expected.{longest}
 use Rattle.pieces.proofs.Parts.{Begun, part-bounded}
 use Rattle.pieces.proofs.Phases.{Ranges, Settled, Sized}
@@ -35,7 +37,8 @@ use mathlib.Core.Path.{_≡_, refl, sym, ap, _∙_}
 use mathlib.Core.Bool.{Bool, true, _&&_}
 use mathlib.Core.List.{List, [], _∷_, _++_, append-assoc, append-nil}
 use mathlib.Core.Logic.{_⊎_, ⊎-elim}
-use lib.ListN.{length, take, drop, length-append, length-drop, drop-of-length-le}
+use lib.ListN.{length, take, drop, length-append, length-take, length-drop, drop-of-length-le}
+use native.Mathlib.Nat.{min-le-left}
 use lib.Seq.{take-at, drop-append-le, length-take-le}
 use lib.Dec.{eqb}
 use native.Mathlib.Omega.{arith}
@@ -113,6 +116,35 @@ Calm (Stopped n p) = ⊥
 
 abbrev pub Within : Place → Type 0
 Within p = (p .from ≤ limit) × (p .to ≤ limit)
+
+-- the last range after an item that starts at st
+pub range-within : (report : Bool) (last : Place) → Within last → (st : ℕ) (o : Outcome) (i : SoFar) → Ranges o → st ≤ limit → i .at ≤ limit
+    → st + length (i .bytes) ≤ limit
+    → Within (rangeAfter report last st o i)
+range-within report last w st (Token n d) i h l r f = w
+range-within report last w st Str i h l r f = w
+range-within report last w st HereStr i h l r f = w
+range-within report last w st Word i h l r f = w
+range-within report last w st Run i h l r f = w
+range-within report last w st Lined i h l r f = w
+range-within report last w st Keyword i h l r f = w
+range-within report last w st Character i h l r f =
+    sets (characterOf report (charInside (i .bytes))) (character-inside report (charInside (i .bytes)))
+  where
+    sets : (v : CharValue) → Named (length (charInside (i .bytes))) v → Within (characterSets report v last st i)
+    sets (Scalar c) g = w
+    sets (Wrong e d) g = (l, r)
+    sets (WrongAt e d p) g =
+        let t : List ℕ = charInside (i .bytes) in
+        let past = past-within d (st + 2 + p) (drop p t) in
+        let ends : pastFailing d (st + 2 + p) (drop p t) ≤ limit = omega (arith, g .0, g .1, past .1, length-drop p t, length-drop 2 (i .bytes)) in
+        if-all Within report (omega (arith, past .0), ends) (l, r)
+range-within report last w st (Error n d) i h l r f = w
+range-within report last w st (ErrorAt n d a b) i h l r f = h .1
+
+-- the bytes of the item that is held are no more than the marks say
+pub bytes-fit : (s : State) → length (itemSoFar s .bytes) ≤ s .marks .len
+bytes-fit s = omega (arith, length-take (s .marks .len) (s .buf), min-le-left (s .marks .len) (length (s .buf)))
 
 pub record Kept (q g : List ℕ) (s : State) : Type 0 where
   pub mode : s .marks .mode < 2
@@ -349,18 +381,6 @@ module _ {q g : List ℕ} {s : State} (k : Kept q g s) where
   }
 
   -- the last range after an item that starts at st
-  pub kept-range : (st : ℕ) (o : Outcome) (i : SoFar) → Ranges o → st ≤ limit → i .at ≤ limit → Within (rangeAfter (lastOf s) st o i)
-  kept-range st (Token n d) i h l r = k .last
-  kept-range st Str i h l r = k .last
-  kept-range st HereStr i h l r = k .last
-  kept-range st Word i h l r = k .last
-  kept-range st Run i h l r = k .last
-  kept-range st Lined i h l r = k .last
-  kept-range st Keyword i h l r = k .last
-  kept-range st Character i h l r = sets (characterOf (charInside (i .bytes)))
-    where
-      sets : (v : CharValue) → Within (characterSets v (lastOf s) (range st (i .at)))
-      sets (Scalar c) = k .last
-      sets (Wrong e d) = (l, r)
-  kept-range st (Error n d) i h l r = k .last
-  kept-range st (ErrorAt n d a b) i h l r = h .1
+  pub kept-range : (st : ℕ) (o : Outcome) (i : SoFar) → Ranges o → st ≤ limit → i .at ≤ limit → st + length (i .bytes) ≤ limit
+      → Within (rangeAfter (report s) (lastOf s) st o i)
+  kept-range st o i h l r f = range-within (report s) (lastOf s) (k .last) st o i h l r f

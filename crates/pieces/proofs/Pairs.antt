@@ -1,6 +1,6 @@
 -- An extent gives one item, or the two identifiers of a word that begins with a plus.
 use Rattle.items.specs.declared.CharValue.{CharValue}
-use Rattle.items.specs.declared.CharValue.the-variants.{Scalar, Wrong}
+use Rattle.items.specs.declared.CharValue.the-variants.{Scalar, Wrong, WrongAt}
 use Rattle.items.specs.declared.Outcome.{Outcome}
 use Rattle.items.specs.declared.Outcome.the-variants.{Token, Str, HereStr, Word, Run, Lined, Keyword, Character, Error, ErrorAt}
 use Rattle.items.specs.Kinds as kind
@@ -49,15 +49,16 @@ module _ (s e : ℕ) (raw : List ℕ) where
   character-shape : (v : CharValue) → Shape s e raw (characterMeans v)
   character-shape (Scalar c) = alone _
   character-shape (Wrong n d) = alone _
+  character-shape (WrongAt n d p) = alone _
 
-  pub shape : (o : Outcome) → Shape s e raw (meaningOf o s e raw)
-  shape (Token k d) = alone _
-  shape Str = alone _
-  shape HereStr = alone _
-  shape Word = word-shape
-  shape Run = run-shape (parseNumber raw)
-  shape Lined = alone _
-  shape Keyword = alone _
-  shape Character = character-shape (characterOf (charInside raw))
-  shape (Error n d) = alone _
-  shape (ErrorAt n d a b) = alone _
+  pub shape : (report : Bool) (o : Outcome) → Shape s e raw (meaningOf report o s e raw)
+  shape report (Token k d) = alone _
+  shape report Str = alone _
+  shape report HereStr = alone _
+  shape report Word = word-shape
+  shape report Run = run-shape (parseNumber raw)
+  shape report Lined = alone _
+  shape report Keyword = alone _
+  shape report Character = character-shape (characterOf report (charInside raw))
+  shape report (Error n d) = alone _
+  shape report (ErrorAt n d a b) = alone _

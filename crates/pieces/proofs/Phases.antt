@@ -10,7 +10,7 @@ use Rattle.items.specs.declared.Next.the-variants.{Eat, Stop}
 use Rattle.items.specs.declared.HashKind.{HashKind}
 use Rattle.items.specs.declared.HashKind.the-variants.{Decided, Bracket, Undecided}
 use Rattle.items.specs.declared.CharValue.{CharValue}
-use Rattle.items.specs.declared.CharValue.the-variants.{Scalar, Wrong}
+use Rattle.items.specs.declared.CharValue.the-variants.{Scalar, Wrong, WrongAt}
 use Rattle.items.specs.Kinds as kind
 use Rattle.items.specs.Classes.{startsRun, firstOf, inQuotes, afterBackslash, inHex, inTrim, inNest, inWord, inRun, afterHash, inHash, inDelim}
 use Rattle.items.specs.Classes.{First, InQuotes, ends, escapes, plain, AfterBackslash, simple, hexX, hexU, blank, newline, invalid}
@@ -19,7 +19,8 @@ use Rattle.items.specs.Classes.{goes, InRun, stays, stopsRun, leaves, AfterHash
 use Rattle.items.specs.Classes.{skipsTwo, tick, commas, stopsHash, staysHash, InDelim, endsDelim, returns, blankDelim, ofDelim}
 use Rattle.items.specs.Machine.{onNest, onBar, onSharp, onQuoted, onEscape, onBrace, closeHex, onHex, onTrimBefore, onTrimAfter}
 use Rattle.items.specs.Machine.{onWord, enterWord, onRun, hashThen, hashLast, onHash, onAfterHash, onDelim, stepOf, finishOf, onFirst}
-use Rattle.items.specs.Readers.{SoFar, eat, firstIs, lastIs, linedOf, closed, unclosed, cut, scalarOf, hashKind, hereEnds}
+use Rattle.items.specs.Readers.{SoFar, eat, firstIs, lastIs, linedOf, closed, unclosed, cut, scalarOf, failing, hashKind, hereEnds}
+use Rattle.items.proofs.Failing.{past-within}
 use Rattle.items.specs.Whole.{limit}
 use Rattle.items.proofs.Fine.{Fine, FineKind, FineValue, fine-kind, fine-scalar}
 use Rattle.chars.proofs.Width.{wide, width-utf8}
@@ -27,10 +28,11 @@ use Rattle.digits.specs.Hex.{hexValue}
 use Rattle.laws.specs.Quoted.{code}
 use Rattle.laws.proofs.Choice.{if-all}
 use Rattle.chars.specs.Encode.{utf8, width}
-use Prim.Native.Nat.{ℕ, _+_, _≤_}
+use Prim.Native.Nat.{ℕ, _+_, _-_, _≤_}
+use mathlib.Core.Path.{_≡_}
 use mathlib.Core.Bool.{Bool}
-use mathlib.Core.List.{List}
-use lib.ListN.{length, drop, length-append}
+use mathlib.Core.List.{List, []}
+use lib.ListN.{length, drop, length-append, length-drop}
 use lib.Dec.{eqb, leb}
 use native.Mathlib.Omega.{arith}
 
@@ -44,8 +46,8 @@ Ranges Run = Unit {0}
 Ranges Lined = Unit {0}
 Ranges Keyword = Unit {0}
 Ranges Character = Unit {0}
-Ranges (Error n d) = n ≤ kind.InvalidHexCodePoint
-Ranges (ErrorAt n d a b) = (n ≤ kind.InvalidHexCodePoint) × ((a ≤ limit) × (b ≤ limit))
+Ranges (Error n d) = n ≤ kind.lastError
+Ranges (ErrorAt n d a b) = (n ≤ kind.lastError) × ((a ≤ limit) × (b ≤ limit))
 
 -- an outcome of an item that is whole
 abbrev pub Settled : Outcome → Type 0
@@ -57,8 +59,8 @@ Settled Run = ⊥
 Settled Lined = ⊥
 Settled Keyword = ⊥
 Settled Character = ⊥
-Settled (Error n d) = n ≤ kind.InvalidHexCodePoint
-Settled (ErrorAt n d a b) = (n ≤ kind.InvalidHexCodePoint) × ((a ≤ limit) × (b ≤ limit))
+Settled (Error n d) = n ≤ kind.lastError
+Settled (ErrorAt n d a b) = (n ≤ kind.lastError) × ((a ≤ limit) × (b ≤ limit))
 
 -- a phase of an item that has n bytes so far
 abbrev pub Sized : ℕ → Phase → Type 0
@@ -148,7 +150,7 @@ abbrev pub Goes : SoFar → ℕ → Next → Type 0
 Goes i c (Eat q) = Sized (length (i .bytes) + width c) q
 Goes i c (Stop o) = Ranges o
 
-module _ (i : SoFar) (c : ℕ) (some : 1 ≤ length (i .bytes)) (room : i .at + width c ≤ limit) where
+module _ (i : SoFar) (c : ℕ) (some : 1 ≤ length (i .bytes)) (fits : length (i .bytes) ≤ i .at) (room : i .at + width c ≤ limit) where
   abbrev G : Next → Type 0
   G = Goes i c
 
@@ -183,20 +185,32 @@ module _ (i : SoFar) (c : ℕ) (some : 1 ≤ length (i .bytes)) (room : i .at + 
   goes-escape newline q from h = tt
   goes-escape invalid q from h = (omega arith, (h, room))
 
-  goes-brace : (k : InHex) (q : Quotes) (from : ℕ) → from ≤ limit → G (onBrace k q from i c)
-  goes-brace closes q from h = (omega arith, (h, room))
-  goes-brace stops q from h = (omega arith, (h, omega arith))
-  goes-brace digit q from h = (h, omega arith)
+  -- an error that fails within the bytes t, which end at i's
+  failing-ranges : (report : Bool) (e d from at : ℕ) (t : List ℕ) → e ≤ kind.lastError → from ≤ limit → at + length t ≡ i .at
+      → Settled (failing report e d from (eat i c .at) at t)
+  failing-ranges report e d from at t f h g =
+      let p = past-within d at t in if-all Settled report (f, (omega arith, omega (arith, p .1))) (f, (h, room))
 
-  goes-close : (v : CharValue) (q : Quotes) (from : ℕ) → from ≤ limit → FineValue Any v → G (closeHex v q from (eat i c .at))
-  goes-close (Scalar x) q from h f = tt
-  goes-close (Wrong e d) q from h f = (f .0, (h, room))
+  goes-brace : (report : Bool) (k : InHex) (q : Quotes) (from : ℕ) → from ≤ limit → G (onBrace report k q from i c)
+  goes-brace report closes q from h = failing-ranges report _ _ from (i .at) [] (omega arith) h (omega arith)
+  goes-brace report stops q from h = (omega arith, (h, omega arith))
+  goes-brace report digit q from h = (h, omega arith)
 
-  goes-hex : (k : InHex) (q : Quotes) (closer from m : ℕ) → from ≤ limit → m ≤ length (i .bytes) → G (onHex k q closer from m i c)
-  goes-hex closes q closer from m h l =
-      goes-close (scalarOf (hexValue (drop m (i .bytes)))) q from h (fine-scalar Any (λ d g. tt) (drop m (i .bytes)))
-  goes-hex stops q closer from m h l = (omega arith, (h, omega arith))
-  goes-hex digit q closer from m h l = (h, omega arith)
+  goes-close : (report : Bool) (v : CharValue) (q : Quotes) (from m : ℕ) → from ≤ limit → FineValue Any v
+      → G (closeHex report v q from m (eat i c .at) i)
+  goes-close report (Scalar x) q from m h f = tt
+  goes-close report (Wrong e d) q from m h f = (f .0, (h, room))
+  goes-close report (WrongAt e d p) q from m h f =
+      let t : List ℕ = drop p (drop m (i .bytes)) in
+      failing-ranges report e d from (i .at - length t) t (f .0) h
+      (omega (arith, length-drop p (drop m (i .bytes)), length-drop m (i .bytes)))
+
+  goes-hex : (report : Bool) (k : InHex) (q : Quotes) (closer from m : ℕ) → from ≤ limit → m ≤ length (i .bytes)
+      → G (onHex report k q closer from m i c)
+  goes-hex report closes q closer from m h l =
+      goes-close report (scalarOf (hexValue (drop m (i .bytes)))) q from m h (fine-scalar Any (λ d g. tt) (drop m (i .bytes)))
+  goes-hex report stops q closer from m h l = (omega arith, (h, omega arith))
+  goes-hex report digit q closer from m h l = (h, omega arith)
 
   goes-before : (k : InTrim) (q : Quotes) → G (onTrimBefore k q i c)
   goes-before space q = tt
@@ -270,8 +284,8 @@ module _ (i : SoFar) (c : ℕ) (some : 1 ≤ length (i .bytes)) (room : i .at + 
   goes-on report (ph.TrimBefore k) h = goes-before (inTrim c) k
   goes-on report (ph.TrimAfter k) h = goes-trim (inTrim c) k
   goes-on report (ph.Escape k from) h = goes-escape (afterBackslash c) k from h
-  goes-on report (ph.Brace k from) h = if-all G (eqb c (code "{")) (h, eaten) (goes-brace (inHex k (code ";") c) k from h)
-  goes-on report (ph.Hex k closer from m) h = goes-hex (inHex k closer c) k closer from m (h .0) (h .1)
+  goes-on report (ph.Brace k from) h = if-all G (eqb c (code "{")) (h, eaten) (goes-brace report (inHex k (code ";") c) k from h)
+  goes-on report (ph.Hex k closer from m) h = goes-hex report (inHex k closer c) k closer from m (h .0) (h .1)
   goes-on report (ph.Done o) h = settled-ranges o h
 
 -- ---- the start and the end of an item

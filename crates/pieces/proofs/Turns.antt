@@ -31,7 +31,7 @@ use Rattle.pieces.specs.Calls.{endStage, endUnlessStopped, endOf, fresh,
 use Rattle.pieces.specs.Expected.{longest}
 use Rattle.pieces.specs.Produced.{Produced, opened, pieced, ended}
 use Rattle.pieces.proofs.Kept.{Kept, HeldIn, Held, Staged, Beyonds, Calm, Within, kept-bounded, kept-pass, laid-in, kept-laid, first-in, kept-first}
-use Rattle.pieces.proofs.Kept.{kept-stopped, kept-end, kept-partly, kept-declared, kept-waiting, kept-range, none-begun}
+use Rattle.pieces.proofs.Kept.{kept-stopped, kept-end, kept-partly, kept-declared, kept-waiting, bytes-fit, kept-range, none-begun}
 use Rattle.pieces.proofs.Pairs.{Shape, alone, pair, shape}
 use Rattle.pieces.proofs.Parts.{Stepped, stepped}
 use Rattle.pieces.proofs.Phases.{Ranges, Sized, Goes, goes-on, first-sized, finish-ranges}
@@ -116,9 +116,9 @@ module _ {q g : List ℕ} {s : State} (k : Kept q g s) where
     turned-ends : (o : Outcome) → Ranges o → Turned (s .marks .ended) (ends s st o b)
     unfolding extentItems
     turned-ends o r =
-        turned-gives (rangeAfter (lastOf s) st o (itemSoFar s)) (kept-range k st o (itemSoFar s) r (omega (arith, h .ends, k .far)) (omega (arith, k .far)))
-        (report s) (rangeAfter (standing (report s) (lastOf s)) st o (itemSoFar s)) (meaningOf o st (s .marks .at) (take (s .marks .len) (s .buf)))
-        (shape st (s .marks .at) (take (s .marks .len) (s .buf)) o)
+        turned-gives (rangeAfter (report s) (lastOf s) st o (itemSoFar s)) (kept-range k st o (itemSoFar s) r (omega (arith, h .ends, k .far)) (omega (arith, k .far)) (omega (arith, h .ends, k .far, bytes-fit s)))
+        (report s) (rangeAfter (report s) (standing (report s) (lastOf s)) st o (itemSoFar s)) (meaningOf (report s) o st (s .marks .at) (take (s .marks .len) (s .buf)))
+        (shape st (s .marks .at) (take (s .marks .len) (s .buf)) (report s) o)
 
   -- a character in an item
   module _ (c : ℕ) (scalar : isScalar c ≡ true) (room : s .marks .at + width c ≤ limit) where
@@ -140,7 +140,7 @@ module _ {q g : List ℕ} {s : State} (k : Kept q g s) where
 
     pub step-goes : (st : ℕ) → Held q s st → (p : Phase) → Sized (s .marks .len) p → Goes (itemSoFar s) c (stepOf (report s) p (itemSoFar s) c)
     step-goes st h p z =
-        goes-on (itemSoFar s) c (omega (arith, held-length k, h .some)) room (report s) p (rw (← held-length k) at z)
+        goes-on (itemSoFar s) c (omega (arith, held-length k, h .some)) (omega (arith, held-length k, h .ends)) room (report s) p (rw (← held-length k) at z)
 
     staged : {b : Stage} → s .marks .stage ≡ b → Staged q s b
     staged e = subst (Staged q s) e (k .staged)

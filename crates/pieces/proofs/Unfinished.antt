@@ -59,7 +59,7 @@ module _ (report : Bool) where
   extent-off : (is : List Item) (last : Place) (s : ℕ) (o : Outcome) (i : SoFar) → unfinished (i .at) (is ++ extentItems report last s o i) ≡ from s
   unfolding extentItems
   extent-off is last s o i =
-      cut-off report (rangeAfter (standing report last) s o i) s (i .at) (i .bytes) is (meaningOf o s (i .at) (i .bytes)) (shape s (i .at) (i .bytes) o)
+      cut-off report (rangeAfter report (standing report last) s o i) s (i .at) (i .bytes) is (meaningOf report o s (i .at) (i .bytes)) (shape s (i .at) (i .bytes) report o)
 
   -- the machine stands at n after the characters q
   pub breaks-off : (q : List ℕ) (m : Mode) (n : ℕ) (last : Place) → advance report fresh q .after ≡ state m n last → n ≡ byteCount q

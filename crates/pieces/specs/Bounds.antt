@@ -37,8 +37,8 @@ partBounds p =
 -- an outcome that an item in the phase `Done` may have
 abbrev pub doneBounds : Outcome → Bool
 doneBounds (Token k d) = true
-doneBounds (Error n d) = leb n kind.InvalidHexCodePoint
-doneBounds (ErrorAt n d a b) = leb n kind.InvalidHexCodePoint && isPlace a && isPlace b
+doneBounds (Error n d) = leb n kind.lastError
+doneBounds (ErrorAt n d a b) = leb n kind.lastError && isPlace a && isPlace b
 doneBounds Str = false
 doneBounds HereStr = false
 doneBounds Word = false

@@ -115,7 +115,7 @@ abbrev pub report : State → Bool
 report s = inReport (s .marks .mode)
 
 abbrev pub ends : State → ℕ → Outcome → Beyond → Turn
-ends s st o b = gives s st (rangeAfter (lastOf s) st o (itemSoFar s)) b (extentItems (report s) (lastOf s) st o (itemSoFar s))
+ends s st o b = gives s st (rangeAfter (report s) (lastOf s) st o (itemSoFar s)) b (extentItems (report s) (lastOf s) st o (itemSoFar s))
 
 -- in an item that starts at st
 abbrev pub onNext : State → ℕ → ℕ → Next → Turn

@@ -17,8 +17,8 @@ use Rattle.digits.specs.Hex.{hexDigits, hexAfterPlus, hexValue}
 use Rattle.numbers.specs.Reals.{exponentMarker, exponent, suffix, pointOf, dotted, undotted, decimal, infnan, integralOf, rationalOf, denominator, exact, orElse, ureal, real}
 use Rattle.numbers.specs.Grammar.{justOf, complexOf, polarOf, endsI, imaginary, aloneOf, pairOf, toSign, startsE, rectangular, complex, zeroInt, zeroReal, zeroParts, judged, radixMark, prefix, parseNumber}
 use Rattle.items.specs.Classes.{startsRun, firstOf, inQuotes, afterBackslash, stopsHex, inHex, inTrim, inNest, breaksWord, inWord, staysRun, endsRun, inRun, afterHash, endsHash, inHash, inDelim}
-use Rattle.items.specs.Readers.{linedOf, scalarOf, boolKind, quoteKind, formKind, hashKind, unreturned, endsWith, hereEnds}
-use Rattle.items.specs.Meaning.{lookup, words, wordKind, wordMeans, runMeans, escaped, stringText, linedText, hereText, charNames, hexNamed, spelledOut, characterOf, unescape}
+use Rattle.items.specs.Readers.{linedOf, scalarOf, pastFailing, boolKind, quoteKind, formKind, hashKind, unreturned, endsWith, hereEnds}
+use Rattle.items.specs.Meaning.{lookup, words, wordKind, wordMeans, runMeans, escaped, stringText, linedText, hereText, charNames, isDelimiter, nameless, hexNamed, spelledOut, characterOf, unescape}
 use Rattle.items.specs.Items.{extentItems}
 use Rattle.items.specs.Kinds as kind
 use Rattle.pieces.specs.Bounds.{inBounds}
@@ -49,6 +49,9 @@ example m s cs gs w = record { mode = m; skip = s; cuttings = cs; wanted = recor
 abbrev plain : String → List Given → Example
 plain t gs = example 0 false (bothWays (spelled t)) gs finished
 
+abbrev reported : String → List Given → Example
+reported t gs = example 1 false (bothWays (spelled t)) gs finished
+
 -- an item with no text, whose place is its extent
 abbrev bare : ℕ → ℕ → ℕ → ℕ → Given
 bare k d s e = record { words = k ∷ d ∷ s ∷ e ∷ s ∷ e ∷ 0 ∷ 0 ∷ 0 ∷ []; text = [] }
@@ -70,17 +73,27 @@ table =
     ∷ plain "+foo)" (texted kind.Identifier 0 4 "+" ∷ texted kind.Identifier 0 4 "foo" ∷ bare kind.CloseParen kind.Round 4 5 ∷ [])
     -- E8, in both modes; a number's whole extent is its text
     ∷ plain "14.7;gps" (texted kind.Identifier 0 4 "14.7" ∷ bare kind.Comment 0 4 8 ∷ [])
-    ∷ example 1 false (bothWays (spelled "14.7;gps")) (texted kind.Number 0 4 "14.7" ∷ bare kind.Comment 0 4 8 ∷ []) finished
+    ∷ reported "14.7;gps" (texted kind.Number 0 4 "14.7" ∷ bare kind.Comment 0 4 8 ∷ [])
     -- 02 (iii): in report mode a number ends at a vertical line
-    ∷ example 1 false (bothWays (spelled "12|Birch|")) (texted kind.Number 0 2 "12" ∷ texted kind.Identifier 2 9 "Birch" ∷ []) finished
-    ∷ example 1 false (bothWays (spelled "1|a|")) (texted kind.Number 0 1 "1" ∷ texted kind.Identifier 1 4 "a" ∷ []) finished
+    ∷ reported "12|Birch|" (texted kind.Number 0 2 "12" ∷ texted kind.Identifier 2 9 "Birch" ∷ [])
+    ∷ reported "1|a|" (texted kind.Number 0 1 "1" ∷ texted kind.Identifier 1 4 "a" ∷ [])
     -- E9 and E11: decoded text
     ∷ plain "|a\\|" (texted kind.Identifier 0 4 "a|" ∷ [])
     ∷ plain "\"\\x+41;\"" (texted kind.StringLiteral 0 8 "A" ∷ [])
     -- E10: an error's range stands on, also between pieces
     ∷ plain "\"\\xD800;\"" (error kind.InvalidHexCodePoint 0xD800 0 8 1 8 ∷ error kind.IncompleteString 0 8 9 1 8 ∷ [])
     -- and in report mode it does not
-    ∷ example 1 false (bothWays (spelled "\"\\xD800;\"")) (error kind.InvalidHexCodePoint 0xD800 0 8 1 8 ∷ error kind.IncompleteString 0 8 9 8 9 ∷ []) finished
+    ∷ reported "\"\\xD800;\"" (error kind.InvalidHexCodePoint 0xD800 0 8 1 8 ∷ error kind.IncompleteString 0 8 9 8 9 ∷ [])
+    -- 02 (vii): in report mode error 11 points at the character that fails, cut within it too, or at the empty place where digits should
+    -- stand; a delimiter in a character's name is error 13
+    ∷ plain "\"\\x4é;\"" (error kind.InvalidHexEscapeLiteral 2 0 7 1 7 ∷ error kind.IncompleteString 0 7 8 1 7 ∷ [])
+    ∷ reported "\"\\x4é;\"" (error kind.InvalidHexEscapeLiteral 2 0 7 4 6 ∷ error kind.IncompleteString 0 7 8 7 8 ∷ [])
+    ∷ reported "|\\x4é;|" (error kind.InvalidHexEscapeLiteral 2 0 7 4 6 ∷ error kind.IncompleteIdentifier 0 7 8 7 8 ∷ [])
+    ∷ reported "#\\x4é" (error kind.InvalidHexEscapeLiteral 2 0 6 4 6 ∷ [])
+    ∷ reported "\"\\x;\"" (error kind.InvalidHexEscapeLiteral 1 0 4 3 3 ∷ error kind.IncompleteString 0 4 5 4 5 ∷ [])
+    ∷ reported "\"\\x100000000;\"" (error kind.InvalidHexEscapeLiteral 3 0 13 11 12 ∷ error kind.IncompleteString 0 13 14 13 14 ∷ [])
+    ∷ plain "#\\a;" (error kind.InvalidCharName 0 0 4 0 4 ∷ [])
+    ∷ reported "#\\a;" (error kind.InvalidCharDelimiter 0 0 4 3 4 ∷ [])
     -- a comma is not known before the next character
     ∷ plain ",@" (bare kind.UnquoteSplice 0 0 2 ∷ [])
     ∷ plain ",a" (bare kind.Unquote 0 0 1 ∷ texted kind.Identifier 1 2 "a" ∷ [])
@@ -140,5 +153,5 @@ refusals =
 computed : (map (λ r. map (λ ps. drive (r .mode) (r .skip) longest ps) (r .cuttings)) table ≡ map (λ r. map (λ ps. r .wanted) (r .cuttings)) table)
     × ((map (λ e. drive 0 (e .skip) longest (e .pieces) .last) edges ≡ map (λ e. e .wanted) edges)
     × (refusals ≡ call.refused 25 2 ∷ call.refused 24 0 ∷ call.refused 27 0 ∷ call.refused 26 0 ∷ call.refused 21 0 ∷ []))
-unfolding table edges refusals span starts begins same isScalar utf8 width encode bytesOf isBlank step within first rest front digitOf sign uinteger value fit signed wholeOf integer hexDigits hexAfterPlus hexValue exponentMarker exponent suffix pointOf dotted undotted decimal infnan integralOf rationalOf denominator exact orElse ureal real justOf complexOf polarOf endsI imaginary aloneOf pairOf toSign startsE rectangular complex zeroInt zeroReal zeroParts judged radixMark prefix parseNumber startsRun firstOf inQuotes afterBackslash stopsHex inHex inTrim inNest breaksWord inWord staysRun endsRun inRun afterHash endsHash inHash inDelim linedOf scalarOf boolKind quoteKind formKind hashKind unreturned endsWith hereEnds lookup words wordKind wordMeans runMeans escaped stringText linedText hereText charNames hexNamed spelledOut characterOf unescape extentItems inBounds turnOf feedOf pieceOf endOf openOf pieceCalls endCalls handOver drive
+unfolding table edges refusals span starts begins same isScalar utf8 width encode bytesOf isBlank step within first rest front digitOf sign uinteger value fit signed wholeOf integer hexDigits hexAfterPlus hexValue exponentMarker exponent suffix pointOf dotted undotted decimal infnan integralOf rationalOf denominator exact orElse ureal real justOf complexOf polarOf endsI imaginary aloneOf pairOf toSign startsE rectangular complex zeroInt zeroReal zeroParts judged radixMark prefix parseNumber startsRun firstOf inQuotes afterBackslash stopsHex inHex inTrim inNest breaksWord inWord staysRun endsRun inRun afterHash endsHash inHash inDelim linedOf scalarOf pastFailing boolKind quoteKind formKind hashKind unreturned endsWith hereEnds lookup words wordKind wordMeans runMeans escaped stringText linedText hereText charNames isDelimiter nameless hexNamed spelledOut characterOf unescape extentItems inBounds turnOf feedOf pieceOf endOf openOf pieceCalls endCalls handOver drive
 computed = (refl, (refl, refl))

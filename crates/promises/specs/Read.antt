@@ -18,8 +18,8 @@ use Rattle.numbers.specs.Reals.{exponentMarker, exponent, suffix, pointOf, dott
 use Rattle.numbers.specs.Grammar.{justOf, complexOf, polarOf, endsI, imaginary, aloneOf, pairOf, toSign, startsE, rectangular, complex, zeroInt, zeroReal, zeroParts, judged, radixMark, prefix, parseNumber}
 use Rattle.items.specs.Kinds as kind
 use Rattle.items.specs.Classes.{startsRun, firstOf, inQuotes, afterBackslash, stopsHex, inHex, inTrim, inNest, breaksWord, inWord, staysRun, endsRun, inRun, afterHash, endsHash, inHash, inDelim}
-use Rattle.items.specs.Readers.{readLine, linedOf, scalarOf, readWord, readRun, boolKind, quoteKind, formKind, hashKind, hashBracket, hashAt, hashComma, unreturned, endsWith, hereEnds, hereBody, hereDelim, afterAngle, readHash, readComma, readItem, readNest, readQuoted, wordOn, hashOn}
-use Rattle.items.specs.Meaning.{lookup, words, wordKind, wordMeans, runMeans, escaped, stringText, linedText, hereText, charNames, hexNamed, spelledOut, characterOf, unescape}
+use Rattle.items.specs.Readers.{readLine, linedOf, scalarOf, pastFailing, readWord, readRun, boolKind, quoteKind, formKind, hashKind, hashBracket, hashAt, hashComma, unreturned, endsWith, hereEnds, hereBody, hereDelim, afterAngle, readHash, readComma, readItem, readNest, readQuoted, wordOn, hashOn}
+use Rattle.items.specs.Meaning.{lookup, words, wordKind, wordMeans, runMeans, escaped, stringText, linedText, hereText, charNames, isDelimiter, nameless, hexNamed, spelledOut, characterOf, unescape}
 use Rattle.items.specs.Items.{extentItems, itemsFrom, pastLine, afterPound, items, kept, records, texts}
 use Rattle.promises.specs.Shapes.{room, bare, texted, error}
 use Rattle.items.specs.Whole.{Answer, served, refused, Call, call, limit, itemsIn, deliver, readOf}
@@ -27,6 +27,10 @@ use Rattle.items.specs.Whole.{Answer, served, refused, Call, call, limit, items
 -- the whole-text call in plain mode, comments kept
 abbrev plainly : List ℕ → ℕ → ℕ → Call
 plainly source r t = readOf source 0 false (room r) (room t)
+
+-- and in report mode
+abbrev reported : List ℕ → ℕ → ℕ → Call
+reported source r t = readOf source 1 false (room r) (room t)
 
 pub record Rows : Type 0 where
   -- both items are written, and the word past them stays
@@ -49,12 +53,17 @@ pub record Rows : Type 0 where
   -- the last error range stands on after other items
   pub standing : plainly (spelled "#\\ab a #\\") 27 0
       ≡ call (served 3 0) (error kind.InvalidCharName 0 0 4 0 4 ++ texted kind.Identifier 5 6 1 5 6 ++ error kind.InvalidCharacter 0 7 9 0 4) []
+  -- 02 (vii): in report mode error 11 points at what fails, an empty place stands, and a delimiter in a name is error 13
+  pub failing : reported (spelled "\"\\x4G1;") 9 0 ≡ call (served 1 0) (error kind.InvalidHexEscapeLiteral 2 0 7 4 5) []
+  pub no-digits : reported (spelled "\"\\x;") 9 0 ≡ call (served 1 0) (error kind.InvalidHexEscapeLiteral 1 0 4 3 3) []
+  pub delimiter : reported (spelled "#\\a;") 9 0 ≡ call (served 1 0) (error kind.InvalidCharDelimiter 0 0 4 3 4) []
+  pub begins-so : reported (spelled "#\\;a") 9 0 ≡ call (served 1 0) (error kind.InvalidCharName 0 0 4 0 4) []
   -- 25 before 21, 21 before 22
   pub no-mode : readOf (0xFF ∷ []) 2 false [] [] ≡ call (refused 25 2 0) [] []
   pub not-utf8 : plainly (code "a" ∷ 0xFF ∷ []) 0 0 ≡ call (refused 21 1 0) [] []
 
 rows : Rows
-unfolding readOf deliver firstBad sequences chars span starts begins same isScalar utf8 width encode bytesOf isBlank within first rest front digitOf sign uinteger value fit signed wholeOf integer hexDigits hexAfterPlus hexValue exponentMarker exponent suffix pointOf dotted undotted decimal infnan integralOf rationalOf denominator exact orElse ureal real justOf complexOf polarOf endsI imaginary aloneOf pairOf toSign startsE rectangular complex zeroInt zeroReal zeroParts judged radixMark prefix parseNumber startsRun firstOf inQuotes afterBackslash stopsHex inHex inTrim inNest breaksWord inWord staysRun endsRun inRun afterHash endsHash inHash inDelim readLine linedOf scalarOf readWord readRun boolKind quoteKind formKind hashKind hashBracket hashAt hashComma unreturned endsWith hereEnds hereBody hereDelim afterAngle readHash readComma readItem readNest readQuoted wordOn hashOn lookup words wordKind wordMeans runMeans escaped stringText linedText hereText charNames hexNamed spelledOut characterOf unescape extentItems itemsFrom pastLine afterPound items kept records texts
+unfolding readOf deliver firstBad sequences chars span starts begins same isScalar utf8 width encode bytesOf isBlank within first rest front digitOf sign uinteger value fit signed wholeOf integer hexDigits hexAfterPlus hexValue exponentMarker exponent suffix pointOf dotted undotted decimal infnan integralOf rationalOf denominator exact orElse ureal real justOf complexOf polarOf endsI imaginary aloneOf pairOf toSign startsE rectangular complex zeroInt zeroReal zeroParts judged radixMark prefix parseNumber startsRun firstOf inQuotes afterBackslash stopsHex inHex inTrim inNest breaksWord inWord staysRun endsRun inRun afterHash endsHash inHash inDelim readLine linedOf scalarOf pastFailing readWord readRun boolKind quoteKind formKind hashKind hashBracket hashAt hashComma unreturned endsWith hereEnds hereBody hereDelim afterAngle readHash readComma readItem readNest readQuoted wordOn hashOn lookup words wordKind wordMeans runMeans escaped stringText linedText hereText charNames isDelimiter nameless hexNamed spelledOut characterOf unescape extentItems itemsFrom pastLine afterPound items kept records texts
 rows = record {
   brackets = refl;
   rounds = refl;
@@ -67,6 +76,10 @@ rows = record {
   nothing-decoded = refl;
   plus = refl;
   standing = refl;
+  failing = refl;
+  no-digits = refl;
+  delimiter = refl;
+  begins-so = refl;
   no-mode = refl;
   not-utf8 = refl;
 }

@@ -8,10 +8,13 @@ use Rattle.laws.specs.Quoted.{code, codes, within}
 use Rattle.laws.specs.Texts.{span, begins, same}
 use Rattle.chars.specs.Encode.{isScalar, utf8, width, encode, bytesOf, spelled}
 use Rattle.chars.specs.Blank.{isBlank}
+use Rattle.chars.specs.Utf8.{first, rest, front}
+use Rattle.digits.specs.Digits.{digitOf}
+use Rattle.digits.specs.Hex.{hexDigits, hexAfterPlus, hexValue}
 use Rattle.items.specs.Kinds as kind
 use Rattle.items.specs.Classes.{startsRun, firstOf, inQuotes, afterBackslash, stopsHex, inHex, inTrim, inNest, breaksWord, inWord, staysRun, endsRun, inRun, afterHash}
 use Rattle.items.specs.Machine.{onFirst, stepOf, finishOf, scanOf}
-use Rattle.items.specs.Readers.{soFar, Read, got, comment, linedOf}
+use Rattle.items.specs.Readers.{soFar, Read, got, comment, linedOf, scalarOf, pastFailing}
 use Rattle.items.specs.declared.Quotes.the-variants.{Double, Lines}
 use Rattle.items.specs.declared.Outcome.the-variants.{Token, Word, Run, Lined, Error, ErrorAt}
 use Rattle.items.specs.declared.Phase.the-variants as ph
@@ -26,6 +29,10 @@ pub record Rows : Type 0 where
   pub reported : stepOf true ph.InRun (soFar (spelled "14.7") 4) (code ";") ≡ Stop Run
   -- what breaks a hex escape off lies in its extent and not in its place
   pub broken : stepOf false (ph.Hex Double (code ";") 1 3) (soFar (spelled "\"\\x4") 4) (code "\"") ≡ Eat (ph.Done (ErrorAt kind.UnclosedHexEscape (code ";") 1 4))
+  -- digits that fail: in plain mode the whole escape is the place, in report mode what fails (02 (vii))
+  pub unreported : stepOf false (ph.Hex Double (code ";") 1 3) (soFar (spelled "\"\\x4G1") 6) (code ";") ≡ Eat (ph.Done (ErrorAt kind.InvalidHexEscapeLiteral 2 1 7))
+  pub failing : stepOf true (ph.Hex Double (code ";") 1 3) (soFar (spelled "\"\\x4G1") 6) (code ";") ≡ Eat (ph.Done (ErrorAt kind.InvalidHexEscapeLiteral 2 4 5))
+  pub no-digits : stepOf true (ph.Brace Lines 1) (soFar (spelled "|\\u") 3) (code ";") ≡ Eat (ph.Done (ErrorAt kind.InvalidHexEscapeLiteral 1 3 3))
   -- a comment in a comment closes itself alone
   pub nested : stepOf false (ph.NestBar 2) (soFar (spelled "#|#||") 5) (code "#") ≡ Eat (ph.Nest 1)
   -- finish: E9, and E13
@@ -35,13 +42,16 @@ pub record Rows : Type 0 where
   pub scan : scanOf false (ph.Nest 1) (soFar (spelled "#|") 2) (codes "#||#|#a") ≡ got comment (soFar (spelled "#|#||#|#") 8) (codes "a")
 
 rows : Rows
-unfolding within span begins same isScalar utf8 width encode bytesOf isBlank startsRun firstOf inQuotes afterBackslash stopsHex inHex inTrim inNest breaksWord inWord staysRun endsRun inRun afterHash linedOf scanOf
+unfolding within span begins same isScalar utf8 width encode bytesOf isBlank first rest front digitOf hexDigits hexAfterPlus hexValue startsRun firstOf inQuotes afterBackslash stopsHex inHex inTrim inNest breaksWord inWord staysRun endsRun inRun afterHash linedOf scalarOf pastFailing scanOf
 rows = record {
   comma = refl;
   comma-at = refl;
   semicolon = refl;
   reported = refl;
   broken = refl;
+  unreported = refl;
+  failing = refl;
+  no-digits = refl;
   nested = refl;
   lined = refl;
   unlined = refl;

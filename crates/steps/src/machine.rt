@@ -107,8 +107,17 @@ pub fn step(report: bool, phase: Phase, raw: &[u8], at: usize, c: u32) -> Next
         Phase::TrimBefore(k) => quotes::trim_before(k, at, c),
         Phase::TrimAfter(k) => quotes::trim_after(k, at, c),
         Phase::Escape(k, from) => quotes::read_string_escape(k, from, raw, at, c),
-        Phase::Brace(k, from) => quotes::open_brace(k, from, raw, at, c),
-        Phase::Hex(k, closer, from, n) => quotes::hex_digits(k, closer, from, n, raw, at, c),
+        Phase::Brace(k, from) => quotes::open_brace(report, k, from, raw, at, c),
+        Phase::Hex(k, closer, from, n) => quotes::hex_digits(
+            report,
+            k,
+            closer,
+            from,
+            n,
+            raw,
+            at,
+            c,
+        ),
         Phase::Done(o) => Next::Stop(o),
     }
 }

@@ -1,8 +1,9 @@
 // Strings and identifiers in vertical lines: `read_string`, `read_string_escape`, and `read_word` where a vertical line opens the word.
 use crate::signs::*;
+use characters::failing::past_failing;
+use characters::failing::rest;
 use characters::scalar_of;
 use chars::char_width;
-use digits::Hex;
 use digits::hex_value;
 use items::CharValue;
 use items::Next;
@@ -21,7 +22,7 @@ ghost use Rattle.laws.specs.Quoted.{code};
 ghost use Rattle.chars.specs.Encode.{width};
 ghost use Rattle.digits.specs.Hex.{hexValue};
 ghost use Rattle.items.specs.Classes.{delimOf, inQuotes, afterBackslash, stopsHex, inHex, inTrim};
-ghost use Rattle.items.specs.Readers.{soFar, eat, linedOf, closed, unclosed, cut};
+ghost use Rattle.items.specs.Readers.{soFar, eat, linedOf, closed, unclosed, cut, scalarOf, failing};
 ghost use Rattle.items.specs.Machine.{onQuoted, onEscape, closeHex, onHex, onBrace, onTrimBefore, onTrimAfter};
 
 // What closes the quotes.
@@ -126,6 +127,25 @@ fn broken(error: u32, detail: u32, from: usize, to: usize) -> Next
     Next::Eat(Phase::Done(Outcome::ErrorAt(error, detail, from, to)))
 }
 
+// The item ends with this character, as an error of the escape from `from` to `to` that fails at the place `at`, where `left` stands.
+fn failing_at(
+    report: bool,
+    error: u32,
+    detail: u32,
+    from: usize,
+    to: usize,
+    at: usize,
+    left: &[u8],
+) -> Next
+    requires { ⌜ at + length (now left) < 2 ^ 64 ⌝ }
+    ensures { λ r. ⌜ r ≡ Next.Eat (Phase.Done (failing report error detail from to at (now (left .entry)))) ⌝ }
+{
+    if report {
+        return broken(error, detail, at, past_failing(detail, at, left));
+    }
+    broken(error, detail, from, to)
+}
+
 // Whether c breaks a hex escape off before its closer.
 fn breaks_hex(k: Quotes, c: u32) -> bool
     ensures { λ r. ⌜ r ≡ (if stopsHex c then true else eqb c (delimOf k)) ⌝ }
@@ -139,22 +159,32 @@ fn breaks_hex(k: Quotes, c: u32) -> bool
 }
 
 // After `\u`, whose digits may stand in braces.
-pub(crate) fn open_brace(k: Quotes, from: usize, raw: &[u8], at: usize, c: u32) -> Next
+pub(crate) fn open_brace(
+    report: bool,
+    k: Quotes,
+    from: usize,
+    raw: &[u8],
+    at: usize,
+    c: u32,
+) -> Next
     requires { ⌜ (length (now raw) ≤ at) × (at + width c < 2 ^ 64) ⌝ }
     ensures { λ r. ⌜ r ≡
         (if eqb c (code "{")
         then Next.Eat (Phase.Hex k (code "}") from (length (eat (soFar (now (raw .entry)) at) c .bytes)))
-        else onBrace (inHex k (code ";") c) k from (soFar (now (raw .entry)) at) c) ⌝ }
+        else onBrace report (inHex k (code ";") c) k from (soFar (now (raw .entry)) at) c) ⌝ }
 {
     if c == OPEN_CURLY {
         return Next::Eat(Phase::Hex(k, CLOSE_CURLY, from, raw.len() + char_width(c)));
     }
     if c == SEMICOLON {
-        return broken(
+        return failing_at(
+            report,
             kinds::INVALID_HEX_ESCAPE_LITERAL,
             kinds::NO_DIGITS,
             from,
             at + char_width(c),
+            at,
+            b"",
         );
     }
     if breaks_hex(k, c) {
@@ -163,28 +193,33 @@ pub(crate) fn open_brace(k: Quotes, from: usize, raw: &[u8], at: usize, c: u32) 
     Next::Eat(Phase::Hex(k, SEMICOLON, from, raw.len()))
 }
 
-// The hex digits of an item from a place of it on.
-fn hex_from(raw: &[u8], n: usize) -> Hex
-    ensures { λ r. ⌜ r ≡ hexValue (drop n (now (raw .entry))) ⌝ }
+// At the closer of a hex escape that goes from `from` to `to`, and before whose digits `n` bytes of the item stand.
+fn close_hex(
+    report: bool,
+    k: Quotes,
+    from: usize,
+    n: usize,
+    to: usize,
+    raw: &[u8],
+    at: usize,
+) -> Next
+    requires { ⌜ (length (now raw) ≤ at) × (at < 2 ^ 64) ⌝ }
+    ensures { λ r. ⌜ r ≡ closeHex report (scalarOf (hexValue (drop n (now (raw .entry))))) k from n to (soFar (now (raw .entry)) at) ⌝ }
 {
-    if raw.len() < n {
-        return hex_value(b"");
-    }
-    hex_value(&raw[n..])
-}
-
-// At the closer of a hex escape that goes from `from` to `to`.
-fn close_hex(v: CharValue, k: Quotes, from: usize, to: usize) -> Next
-    ensures { λ r. ⌜ r ≡ closeHex v k from to ⌝ }
-{
-    match v {
+    let digits = rest(raw, n);
+    match scalar_of(hex_value(digits)) {
         CharValue::Scalar(_) => Next::Eat(Phase::Quoted(k)),
         CharValue::Wrong(error, detail) => broken(error, detail, from, to),
+        CharValue::WrongAt(error, detail, place) => {
+            let left = rest(digits, place);
+            failing_at(report, error, detail, from, to, at - left.len(), left)
+        }
     }
 }
 
 // In the digits of a hex escape, before which `n` bytes of the item stand.
 pub(crate) fn hex_digits(
+    report: bool,
     k: Quotes,
     closer: u32,
     from: usize,
@@ -193,12 +228,12 @@ pub(crate) fn hex_digits(
     at: usize,
     c: u32,
 ) -> Next
-    requires { ⌜ at + width c < 2 ^ 64 ⌝ }
-    ensures { λ r. ⌜ r ≡ onHex (inHex k closer c) k closer from n (soFar (now (raw .entry)) at) c ⌝ }
+    requires { ⌜ (length (now raw) ≤ at) × (at + width c < 2 ^ 64) ⌝ }
+    ensures { λ r. ⌜ r ≡ onHex report (inHex k closer c) k closer from n (soFar (now (raw .entry)) at) c ⌝ }
 {
     let next = at + char_width(c);
     if c == closer {
-        return close_hex(scalar_of(hex_from(raw, n)), k, from, next);
+        return close_hex(report, k, from, n, next, raw, at);
     }
     if breaks_hex(k, c) {
         return broken(kinds::UNCLOSED_HEX_ESCAPE, closer, from, at);

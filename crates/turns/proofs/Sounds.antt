@@ -23,8 +23,6 @@ use Rattle.chars.specs.Machine.{step, told}
 use Rattle.chars.proofs.Table.{within-true}
 use Rattle.chars.proofs.Width.{wide, width-le, width-utf8}
 use Rattle.items.specs.Kinds as kind
-use Rattle.items.specs.declared.CharValue.{CharValue}
-use Rattle.items.specs.declared.CharValue.the-variants.{Scalar, Wrong}
 use Rattle.items.specs.declared.Outcome.{Outcome}
 use Rattle.items.specs.declared.Outcome.the-variants.{Token, Str, HereStr, Word, Run, Lined, Keyword, Character, Error, ErrorAt}
 use Rattle.items.specs.declared.Phase.{Phase}
@@ -33,8 +31,8 @@ use Rattle.items.specs.declared.Next.{Next}
 use Rattle.items.specs.declared.Next.the-variants.{Eat, Stop}
 use Rattle.items.specs.Classes.{firstOf}
 use Rattle.items.specs.Readers.{SoFar}
-use Rattle.items.specs.Meaning.{characterOf, charInside, Meaning, meaningOf}
-use Rattle.items.specs.Items.{Place, range, rangeAfter, standing, characterSets, itemsOf, extentItems}
+use Rattle.items.specs.Meaning.{Meaning, meaningOf}
+use Rattle.items.specs.Items.{Place, rangeAfter, standing, itemsOf, extentItems}
 use Rattle.items.specs.Machine.{stepOf, finishOf, onFirst}
 use Rattle.items.specs.Whole.{limit}
 use Rattle.pieces.specs.declared.Beyond.the-variants.{Char}
@@ -50,7 +48,7 @@ use Rattle.giving.specs.Inner.{Held, OutcomeFits, CharFits}
 use Rattle.turns.specs.Inner.{Sound}
 use Rattle.pieces.proofs.Parts.{Wants, Wanted, wants-on}
 use Rattle.pieces.proofs.Phases.{Ranges, Goes, goes-on, first-sized, finish-ranges}
-use Rattle.pieces.proofs.Kept.{Within, phase-bounded}
+use Rattle.pieces.proofs.Kept.{Within, range-within, bytes-fit, phase-bounded}
 use Rattle.pieces.proofs.Pairs.{Shape, alone, pair, shape}
 use Rattle.bounds.proofs.Bounded.{numbers}
 use Rattle.turns.proofs.Told.{told-phase, Stood, Sane, sane, sane-bounded}
@@ -168,12 +166,12 @@ held-all s full small = length-take-le (s .marks .len) (s .buf) (omega arith)
 
 module _ (s : State) (full : length (s .buf) ≡ longest) (small : s .marks .len ≤ longest) (some : 1 ≤ s .marks .len)
     (p : Phase) (z : phaseBounds p (s .marks .len) ≡ true) where
-  goes : (c : ℕ) → s .marks .at + width c ≤ limit → Goes (itemSoFar s) c (stepOf (report s) p (itemSoFar s) c)
-  goes c far =
-      goes-on (itemSoFar s) c (omega (arith, held-all s full small)) far (report s) p (rw (← held-all s full small) at (told-phase p (s .marks .len) z))
+  goes : (c : ℕ) → s .marks .len ≤ s .marks .at → s .marks .at + width c ≤ limit → Goes (itemSoFar s) c (stepOf (report s) p (itemSoFar s) c)
+  goes c back far =
+      goes-on (itemSoFar s) c (omega (arith, held-all s full small)) (omega (arith, held-all s full small)) far (report s) p (rw (← held-all s full small) at (told-phase p (s .marks .len) z))
 
-  pub stop-fits : (c : ℕ) → s .marks .at + width c ≤ limit → (o : Outcome) → stepOf (report s) p (itemSoFar s) c ≡ Stop o → OutcomeFits o
-  stop-fits c far o e = outcome-fits o (subst (Goes (itemSoFar s) c) e (goes c far))
+  pub stop-fits : (c : ℕ) → s .marks .len ≤ s .marks .at → s .marks .at + width c ≤ limit → (o : Outcome) → stepOf (report s) p (itemSoFar s) c ≡ Stop o → OutcomeFits o
+  stop-fits c back far o e = outcome-fits o (subst (Goes (itemSoFar s) c) e (goes c back far))
 
   pub finish-fits : OutcomeFits (finishOf p (itemSoFar s .bytes))
   finish-fits = outcome-fits _ (finish-ranges (s .marks .len) p (itemSoFar s .bytes) (told-phase p (s .marks .len) z))
@@ -193,22 +191,6 @@ length-laid n w buf h =
       length-drop n buf,
       length-written w (drop n buf) (omega (arith, length-drop n buf)),
     )
-
-range-within : (last : Place) → Within last → (st : ℕ) (o : Outcome) (i : SoFar) → Ranges o → st ≤ limit → i .at ≤ limit → Within (rangeAfter last st o i)
-range-within last w st (Token n d) i h l r = w
-range-within last w st Str i h l r = w
-range-within last w st HereStr i h l r = w
-range-within last w st Word i h l r = w
-range-within last w st Run i h l r = w
-range-within last w st Lined i h l r = w
-range-within last w st Keyword i h l r = w
-range-within last w st Character i h l r = sets (characterOf (charInside (i .bytes)))
-  where
-    sets : (v : CharValue) → Within (characterSets v last (range st (i .at)))
-    sets (Scalar c) = w
-    sets (Wrong e d) = (l, r)
-range-within last w st (Error n d) i h l r = w
-range-within last w st (ErrorAt n d a b) i h l r = h .1
 
 module _ (s : State) (full : length (s .buf) ≡ longest) (k : Sane s) where
   become : (g : Stage) (at n : ℕ) (last : Place) → at ≤ limit → n ≤ longest → Within last → Stood (marks (s .marks) g at n last) g
@@ -251,9 +233,9 @@ module _ (s : State) (full : length (s .buf) ≡ longest) (k : Sane s) where
           laid (s .marks .len) h,
         ))
     sane-next st ends some (Stop o) z =
-        sane-gives st (rangeAfter (lastOf s) st o (itemSoFar s)) (rangeAfter (standing (report s) (lastOf s)) st o (itemSoFar s))
-        (range-within (lastOf s) within-last st o (itemSoFar s) z (omega arith) (omega arith)) (report s)
-        (meaningOf o st (s .marks .at) (take (s .marks .len) (s .buf))) (shape st (s .marks .at) (take (s .marks .len) (s .buf)) o)
+        sane-gives st (rangeAfter (report s) (lastOf s) st o (itemSoFar s)) (rangeAfter (report s) (standing (report s) (lastOf s)) st o (itemSoFar s))
+        (range-within (report s) (lastOf s) within-last st o (itemSoFar s) z (omega arith) (omega arith) (omega (arith, bytes-fit s))) (report s)
+        (meaningOf (report s) o st (s .marks .at) (take (s .marks .len) (s .buf))) (shape st (s .marks .at) (take (s .marks .len) (s .buf)) (report s) o)
 
     sane-stage : (g : Stage) → s .marks .stage ≡ g → Stood (s .marks) g → OnSane (onStage s g c)
     sane-stage Opening e h =
@@ -265,14 +247,14 @@ module _ (s : State) (full : length (s .buf) ≡ longest) (k : Sane s) where
         if-all OnSane (eqb c (quoted.code "!"))
         (become FirstLine (s .marks .at + width c) 0 (lastOf s) far (omega arith) within-last tt (s .buf), full)
         (sane-next 0 (omega arith) (omega arith) (stepOf (report s) ph.AfterHash (itemSoFar s) c)
-        (goes s full (k .numbers .small) (omega arith) ph.AfterHash refl c far))
+        (goes s full (k .numbers .small) (omega arith) ph.AfterHash refl c (omega arith) far))
     sane-stage FirstLine e h =
         if-all (λ (t : State). OnSane (on t)) (eqb c (quoted.code "\n")) (sane-begin (lastOf s) within-last)
         (become FirstLine (s .marks .at + width c) 0 (lastOf s) far (omega arith) within-last tt (s .buf), full)
     sane-stage Idle e h = sane-begin (lastOf s) within-last
     sane-stage (Busy st p) e h =
         sane-next st (h .0 .0) (h .0 .1) (stepOf (report s) p (itemSoFar s) c)
-        (goes s full (k .numbers .small) (h .0 .1) p (phase-bounded (s .marks .len) p (h .1)) c far)
+        (goes s full (k .numbers .small) (h .0 .1) p (phase-bounded (s .marks .len) p (h .1)) c (omega (arith, h .0 .0)) far)
     sane-stage (Waiting st b) e h = absurd h
     sane-stage (Stopped n p) e h = absurd h
 

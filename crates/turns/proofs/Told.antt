@@ -69,11 +69,11 @@ told-done Run h = no h
 told-done Lined h = no h
 told-done Keyword h = no h
 told-done Character h = no h
-told-done (Error n d) h = leb-true n kind.InvalidHexCodePoint h
+told-done (Error n d) h = leb-true n kind.lastError h
 told-done (ErrorAt n d a b) h =
-    let f = and-true (leb n kind.InvalidHexCodePoint && isPlace a) (isPlace b) h in
-    let g = and-true (leb n kind.InvalidHexCodePoint) (isPlace a) (f .0) in
-    (leb-true n kind.InvalidHexCodePoint (g .0), (leb-true a limit (g .1), leb-true b limit (f .1)))
+    let f = and-true (leb n kind.lastError && isPlace a) (isPlace b) h in
+    let g = and-true (leb n kind.lastError) (isPlace a) (f .0) in
+    (leb-true n kind.lastError (g .0), (leb-true a limit (g .1), leb-true b limit (f .1)))
 
 pub told-phase : (p : Phase) (n : ℕ) → phaseBounds p n ≡ true → Sized n p
 told-phase ph.InLine n h = tt

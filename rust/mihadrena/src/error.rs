@@ -14,7 +14,8 @@ pub enum HexError {
     PosOverflow,
 }
 
-/// An item that is an error, in the order and by the names of the Rust's `TokenError`. It prints as the Rust's does.
+/// An item that is an error, in the order and by the names of the Rust's `TokenError`. It prints as the Rust's does; the last one is not
+/// the Rust's.
 #[derive(Clone, Copy, Debug, PartialEq, Eq, Hash)]
 pub enum Error {
     /// `##`, or a blank in a here-string's first line: `#<<a b`
@@ -41,6 +42,9 @@ pub enum Error {
     InvalidHexEscapeLiteral(HexError),
     /// `"\xD800;"`
     InvalidHexCodePoint(u32),
+    /// `#\a;` in report mode: no name of a character, and `;`, `"`, `'` or `,` stands in it after its first character. Plain mode has
+    /// [`Error::InvalidCharName`].
+    InvalidCharDelimiter,
 }
 
 impl Error {
@@ -60,6 +64,7 @@ impl Error {
             raw::INVALID_CHAR_NAME => Self::InvalidCharName,
             raw::INVALID_HEX_ESCAPE_LITERAL => Self::InvalidHexEscapeLiteral(HexError::of(detail)),
             raw::INVALID_HEX_CODE_POINT => Self::InvalidHexCodePoint(detail),
+            raw::INVALID_CHAR_DELIMITER => Self::InvalidCharDelimiter,
             _ => return None,
         })
     }
@@ -101,6 +106,7 @@ impl fmt::Display for Error {
             Self::InvalidCharName => write!(f, "invalid character name"),
             Self::InvalidHexEscapeLiteral(error) => write!(f, "invalid hex escape literal, {error}"),
             Self::InvalidHexCodePoint(code) => write!(f, "invalid code point {code:x}"),
+            Self::InvalidCharDelimiter => write!(f, "delimiter in a character name"),
         }
     }
 }

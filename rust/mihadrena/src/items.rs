@@ -11,7 +11,19 @@ pub enum Mode {
     /// As the Rust's lexer reads it.
     #[default]
     Plain,
-    /// As plain, but `;` and `"` also end a number: `14.7;gps` is a number and a comment, where plain mode has an identifier.
+    /// As plain, but `;`, `"` and `|` also end a number: `14.7;gps` is a number and a comment, where plain mode has an identifier. And an
+    /// error points at its own place: at its own range, or at its extent if it sets none.
+    ///
+    /// ```
+    /// use mihadrena::{Items, Mode, Options, Record};
+    ///
+    /// let report = Options { mode: Mode::Report, skip_comments: false };
+    /// let mut records = [Record::default(); 2];
+    /// let mut items = Items::new(r#""\x4G1;"#, report, &mut records, &mut [])?;
+    /// let item = items.next().expect("an error");
+    /// assert_eq!(&r#""\x4G1;"#[item.place], "G");
+    /// # Ok::<(), mihadrena::Refusal>(())
+    /// ```
     Report,
 }
 
@@ -40,7 +52,7 @@ pub struct Item<'a> {
     pub what: Result<Kind<'a>, Error>,
     /// Where it stands in the source, in bytes.
     pub extent: Range<usize>,
-    /// What an error points at; of any other item the extent.
+    /// What an error points at; of any other item the extent. In report mode it is empty where the digits of a hex escape are missing.
     pub place: Range<usize>,
 }
 

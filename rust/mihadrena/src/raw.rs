@@ -88,6 +88,7 @@ pub const UNCLOSED_HEX_ESCAPE: u32 = 109;
 pub const INVALID_CHAR_NAME: u32 = 110;
 pub const INVALID_HEX_ESCAPE_LITERAL: u32 = 111;
 pub const INVALID_HEX_CODE_POINT: u32 = 112;
+pub const INVALID_CHAR_DELIMITER: u32 = 113;
 
 // The details of an invalid hex escape literal.
 pub const HEX_EMPTY: u32 = 1;

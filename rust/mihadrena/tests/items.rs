@@ -6,6 +6,7 @@ use mihadrena::{
 use mihadrena::{Real, Record, Refusal, Sign};
 
 const PLAIN: Options = Options { mode: Mode::Plain, skip_comments: false };
+const REPORT: Options = Options { mode: Mode::Report, skip_comments: false };
 
 /// The items of a text, each with its extent, in just the memory that it needs.
 fn read(text: &str, options: Options) -> Vec<(Result<OwnedKind, Error>, std::ops::Range<usize>)> {
@@ -42,8 +43,7 @@ fn examples_of_document_01() {
 
 #[test]
 fn modes_and_comments() {
-    let report = Options { mode: Mode::Report, skip_comments: false };
-    assert_eq!(read("14.7;gps", report)[0], (shown(Kind::Number("14.7")), 0..4));
+    assert_eq!(read("14.7;gps", REPORT)[0], (shown(Kind::Number("14.7")), 0..4));
     let skip = Options { mode: Mode::Plain, skip_comments: true };
     assert_eq!(read("a ;b\n#|c|# #;d", skip).len(), 3);
 }
@@ -57,6 +57,49 @@ fn an_errors_place_is_its_own() {
         found,
         [(Err(Error::InvalidHexCodePoint(0xD800)), 0..8, 1..8), (Err(Error::IncompleteString), 8..9, 1..8)]
     );
+}
+
+/// The first item of a text, an error, and what it points at.
+fn pointed(text: &str, options: Options) -> (Error, &str) {
+    let mut records = vec![Record::default(); text.len()];
+    let mut items = Items::new(text, options, &mut records, &mut []).expect("a record for each byte is enough");
+    let item = items.next().expect("an item");
+    (item.what.expect_err("an error"), &text[item.place])
+}
+
+#[test]
+fn a_bad_hex_digit_is_told_to_the_byte() {
+    let digits = [
+        ("\"\\x4G1;", HexError::InvalidDigit, "\\x4G1;", "G"),
+        ("|\\u{4é}", HexError::InvalidDigit, "\\u{4é}", "é"),
+        ("#\\x+", HexError::InvalidDigit, "#\\x+", "+"),
+        ("\"\\x;", HexError::Empty, "\\x;", ""),
+        ("#\\u{}", HexError::Empty, "#\\u{}", ""),
+        ("|\\xFFFFFFFF8;", HexError::PosOverflow, "\\xFFFFFFFF8;", "8"),
+    ];
+    for (text, error, plain, report) in digits {
+        let error = Error::InvalidHexEscapeLiteral(error);
+        assert_eq!(pointed(text, PLAIN), (error, plain), "{text}");
+        assert_eq!(pointed(text, REPORT), (error, report), "{text}");
+    }
+}
+
+#[test]
+fn an_empty_place_has_a_position() {
+    let mut records = [Record::default(); 1];
+    let items = Items::new("\"\\x;", REPORT, &mut records, &mut []).expect("one record is enough");
+    assert_eq!(items.map(|item| (item.extent, item.place)).collect::<Vec<_>>(), [(0..4, 3..3)]);
+}
+
+#[test]
+fn a_delimiter_in_a_character_name() {
+    for (text, delimiter) in [("#\\a;", ";"), ("#\\é\"x", "\""), ("#\\;'", "'"), ("#\\ab,", ",")] {
+        assert_eq!(pointed(text, PLAIN), (Error::InvalidCharName, text), "{text}");
+        assert_eq!(pointed(text, REPORT), (Error::InvalidCharDelimiter, delimiter), "{text}");
+    }
+    assert_eq!(Error::InvalidCharDelimiter.to_string(), "delimiter in a character name");
+    assert_eq!(pointed("#\\abc", REPORT), (Error::InvalidCharName, "#\\abc"));
+    assert_eq!(read("#\\;", REPORT), [(shown(Kind::CharacterLiteral(';')), 0..3)]);
 }
 
 #[test]

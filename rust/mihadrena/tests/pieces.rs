@@ -6,7 +6,7 @@ use std::ops::Range;
 const PLAIN: Options = Options { mode: Mode::Plain, skip_comments: false };
 
 /// Texts with every reader's forms in them, errors at their ends, characters of one to four bytes, and a first line `#!`.
-const TEXTS: [&str; 12] = [
+const TEXTS: [&str; 13] = [
     "",
     "(stand 101 (volume 412.5)) ; solid cubic metres\n",
     "+foo -bar 1/0 1@1/-2 14.7;gps",
@@ -16,6 +16,7 @@ const TEXTS: [&str; 12] = [
     "#<<end\nsome text\nend x",
     "\"\\xD800;\"",
     "\"\\q\" \"\\ x\" #\\nothing #\\xyz \"open",
+    "\"\\x4é; |\\x;| #\\u{木} #\\x100000000 #\\é; #\\u{}",
     "λ 木 🌲 |🌲\\n| \"木\"",
     "|a\\|",
     "#",

@@ -11,7 +11,7 @@ only-one-requires : tie.Need-only-one-requires
 only-one-requires c κs = search needs
 
 returns : tie.Need-returns
-returns c = c .only-one .ensures ∙ sym (short-alone (c .before .before .before .args .t .now) (c .before .if1 .taken))
+returns c = c .only-one .ensures ∙ sym (short-alone (c .before .before .before .args .report) (c .before .before .before .args .t .now) (c .before .if1 .taken))
 
 shared-slice-read-if2 : tie.Need-shared-slice-read-if2
 shared-slice-read-if2 c = search needs

@@ -1,4 +1,7 @@
 -- The range that the extent sets, or the one before.
+use mathlib.Core.Path.{ap}
+use native.Mathlib.Omega.{arith}
+use Rattle.meaning.specs.declared.Range.{Range}
 use borrow.Author.Needs.{needs}
 use Rattle.giving.proofs.ends.last_after.Statement.{statement}
 use Rattle.giving.proofs.ends.last_after.Tie as tie
@@ -10,7 +13,7 @@ extent-requires-2 : tie.Need-extent-requires-2
 extent-requires-2 c κs = search needs
 
 range-after-requires : tie.Need-range-after-requires
-range-after-requires c κs = search needs
+range-after-requires c κs = (omega arith, omega arith, omega (arith, ap (λ (r : Range). r .from) (c .extent2 .ensures)))
 
 returns : tie.Need-returns
 returns c = simp (c .range-after .ensures, c .before .before .extent .ensures, c .before .extent2 .ensures)

@@ -36,7 +36,7 @@ past-requires : tie.Need-past-requires
 past-requires c κs = search needs
 
 one-requires : tie.Need-one-requires
-one-requires c κs = fits-one (c .before .before .before .before .before .before .before .before .before .args .free) (meaningOf (c .before .before .before .before .before .before .before .before .before .args .what) (c .before .before .before .before .before .before .before .before .before .args .start) (c .before .before .before .before .before .before .before .before .before .args .start + length (now (c .before .before .before .before .before .before .before .before .before .args .raw))) (now (c .before .before .before .before .before .before .before .before .before .args .raw))) (c .before .before .m .given .0 .0) (sym (ap meant (c .before .before .m .given .1)) ∙ c .before .before .before .before .meaning .ensures) (c .before .before .before .before .before .before .before .before .before .pre .texts)
+one-requires c κs = fits-one (c .before .before .before .before .before .before .before .before .before .args .free) (meaningOf (c .before .before .before .before .before .before .before .before .before .args .p .report) (c .before .before .before .before .before .before .before .before .before .args .what) (c .before .before .before .before .before .before .before .before .before .args .start) (c .before .before .before .before .before .before .before .before .before .args .start + length (now (c .before .before .before .before .before .before .before .before .before .args .raw))) (now (c .before .before .before .before .before .before .before .before .before .args .raw))) (c .before .before .m .given .0 .0) (sym (ap meant (c .before .before .m .given .1)) ∙ c .before .before .before .before .meaning .ensures) (c .before .before .before .before .before .before .before .before .before .pre .texts)
 
 enum-known-m-2 : tie.Need-enum-known-m-2
 enum-known-m-2 c = search needs
@@ -45,13 +45,13 @@ past-requires-2 : tie.Need-past-requires-2
 past-requires-2 c κs = search needs
 
 one-requires-2 : tie.Need-one-requires-2
-one-requires-2 c κs = fits-two (c .before .before .before .before .before .before .before .before .before .before .args .free) (meaningOf (c .before .before .before .before .before .before .before .before .before .before .args .what) (c .before .before .before .before .before .before .before .before .before .before .args .start) (c .before .before .before .before .before .before .before .before .before .before .args .start + length (now (c .before .before .before .before .before .before .before .before .before .before .args .raw))) (now (c .before .before .before .before .before .before .before .before .before .before .args .raw))) (c .before .before .before .m2 .given .0 .0) (c .before .before .before .m2 .given .0 .1 .0) (sym (ap meant (c .before .before .before .m2 .given .1)) ∙ c .before .before .before .before .before .meaning .ensures) (c .before .before .before .before .before .before .before .before .before .before .pre .texts) .1
+one-requires-2 c κs = fits-two (c .before .before .before .before .before .before .before .before .before .before .args .free) (meaningOf (c .before .before .before .before .before .before .before .before .before .before .args .p .report) (c .before .before .before .before .before .before .before .before .before .before .args .what) (c .before .before .before .before .before .before .before .before .before .before .args .start) (c .before .before .before .before .before .before .before .before .before .before .args .start + length (now (c .before .before .before .before .before .before .before .before .before .before .args .raw))) (now (c .before .before .before .before .before .before .before .before .before .before .args .raw))) (c .before .before .before .m2 .given .0 .0) (c .before .before .before .m2 .given .0 .1 .0) (sym (ap meant (c .before .before .before .m2 .given .1)) ∙ c .before .before .before .before .before .meaning .ensures) (c .before .before .before .before .before .before .before .before .before .before .pre .texts) .1
 
 stand-requires : tie.Need-stand-requires
 stand-requires c κs = search needs
 
 one-requires-3 : tie.Need-one-requires-3
-one-requires-3 c κs = fits-two (c .before .before .before .before .before .before .before .before .before .before .args .free) (meaningOf (c .before .before .before .before .before .before .before .before .before .before .args .what) (c .before .before .before .before .before .before .before .before .before .before .args .start) (c .before .before .before .before .before .before .before .before .before .before .args .start + length (now (c .before .before .before .before .before .before .before .before .before .before .args .raw))) (now (c .before .before .before .before .before .before .before .before .before .before .args .raw))) (c .before .before .before .m2 .given .0 .0) (c .before .before .before .m2 .given .0 .1 .0) (sym (ap meant (c .before .before .before .m2 .given .1)) ∙ c .before .before .before .before .before .meaning .ensures) (c .before .before .before .before .before .before .before .before .before .before .pre .texts) .0
+one-requires-3 c κs = fits-two (c .before .before .before .before .before .before .before .before .before .before .args .free) (meaningOf (c .before .before .before .before .before .before .before .before .before .before .args .p .report) (c .before .before .before .before .before .before .before .before .before .before .args .what) (c .before .before .before .before .before .before .before .before .before .before .args .start) (c .before .before .before .before .before .before .before .before .before .before .args .start + length (now (c .before .before .before .before .before .before .before .before .before .before .args .raw))) (now (c .before .before .before .before .before .before .before .before .before .before .args .raw))) (c .before .before .before .m2 .given .0 .0) (c .before .before .before .m2 .given .0 .1 .0) (sym (ap meant (c .before .before .before .m2 .given .1)) ∙ c .before .before .before .before .before .meaning .ensures) (c .before .before .before .before .before .before .before .before .before .before .pre .texts) .0
 
 returns : tie.Need-returns
 returns c = found-one (c .before .before .before .before .before .before .before .before .before .before .args .free) (c .before .before .before .before .before .before .before .before .before .before .args .p) (c .before .before .before .before .before .before .before .before .before .before .args .start) (c .before .before .before .before .before .before .before .before .before .before .args .what) (now (c .before .before .before .before .before .before .before .before .before .before .args .raw)) (c .before .before .before .before .before .before .before .range-shown .result) (c .before .before .before .before .before .before .range-after .result) (c .before .before .before .before .before .before .before .range-shown .ensures) (c .before .before .before .before .before .before .range-after .ensures) (c .one .result) (c .before .past .result) (c .before .before .before .m .given .0 .0) (sym (ap meant (c .before .before .before .m .given .1)) ∙ c .before .before .before .before .before .meaning .ensures) (c .one .ensures) (c .before .past .ensures)

@@ -39,11 +39,11 @@ enum-known-what-2 c = search needs
 enum-known-what-3 : tie.Need-enum-known-what-3
 enum-known-what-3 c = search needs
 
-cast-t14 : tie.Need-cast-t14
-cast-t14 c = omega (arith, ap reachFrom (c .before .what3 .given .1))
-
 cast-t15 : tie.Need-cast-t15
-cast-t15 c = omega (arith, ap reach (c .before .what3 .given .1))
+cast-t15 c = omega (arith, ap reachFrom (c .before .what3 .given .1))
+
+cast-t16 : tie.Need-cast-t16
+cast-t16 c = omega (arith, ap reach (c .before .what3 .given .1))
 
 returns : tie.Need-returns
 returns c = rw (c .before .what .given .1)
@@ -90,8 +90,8 @@ range-after-spec =
     after-character-requires
     enum-known-what-2
     enum-known-what-3
-    cast-t14
     cast-t15
+    cast-t16
     returns
     returns-2
     returns-3

@@ -1,10 +1,9 @@
 -- The closer, what breaks the digits off, a digit: the tests of `inHex` in its order.
 use mathlib.Core.Path.{sym, _∙_}
-use native.Mathlib.Omega.{arith}
 use borrow.Author.Tests.{eq-eqb, ne-eqb}
-use borrow.Author.Needs.{needs}
 use Rattle.items.specs.Classes.{inHex}
 use Rattle.steps.proofs.Characters.{hex-breaks, hex-goes}
+use borrow.Author.Needs.{needs}
 use Rattle.steps.proofs.quotes.hex_digits.Statement.{statement}
 use Rattle.steps.proofs.quotes.hex_digits.Tie as tie
 
@@ -12,20 +11,14 @@ char-width-requires : tie.Need-char-width-requires
 char-width-requires c κs = search needs
 
 add-next : tie.Need-add-next
-add-next c = omega (arith, c .char-width .ensures)
-
-hex-from-requires : tie.Need-hex-from-requires
-hex-from-requires c κs = search needs
-
-scalar-of-requires : tie.Need-scalar-of-requires
-scalar-of-requires c κs = search needs
+add-next c = search needs
 
 close-hex-requires : tie.Need-close-hex-requires
 close-hex-requires c κs = search needs
 
 returns : tie.Need-returns
 unfolding inHex
-returns c = simp (eq-eqb _ _ (c .before .before .before .if1 .taken), c .close-hex .ensures, c .before .scalar-of .ensures, c .before .before .hex-from .ensures, c .before .before .before .before .char-width .ensures)
+returns c = simp (eq-eqb _ _ (c .before .if1 .taken), c .close-hex .ensures, c .before .before .char-width .ensures)
 
 breaks-hex-requires : tie.Need-breaks-hex-requires
 breaks-hex-requires c κs = search needs
@@ -45,8 +38,6 @@ hex-digits-spec =
     (tie.spec
     char-width-requires
     add-next
-    hex-from-requires
-    scalar-of-requires
     close-hex-requires
     returns
     breaks-hex-requires

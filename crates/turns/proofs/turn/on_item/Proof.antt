@@ -30,7 +30,7 @@ enum-known-what : tie.Need-enum-known-what
 enum-known-what c = search needs
 
 ends-requires : tie.Need-ends-requires
-ends-requires c κs = (c .before .before .before .before .before .before .before .before .before .before .pre .0, stop-fits (stateOf (c .before .before .before .before .before .before .before .before .before .before .args .m) (now (c .before .before .before .before .before .before .before .before .before .before .args .buf))) (c .before .before .before .before .before .before .before .before .before .before .pre .0 .full) (c .before .before .before .before .before .before .before .before .before .before .pre .0 .small) (c .before .before .before .before .before .before .before .before .before .before .pre .0 .some) (c .before .before .before .before .before .before .before .before .before .before .args .phase) (c .before .before .before .before .before .before .before .before .before .before .pre .2) (c .before .before .before .before .before .before .before .before .before .before .args .c) (c .before .before .before .before .before .before .before .before .before .before .pre .1 .far) _ (sym (c .before .before .before .before .before .step .ensures) ∙ c .before .before .before .what .given .1), c .before .before .before .before .before .before .before .before .before .before .pre .1)
+ends-requires c κs = (c .before .before .before .before .before .before .before .before .before .before .pre .0, stop-fits (stateOf (c .before .before .before .before .before .before .before .before .before .before .args .m) (now (c .before .before .before .before .before .before .before .before .before .before .args .buf))) (c .before .before .before .before .before .before .before .before .before .before .pre .0 .full) (c .before .before .before .before .before .before .before .before .before .before .pre .0 .small) (c .before .before .before .before .before .before .before .before .before .before .pre .0 .some) (c .before .before .before .before .before .before .before .before .before .before .args .phase) (c .before .before .before .before .before .before .before .before .before .before .pre .2) (c .before .before .before .before .before .before .before .before .before .before .args .c) (omega (arith, c .before .before .before .before .before .before .before .before .before .before .pre .0 .ends)) (c .before .before .before .before .before .before .before .before .before .before .pre .1 .far) _ (sym (c .before .before .before .before .before .step .ensures) ∙ c .before .before .before .what .given .1), c .before .before .before .before .before .before .before .before .before .before .pre .1)
 
 same-length : tie.Need-same-length
 same-length c = search needs

@@ -4,8 +4,8 @@ use lib.Seq.{drop-length}
 use Rattle.laws.proofs.Lent.{part-rest}
 use native.Mathlib.Omega.{arith}
 use borrow.Author.Needs.{needs}
-use Rattle.meaning.proofs.quoted.rest.Statement.{statement}
-use Rattle.meaning.proofs.quoted.rest.Tie as tie
+use Rattle.characters.proofs.failing.rest.Statement.{statement}
+use Rattle.characters.proofs.failing.rest.Tie as tie
 
 sub-result : tie.Need-sub-result
 sub-result c = search needs

@@ -1,0 +1,6 @@
+pub mod Ascii
+pub mod Digits
+pub mod Phases
+pub mod Characters
+pub mod Places
+pub mod Names

@@ -1,0 +1,2 @@
+pub mod Failing
+pub mod Delimited
