@@ -24,8 +24,8 @@ put w = written w (room 10)
 
 pub record Rows : Type 0 where
   -- meaning: a word with a kind of its own; of `+foo` the second item's text starts after the plus
-  pub word : sizedAll (meaningOf Word 0 2 (spelled "if")) ≡ means kind.If 0 Nowhere ∷ []
-  pub plus : sizedAll (meaningOf Word 3 7 (spelled "+foo")) ≡ means kind.Identifier 0 (Source 3 4) ∷ means kind.Identifier 0 (Source 4 7) ∷ []
+  pub word : sizedAll (meaningOf false Word 0 2 (spelled "if")) ≡ means kind.If 0 Nowhere ∷ []
+  pub plus : sizedAll (meaningOf false Word 3 7 (spelled "+foo")) ≡ means kind.Identifier 0 (Source 3 4) ∷ means kind.Identifier 0 (Source 4 7) ∷ []
   -- record_of and put: kind, detail, extent, place, text source, text places; the word past them stays
   pub record-of : put (wordsOf (recordFor 5 (means kind.StringLiteral 0 (Decoded 2)) (rangeOf (range 3 9)) (rangeOf (range 3 9))))
       ≡ (kind.StringLiteral ∷ 0 ∷ 3 ∷ 9 ∷ 3 ∷ 9 ∷ 2 ∷ 5 ∷ 7 ∷ []) ++ (7 ∷ [])
@@ -33,6 +33,8 @@ pub record Rows : Type 0 where
   pub error-place : placeOf false (kind.firstError + kind.IncompleteString) (range 1 8) (range 8 9) ≡ range 1 8
   pub first-place : placeOf false (kind.firstError + kind.IncompleteString) unset (range 8 9) ≡ range 8 9
   pub item-place : placeOf false kind.Number (range 1 8) (range 8 9) ≡ range 8 9
+  -- in report mode an empty range of its own is an error's place too: `"\x;"`
+  pub empty-place : placeOf true (kind.firstError + kind.InvalidHexEscapeLiteral) (range 3 3) (range 0 4) ≡ range 3 3
   -- count_of: `+foo` counts for two items, a skipped comment for none
   pub two : countOf Word false (spelled "+foo") ≡ sum 2 0
   pub comment : countOf (Token kind.Comment 0) true (spelled ";") ≡ sum 0 0
@@ -46,6 +48,7 @@ rows = record {
   error-place = refl;
   first-place = refl;
   item-place = refl;
+  empty-place = refl;
   two = refl;
   comment = refl;
 }

@@ -19,7 +19,7 @@ use Rattle.items.specs.Kinds as kind
 use Rattle.promises.specs.Shapes.{room, bare, texted}
 use Rattle.items.specs.Classes.{startsRun, firstOf, inQuotes, afterBackslash, stopsHex, inHex, inTrim, breaksWord, inWord, staysRun, endsRun, inRun, afterHash, endsHash, inHash}
 use Rattle.items.specs.Readers.{readLine, linedOf, readWord, readRun, boolKind, quoteKind, formKind, hashKind, hashBracket, hashAt, hashComma, readHash, readItem, readQuoted, wordOn, hashOn}
-use Rattle.items.specs.Meaning.{lookup, words, wordKind, wordMeans, runMeans, escaped, stringText, linedText, charNames, spelledOut, characterOf, unescape}
+use Rattle.items.specs.Meaning.{lookup, words, wordKind, wordMeans, runMeans, escaped, stringText, linedText, charNames, isDelimiter, nameless, spelledOut, characterOf, unescape}
 use Rattle.items.specs.Items.{range, unset, extentItems}
 use Rattle.items.specs.Whole.{limit}
 use Rattle.meaning.specs.Places.{rangeOf}
@@ -62,7 +62,7 @@ pub record Rows : Type 0 where
   pub past-end : nextOf (spelled "a") (at 9) [] ≡ replied finished []
 
 rows : Rows
-unfolding span starts begins same within isScalar utf8 width encode bytesOf isBlank first rest front sequences chars digitOf sign uinteger value signed wholeOf integer exponentMarker exponent suffix pointOf dotted undotted decimal infnan integralOf rationalOf denominator exact orElse ureal real justOf complexOf polarOf endsI imaginary aloneOf pairOf toSign startsE rectangular complex zeroInt zeroReal zeroParts judged radixMark prefix parseNumber startsRun firstOf inQuotes afterBackslash stopsHex inHex inTrim breaksWord inWord staysRun endsRun inRun afterHash endsHash inHash readLine linedOf readWord readRun boolKind quoteKind formKind hashKind hashBracket hashAt hashComma readHash readItem readQuoted wordOn hashOn lookup words wordKind wordMeans runMeans escaped stringText linedText charNames spelledOut characterOf unescape extentItems giveOf nextOf turnFrom turn nextFrom nextAt
+unfolding span starts begins same within isScalar utf8 width encode bytesOf isBlank first rest front sequences chars digitOf sign uinteger value signed wholeOf integer exponentMarker exponent suffix pointOf dotted undotted decimal infnan integralOf rationalOf denominator exact orElse ureal real justOf complexOf polarOf endsI imaginary aloneOf pairOf toSign startsE rectangular complex zeroInt zeroReal zeroParts judged radixMark prefix parseNumber startsRun firstOf inQuotes afterBackslash stopsHex inHex inTrim breaksWord inWord staysRun endsRun inRun afterHash endsHash inHash readLine linedOf readWord readRun boolKind quoteKind formKind hashKind hashBracket hashAt hashComma readHash readItem readQuoted wordOn hashOn lookup words wordKind wordMeans runMeans escaped stringText linedText charNames isDelimiter nameless spelledOut characterOf unescape extentItems giveOf nextOf turnFrom turn nextFrom nextAt
 rows = record {
   first-item = refl;
   next-item = refl;

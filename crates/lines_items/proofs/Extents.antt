@@ -101,13 +101,13 @@ module _ (report : Bool) where
       (λ b. rw (b, itemsFrom) (later c cs at (itemsFrom report turns last (at + width c) cs) (marked-from turns last (at + width c) cs)))
       (λ b.
       let r : Read = readItem report at c cs in
-      let next : Place = rangeAfter last at (r .what) (r .item) in
+      let next : Place = rangeAfter report last at (r .what) (r .item) in
       let t = read-taken at c cs in
       rw (b, itemsFrom)
       (every-append (Marked (c ∷ cs) at) (extentItems report last at (r .what) (r .item)) (itemsFrom report turns next (r .item .at) (r .rest))
-      (one-extent (c ∷ cs) at (rangeAfter (standing report last) at (r .what) (r .item)) at (r .item .at) (meaningOf (r .what) at (r .item .at) (r .item .bytes)) (first-mark (c ∷ cs) at) (t .0, t .1))
+      (one-extent (c ∷ cs) at (rangeAfter report (standing report last) at (r .what) (r .item)) at (r .item .at) (meaningOf report (r .what) at (r .item .at) (r .item .bytes)) (first-mark (c ∷ cs) at) (t .0, t .1))
       (beyond-all (c ∷ cs) at (r .item .at) (r .rest) (itemsFrom report turns next (r .item .at) (r .rest)) t
-      (marked-from turns (rangeAfter last at (r .what) (r .item)) (r .item .at) (r .rest)))))
+      (marked-from turns (rangeAfter report last at (r .what) (r .item)) (r .item .at) (r .rest)))))
 
   marked-line : (at : ℕ) (cs : List ℕ) → Every (Marked cs at) (pastLine report at cs)
   unfolding pastLine

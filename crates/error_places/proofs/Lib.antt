@@ -1,0 +1,5 @@
+pub mod Ascii
+pub mod Digits
+pub mod Phases
+pub mod Characters
+pub mod Places
