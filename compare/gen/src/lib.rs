@@ -58,6 +58,12 @@ pub const FAMILIES: &[Family] = &[
     lists("short", "all texts of up to 4 of 35 characters that the lexer tells apart", short::texts),
     lists("escapes", "all beginnings of an escape in \"..\" and |..|, up to 4 of 22 characters more", short::escapes),
     lists("hashes", "# and up to 4 of 31 characters", short::hashes),
+    lists(
+        "digits",
+        "hex digits in every form that has them, about 32 bits long, and up to 3 of 13 characters more",
+        short::digits,
+    ),
+    lists("characters", "#\\ and up to 5 of 12 characters", short::characters),
     lists("here", "#<< and up to 7 of 8 characters", short::here),
     lists("comments", "all texts of up to 8 of 6 characters that make comments", short::comments),
     lists("numbers", "all texts of up to 6 of 17 characters that make numbers", short::numbers),

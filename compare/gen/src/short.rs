@@ -50,6 +50,22 @@ pub fn hashes(_: &mut Random, sink: &mut Sink) {
     all("#", IN_HASHES, 4, sink);
 }
 
+const DIGIT_BEGINNINGS: &[&str] =
+    &["\"\\x", "\"\\u", "\"\\u{", "|\\x", "|\\u{", "+|\\x", "#<|\\u", "é \"é\\x", "1/0 #\\x", "#\\x", "#\\u", "#\\u{"];
+/// As many digits as still fit, or one more; some with a sign or zeros before them.
+const DIGITS: &[&str] = &["", "+", "FFFFFFF", "+FFFFFFF", "000fffffff", "10000000", "FFFFFFFFF", "4é"];
+const IN_DIGITS: &[&str] = &["0", "f", "g", "+", "-", "é", "木", "🌲", ";", "}", "\"", "|", " "];
+
+pub fn digits(_: &mut Random, sink: &mut Sink) {
+    let _ = DIGIT_BEGINNINGS
+        .iter()
+        .all(|beginning| DIGITS.iter().all(|digits| all(&format!("{beginning}{digits}"), IN_DIGITS, 3, sink)));
+}
+
+pub fn characters(_: &mut Random, sink: &mut Sink) {
+    all("#\\", &[";", "\"", "'", ",", "a", "x", "u", "{", "}", "é", "\\", "("], 5, sink);
+}
+
 pub fn here(_: &mut Random, sink: &mut Sink) {
     all("#<<", &["a", "b", "\n", "\r", " ", "é", "\"", "|"], 7, sink);
 }

@@ -1,4 +1,4 @@
-//! Document 01's examples E1 to E16 and its sample of `lexlist`, written down from the document and compared
+//! Document 01's examples E1 to E16, its sample of `lexlist` and those of request (vii), written down from the documents and compared
 //! with the Rust and with the proved call.
 use crate::lexer::{self, Read};
 use crate::report;
@@ -44,6 +44,21 @@ const REPORT: Example = Example {
     lines: "29 0 0 4 0 4 0 0 0 - real float:402d666666666666\n25 0 4 8 4 8 0 0 0 -\n",
 };
 
+/// Request (vii)'s places of error 11, and error 13, in report mode.
+const POINTED: &[Example] = &[
+    Example { name: "a bad digit", text: "\"\\x4G1;\"", lines: "111 2 0 7 4 5 0 0 0 -\n102 0 7 8 7 8 0 0 0 -\n" },
+    Example { name: "a bad digit of two bytes", text: "|\\x4é;", lines: "111 2 0 7 4 6 0 0 0 -\n" },
+    Example { name: "a sign alone", text: "\"\\x+;", lines: "111 2 0 5 3 4 0 0 0 -\n" },
+    Example { name: "no digits", text: "\"\\u;", lines: "111 1 0 4 3 3 0 0 0 -\n" },
+    Example { name: "no digits in braces", text: "#\\u{}", lines: "111 1 0 5 4 4 0 0 0 -\n" },
+    Example { name: "too many digits", text: "#\\x100000000", lines: "111 3 0 12 11 12 0 0 0 -\n" },
+    Example { name: "a delimiter", text: "#\\a;", lines: "113 0 0 4 3 4 0 0 0 -\n" },
+    Example { name: "a delimiter after two bytes", text: "#\\é;", lines: "113 0 0 5 4 5 0 0 0 -\n" },
+    Example { name: "a delimiter alone", text: "#\\;", lines: "23 59 0 3 0 3 0 0 0 -\n" },
+    Example { name: "no delimiter", text: "#\\abc", lines: "110 0 0 5 0 5 0 0 0 -\n" },
+    Example { name: "digits before a delimiter", text: "#\\x4G;", lines: "111 2 0 6 4 5 0 0 0 -\n" },
+];
+
 const LEXLIST: (&str, &str) = ("(a 14.7;gps\n", "0 0 1\n27 1 2\n27 3 7\n25 7 12\nend 4\n");
 
 pub fn judge(_: &Options) -> Count {
@@ -55,11 +70,14 @@ pub fn judge(_: &Options) -> Count {
 
 /// A reader, in plain and in report mode, against what 01 says.
 fn all(name: &'static str, plain: Read, report: Read) -> Count {
-    let mut tally = Tally::between([name, "01"], format!("examples E1 to E16, lexlist, {name}"));
+    let mut tally = Tally::between([name, "01"], format!("examples E1 to E16, (vii), lexlist, {name}"));
     for example in EXAMPLES {
         same(&mut tally, example, plain);
     }
     same(&mut tally, &REPORT, report);
+    for example in POINTED {
+        same(&mut tally, example, report);
+    }
     let (text, listed) = LEXLIST;
     let mut reading = Reading::default();
     plain(text, false, &mut reading);

@@ -11,8 +11,10 @@ use item::{Item, Reading, WORDS};
 use std::panic::{self, AssertUnwindSafe};
 use std::str;
 
-const FAMILIES: &[&str] =
-    &["short", "escapes", "hashes", "here", "comments", "numbers", "long", "reals", "plans", "damaged", "bad"];
+const FAMILIES: &[&str] = &[
+    "short", "escapes", "hashes", "digits", "characters", "here", "comments", "numbers", "long", "reals", "plans",
+    "damaged", "bad",
+];
 
 /// How many texts of a family are read at most. Of the numbers those of up to 5 characters: the number call itself is compared on all
 /// of them, and the Rust keeps every name that it reads.

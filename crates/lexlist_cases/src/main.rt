@@ -23,7 +23,7 @@ fn main() {
     // document 01's sample, and no text at all
     case(b"sample");
     case(b"empty");
-    // an error of every number; 2, 4 and 7 come only at the end of a text, so each has its own
+    // an error of every number that plain mode has; 2, 4 and 7 come only at the end of a text, so each has its own
     case(b"errors");
     case(b"errors_2");
     case(b"errors_4");

@@ -14,8 +14,10 @@ use gen::Random;
 use item::Record;
 pub use lent::Lent;
 
-const FAMILIES: &[&str] =
-    &["short", "escapes", "hashes", "here", "comments", "long", "reals", "plans", "damaged", "bad"];
+const FAMILIES: &[&str] = &[
+    "short", "escapes", "hashes", "digits", "characters", "here", "comments", "long", "reals", "plans", "damaged",
+    "bad",
+];
 
 /// So many texts of a random family at most: byte by byte they take their time.
 const MOST: u64 = 250_000;
