@@ -49,6 +49,10 @@ pub record Rows : Type 0 where
   -- the last error range stands on after other items
   pub standing : plainly (spelled "#\\ab a #\\") 27 0
       ≡ call (served 3 0) (error kind.InvalidCharName 0 0 4 0 4 ++ texted kind.Identifier 5 6 1 5 6 ++ error kind.InvalidCharacter 0 7 9 0 4) []
+  -- in report mode each error has a place of its own: its range, or its extent
+  pub apart : readOf (spelled "#\\ab a #\\") 1 false (room 27) []
+      ≡ call (served 3 0) (error kind.InvalidCharName 0 0 4 0 4 ++ texted kind.Identifier 5 6 1 5 6 ++ error kind.InvalidCharacter 0 7 9 7 9) []
+  pub own-range : readOf (spelled "\"\\xD800;") 1 false (room 9) [] ≡ call (served 1 0) (error kind.InvalidHexCodePoint 0xD800 0 8 1 8) []
   -- 25 before 21, 21 before 22
   pub no-mode : readOf (0xFF ∷ []) 2 false [] [] ≡ call (refused 25 2 0) [] []
   pub not-utf8 : plainly (code "a" ∷ 0xFF ∷ []) 0 0 ≡ call (refused 21 1 0) [] []
@@ -67,6 +71,8 @@ rows = record {
   nothing-decoded = refl;
   plus = refl;
   standing = refl;
+  apart = refl;
+  own-range = refl;
   no-mode = refl;
   not-utf8 = refl;
 }
