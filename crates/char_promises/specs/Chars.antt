@@ -16,7 +16,10 @@ use Rattle.chars.specs.declared.Decoded.{Decoded}
 use Rattle.chars.specs.declared.Decoded.the-variants as decoded
 use Rattle.chars.specs.declared.Utf8.{Utf8}
 use Rattle.chars.specs.declared.Utf8.the-variants as utf8
-use Rattle.promises.specs.Shapes.{room}
+
+-- what n bytes of lent memory hold before a call
+abbrev room : ℕ → List ℕ
+room n = replicate n 7
 
 -- `decode_at`
 abbrev decodedAt : List ℕ → ℕ → Decoded
