@@ -1,9 +1,10 @@
 -- What an extent means: `meaning` ensures `meant r ≡ sizedAll (meaningOf ..)`, which leaves one answer (One, `meaning-one-answer`), `record_of` and `put`
 -- the record and its nine words, `place` the place, `count_of` `r ≡ countOf ..`.
 use Prim.Native.Nat.{ℕ, _+_}
-use mathlib.Core.Path.{_≡_, refl}
+use mathlib.Core.Path.{_≡_, refl, ap, _∙_}
 use mathlib.Core.Bool.{true, false}
 use mathlib.Core.List.{List, [], _∷_, _++_}
+use native.Mathlib.Omega.{arith}
 use Rattle.laws.specs.Lent.{written}
 use Rattle.laws.specs.Texts.{same}
 use Rattle.chars.specs.Encode.{utf8, bytesOf, spelled}
@@ -13,6 +14,9 @@ use Rattle.items.specs.Items.{range, unset, placeOf, wordsOf, extentItems, kept
 use Rattle.items.specs.Meaning.{lookup, words, wordKind, wordMeans, meaningOf}
 use Rattle.items.specs.declared.Outcome.the-variants.{Token, Word}
 use Rattle.meaning.specs.Counts.{sum, countOf}
+use Rattle.meaning.specs.declared.Counted.{Counted}
+use Rattle.meaning.specs.declared.Means.{Means}
+use Rattle.meaning.specs.declared.Text.{Text}
 use Rattle.meaning.specs.Meant.{means, sizedAll}
 use Rattle.meaning.specs.Places.{rangeOf}
 use Rattle.meaning.specs.Records.{recordFor}
@@ -52,3 +56,21 @@ rows = record {
   two = refl;
   comment = refl;
 }
+
+-- no program whose second item of `+foo` has a text that starts at the plus meets the promise
+abbrev startOf : Text → ℕ
+startOf Nowhere = 0
+startOf (Source a b) = a
+startOf (Decoded n) = 0
+
+abbrev secondStart : List Means → ℕ
+secondStart [] = 0
+secondStart (m ∷ []) = 0
+secondStart (m ∷ n ∷ ms) = startOf (n .text)
+
+never-at-the-plus : (ms : List Means) → secondStart ms ≡ 3 → ms ≡ sizedAll (meaningOf Word 3 7 (spelled "+foo")) → ⊥
+never-at-the-plus ms plus h = omega (arith, plus, ap secondStart (h ∙ rows .plus))
+
+-- nor one that counts a skipped comment
+never-counts-skipped : (n m : ℕ) → sum n m ≡ countOf (Token kind.Comment 0) true (spelled ";") → n ≡ 0
+never-counts-skipped n m h = ap (λ (c : Counted). c .items) (h ∙ rows .comment)

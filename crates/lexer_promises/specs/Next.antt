@@ -88,6 +88,16 @@ never-finished text h =
     let e : finished ≡ item (texted kind.Identifier 0 1 1 0 1) (at 1) = ap (λ (r : Replied). r .reply) (h ∙ rows .first-item) in
     let z : _≡_ {A = ℕ} 0 1 = cc in omega arith
 
+-- nor one that refuses an item whose text just fits
+never-refuses-full : (n a b : ℕ) (text : List ℕ) → replied (refuses n a b) text ≡ nextOf (spelled "\"\\n\"") (at 0) (room 1) → ⊥
+never-refuses-full n a b text h =
+    let e : refuses n a b ≡ item (texted kind.StringLiteral 0 4 2 0 1) (at 4) = ap (λ (r : Replied). r .reply) (h ∙ rows .full) in
+    let z : _≡_ {A = ℕ} 0 1 = cc in omega arith
+
+-- nor one that writes a byte before 22
+never-writes-before-22 : (r : Reply) (text : List ℕ) → replied r text ≡ nextOf (spelled "\"\\n\\n\"") (at 0) (room 1) → text ≡ room 1
+never-writes-before-22 r text h = ap (λ (c : Replied). c .text) (h ∙ rows .no-room)
+
 -- nor one that leaves the text memory as it was
 never-unwritten : (r : Reply) → replied r (room 2) ≡ nextOf (spelled "\"\\n\"") (at 0) (room 2) → ⊥
 unfolding bytesOf utf8
@@ -99,12 +109,35 @@ kindIn (item w p) = getD w 0 0
 kindIn finished = 0
 kindIn (refuses n a b) = 0
 
+-- where its text starts, and where the last error range after it ends
+abbrev startIn : Reply → ℕ
+startIn (item w p) = getD w 7 0
+startIn finished = 0
+startIn (refuses n a b) = 0
+
+abbrev reachIn : Reply → ℕ
+reachIn (item w p) = p .last .to
+reachIn finished = 0
+reachIn (refuses n a b) = 0
+
 -- nor one that does not look at the position: the first item of the source at every call
 never-first : (r : Replied) → ((p : Position) → r ≡ nextOf (spelled "a [") p []) → ⊥
 never-first r h =
     let e : replied (item (texted kind.Identifier 0 1 1 0 1) (at 1)) [] ≡ replied (item (bare kind.OpenParen kind.Square 2 3) (at 3)) []
     = sym (h (at 0) ∙ rows .first-item) ∙ (h (at 1) ∙ rows .next-item) in
     let z : kind.Identifier ≡ kind.OpenParen = ap (λ (c : Replied). kindIn (c .reply)) e in omega (arith, z)
+
+-- nor one that gives the plus of `+a` again where the word after it is due
+never-plus-twice : (w : List ℕ) (p q : Position) (t u : List ℕ)
+    → replied (item w p) t ≡ nextOf (spelled "+a") (at 0) [] → replied (item w q) u ≡ nextOf (spelled "+a") (half 0) [] → ⊥
+never-plus-twice w p q t u first second =
+    let one : startIn (item w p) ≡ 0 = ap (λ (c : Replied). startIn (c .reply)) (first ∙ rows .plus) in
+    let two : startIn (item w q) ≡ 1 = ap (λ (c : Replied). startIn (c .reply)) (second ∙ rows .after-plus) in
+    omega (arith, one, two)
+
+-- nor one that forgets an error's range
+never-rangeless : (w : List ℕ) (p : Position) (t : List ℕ) → p .last .to ≡ 0 → replied (item w p) t ≡ nextOf (spelled "#\\ab") (at 0) [] → ⊥
+never-rangeless w p t none h = omega (arith, none, ap (λ (c : Replied). reachIn (c .reply)) (h ∙ rows .ranged))
 
 -- a source over the limit is 20 at every position
 too-long-first : (source : List ℕ) (p : Position) (text : List ℕ) → 4294967295 < length source → nextOf source p text ≡ replied (refuses 20 4294967295 0) text

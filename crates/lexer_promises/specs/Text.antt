@@ -1,6 +1,6 @@
 -- The text call: `text_of` ensures `now r ≡ textIn source text k from to`, `text_mark` `r ≡ textMark ..`, `text_and_mark` both.
 use Prim.Native.Nat.{ℕ}
-use mathlib.Core.Path.{_≡_, refl, sym, _∙_}
+use mathlib.Core.Path.{_≡_, refl, ap, sym, _∙_}
 use mathlib.Core.List.{List, [], _∷_}
 use native.Mathlib.Omega.{arith}
 use Rattle.chars.specs.Encode.{utf8, bytesOf, spelled}
@@ -45,3 +45,17 @@ rows = record {
 never-fixed : (m : ℕ) → ((k from to : ℕ) → m ≡ textMark (spelled "abc") (spelled "xy") k from to) → ⊥
 unfolding utf8 bytesOf textMark
 never-fixed m h = let z : _≡_ {A = ℕ} 0 27 = sym (h 1 1 3) ∙ h 0 0 0 in omega (arith, z)
+
+-- nor one that gives another mark than 27 where the record has no text, or where its places pass the text memory and not the source
+never-another-mark : (t : List ℕ) (m : ℕ) → given t m ≡ text 0 0 0 → m ≡ 27
+never-another-mark t m h = ap (λ (g : Given). g .mark) (h ∙ rows .no-source)
+
+never-the-other : (t : List ℕ) (m : ℕ) → given t m ≡ text 2 0 3 → m ≡ 27
+never-the-other t m h = ap (λ (g : Given). g .mark) (h ∙ rows .past-memory)
+
+-- nor one that gives a part beside 27, for places that go back or that pass the source
+never-a-part-backwards : (t : List ℕ) (m : ℕ) → given t m ≡ text 1 2 1 → t ≡ []
+never-a-part-backwards t m h = ap (λ (g : Given). g .part) (h ∙ rows .backwards)
+
+never-a-part-past : (t : List ℕ) (m : ℕ) → given t m ≡ text 1 0 4 → t ≡ []
+never-a-part-past t m h = ap (λ (g : Given). g .part) (h ∙ rows .past-source)

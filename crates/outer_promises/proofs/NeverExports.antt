@@ -12,10 +12,10 @@ use Rattle.chars.specs.Utf8.{placed, front, firstBad}
 use Rattle.numbers.specs.Call.{number}
 use Rattle.items.specs.Whole.{readOf}
 use Rattle.lexer.specs.Text.{textMark}
-use Rattle.exports.specs.Read.{readNumber}
+use Rattle.exports.specs.Read.{readNumber, readValues}
 use Rattle.number_words.specs.Words.{bit, numberOr}
 use Rattle.exports.specs.Utf8.{goodBytes, codeOr, nextOr}
-use Rattle.outer_promises.specs.Exports.{Rows, computed, cutLambda, goodThenBad}
+use Rattle.outer_promises.specs.Exports.{Rows, computed, unroomed, cutLambda, goodThenBad}
 
 -- ---- `mihadrena_read`
 
@@ -32,6 +32,13 @@ module _ (call : List ℕ → ℕ → Bool → List ℕ → List ℕ → ℕ)
 
   pub never-serves-all : ((source : List ℕ) (mode : ℕ) (skip : Bool) (records text : List ℕ) → call source mode skip records text ≡ 0) → ⊥
   never-serves-all h = omega (arith, h (spelled ";x") 0 false [] [], meets (spelled ";x") 0 false [] [] ∙ computed .read-kept)
+
+-- the two values that it leaves
+module _ (values : List ℕ → List ℕ) (meets : (source : List ℕ) → values source ≡ readValues (unroomed source .answer)) where
+  -- it tells the bytes needed first, then the items
+  pub never-swaps-needs : (values (spelled "(\"\\n\"") ≡ 1 ∷ 2 ∷ []) → ⊥
+  never-swaps-needs h =
+      omega (arith, ap (λ (l : List ℕ). getD l 0 0) h, ap (λ (l : List ℕ). getD l 0 0) (meets (spelled "(\"\\n\"") ∙ computed .read-needed))
 
 -- ---- `mihadrena_text_mark`
 

@@ -81,6 +81,10 @@ module _ (call : ℕ → Bool → List ℕ → Said) (meets : (mode : ℕ) (skip
       let buf : List ℕ = replicate longest 7 in
       omega (arith, ap sort (h 2 false buf), ap (λ (r : Said). sort (r .what)) (meets 2 false buf ∙ computed .no-mode))
 
+  -- it refuses a mode that there is not with another number than 25
+  pub never-refuses-otherwise : (call 2 false (replicate longest 7) .what ≡ refused 25 2 → ⊥) → ⊥
+  never-refuses-otherwise h = h (ap (λ (r : Said). r .what) (meets 2 false (replicate longest 7) ∙ computed .no-mode))
+
   pub never-opens-none : ((mode : ℕ) (skip : Bool) (buf : List ℕ) → sort (call mode skip buf .what) ≡ 3) → ⊥
   never-opens-none h =
       let buf : List ℕ = replicate longest 7 in

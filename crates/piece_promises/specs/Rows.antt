@@ -26,8 +26,10 @@ use Rattle.items.specs.Readers.{linedOf, scalarOf, boolKind, quoteKind, formKin
 use Rattle.items.specs.Meaning.{lookup, words, wordKind, wordMeans, runMeans, escaped, stringText, linedText, hereText, charNames, hexNamed, spelledOut, characterOf, unescape}
 use Rattle.items.specs.Items.{extentItems}
 use Rattle.items.specs.Kinds as kind
+use Rattle.items.specs.Whole.{limit}
 use Rattle.pieces.specs.declared.Stage.{Stage}
-use Rattle.pieces.specs.declared.Stage.the-variants.{Opening, Idle, Busy, Stopped}
+use Rattle.pieces.specs.declared.Stage.the-variants.{Opening, Idle, Busy, Waiting, Stopped}
+use Rattle.pieces.specs.declared.Beyond.the-variants.{Char}
 use Rattle.pieces.specs.declared.State.{State}
 use Rattle.pieces.specs.Bounds.{inBounds}
 use Rattle.pieces.specs.Calls.{What, item, more, finished, refused, Reply, reply, fresh, whole, textAfter, turnOf, feedOf, pieceOf, endOf, openOf}
@@ -72,6 +74,18 @@ afterError = state false (Busy 8 (ph.Quoted Double)) 9 1 8 1 (buffer (spelled "\
 abbrev pub nearlyFull : State
 nearlyFull = state false (Busy 0 ph.InWord) 4095 0 0 4095 (replicate longest 97)
 
+-- "+a " was taken and the plus given: the word after it waits, the shortest that can
+abbrev waiting : State
+waiting = state false (Waiting 0 (Char (code " "))) 2 0 0 2 (buffer (spelled "+a"))
+
+-- the first byte of a character was taken
+abbrev begun : State
+begun = pieceOf new (0xCE ∷ []) longest .state
+
+-- as many bytes as there may be were taken
+abbrev filled : State
+filled = state false Idle limit 0 0 0 (buffer [])
+
 -- a mode that there is not
 abbrev pub modeTwo : State
 modeTwo = fresh 2 false
@@ -110,11 +124,17 @@ pub record Rows : Type 0 where
   pub too-long-state : pieceOf nearlyFull (spelled "aaa") longest .state ≡ state false (Stopped 23 0) 4096 0 0 0 (replicate longest 97)
   -- a byte that begins no character is 21, which stands from then on
   pub stop : pieceOf new (0xFF ∷ []) longest ≡ reply 1 (refused 21 0) (state false (Stopped 21 0) 0 0 0 0 (buffer []))
+  -- the first byte too many is 20
+  pub one-too-many : pieceOf filled (spelled "a") longest ≡ reply 1 (refused 20 limit) (state false (Stopped 20 limit) limit 0 0 0 (buffer []))
   -- E10: the error's range is kept when its item is given, and is the place of the error after it
   pub ranged : pieceOf new (spelled "\"\\xD800;\"") longest ≡ reply 9 (error kind.InvalidHexCodePoint 0xD800 0 8 1 8) afterError
   pub ranged-end : endOf afterError longest ≡ reply 0 (error kind.IncompleteString 0 8 9 1 8) (state true Idle 9 1 8 0 (buffer (spelled "\"\\xD800;")))
   -- the end finishes the item that was being read, and stands declared
   pub end-call : endOf inWordA longest ≡ reply 0 (texted kind.Identifier 1 2 "a") (state true Idle 2 0 0 0 (buffer (spelled "a")))
+  -- the second item of a pair is given at the end too
+  pub second : endOf waiting longest ≡ reply 0 (texted kind.Identifier 0 2 "a") (state true Idle 3 0 0 0 (buffer (spelled "+a")))
+  -- a sequence that the end cuts is 21
+  pub cut : endOf begun longest ≡ reply 0 (refused 21 0) (state true (Stopped 21 0) 0 0 0 0 (buffer []))
   -- a state outside its bounds is 27, a text memory that is short 24, a piece after the declared end 26: nothing is taken, and the state stays
   pub out-of-bounds : pieceOf modeTwo (spelled "a") longest ≡ reply 0 (refused 27 0) modeTwo
   pub end-out-of-bounds : endOf modeTwo longest ≡ reply 0 (refused 27 0) modeTwo
@@ -140,9 +160,12 @@ computed =
       too-long = refl;
       too-long-state = refl;
       stop = refl;
+      one-too-many = refl;
       ranged = refl;
       ranged-end = refl;
       end-call = refl;
+      second = refl;
+      cut = refl;
       out-of-bounds = refl;
       end-out-of-bounds = refl;
       no-room = refl;

@@ -1,16 +1,19 @@
 -- Digits: what each call of crate `digits` ensures is `r ≡` its definition, so that no other answer is permitted.
 use Prim.Native.Nat.{ℕ}
-use mathlib.Core.Path.{_≡_, refl}
-use mathlib.Core.Bool.{true, false}
+use mathlib.Core.Path.{_≡_, refl, ap, _∙_}
+use mathlib.Core.Bool.{Bool, true, false}
 use mathlib.Core.List.{List, [], _∷_}
 use lib.IntN.{ℤ, pos, negsuc}
+use native.Mathlib.Omega.{arith}
 use Rattle.laws.specs.Quoted.{codes, within}
 use Rattle.laws.specs.Texts.{span, starts}
 use Rattle.digits.specs.Digits.{digitOf, sign, uinteger, value, signed, wholeOf, integer}
 use Rattle.digits.specs.Hex.{empty, badDigit, overflow, hexDigits, hexAfterPlus, hexValue}
+use Rattle.digits.specs.declared.Hex.{Hex}
 use Rattle.digits.specs.declared.Hex.the-variants.{Value, Wrong}
 use Rattle.digits.specs.declared.Span.{Span}
 use Rattle.digits.specs.declared.Int.the-variants.{Small, Big}
+use Rattle.digits.specs.declared.MaybeInt.{MaybeInt}
 use Rattle.digits.specs.declared.MaybeInt.the-variants.{AnInt, NoInt}
 
 -- the places from a to before b
@@ -52,3 +55,50 @@ rows = record {
   whole = refl;
   whole-signed = refl;
 }
+
+-- ---- programs that meet no promise of `hex_value`
+
+-- what is wrong, 0 where nothing is, and where
+abbrev detailOf : Hex → ℕ
+detailOf (Value v) = 0
+detailOf (Wrong d p) = d
+
+abbrev placeOf : Hex → ℕ
+placeOf (Value v) = 0
+placeOf (Wrong d p) = p
+
+-- a bad digit is let through
+never-lets-through : (v : ℕ) → Value v ≡ hexValue (codes "4G") → ⊥
+never-lets-through v h = omega (arith, ap detailOf (h ∙ rows .hex-bad))
+
+-- an overflow is told where a bad digit stands
+never-overflow-first : (p : ℕ) → Wrong overflow p ≡ hexValue (codes "10000000G") → ⊥
+never-overflow-first p h = omega (arith, ap detailOf (h ∙ rows .hex-bad-last))
+
+-- a lone plus fails elsewhere than at itself, or an overflow elsewhere than at the digit that it comes with
+never-behind-plus : (d p : ℕ) → Wrong d p ≡ hexValue (codes "+") → p ≡ 0
+never-behind-plus d p h = ap placeOf (h ∙ rows .hex-plus)
+
+never-elsewhere : (d p : ℕ) → Wrong d p ≡ hexValue (codes "100000000") → p ≡ 8
+never-elsewhere d p h = ap placeOf (h ∙ rows .hex-overflow)
+
+-- ---- nor of `integer`
+
+-- 1 for a Big, and the first place of its digits
+abbrev isBig : MaybeInt → ℕ
+isBig NoInt = 0
+isBig (AnInt (Small v)) = 0
+isBig (AnInt (Big n s)) = 1
+
+abbrev firstPlace : MaybeInt → ℕ
+firstPlace NoInt = 0
+firstPlace (AnInt (Small v)) = 0
+firstPlace (AnInt (Big n s)) = s .start
+
+-- the least Small is made Big
+never-big : (n : Bool) (s : Span) → AnInt (Big n s) ≡ integer 10 0 (codes "-9223372036854775808") → ⊥
+never-big n s h = omega (arith, ap isBig (h ∙ rows .least))
+
+-- a Big's digits start elsewhere
+never-misplaced : (n : Bool) (s : Span) → AnInt (Big n s) ≡ integer 10 3 (codes "9223372036854775808") → s .start ≡ 3
+never-misplaced n s h = ap firstPlace (h ∙ rows .past-greatest)

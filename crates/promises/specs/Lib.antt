@@ -1,6 +1,5 @@
 -- One file for each group of calls: `Rows` says what the calls must answer, `rows` computes it.
 pub mod Shapes
-pub mod Chars
 pub mod Digits
 pub mod Number
 pub mod Words

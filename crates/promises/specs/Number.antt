@@ -1,7 +1,7 @@
 -- The number call: `numbers::number` ensures `answered r ≡ number t`. `parse_number` and `is_plain` ensure `r ≡` their definitions.
 use Prim.Native.Nat.{ℕ, _+_, _<_}
-use mathlib.Core.Path.{_≡_, refl, sym, _∙_}
-use mathlib.Core.Bool.{true, false}
+use mathlib.Core.Path.{_≡_, refl, ap, sym, _∙_}
+use mathlib.Core.Bool.{Bool, true, false}
 use mathlib.Core.List.{List, [], _∷_}
 use lib.ListN.{length}
 use lib.IntN.{ℤ, pos, negsuc}
@@ -19,6 +19,7 @@ use Rattle.numbers.specs.Grammar.{justOf, complexOf, polarOf, endsI, imaginary,
 use Rattle.numbers.specs.Plain.{plain}
 use Rattle.numbers.specs.declared.Real.{Real}
 use Rattle.numbers.specs.declared.Real.the-variants.{Integer, Rational}
+use Rattle.numbers.specs.declared.Parts.{Parts}
 use Rattle.numbers.specs.declared.Parts.the-variants.{Just, Complex, Polar}
 use Rattle.numbers.specs.declared.NumberAnswer.{NumberAnswer}
 use Rattle.numbers.specs.Call.{Answer, parts, noNumber, error, refused, longest, answered, given, number}
@@ -70,6 +71,38 @@ never-refused : (n m : List ℕ → ℕ) → ((t : List ℕ) → refused (n t) (
 never-refused n m h =
     let e : refused (n (spelled "-")) (m (spelled "-")) ≡ noNumber = h (spelled "-") ∙ rows .no-digits in
     let z : _≡_ {A = ℕ} 0 1 = cc in omega arith
+
+-- what is answered, told apart by a number
+abbrev sort : Answer → ℕ
+sort (parts p) = 0
+sort noNumber = 1
+sort (error n) = 2
+sort (refused n a) = 3
+
+-- nor one that calls `-5` no number
+never-unread : noNumber ≡ number (spelled "-5") → ⊥
+never-unread h = omega (arith, ap sort (h ∙ rows .negative))
+
+-- nor one that calls `#xe+1i` a number (E15), or `1/0` (E5), and `1@1/-2` none (E7)
+never-sign-after-e : (p : Parts) → parts p ≡ number (spelled "#xe+1i") → ⊥
+never-sign-after-e p h = omega (arith, ap sort (h ∙ rows .sign-after-e))
+
+never-zero-denominator : (p : Parts) → parts p ≡ number (spelled "1/0") → ⊥
+never-zero-denominator p h = omega (arith, ap sort (h ∙ rows .zero))
+
+never-signless : noNumber ≡ number (spelled "1@1/-2") → ⊥
+never-signless h = omega (arith, ap sort (h ∙ rows .signed-denominator))
+
+-- nor one of `is_plain` that calls a sign alone a number, or `1/0`
+abbrev bit : Bool → ℕ
+bit true = 1
+bit false = 0
+
+never-plain-sign : plain (spelled "-") ≡ true → ⊥
+never-plain-sign h = omega (arith, ap bit (sym h ∙ rows .plain-sign))
+
+never-plain-zero : plain (spelled "1/0") ≡ true → ⊥
+never-plain-zero h = omega (arith, ap bit (sym h ∙ rows .plain-zero))
 
 -- a text of just the limit is read; a byte more is 20, also where the bytes are no text: 20 before 21
 longest-read : (t : List ℕ) → length t ≡ 4294967295 → firstBad t ≡ Good → number t ≡ given (parseNumber t)

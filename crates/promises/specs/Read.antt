@@ -48,6 +48,10 @@ pub record Rows : Type 0 where
   pub decoded : plainly (spelled "\"\\n\"") 9 2 ≡ call (served 1 1) (texted kind.StringLiteral 0 4 2 0 1) (spelled "\n" ++ room 1)
   -- E14: an identifier whose decoded text is empty has its text in the source
   pub nothing-decoded : plainly (spelled "|\\\n|") 9 1 ≡ call (served 1 0) (texted kind.Identifier 0 4 1 1 3) (room 1)
+  -- in report mode each error has a place of its own: its range, or its extent
+  pub apart : readOf (spelled "#\\ab a #\\") 1 false (room 27) []
+      ≡ call (served 3 0) (error kind.InvalidCharName 0 0 4 0 4 ++ texted kind.Identifier 5 6 1 5 6 ++ error kind.InvalidCharacter 0 7 9 7 9) []
+  pub own-range : readOf (spelled "\"\\xD800;") 1 false (room 9) [] ≡ call (served 1 0) (error kind.InvalidHexCodePoint 0xD800 0 8 1 8) []
   -- E2: of a word that begins with a plus there are two items with one extent
   pub plus : plainly (spelled "+a") 18 0 ≡ call (served 2 0) (texted kind.Identifier 0 2 1 0 1 ++ texted kind.Identifier 0 2 1 1 2) []
   -- the last error range stands on after other items
@@ -74,6 +78,8 @@ rows = record {
   skipped = refl;
   decoded = refl;
   nothing-decoded = refl;
+  apart = refl;
+  own-range = refl;
   plus = refl;
   standing = refl;
   failing = refl;

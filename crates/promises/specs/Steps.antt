@@ -27,6 +27,9 @@ pub record Rows : Type 0 where
   -- step: a semicolon ends a number run in report mode alone (E8)
   pub semicolon : stepOf false ph.InRun (soFar (spelled "14.7") 4) (code ";") ≡ Stop Word
   pub reported : stepOf true ph.InRun (soFar (spelled "14.7") 4) (code ";") ≡ Stop Run
+  -- so does a vertical line, which in plain mode goes on to the next one (E13)
+  pub bar : stepOf false ph.InRun (soFar (spelled "12") 2) (code "|") ≡ Eat (ph.Quoted Lines)
+  pub reported-bar : stepOf true ph.InRun (soFar (spelled "12") 2) (code "|") ≡ Stop Run
   -- what breaks a hex escape off lies in its extent and not in its place
   pub broken : stepOf false (ph.Hex Double (code ";") 1 3) (soFar (spelled "\"\\x4") 4) (code "\"") ≡ Eat (ph.Done (ErrorAt kind.UnclosedHexEscape (code ";") 1 4))
   -- digits that fail: in plain mode the whole escape is the place, in report mode what fails (02 (vii))
@@ -48,6 +51,8 @@ rows = record {
   comma-at = refl;
   semicolon = refl;
   reported = refl;
+  bar = refl;
+  reported-bar = refl;
   broken = refl;
   unreported = refl;
   failing = refl;

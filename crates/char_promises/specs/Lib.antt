@@ -1,0 +1,2 @@
+-- `Rows` says what the calls must answer, `rows` computes it.
+pub mod Chars
