@@ -33,7 +33,8 @@ pub mod refusals;
 const WORD: usize = 0x1_0000_0000;
 
 // What a record is to the reader: none of the layout's, an error, a comment, `#;`, a quoting mark, a simple datum with its
-// node's kind, an opening and a closing bracket with its detail, a dot.
+// node's kind, an opening and a closing bracket with its detail, a dot. A bracket is a u64 here and in a frame: the compiler packs a u32 into
+// one word with the tag, and takes it apart again at every record.
 pub enum Class {
     Alien,
     Fails,
@@ -41,8 +42,8 @@ pub enum Class {
     Drops,
     Marks,
     Simple(u32),
-    Opens(u32),
-    Closes(u32),
+    Opens(u64),
+    Closes(u64),
     Dots,
 }
 
@@ -52,10 +53,10 @@ pub enum Frame {
     Plan,
     Quoting,
     Dropping,
-    Fresh(u32),
-    Holds(u32),
-    Dotted(u32),
-    Tailed(u32),
+    Fresh(u64),
+    Holds(u64),
+    Dotted(u64),
+    Tailed(u64),
 }
 
 // The next record and the next node; or a refusal with its record.
