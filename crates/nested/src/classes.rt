@@ -39,10 +39,10 @@ fn sort(k: u32, d: u32) -> Class
     ensures { λ r. ⌜ r ≡ sortOf k d ⌝ }
 {
     if k == kinds::OPEN_PAREN {
-        return Class::Opens(d);
+        return Class::Opens(d as u64);
     }
     if k == kinds::CLOSE_PAREN {
-        return Class::Closes(d);
+        return Class::Closes(d as u64);
     }
     if k <= kinds::UNQUOTE_SPLICE_SYNTAX {
         return Class::Marks;

@@ -10,6 +10,11 @@ ghost use Rattle.nested.specs.Grammar.{kindOf};
 ghost use Rattle.nested.specs.Reader.{pointed, nodeKind};
 ghost use Rattle.nested.specs.Said.{dropping, heldOf, tookOf, skippedOf};
 
+// Brackets as a frame holds them.
+pub const ROUND: u64 = kinds::ROUND as u64;
+
+pub const VECTOR: u64 = kinds::VECTOR as u64;
+
 // The frame after a dot.
 pub fn pointed_at(f: Frame) -> Frame
     ensures { λ r. ⌜ r ≡ pointed f ⌝ }
@@ -41,13 +46,13 @@ pub fn held(f: Frame, p: usize, w: usize) -> Turn
 }
 
 // The kind of the node that a bracket without a dot gives.
-fn shape_kind(s: u32) -> u32
+fn shape_kind(s: u64) -> u32
     ensures { λ r. ⌜ r ≡ kindOf s ⌝ }
 {
-    if s < kinds::VECTOR {
+    if s < VECTOR {
         return nodes::LIST;
     }
-    if s == kinds::VECTOR {
+    if s == VECTOR {
         return nodes::VECTOR;
     }
     nodes::BYTE_LIST

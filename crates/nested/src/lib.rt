@@ -22,7 +22,7 @@ ghost use lib.ListN.{length};
 ghost use Rattle.nested.specs.Items.{countOf};
 ghost use Rattle.nested.specs.Grammar.{node};
 ghost use Rattle.nested.specs.Lent.{outcome, nestedOf};
-ghost use Rattle.nested.specs.Said.{isPlan, Put, Closed, Wrote, TurnSaid, LevelSaid, PlanSaid};
+ghost use Rattle.nested.specs.Said.{Put, Closed, TurnSaid, Begins, SequenceSaid, PlanSaid};
 
 mod classes;
 mod frames;
@@ -33,7 +33,8 @@ pub mod refusals;
 const WORD: usize = 0x1_0000_0000;
 
 // What a record is to the reader: none of the layout's, an error, a comment, `#;`, a quoting mark, a simple datum with its
-// node's kind, an opening and a closing bracket with its detail, a dot.
+// node's kind, an opening and a closing bracket with its detail, a dot. A bracket is a u64 here and in a frame: the compiler packs a u32 into
+// one word with the tag, and takes it apart again at every record.
 pub enum Class {
     Alien,
     Fails,
@@ -41,8 +42,8 @@ pub enum Class {
     Drops,
     Marks,
     Simple(u32),
-    Opens(u32),
-    Closes(u32),
+    Opens(u64),
+    Closes(u64),
     Dots,
 }
 
@@ -52,10 +53,10 @@ pub enum Frame {
     Plan,
     Quoting,
     Dropping,
-    Fresh(u32),
-    Holds(u32),
-    Dotted(u32),
-    Tailed(u32),
+    Fresh(u64),
+    Holds(u64),
+    Dotted(u64),
+    Tailed(u64),
 }
 
 // The next record and the next node; or a refusal with its record.
@@ -122,12 +123,12 @@ fn datum(records: &[u32], at: usize, depth: usize, f: Frame, nodes: &mut [u32], 
             skipped(
                 f,
                 w,
-                sequence(records, at, depth + 1, Frame::Dropping, &mut none, 0),
+                sequence(records, at + 1, depth + 1, Frame::Dropping, &mut none, 1),
             )
         }
         Class::Marks => took(
             f,
-            sequence(records, at, depth + 1, Frame::Quoting, nodes, w),
+            sequence(records, at + 1, depth + 1, Frame::Quoting, nodes, w + 1),
         ),
         Class::Simple(m) => {
             put(nodes, w, m, at, 0);
@@ -135,28 +136,29 @@ fn datum(records: &[u32], at: usize, depth: usize, f: Frame, nodes: &mut [u32], 
         }
         Class::Opens(s) => took(
             f,
-            sequence(records, at, depth + 1, Frame::Fresh(s), nodes, w),
+            sequence(records, at + 1, depth + 1, Frame::Fresh(s), nodes, w + 1),
         ),
         Class::Closes(_bracket) => Turn::Shut(at + 1, w),
         Class::Dots => Turn::On(at + 1, w, pointed_at(f)),
     }
 }
 
-// The sequence reader: what lies in the level that the record `opened` opens, up to the record that shuts it.
+// The sequence reader: the data from the record `from` on, up to the record that shuts their level, or to the end of the whole text; their
+// nodes come from node place `first` on. A level's own record and node stand one before.
 fn sequence(
     records: &[u32],
-    opened: usize,
+    from: usize,
     depth: usize,
     f: Frame,
     nodes: &mut [u32],
-    w: usize,
+    first: usize,
 ) -> Read
-    requires { ⌜ (opened < countOf (now records)) × (w ≤ opened) × (depth ≤ 64) × (isPlan f ≡ false) ⌝ }
-    ensures { λ r. ⌜ LevelSaid (now (records .entry)) opened depth f w (now (nodes .entry)) (now (nodes .exit)) r ⌝ }
+    requires { ⌜ Begins (now records) from depth f first ⌝ }
+    ensures { λ r. ⌜ SequenceSaid (now (records .entry)) from depth f first (now (nodes .entry)) (now (nodes .exit)) r ⌝ }
 {
     let count = records.len() / WORDS;
-    let mut at = opened + 1;
-    let mut v = w + 1;
+    let mut at = from;
+    let mut v = first;
     let mut g = f;
     while at < count {
         let t = datum(records, at, depth, g, nodes, v);
@@ -167,39 +169,25 @@ fn sequence(
                 g = h;
             }
             Turn::Shut(p, x) => {
-                return close(nodes, g, opened, w, p, x);
+                return close(nodes, g, from - 1, first - 1, p, x);
             }
             Turn::Stop(n, p) => {
                 return Read::Failed(n, p);
             }
         }
     }
-    Read::Failed(ending_at(g), count)
+    let n = ending_at(g);
+    if n == refusals::NONE {
+        return Read::Got(count, v);
+    }
+    Read::Failed(n, count)
 }
 
 // The data of the whole text.
 fn plan(records: &[u32], nodes: &mut [u32]) -> Read
     ensures { λ r. ⌜ PlanSaid (now (records .entry)) (now (nodes .entry)) (now (nodes .exit)) r ⌝ }
 {
-    let count = records.len() / WORDS;
-    let mut at = 0;
-    let mut v = 0;
-    while at < count {
-        let t = datum(records, at, 0, Frame::Plan, nodes, v);
-        match t {
-            Turn::On(p, x, _h) => {
-                at = p;
-                v = x;
-            }
-            Turn::Shut(p, _x) => {
-                return Read::Failed(refusals::NONE, p);
-            }
-            Turn::Stop(n, p) => {
-                return Read::Failed(n, p);
-            }
-        }
-    }
-    Read::Got(count, v)
+    sequence(records, 0, 0, Frame::Plan, nodes, 0)
 }
 
 // The nodes of the records, written from the start of `nodes` on; or the refusal, and `nodes` stays as it was.

@@ -2,7 +2,7 @@
 // MARK_WAITS, MISPLACED_DOT, WRONG_CLOSE, BRACKET_OPEN, TOO_DEEP.
 use crate::Class;
 use crate::Frame;
-use items::kinds;
+use crate::frames;
 ghost use mathlib.Core.Path.{_≡_};
 ghost use Rattle.nested.specs.Grammar;
 ghost use Rattle.nested.specs.Reader.{tailed, starting, closing, dotting, ending, wrong};
@@ -38,10 +38,10 @@ pub const ALIEN: u32 = 48;
 const DEEPEST: usize = 64;
 
 // The bracket that closes what this one opens; vectors and byte lists are round.
-fn closer_of(s: u32) -> u32
+fn closer_of(s: u64) -> u64
     ensures { λ r. ⌜ r ≡ Rattle.nested.specs.Grammar.closer s ⌝ }
 {
-    if s < kinds::VECTOR { s } else { kinds::ROUND }
+    if s < frames::VECTOR { s } else { frames::ROUND }
 }
 
 // A level opens inside so many.
@@ -75,14 +75,14 @@ fn starting_at(f: Frame, depth: usize) -> u32
 }
 
 // A close in an open bracket.
-fn fits_close(b: u32, s: u32) -> u32
+fn fits_close(b: u64, s: u64) -> u32
     ensures { λ r. ⌜ r ≡ closing b (Frame.Fresh s) ⌝ }
 {
     if b == closer_of(s) { NONE } else { WRONG_CLOSE }
 }
 
 // A close in any frame.
-fn closing_at(b: u32, f: Frame) -> u32
+fn closing_at(b: u64, f: Frame) -> u32
     ensures { λ r. ⌜ r ≡ closing b f ⌝ }
 {
     match f {
@@ -97,10 +97,10 @@ fn closing_at(b: u32, f: Frame) -> u32
 }
 
 // The first dot of a bracket that holds data.
-fn first_dot(s: u32) -> u32
+fn first_dot(s: u64) -> u32
     ensures { λ r. ⌜ r ≡ dotting (Frame.Holds s) ⌝ }
 {
-    if s < kinds::VECTOR {
+    if s < frames::VECTOR {
         NONE
     } else {
         MISPLACED_DOT

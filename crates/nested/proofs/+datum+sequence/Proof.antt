@@ -1,15 +1,16 @@
--- The datum reader and the sequence reader call each other. The measure is twice the records that are left, and 1 for a sequence (from the
--- record after the one that opens it). Assumes nothing.
+-- The datum reader and the sequence reader call each other. The measure is twice the records that are left, and 1 more for a sequence.
+-- Assumes nothing.
 use borrow.Author.Needs.{needs}
 use native.Mathlib.Omega.{arith}
 use Prim.Native.Nat.{_*_, _+_, _-_}
 use mathlib.Core.Path.{_≡_, refl, sym, ap, _∙_}
 use lib.ListN.{replicate}
 use Rattle.nested.specs.declared.Class.the-variants.{Alien, Fails, Marks, Simple, Opens}
+use Rattle.nested.specs.declared.Frame.the-variants.{Quoting, Dropping, Fresh}
 use Rattle.nested.specs.declared.Read.the-variants.{Got}
 use Rattle.nested.specs.Items.{countOf}
 use Rattle.nested.proofs.Turns.{datum-mark, datum-open, datum-simple, stop-said, pass-said, dot-said, close-said, skipped-said, took-said}
-use Rattle.nested.proofs.Loops.{Going, going-start, going-more, going-stop, going-end, going-shut, going-room, depth-more, starting-plan}
+use Rattle.nested.proofs.Loops.{Going, going-start, going-more, going-stop, going-done, going-end, going-shut, going-room, going-from, going-opened, begins-level, level-said, depth-more, starting-plan}
 use Prim.Native.Nat.{ℕ, _<_}
 use borrow.Fn.Kinds.{In}
 use borrow.Fn.PlainCycle.{Measures, is, falls, and}
@@ -21,12 +22,12 @@ use Rattle.nested.proofs.sequence.Kinds as sequence-kinds
 use Rattle.nested.proofs.+datum+sequence.Lts-sequence as sequence-lts
 use Rattle.nested.proofs.classes.class_at.Reads as class-at-reads
 use Rattle.nested.proofs.close.Reads as close-reads
-use Rattle.nested.proofs.refusals.ending_at.Reads as ending-at-reads
 use Rattle.nested.proofs.frames.held.Reads as held-reads
 use Rattle.nested.proofs.frames.pointed_at.Reads as pointed-at-reads
-use Rattle.nested.proofs.put.Reads as put-reads
 use Rattle.nested.proofs.frames.skipped.Reads as skipped-reads
 use Rattle.nested.proofs.frames.took.Reads as took-reads
+use Rattle.nested.proofs.put.Reads as put-reads
+use Rattle.nested.proofs.refusals.ending_at.Reads as ending-at-reads
 use Rattle.nested.proofs.refusals.wrong_at.Reads as wrong-at-reads
 use Rattle.nested.proofs.+datum+sequence.{statement}
 use Rattle.nested.proofs.+datum+sequence.Tie.{close}
@@ -35,7 +36,7 @@ abbrev μ-datum : Measures 2 datum-kinds.ps ℕ
 μ-datum κs a = 2 * (countOf (a .0 .now) - a .1 .0)
 
 abbrev μ-sequence : Measures 2 sequence-kinds.ps ℕ
-μ-sequence κs a = 2 * (countOf (a .0 .now) - (a .1 .0 + 1)) + 1
+μ-sequence κs a = 2 * (countOf (a .0 .now) - a .1 .0) + 1
 
 abbrev datum-at : ℕ → In 2 datum-kinds.ps
 datum-at t = and 2 datum-kinds.ps (is 2 datum-kinds.ps μ-datum t) datum.Pre
@@ -230,6 +231,26 @@ datum-add-sequence : (t : ℕ) → datum-lts.Need-add-sequence (
 ) (datum-at t) datum.Post
 datum-add-sequence t c = search needs
 
+datum-add-sequence-2 : (t : ℕ) → datum-lts.Need-add-sequence-2 (
+  class-at-reads.Asked,
+  class-at-reads.Learnt,
+  wrong-at-reads.Asked,
+  wrong-at-reads.Learnt,
+  sequence-below t,
+  sequence.Post,
+  skipped-reads.Asked,
+  skipped-reads.Learnt,
+  took-reads.Asked,
+  took-reads.Learnt,
+  put-reads.Asked,
+  put-reads.Learnt,
+  held-reads.Asked,
+  held-reads.Learnt,
+  pointed-at-reads.Asked,
+  pointed-at-reads.Learnt,
+) (datum-at t) datum.Post
+datum-add-sequence-2 t c = search needs
+
 datum-slice-aggregate-sequence : (t : ℕ) → datum-lts.Need-slice-aggregate-sequence (
   class-at-reads.Asked,
   class-at-reads.Learnt,
@@ -268,7 +289,7 @@ datum-sequence-requires : (t : ℕ) → datum-lts.Need-sequence-requires (
   pointed-at-reads.Asked,
   pointed-at-reads.Learnt,
 ) (datum-at t) datum.Post
-datum-sequence-requires t c κs = (omega (arith, c .before .before .before .before .before .before .before .before .pre .0, c .before .before .before .before .before .before .before .before .pre .1 .0), (c .before .before .before .before .before .before .before .before .pre .1 .0, omega arith, depth-more (c .before .before .before .before .before .before .before .before .args .depth) (rw (c .before .enum-told4 .given .1) at (sym (c .before .before .before .before .wrong-at .ensures) ∙ c .before .before .before .if1 .left)), refl))
+datum-sequence-requires t c κs = (omega (arith, c .before .before .before .before .before .before .before .before .pre .0, c .before .before .before .before .before .before .before .before .pre .1 .0), begins-level (c .before .before .before .before .before .before .before .before .args .records .now) (c .before .before .before .before .before .before .before .before .args .at) (c .before .before .before .before .before .before .before .before .args .depth + 1) 0 Dropping refl (c .before .before .before .before .before .before .before .before .pre .1 .0) (omega arith) (depth-more (c .before .before .before .before .before .before .before .before .args .depth) (rw (c .before .enum-told4 .given .1) at (sym (c .before .before .before .before .wrong-at .ensures) ∙ c .before .before .before .if1 .left))))
 
 datum-skipped-requires : (t : ℕ) → datum-lts.Need-skipped-requires (
   class-at-reads.Asked,
@@ -310,7 +331,7 @@ datum-enum-told-5 : (t : ℕ) → datum-lts.Need-enum-told-5 (
 ) (datum-at t) datum.Post
 datum-enum-told-5 t c = search needs
 
-datum-add-sequence-2 : (t : ℕ) → datum-lts.Need-add-sequence-2 (
+datum-add-sequence-3 : (t : ℕ) → datum-lts.Need-add-sequence-3 (
   class-at-reads.Asked,
   class-at-reads.Learnt,
   wrong-at-reads.Asked,
@@ -328,7 +349,47 @@ datum-add-sequence-2 : (t : ℕ) → datum-lts.Need-add-sequence-2 (
   pointed-at-reads.Asked,
   pointed-at-reads.Learnt,
 ) (datum-at t) datum.Post
-datum-add-sequence-2 t c = search needs
+datum-add-sequence-3 t c = search needs
+
+datum-add-sequence-4 : (t : ℕ) → datum-lts.Need-add-sequence-4 (
+  class-at-reads.Asked,
+  class-at-reads.Learnt,
+  wrong-at-reads.Asked,
+  wrong-at-reads.Learnt,
+  sequence-below t,
+  sequence.Post,
+  skipped-reads.Asked,
+  skipped-reads.Learnt,
+  took-reads.Asked,
+  took-reads.Learnt,
+  put-reads.Asked,
+  put-reads.Learnt,
+  held-reads.Asked,
+  held-reads.Learnt,
+  pointed-at-reads.Asked,
+  pointed-at-reads.Learnt,
+) (datum-at t) datum.Post
+datum-add-sequence-4 t c = search needs
+
+datum-add-sequence-5 : (t : ℕ) → datum-lts.Need-add-sequence-5 (
+  class-at-reads.Asked,
+  class-at-reads.Learnt,
+  wrong-at-reads.Asked,
+  wrong-at-reads.Learnt,
+  sequence-below t,
+  sequence.Post,
+  skipped-reads.Asked,
+  skipped-reads.Learnt,
+  took-reads.Asked,
+  took-reads.Learnt,
+  put-reads.Asked,
+  put-reads.Learnt,
+  held-reads.Asked,
+  held-reads.Learnt,
+  pointed-at-reads.Asked,
+  pointed-at-reads.Learnt,
+) (datum-at t) datum.Post
+datum-add-sequence-5 t c = search needs
 
 datum-sequence-requires-2 : (t : ℕ) → datum-lts.Need-sequence-requires-2 (
   class-at-reads.Asked,
@@ -348,7 +409,7 @@ datum-sequence-requires-2 : (t : ℕ) → datum-lts.Need-sequence-requires-2 (
   pointed-at-reads.Asked,
   pointed-at-reads.Learnt,
 ) (datum-at t) datum.Post
-datum-sequence-requires-2 t c κs = (omega (arith, c .before .before .before .before .before .before .before .before .pre .0, c .before .before .before .before .before .before .before .before .pre .1 .0), (c .before .before .before .before .before .before .before .before .pre .1 .0, c .before .before .before .before .before .before .before .before .pre .1 .1, depth-more (c .before .before .before .before .before .before .before .before .args .depth) (starting-plan (c .before .before .before .before .before .before .before .before .args .f) (c .before .before .before .before .before .before .before .before .args .depth) (rw (c .before .enum-told5 .given .1) at (sym (c .before .before .before .before .wrong-at .ensures) ∙ c .before .before .before .if1 .left))), refl))
+datum-sequence-requires-2 t c κs = (omega (arith, c .before .before .before .before .before .before .before .before .pre .0, c .before .before .before .before .before .before .before .before .pre .1 .0), begins-level (c .before .before .before .before .before .before .before .before .args .records .now) (c .before .before .before .before .before .before .before .before .args .at) (c .before .before .before .before .before .before .before .before .args .depth + 1) (c .before .before .before .before .before .before .before .before .args .w) Quoting refl (c .before .before .before .before .before .before .before .before .pre .1 .0) (c .before .before .before .before .before .before .before .before .pre .1 .1) (depth-more (c .before .before .before .before .before .before .before .before .args .depth) (starting-plan (c .before .before .before .before .before .before .before .before .args .f) (c .before .before .before .before .before .before .before .before .args .depth) (rw (c .before .enum-told5 .given .1) at (sym (c .before .before .before .before .wrong-at .ensures) ∙ c .before .before .before .if1 .left)))))
 
 datum-took-requires : (t : ℕ) → datum-lts.Need-took-requires (
   class-at-reads.Asked,
@@ -490,7 +551,7 @@ datum-enum-known-k-2 : (t : ℕ) → datum-lts.Need-enum-known-k-2 (
 ) (datum-at t) datum.Post
 datum-enum-known-k-2 t c = search needs
 
-datum-add-sequence-3 : (t : ℕ) → datum-lts.Need-add-sequence-3 (
+datum-add-sequence-6 : (t : ℕ) → datum-lts.Need-add-sequence-6 (
   class-at-reads.Asked,
   class-at-reads.Learnt,
   wrong-at-reads.Asked,
@@ -508,7 +569,47 @@ datum-add-sequence-3 : (t : ℕ) → datum-lts.Need-add-sequence-3 (
   pointed-at-reads.Asked,
   pointed-at-reads.Learnt,
 ) (datum-at t) datum.Post
-datum-add-sequence-3 t c = search needs
+datum-add-sequence-6 t c = search needs
+
+datum-add-sequence-7 : (t : ℕ) → datum-lts.Need-add-sequence-7 (
+  class-at-reads.Asked,
+  class-at-reads.Learnt,
+  wrong-at-reads.Asked,
+  wrong-at-reads.Learnt,
+  sequence-below t,
+  sequence.Post,
+  skipped-reads.Asked,
+  skipped-reads.Learnt,
+  took-reads.Asked,
+  took-reads.Learnt,
+  put-reads.Asked,
+  put-reads.Learnt,
+  held-reads.Asked,
+  held-reads.Learnt,
+  pointed-at-reads.Asked,
+  pointed-at-reads.Learnt,
+) (datum-at t) datum.Post
+datum-add-sequence-7 t c = search needs
+
+datum-add-sequence-8 : (t : ℕ) → datum-lts.Need-add-sequence-8 (
+  class-at-reads.Asked,
+  class-at-reads.Learnt,
+  wrong-at-reads.Asked,
+  wrong-at-reads.Learnt,
+  sequence-below t,
+  sequence.Post,
+  skipped-reads.Asked,
+  skipped-reads.Learnt,
+  took-reads.Asked,
+  took-reads.Learnt,
+  put-reads.Asked,
+  put-reads.Learnt,
+  held-reads.Asked,
+  held-reads.Learnt,
+  pointed-at-reads.Asked,
+  pointed-at-reads.Learnt,
+) (datum-at t) datum.Post
+datum-add-sequence-8 t c = search needs
 
 datum-sequence-requires-3 : (t : ℕ) → datum-lts.Need-sequence-requires-3 (
   class-at-reads.Asked,
@@ -528,7 +629,7 @@ datum-sequence-requires-3 : (t : ℕ) → datum-lts.Need-sequence-requires-3 (
   pointed-at-reads.Asked,
   pointed-at-reads.Learnt,
 ) (datum-at t) datum.Post
-datum-sequence-requires-3 t c κs = (omega (arith, c .before .before .before .before .before .before .before .before .before .pre .0, c .before .before .before .before .before .before .before .before .before .pre .1 .0), (c .before .before .before .before .before .before .before .before .before .pre .1 .0, c .before .before .before .before .before .before .before .before .before .pre .1 .1, depth-more (c .before .before .before .before .before .before .before .before .before .args .depth) (starting-plan (c .before .before .before .before .before .before .before .before .before .args .f) (c .before .before .before .before .before .before .before .before .before .args .depth) (rw (c .before .before .k2 .given .1) at (sym (c .before .before .before .before .before .wrong-at .ensures) ∙ c .before .before .before .before .if1 .left))), refl))
+datum-sequence-requires-3 t c κs = (omega (arith, c .before .before .before .before .before .before .before .before .before .pre .0, c .before .before .before .before .before .before .before .before .before .pre .1 .0), begins-level (c .before .before .before .before .before .before .before .before .before .args .records .now) (c .before .before .before .before .before .before .before .before .before .args .at) (c .before .before .before .before .before .before .before .before .before .args .depth + 1) (c .before .before .before .before .before .before .before .before .before .args .w) (Fresh (c .before .before .k2 .given .0 .0)) refl (c .before .before .before .before .before .before .before .before .before .pre .1 .0) (c .before .before .before .before .before .before .before .before .before .pre .1 .1) (depth-more (c .before .before .before .before .before .before .before .before .before .args .depth) (starting-plan (c .before .before .before .before .before .before .before .before .before .args .f) (c .before .before .before .before .before .before .before .before .before .args .depth) (rw (c .before .before .k2 .given .1) at (sym (c .before .before .before .before .before .wrong-at .ensures) ∙ c .before .before .before .before .if1 .left)))))
 
 datum-took-requires-2 : (t : ℕ) → datum-lts.Need-took-requires-2 (
   class-at-reads.Asked,
@@ -570,7 +671,7 @@ datum-enum-known-k-3 : (t : ℕ) → datum-lts.Need-enum-known-k-3 (
 ) (datum-at t) datum.Post
 datum-enum-known-k-3 t c = search needs
 
-datum-add-t36 : (t : ℕ) → datum-lts.Need-add-t36 (
+datum-add-t41 : (t : ℕ) → datum-lts.Need-add-t41 (
   class-at-reads.Asked,
   class-at-reads.Learnt,
   wrong-at-reads.Asked,
@@ -588,7 +689,7 @@ datum-add-t36 : (t : ℕ) → datum-lts.Need-add-t36 (
   pointed-at-reads.Asked,
   pointed-at-reads.Learnt,
 ) (datum-at t) datum.Post
-datum-add-t36 t c = search needs
+datum-add-t41 t c = search needs
 
 datum-enum-told-6 : (t : ℕ) → datum-lts.Need-enum-told-6 (
   class-at-reads.Asked,
@@ -610,7 +711,7 @@ datum-enum-told-6 : (t : ℕ) → datum-lts.Need-enum-told-6 (
 ) (datum-at t) datum.Post
 datum-enum-told-6 t c = search needs
 
-datum-add-t37 : (t : ℕ) → datum-lts.Need-add-t37 (
+datum-add-t42 : (t : ℕ) → datum-lts.Need-add-t42 (
   class-at-reads.Asked,
   class-at-reads.Learnt,
   wrong-at-reads.Asked,
@@ -628,7 +729,7 @@ datum-add-t37 : (t : ℕ) → datum-lts.Need-add-t37 (
   pointed-at-reads.Asked,
   pointed-at-reads.Learnt,
 ) (datum-at t) datum.Post
-datum-add-t37 t c = search needs
+datum-add-t42 t c = search needs
 
 datum-pointed-at-requires : (t : ℕ) → datum-lts.Need-pointed-at-requires (
   class-at-reads.Asked,
@@ -728,7 +829,7 @@ datum-returns-5 : (t : ℕ) → datum-lts.Need-returns-5 (
   pointed-at-reads.Asked,
   pointed-at-reads.Learnt,
 ) (datum-at t) datum.Post
-datum-returns-5 t c = rw (c .skipped .ensures) (skipped-said (c .before .before .before .before .before .before .before .before .before .before .before .args .records .now) (c .before .before .before .before .before .before .before .before .before .before .before .args .at) (c .before .before .before .before .before .before .before .before .before .before .before .args .depth) (c .before .before .before .before .before .before .before .before .before .before .before .args .w) (c .before .before .before .before .before .before .before .before .before .before .before .args .nodes .now) (c .before .before .before .before .before .before .before .before .before .before .before .pre .1 .0) (c .before .before .before .before .before .before .before .before .before .before .before .pre .1 .1) (c .before .before .before .before .before .before .before .before .before .before .before .args .f) (replicate 1 0) (c .before .before .sequence .last .1 .1 .1 .1 .0) (sym (c .before .before .before .before .enum-told4 .given .1) ∙ c .before .before .before .before .before .before .before .before .class-at .ensures) (rw (c .before .before .before .before .enum-told4 .given .1) at (sym (c .before .before .before .before .before .before .before .wrong-at .ensures) ∙ c .before .before .before .before .before .before .if1 .left)) (c .before .before .sequence .result) (c .before .before .sequence .ensures))
+datum-returns-5 t c = rw (c .skipped .ensures) (skipped-said (c .before .before .before .before .before .before .before .before .before .before .before .args .records .now) (c .before .before .before .before .before .before .before .before .before .before .before .args .at) (c .before .before .before .before .before .before .before .before .before .before .before .args .depth) (c .before .before .before .before .before .before .before .before .before .before .before .args .w) (c .before .before .before .before .before .before .before .before .before .before .before .args .nodes .now) (c .before .before .before .before .before .before .before .before .before .before .before .pre .1 .0) (c .before .before .before .before .before .before .before .before .before .before .before .pre .1 .1) (c .before .before .before .before .before .before .before .before .before .before .before .args .f) (replicate 1 0) (c .before .before .sequence .last .1 .1 .1 .1 .0) (sym (c .before .before .before .before .enum-told4 .given .1) ∙ c .before .before .before .before .before .before .before .before .class-at .ensures) (rw (c .before .before .before .before .enum-told4 .given .1) at (sym (c .before .before .before .before .before .before .before .wrong-at .ensures) ∙ c .before .before .before .before .before .before .if1 .left)) (c .before .before .sequence .result) (level-said (c .before .before .before .before .before .before .before .before .before .before .before .args .records .now) (c .before .before .before .before .before .before .before .before .before .before .before .args .at) (c .before .before .before .before .before .before .before .before .before .before .before .args .depth + 1) 0 Dropping (replicate 1 0) (c .before .before .sequence .last .1 .1 .1 .1 .0) (c .before .before .sequence .result) refl (c .before .before .sequence .ensures)))
 
 datum-same-length : (t : ℕ) → datum-lts.Need-same-length (
   class-at-reads.Asked,
@@ -768,7 +869,7 @@ datum-returns-6 : (t : ℕ) → datum-lts.Need-returns-6 (
   pointed-at-reads.Asked,
   pointed-at-reads.Learnt,
 ) (datum-at t) datum.Post
-datum-returns-6 t c = rw (c .took .ensures) (took-said (c .before .before .before .before .before .before .before .before .before .before .before .before .args .records .now) (c .before .before .before .before .before .before .before .before .before .before .before .before .args .at) (c .before .before .before .before .before .before .before .before .before .before .before .before .args .depth) (c .before .before .before .before .before .before .before .before .before .before .before .before .args .w) (c .before .before .before .before .before .before .before .before .before .before .before .before .args .nodes .now) (c .before .before .before .sequence2 .last .1 .1 .1 .1 .0) Marks (c .before .before .before .sequence2 .result) (c .before .before .before .before .before .before .before .before .before .before .before .before .args .f) (datum-mark (c .before .before .before .before .before .before .before .before .before .before .before .before .args .records .now) (c .before .before .before .before .before .before .before .before .before .before .before .before .args .at) (c .before .before .before .before .before .before .before .before .before .before .before .before .args .depth) (c .before .before .before .before .before .before .before .before .before .before .before .before .args .w) (c .before .before .before .before .before .before .before .before .before .before .before .before .args .nodes .now) (c .before .before .before .sequence2 .last .1 .1 .1 .1 .0) (c .before .before .before .before .before .before .before .before .before .before .before .before .pre .1 .0) (sym (c .before .before .before .before .before .enum-told5 .given .1) ∙ c .before .before .before .before .before .before .before .before .before .class-at .ensures) (c .before .before .before .sequence2 .result) (c .before .before .before .sequence2 .ensures)) (rw (c .before .before .before .before .before .enum-told5 .given .1) at (sym (c .before .before .before .before .before .before .before .before .wrong-at .ensures) ∙ c .before .before .before .before .before .before .before .if1 .left)))
+datum-returns-6 t c = rw (c .took .ensures) (took-said (c .before .before .before .before .before .before .before .before .before .before .before .before .args .records .now) (c .before .before .before .before .before .before .before .before .before .before .before .before .args .at) (c .before .before .before .before .before .before .before .before .before .before .before .before .args .depth) (c .before .before .before .before .before .before .before .before .before .before .before .before .args .w) (c .before .before .before .before .before .before .before .before .before .before .before .before .args .nodes .now) (c .before .before .before .sequence2 .last .1 .1 .1 .1 .0) Marks (c .before .before .before .sequence2 .result) (c .before .before .before .before .before .before .before .before .before .before .before .before .args .f) (datum-mark (c .before .before .before .before .before .before .before .before .before .before .before .before .args .records .now) (c .before .before .before .before .before .before .before .before .before .before .before .before .args .at) (c .before .before .before .before .before .before .before .before .before .before .before .before .args .depth) (c .before .before .before .before .before .before .before .before .before .before .before .before .args .w) (c .before .before .before .before .before .before .before .before .before .before .before .before .args .nodes .now) (c .before .before .before .sequence2 .last .1 .1 .1 .1 .0) (c .before .before .before .before .before .before .before .before .before .before .before .before .pre .1 .0) (sym (c .before .before .before .before .before .enum-told5 .given .1) ∙ c .before .before .before .before .before .before .before .before .before .class-at .ensures) (c .before .before .before .sequence2 .result) (level-said (c .before .before .before .before .before .before .before .before .before .before .before .before .args .records .now) (c .before .before .before .before .before .before .before .before .before .before .before .before .args .at) (c .before .before .before .before .before .before .before .before .before .before .before .before .args .depth + 1) (c .before .before .before .before .before .before .before .before .before .before .before .before .args .w) Quoting (c .before .before .before .before .before .before .before .before .before .before .before .before .args .nodes .now) (c .before .before .before .sequence2 .last .1 .1 .1 .1 .0) (c .before .before .before .sequence2 .result) refl (c .before .before .before .sequence2 .ensures))) (rw (c .before .before .before .before .before .enum-told5 .given .1) at (sym (c .before .before .before .before .before .before .before .before .wrong-at .ensures) ∙ c .before .before .before .before .before .before .before .if1 .left)))
 
 datum-same-length-2 : (t : ℕ) → datum-lts.Need-same-length-2 (
   class-at-reads.Asked,
@@ -848,7 +949,7 @@ datum-returns-8 : (t : ℕ) → datum-lts.Need-returns-8 (
   pointed-at-reads.Asked,
   pointed-at-reads.Learnt,
 ) (datum-at t) datum.Post
-datum-returns-8 t c = rw (c .took2 .ensures) (took-said (c .before .before .before .before .before .before .before .before .before .before .before .before .before .args .records .now) (c .before .before .before .before .before .before .before .before .before .before .before .before .before .args .at) (c .before .before .before .before .before .before .before .before .before .before .before .before .before .args .depth) (c .before .before .before .before .before .before .before .before .before .before .before .before .before .args .w) (c .before .before .before .before .before .before .before .before .before .before .before .before .before .args .nodes .now) (c .before .before .before .sequence3 .last .1 .1 .1 .1 .0) (Opens (c .before .before .before .before .before .before .k2 .given .0 .0)) (c .before .before .before .sequence3 .result) (c .before .before .before .before .before .before .before .before .before .before .before .before .before .args .f) (datum-open (c .before .before .before .before .before .before .before .before .before .before .before .before .before .args .records .now) (c .before .before .before .before .before .before .before .before .before .before .before .before .before .args .at) (c .before .before .before .before .before .before .before .before .before .before .before .before .before .args .depth) (c .before .before .before .before .before .before .before .before .before .before .before .before .before .args .w) (c .before .before .before .before .before .before .before .before .before .before .before .before .before .args .nodes .now) (c .before .before .before .sequence3 .last .1 .1 .1 .1 .0) (c .before .before .before .before .before .before .before .before .before .before .before .before .before .pre .1 .0) (c .before .before .before .before .before .before .k2 .given .0 .0) (sym (c .before .before .before .before .before .before .k2 .given .1) ∙ c .before .before .before .before .before .before .before .before .before .before .class-at .ensures) (c .before .before .before .sequence3 .result) (c .before .before .before .sequence3 .ensures)) (rw (c .before .before .before .before .before .before .k2 .given .1) at (sym (c .before .before .before .before .before .before .before .before .before .wrong-at .ensures) ∙ c .before .before .before .before .before .before .before .before .if1 .left)))
+datum-returns-8 t c = rw (c .took2 .ensures) (took-said (c .before .before .before .before .before .before .before .before .before .before .before .before .before .args .records .now) (c .before .before .before .before .before .before .before .before .before .before .before .before .before .args .at) (c .before .before .before .before .before .before .before .before .before .before .before .before .before .args .depth) (c .before .before .before .before .before .before .before .before .before .before .before .before .before .args .w) (c .before .before .before .before .before .before .before .before .before .before .before .before .before .args .nodes .now) (c .before .before .before .sequence3 .last .1 .1 .1 .1 .0) (Opens (c .before .before .before .before .before .before .k2 .given .0 .0)) (c .before .before .before .sequence3 .result) (c .before .before .before .before .before .before .before .before .before .before .before .before .before .args .f) (datum-open (c .before .before .before .before .before .before .before .before .before .before .before .before .before .args .records .now) (c .before .before .before .before .before .before .before .before .before .before .before .before .before .args .at) (c .before .before .before .before .before .before .before .before .before .before .before .before .before .args .depth) (c .before .before .before .before .before .before .before .before .before .before .before .before .before .args .w) (c .before .before .before .before .before .before .before .before .before .before .before .before .before .args .nodes .now) (c .before .before .before .sequence3 .last .1 .1 .1 .1 .0) (c .before .before .before .before .before .before .before .before .before .before .before .before .before .pre .1 .0) (c .before .before .before .before .before .before .k2 .given .0 .0) (sym (c .before .before .before .before .before .before .k2 .given .1) ∙ c .before .before .before .before .before .before .before .before .before .before .class-at .ensures) (c .before .before .before .sequence3 .result) (level-said (c .before .before .before .before .before .before .before .before .before .before .before .before .before .args .records .now) (c .before .before .before .before .before .before .before .before .before .before .before .before .before .args .at) (c .before .before .before .before .before .before .before .before .before .before .before .before .before .args .depth + 1) (c .before .before .before .before .before .before .before .before .before .before .before .before .before .args .w) (Fresh (c .before .before .before .before .before .before .k2 .given .0 .0)) (c .before .before .before .before .before .before .before .before .before .before .before .before .before .args .nodes .now) (c .before .before .before .sequence3 .last .1 .1 .1 .1 .0) (c .before .before .before .sequence3 .result) refl (c .before .before .before .sequence3 .ensures))) (rw (c .before .before .before .before .before .before .k2 .given .1) at (sym (c .before .before .before .before .before .before .before .before .before .wrong-at .ensures) ∙ c .before .before .before .before .before .before .before .before .if1 .left)))
 
 datum-returns-9 : (t : ℕ) → datum-lts.Need-returns-9 (
   class-at-reads.Asked,
@@ -891,30 +992,10 @@ datum-returns-10 : (t : ℕ) → datum-lts.Need-returns-10 (
 datum-returns-10 t c = dot-said (c .before .before .before .before .before .before .before .before .args .records .now) (c .before .before .before .before .before .before .before .before .args .at) (c .before .before .before .before .before .before .before .before .args .depth) (c .before .before .before .before .before .before .before .before .args .w) (c .before .before .before .before .before .before .before .before .args .nodes .now) (c .before .before .before .before .before .before .before .before .pre .1 .0) (c .before .before .before .before .before .before .before .before .pre .1 .1) (c .before .before .before .before .before .before .before .before .args .f) (c .pointed-at .result) (sym (c .before .enum-told6 .given .1) ∙ c .before .before .before .before .before .class-at .ensures) (rw (c .before .enum-told6 .given .1) at (sym (c .before .before .before .before .wrong-at .ensures) ∙ c .before .before .before .if1 .left)) (c .pointed-at .ensures)
 
 abbrev sequence-Inv-loop : sequence-lts.InvT-loop
-sequence-Inv-loop records opened depth nodes₀ w count at₀ v₀ g₀ nodes at v g = Going records opened depth g₀ w nodes₀ nodes at v g
+sequence-Inv-loop records from depth nodes₀ first count at₀ v₀ g₀ nodes at v g = Going records from depth g₀ first nodes₀ nodes at v g
 
 abbrev sequence-μ-loop : sequence-lts.MeasureT-loop
-sequence-μ-loop records opened depth nodes₀ w count at₀ v₀ g₀ nodes at v g = countOf records - at
-
-sequence-add-at : (t : ℕ) → sequence-lts.Need-add-at (
-  datum-below t,
-  datum.Post,
-  close-reads.Asked,
-  close-reads.Learnt,
-  ending-at-reads.Asked,
-  ending-at-reads.Learnt,
-) (sequence-at t) sequence.Post sequence-Inv-loop sequence-μ-loop
-sequence-add-at t c = search needs
-
-sequence-add-v : (t : ℕ) → sequence-lts.Need-add-v (
-  datum-below t,
-  datum.Post,
-  close-reads.Asked,
-  close-reads.Learnt,
-  ending-at-reads.Asked,
-  ending-at-reads.Learnt,
-) (sequence-at t) sequence.Post sequence-Inv-loop sequence-μ-loop
-sequence-add-v t c = search needs
+sequence-μ-loop records from depth nodes₀ first count at₀ v₀ g₀ nodes at v g = countOf records - at
 
 sequence-loop-holds : (t : ℕ) → sequence-lts.Need-loop-holds (
   datum-below t,
@@ -924,7 +1005,7 @@ sequence-loop-holds : (t : ℕ) → sequence-lts.Need-loop-holds (
   ending-at-reads.Asked,
   ending-at-reads.Learnt,
 ) (sequence-at t) sequence.Post sequence-Inv-loop sequence-μ-loop
-sequence-loop-holds t c = going-start (c .before .before .args .records .now) (c .before .before .args .opened) (c .before .before .args .depth) (c .before .before .args .f) (c .before .before .args .w) (c .before .before .args .nodes .now) (c .before .before .pre .1 .0) (c .before .before .pre .1 .1) (c .before .before .pre .1 .3)
+sequence-loop-holds t c = going-start (c .before .before .args .records .now) (c .before .before .args .from) (c .before .before .args .depth) (c .before .before .args .f) (c .before .before .args .first) (c .before .before .args .nodes .now) (c .before .before .pre .1)
 
 sequence-datum-requires : (t : ℕ) → sequence-lts.Need-datum-requires (
   datum-below t,
@@ -934,7 +1015,7 @@ sequence-datum-requires : (t : ℕ) → sequence-lts.Need-datum-requires (
   ending-at-reads.Asked,
   ending-at-reads.Learnt,
 ) (sequence-at t) sequence.Post sequence-Inv-loop sequence-μ-loop
-sequence-datum-requires t c κs = (omega (arith, c .before .before .before .before .before .pre .0, c .before .before .loop .inv .from, c .before .loop-test .taken), (c .before .loop-test .taken, c .before .before .loop .inv .few, c .before .before .before .before .before .pre .1 .2))
+sequence-datum-requires t c κs = (omega (arith, c .before .before .before .before .before .pre .0, c .before .before .loop .inv .back, c .before .loop-test .taken), (c .before .loop-test .taken, c .before .before .loop .inv .few, c .before .before .before .before .before .pre .1 .shallow))
 
 sequence-enum-known-t : (t : ℕ) → sequence-lts.Need-enum-known-t (
   datum-below t,
@@ -964,7 +1045,7 @@ sequence-loop-again : (t : ℕ) → sequence-lts.Need-loop-again (
   ending-at-reads.Asked,
   ending-at-reads.Learnt,
 ) (sequence-at t) sequence.Post sequence-Inv-loop sequence-μ-loop
-sequence-loop-again t c = going-more (c .before .before .before .before .before .before .before .before .before .before .before .args .records .now) (c .before .before .before .before .before .before .before .before .before .before .before .args .opened) (c .before .before .before .before .before .before .before .before .before .before .before .args .depth) (c .before .before .before .before .before .before .before .before .before .before .before .args .f) (c .before .before .before .before .before .before .before .before .before .before .before .args .w) (c .before .before .before .before .before .before .before .before .before .before .before .args .nodes .now) _ _ _ _ (c .before .before .before .before .before .before .before .before .loop .inv) _ _ _ _ (c .before .before .before .before .before .datum .kept .1 .1 .1 .1 .0) (rw (c .before .t .given .1) at (c .before .before .before .before .before .datum .ensures))
+sequence-loop-again t c = going-more (c .before .before .before .before .before .before .before .before .before .before .before .args .records .now) (c .before .before .before .before .before .before .before .before .before .before .before .args .from) (c .before .before .before .before .before .before .before .before .before .before .before .args .depth) (c .before .before .before .before .before .before .before .before .before .before .before .args .f) (c .before .before .before .before .before .before .before .before .before .before .before .args .first) (c .before .before .before .before .before .before .before .before .before .before .before .args .nodes .now) (c .before .before .before .before .before .before .before .before .before .before .before .pre .1) _ _ _ _ (c .before .before .before .before .before .before .before .before .loop .inv) _ _ _ _ (c .before .before .before .before .before .datum .kept .1 .1 .1 .1 .0) (rw (c .before .t .given .1) at (c .before .before .before .before .before .datum .ensures))
 
 sequence-enum-known-t-2 : (t : ℕ) → sequence-lts.Need-enum-known-t-2 (
   datum-below t,
@@ -976,6 +1057,26 @@ sequence-enum-known-t-2 : (t : ℕ) → sequence-lts.Need-enum-known-t-2 (
 ) (sequence-at t) sequence.Post sequence-Inv-loop sequence-μ-loop
 sequence-enum-known-t-2 t c = search needs
 
+sequence-sub-close : (t : ℕ) → sequence-lts.Need-sub-close (
+  datum-below t,
+  datum.Post,
+  close-reads.Asked,
+  close-reads.Learnt,
+  ending-at-reads.Asked,
+  ending-at-reads.Learnt,
+) (sequence-at t) sequence.Post sequence-Inv-loop sequence-μ-loop
+sequence-sub-close t c = going-from (c .before .before .before .before .before .before .before .before .before .before .before .before .args .records .now) (c .before .before .before .before .before .before .before .before .before .before .before .before .args .from) (c .before .before .before .before .before .before .before .before .before .before .before .before .args .depth) (c .before .before .before .before .before .before .before .before .before .before .before .before .args .f) (c .before .before .before .before .before .before .before .before .before .before .before .before .args .first) (c .before .before .before .before .before .before .before .before .before .before .before .before .args .nodes .now) (c .before .before .before .before .before .before .before .before .before .before .before .before .pre .1) _ _ _ _ (c .before .before .before .before .before .before .before .before .before .loop .inv) (c .before .before .before .before .before .before .datum .last .1 .1 .1 .1 .0) (c .before .before .before .before .before .before .datum .last .1 .1 .1 .1 .0) _ _ (c .before .before .before .before .before .before .datum .kept .1 .1 .1 .1 .0) (rw (c .before .before .t2 .given .1) at (c .before .before .before .before .before .before .datum .ensures))
+
+sequence-sub-close-2 : (t : ℕ) → sequence-lts.Need-sub-close-2 (
+  datum-below t,
+  datum.Post,
+  close-reads.Asked,
+  close-reads.Learnt,
+  ending-at-reads.Asked,
+  ending-at-reads.Learnt,
+) (sequence-at t) sequence.Post sequence-Inv-loop sequence-μ-loop
+sequence-sub-close-2 t c = going-opened (c .before .before .before .before .before .before .before .before .before .before .before .before .args .records .now) (c .before .before .before .before .before .before .before .before .before .before .before .before .args .from) (c .before .before .before .before .before .before .before .before .before .before .before .before .args .depth) (c .before .before .before .before .before .before .before .before .before .before .before .before .args .f) (c .before .before .before .before .before .before .before .before .before .before .before .before .args .first) (c .before .before .before .before .before .before .before .before .before .before .before .before .args .nodes .now) (c .before .before .before .before .before .before .before .before .before .before .before .before .pre .1) _ _ _ _ (c .before .before .before .before .before .before .before .before .before .loop .inv) (c .before .before .before .before .before .before .datum .last .1 .1 .1 .1 .0) (c .before .before .before .before .before .before .datum .last .1 .1 .1 .1 .0) _ _ (c .before .before .before .before .before .before .datum .kept .1 .1 .1 .1 .0) (rw (c .before .before .t2 .given .1) at (c .before .before .before .before .before .before .datum .ensures))
+
 sequence-close-requires : (t : ℕ) → sequence-lts.Need-close-requires (
   datum-below t,
   datum.Post,
@@ -984,7 +1085,7 @@ sequence-close-requires : (t : ℕ) → sequence-lts.Need-close-requires (
   ending-at-reads.Asked,
   ending-at-reads.Learnt,
 ) (sequence-at t) sequence.Post sequence-Inv-loop sequence-μ-loop
-sequence-close-requires t c κs = going-room (c .before .before .before .before .before .before .before .before .before .before .before .before .args .records .now) (c .before .before .before .before .before .before .before .before .before .before .before .before .args .opened) (c .before .before .before .before .before .before .before .before .before .before .before .before .args .depth) (c .before .before .before .before .before .before .before .before .before .before .before .before .args .f) (c .before .before .before .before .before .before .before .before .before .before .before .before .args .w) (c .before .before .before .before .before .before .before .before .before .before .before .before .args .nodes .now) _ _ _ _ (c .before .before .before .before .before .before .before .before .before .loop .inv) (c .before .before .before .before .before .before .datum .last .1 .1 .1 .1 .0) (c .before .before .before .before .before .before .datum .last .1 .1 .1 .1 .0) _ _ (c .before .before .before .before .before .before .datum .kept .1 .1 .1 .1 .0) (rw (c .before .before .t2 .given .1) at (c .before .before .before .before .before .before .datum .ensures))
+sequence-close-requires t c κs = going-room (c .before .before .before .before .before .before .before .before .before .before .before .before .args .records .now) (c .before .before .before .before .before .before .before .before .before .before .before .before .args .from) (c .before .before .before .before .before .before .before .before .before .before .before .before .args .depth) (c .before .before .before .before .before .before .before .before .before .before .before .before .args .f) (c .before .before .before .before .before .before .before .before .before .before .before .before .args .first) (c .before .before .before .before .before .before .before .before .before .before .before .before .args .nodes .now) (c .before .before .before .before .before .before .before .before .before .before .before .before .pre .1) _ _ _ _ (c .before .before .before .before .before .before .before .before .before .loop .inv) (c .before .before .before .before .before .before .datum .last .1 .1 .1 .1 .0) (c .before .before .before .before .before .before .datum .last .1 .1 .1 .1 .0) _ _ (c .before .before .before .before .before .before .datum .kept .1 .1 .1 .1 .0) (rw (c .before .before .t2 .given .1) at (c .before .before .before .before .before .before .datum .ensures))
 
 sequence-same-length : (t : ℕ) → sequence-lts.Need-same-length (
   datum-below t,
@@ -1004,7 +1105,7 @@ sequence-returns : (t : ℕ) → sequence-lts.Need-returns (
   ending-at-reads.Asked,
   ending-at-reads.Learnt,
 ) (sequence-at t) sequence.Post sequence-Inv-loop sequence-μ-loop
-sequence-returns t c = going-shut (c .before .before .before .before .before .before .before .before .before .before .before .before .before .before .before .args .records .now) (c .before .before .before .before .before .before .before .before .before .before .before .before .before .before .before .args .opened) (c .before .before .before .before .before .before .before .before .before .before .before .before .before .before .before .args .depth) (c .before .before .before .before .before .before .before .before .before .before .before .before .before .before .before .args .f) (c .before .before .before .before .before .before .before .before .before .before .before .before .before .before .before .args .w) (c .before .before .before .before .before .before .before .before .before .before .before .before .before .before .before .args .nodes .now) _ _ _ _ (c .before .before .before .before .before .before .before .before .before .before .before .before .loop .inv) (c .before .before .before .before .before .before .before .before .before .datum .last .1 .1 .1 .1 .0) (c .before .before .close .last .0) (c .before .before .before .before .before .t2 .given .0 .0) (c .before .before .before .before .before .t2 .given .0 .1 .0) (c .before .before .before .before .before .before .before .before .before .datum .kept .1 .1 .1 .1 .0) (rw (c .before .before .before .before .before .t2 .given .1) at (c .before .before .before .before .before .before .before .before .before .datum .ensures)) (c .before .before .close .result) (c .before .before .close .ensures)
+sequence-returns t c = going-shut (c .before .before .before .before .before .before .before .before .before .before .before .before .before .before .before .args .records .now) (c .before .before .before .before .before .before .before .before .before .before .before .before .before .before .before .args .from) (c .before .before .before .before .before .before .before .before .before .before .before .before .before .before .before .args .depth) (c .before .before .before .before .before .before .before .before .before .before .before .before .before .before .before .args .f) (c .before .before .before .before .before .before .before .before .before .before .before .before .before .before .before .args .first) (c .before .before .before .before .before .before .before .before .before .before .before .before .before .before .before .args .nodes .now) (c .before .before .before .before .before .before .before .before .before .before .before .before .before .before .before .pre .1) _ _ _ _ (c .before .before .before .before .before .before .before .before .before .before .before .before .loop .inv) (c .before .before .before .before .before .before .before .before .before .datum .last .1 .1 .1 .1 .0) (c .before .before .close .last .0) (c .before .before .before .before .before .t2 .given .0 .0) (c .before .before .before .before .before .t2 .given .0 .1 .0) (c .before .before .before .before .before .before .before .before .before .datum .kept .1 .1 .1 .1 .0) (rw (c .before .before .before .before .before .t2 .given .1) at (c .before .before .before .before .before .before .before .before .before .datum .ensures)) (c .before .before .close .result) (c .before .before .close .ensures)
 
 sequence-enum-known-t-3 : (t : ℕ) → sequence-lts.Need-enum-known-t-3 (
   datum-below t,
@@ -1034,7 +1135,7 @@ sequence-returns-2 : (t : ℕ) → sequence-lts.Need-returns-2 (
   ending-at-reads.Asked,
   ending-at-reads.Learnt,
 ) (sequence-at t) sequence.Post sequence-Inv-loop sequence-μ-loop
-sequence-returns-2 t c = going-stop (c .before .before .before .before .before .before .before .before .before .before .before .args .records .now) (c .before .before .before .before .before .before .before .before .before .before .before .args .opened) (c .before .before .before .before .before .before .before .before .before .before .before .args .depth) (c .before .before .before .before .before .before .before .before .before .before .before .args .f) (c .before .before .before .before .before .before .before .before .before .before .before .args .w) (c .before .before .before .before .before .before .before .before .before .before .before .args .nodes .now) _ _ _ _ (c .before .before .before .before .before .before .before .before .loop .inv) _ _ (c .before .before .before .before .before .datum .last .1 .1 .1 .1 .0) (rw (c .before .t3 .given .1) at (c .before .before .before .before .before .datum .ensures))
+sequence-returns-2 t c = going-stop (c .before .before .before .before .before .before .before .before .before .before .before .args .records .now) (c .before .before .before .before .before .before .before .before .before .before .before .args .from) (c .before .before .before .before .before .before .before .before .before .before .before .args .depth) (c .before .before .before .before .before .before .before .before .before .before .before .args .f) (c .before .before .before .before .before .before .before .before .before .before .before .args .first) (c .before .before .before .before .before .before .before .before .before .before .before .args .nodes .now) (c .before .before .before .before .before .before .before .before .before .before .before .pre .1) _ _ _ _ (c .before .before .before .before .before .before .before .before .loop .inv) _ _ (c .before .before .before .before .before .datum .last .1 .1 .1 .1 .0) (rw (c .before .t3 .given .1) at (c .before .before .before .before .before .datum .ensures))
 
 sequence-ending-at-requires : (t : ℕ) → sequence-lts.Need-ending-at-requires (
   datum-below t,
@@ -1054,7 +1155,7 @@ sequence-same-length-3 : (t : ℕ) → sequence-lts.Need-same-length-3 (
   ending-at-reads.Asked,
   ending-at-reads.Learnt,
 ) (sequence-at t) sequence.Post sequence-Inv-loop sequence-μ-loop
-sequence-same-length-3 t c = c .before .before .loop .inv .long
+sequence-same-length-3 t c = c .before .before .before .loop .inv .long
 
 sequence-returns-3 : (t : ℕ) → sequence-lts.Need-returns-3 (
   datum-below t,
@@ -1064,7 +1165,27 @@ sequence-returns-3 : (t : ℕ) → sequence-lts.Need-returns-3 (
   ending-at-reads.Asked,
   ending-at-reads.Learnt,
 ) (sequence-at t) sequence.Post sequence-Inv-loop sequence-μ-loop
-sequence-returns-3 t c = going-end (c .before .before .before .before .before .args .records .now) (c .before .before .before .before .before .args .opened) (c .before .before .before .before .before .args .depth) (c .before .before .before .before .before .args .f) (c .before .before .before .before .before .args .w) (c .before .before .before .before .before .args .nodes .now) _ _ _ _ (c .before .before .loop .inv) _ (c .before .loop-test .left) (c .ending-at .ensures)
+sequence-returns-3 t c = going-done (c .before .before .before .before .before .before .args .records .now) (c .before .before .before .before .before .before .args .from) (c .before .before .before .before .before .before .args .depth) (c .before .before .before .before .before .before .args .f) (c .before .before .before .before .before .before .args .first) (c .before .before .before .before .before .before .args .nodes .now) (c .before .before .before .before .before .before .pre .1) _ _ _ _ (c .before .before .before .loop .inv) _ (c .before .before .loop-test .left) (c .before .ending-at .ensures) (c .if1 .taken)
+
+sequence-same-length-4 : (t : ℕ) → sequence-lts.Need-same-length-4 (
+  datum-below t,
+  datum.Post,
+  close-reads.Asked,
+  close-reads.Learnt,
+  ending-at-reads.Asked,
+  ending-at-reads.Learnt,
+) (sequence-at t) sequence.Post sequence-Inv-loop sequence-μ-loop
+sequence-same-length-4 t c = c .before .before .before .loop .inv .long
+
+sequence-returns-4 : (t : ℕ) → sequence-lts.Need-returns-4 (
+  datum-below t,
+  datum.Post,
+  close-reads.Asked,
+  close-reads.Learnt,
+  ending-at-reads.Asked,
+  ending-at-reads.Learnt,
+) (sequence-at t) sequence.Post sequence-Inv-loop sequence-μ-loop
+sequence-returns-4 t c = going-end (c .before .before .before .before .before .before .args .records .now) (c .before .before .before .before .before .before .args .from) (c .before .before .before .before .before .before .args .depth) (c .before .before .before .before .before .before .args .f) (c .before .before .before .before .before .before .args .first) (c .before .before .before .before .before .before .args .nodes .now) (c .before .before .before .before .before .before .pre .1) _ _ _ _ (c .before .before .before .loop .inv) _ (c .before .before .loop-test .left) (c .before .ending-at .ensures) (c .if1 .left)
 
 pub +datum+sequence-spec : {M : Type 1} → statement M
 +datum+sequence-spec = close μ-datum μ-sequence (λ t. datum-lts.spec (
@@ -1096,11 +1217,14 @@ pub +datum+sequence-spec : {M : Type 1} → statement M
     (datum-add-t15 t)
     (datum-enum-told-4 t)
     (datum-add-sequence t)
+    (datum-add-sequence-2 t)
     (datum-slice-aggregate-sequence t)
     (datum-sequence-requires t)
     (datum-skipped-requires t)
     (datum-enum-told-5 t)
-    (datum-add-sequence-2 t)
+    (datum-add-sequence-3 t)
+    (datum-add-sequence-4 t)
+    (datum-add-sequence-5 t)
     (datum-sequence-requires-2 t)
     (datum-took-requires t)
     (datum-enum-known-k t)
@@ -1109,13 +1233,15 @@ pub +datum+sequence-spec : {M : Type 1} → statement M
     (datum-add-held-2 t)
     (datum-held-requires t)
     (datum-enum-known-k-2 t)
-    (datum-add-sequence-3 t)
+    (datum-add-sequence-6 t)
+    (datum-add-sequence-7 t)
+    (datum-add-sequence-8 t)
     (datum-sequence-requires-3 t)
     (datum-took-requires-2 t)
     (datum-enum-known-k-3 t)
-    (datum-add-t36 t)
+    (datum-add-t41 t)
     (datum-enum-told-6 t)
-    (datum-add-t37 t)
+    (datum-add-t42 t)
     (datum-pointed-at-requires t)
     (datum-returns-2 t)
     (datum-returns-3 t)
@@ -1141,14 +1267,14 @@ pub +datum+sequence-spec : {M : Type 1} → statement M
     sequence.Post
     sequence-Inv-loop
     sequence-μ-loop
-    (sequence-add-at t)
-    (sequence-add-v t)
     (sequence-loop-holds t)
     (sequence-datum-requires t)
     (sequence-enum-known-t t)
     (sequence-loop-less t)
     (sequence-loop-again t)
     (sequence-enum-known-t-2 t)
+    (sequence-sub-close t)
+    (sequence-sub-close-2 t)
     (sequence-close-requires t)
     (sequence-same-length t)
     (sequence-returns t)
@@ -1158,3 +1284,5 @@ pub +datum+sequence-spec : {M : Type 1} → statement M
     (sequence-ending-at-requires t)
     (sequence-same-length-3 t)
     (sequence-returns-3 t)
+    (sequence-same-length-4 t)
+    (sequence-returns-4 t)
