@@ -3,3 +3,4 @@ pub mod Digits
 pub mod Phases
 pub mod Characters
 pub mod Places
+pub mod Names

@@ -183,10 +183,10 @@ module _ (whole : List ℕ) (s : ℕ) (rest : List ℕ) (cs : List ℕ) (good : 
   failing-there : (n d a b : ℕ) → (n ≡ kind.InvalidHexEscapeLiteral → Digits s (i .bytes) d a b) → There (range a b) (one (kind.firstError + n) d none)
   failing-there n d a b h = (
     (λ e. let m : n ≡ kind.InvalidHexEscapeLiteral = omega arith in
-    let g : Digits s (i .bytes) d a b = h m in
-    let past = past-within d a (drop (g .p) (g .ds) ++ g .zs) in
-    let some : 0 < b = omega (arith, g .from, g .to, past .0) in
-    rw (set-place n a b (range s (i .at)) some) (digits-fail whole s (i .bytes) rest stands cs chars good d a b g)),
+        let g : Digits s (i .bytes) d a b = h m in
+        let past = past-within d a (drop (g .p) (g .ds) ++ g .zs) in
+        let some : 0 < b = omega (arith, g .from, g .to, past .0) in
+        rw (set-place n a b (range s (i .at)) some) (digits-fail whole s (i .bytes) rest stands cs chars good d a b g)),
     tt,
   )
 

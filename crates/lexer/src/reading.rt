@@ -160,14 +160,7 @@ pub fn stand(p: Position, at: usize, second: bool) -> Position
 }
 
 // The item of a meaning, and the position after it.
-fn one(
-    report: bool,
-    m: Means,
-    extent: Range,
-    last: Range,
-    free: usize,
-    after: Position,
-) -> Found
+fn one(report: bool, m: Means, extent: Range, last: Range, free: usize, after: Position) -> Found
     requires { ⌜ TextFits free (m .text) ⌝ }
     ensures { λ r. ⌜ r ≡ One (recordFor free m extent (rangeOf (placeOf report (m .kind) (placeIn last) (placeIn extent)))) after ⌝ }
 {

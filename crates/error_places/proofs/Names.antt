@@ -1,0 +1,140 @@
+-- Error 13 exactly where 10 would stand and a delimiter stands after the name's first character.
+use Prim.Native.Nat.{ℕ, zero, suc, _+_, _-_, _≤_, _<_}
+use mathlib.Core.Path.{_≡_, refl, sym, ap, subst, _∙_}
+use mathlib.Core.Bool.{Bool, true, false, not, _&&_, _||_}
+use mathlib.Core.List.{List, [], _∷_, map}
+use lib.ListN.{length, getD, take, drop}
+use lib.Dec.{eqb, ltb}
+use native.Mathlib.Omega.{arith}
+use borrow.Author.Tests.{lt-ltb, ltb-true}
+use Rattle.laws.specs.Quoted.{code}
+use Rattle.laws.specs.Texts.{span}
+use Rattle.laws.proofs.Choice.{by-bool, if-all, if-is}
+use Rattle.chars.specs.Encode.{isScalar}
+use Rattle.chars.specs.Utf8.{front, Front}
+use Rattle.chars.specs.Utf8 as Utf8
+use Rattle.digits.specs.declared.Hex.{Hex}
+use Rattle.digits.specs.declared.Hex.the-variants as hex
+use Rattle.digits.specs.Hex.{hexValue}
+use Rattle.items.specs.Kinds as kind
+use Rattle.items.specs.declared.CharValue.{CharValue}
+use Rattle.items.specs.declared.CharValue.the-variants.{Scalar, Wrong, WrongAt}
+use Rattle.items.specs.Meaning.{lookup, lower, charNames, unnamed, isDelimiter, beforeDelimiter, nameless, onlyOne, later, hexNamed, spelledOut, characterOf}
+use Rattle.items.specs.Readers.{firstIs, lastIs, scalarOf}
+use Rattle.error_places.specs.Delimited.{Delimited, Ten, Thirteen}
+
+-- ---- the first delimiter
+
+before-none : (l : List ℕ) (j : ℕ) → j < beforeDelimiter l → isDelimiter (getD l j 0) ≡ false
+unfolding span
+before-none [] j h = absurd (omega arith)
+before-none (c ∷ l) j h = by-bool (isDelimiter c)
+    (λ e. absurd (let g : j < 0 = rw (e, span) at h in omega arith))
+    (λ e. go (λ k g. before-none l k g) j (rw (e, span) at h) e)
+  where
+    go : ((k : ℕ) → k < beforeDelimiter l → isDelimiter (getD l k 0) ≡ false) → (j : ℕ) → j < suc (beforeDelimiter l) → isDelimiter c ≡ false
+        → isDelimiter (getD (c ∷ l) j 0) ≡ false
+    go on zero g e = e
+    go on (suc j) g e = on j (omega arith)
+
+there-one : (l : List ℕ) → beforeDelimiter l < length l → isDelimiter (getD l (beforeDelimiter l) 0) ≡ true
+unfolding span
+there-one [] h = absurd (omega arith)
+there-one (c ∷ l) h = by-bool (isDelimiter c)
+    (λ e. rw (e, span) e)
+    (λ e. rw (e, span) (there-one l (let g = rw (e, span) at h in omega arith)))
+
+first-is : (l : List ℕ) (n : ℕ) → n < length l → isDelimiter (getD l n 0) ≡ true → ((j : ℕ) → j < n → isDelimiter (getD l j 0) ≡ false) → beforeDelimiter l ≡ n
+unfolding span
+first-is [] n h e f = absurd (omega arith)
+first-is (c ∷ l) zero h e f = rw (e, span)
+first-is (c ∷ l) (suc n) h e f =
+    let g : isDelimiter c ≡ false = f 0 (omega arith) in
+    rw (g, span) (ap suc (first-is l n (omega arith) e (λ j k. f (suc j) (omega arith))))
+
+-- the first after the first byte, if there is one
+found : (t : List ℕ) (p : ℕ) → p ≡ suc (beforeDelimiter (drop 1 t)) → p < length t → Delimited t p
+found [] p e h = absurd (omega arith)
+found (c ∷ l) p e h =
+    let small : beforeDelimiter l < length l = omega arith in
+    record {
+      after = omega arith;
+      inside = h;
+      one = rw e (there-one l small);
+      first = λ j a b. go j a (omega arith);
+    }
+  where
+    go : (j : ℕ) → 0 < j → j < suc (beforeDelimiter l) → isDelimiter (getD (c ∷ l) j 0) ≡ false
+    go zero a b = absurd (omega arith)
+    go (suc j) a b = before-none l j (omega arith)
+
+place-is : (t : List ℕ) (p : ℕ) → Delimited t p → suc (beforeDelimiter (drop 1 t)) ≡ p
+place-is [] p d = absurd (omega (arith, d .inside))
+place-is (c ∷ l) zero d = absurd (omega (arith, d .after))
+place-is (c ∷ l) (suc n) d = ap suc (first-is l n (omega (arith, d .inside)) (d .one) (λ j h. d .first (suc j) (omega arith) (omega arith)))
+
+-- ---- the two modes part only on a name that is none
+
+-- neither 10 nor 13
+abbrev Apart : CharValue → Type 0
+Apart (Scalar c) = Unit {0}
+Apart (Wrong n d) = (n ≡ kind.InvalidCharName → ⊥)
+Apart (WrongAt n d p) = (n ≡ kind.InvalidCharDelimiter → ⊥)
+
+data Modes (t : List ℕ) : CharValue → CharValue → Type 0 where
+  same : (v : CharValue) → Apart v → Modes t v v
+  none : Modes t (nameless true t) (nameless false t)
+
+apart-hex : (n : ℕ) (h : Hex) → Apart (later n (scalarOf h))
+unfolding scalarOf
+apart-hex n (hex.Value v) = if-all (λ (c : CharValue). Apart (later n c)) (isScalar v) tt (λ e. omega arith)
+apart-hex n (hex.Wrong d p) = λ e. omega arith
+
+apart-named : (t : List ℕ) → Apart (hexNamed t)
+unfolding hexNamed
+apart-named t =
+    if-all Apart (firstIs (code "u") t && eqb (getD t 1 0) (code "{"))
+    (if-all Apart (lastIs (code "}") t) (apart-hex 2 (hexValue (take (length t - 3) (drop 2 t)))) (λ e. omega arith))
+    (apart-hex 1 (hexValue (drop 1 t)))
+
+only-modes : (f : Front) (t : List ℕ) → Modes t (onlyOne true f t) (onlyOne false f t)
+only-modes (Utf8.char c n) t = by-bool (eqb n (length t)) (λ e. rw e (Modes.same (Scalar c) tt)) (λ e. rw e Modes.none)
+only-modes (Utf8.bad n) t = Modes.none
+only-modes Utf8.cut t = Modes.none
+only-modes Utf8.none t = Modes.none
+
+modes : (t : List ℕ) → Modes t (characterOf true t) (characterOf false t)
+unfolding characterOf spelledOut
+modes t = by-bool (eqb (lookup charNames (map lower t) unnamed) unnamed)
+    (λ e. rw e (by-bool ((firstIs (code "u") t || firstIs (code "x") t) && ltb 1 (length t))
+    (λ f. rw f (Modes.same (hexNamed t) (apart-named t)))
+    (λ f. rw f (only-modes (front t) t))))
+    (λ e. rw e (Modes.same (Scalar (lookup charNames (map lower t) unnamed)) tt))
+
+-- ---- the theorem, each way
+
+thirteen-from : (t : List ℕ) (p : ℕ) → Delimited t p → {v w : CharValue} → Modes t v w → w ≡ Wrong kind.InvalidCharName 0
+    → v ≡ WrongAt kind.InvalidCharDelimiter 0 p
+unfolding nameless
+thirteen-from t p d (Modes.same v a) e = absurd (subst Apart e a refl)
+thirteen-from t p d Modes.none e = let n = place-is t p d in rw (n, lt-ltb p (length t) (d .inside))
+
+pub thirteen-if : (t : List ℕ) (p : ℕ) → Ten t → Delimited t p → Thirteen t p
+thirteen-if t p ten d = thirteen-from t p d (modes t) ten
+
+ten-from : (t : List ℕ) (p : ℕ) {v w : CharValue} → Modes t v w → v ≡ WrongAt kind.InvalidCharDelimiter 0 p
+    → (w ≡ Wrong kind.InvalidCharName 0) × Delimited t p
+unfolding nameless
+ten-from t p (Modes.same v a) e = absurd (subst Apart e a refl)
+ten-from t p Modes.none e =
+    let n : ℕ = suc (beforeDelimiter (drop 1 t)) in
+    by-bool (ltb n (length t))
+    (λ f. let g : WrongAt kind.InvalidCharDelimiter 0 n ≡ WrongAt kind.InvalidCharDelimiter 0 p = rw f at e in
+    let z : n ≡ p = cc in
+    (refl, found t p (sym z) (rw z at (ltb-true n (length t) f))))
+    (λ f. let g : Wrong kind.InvalidCharName 0 ≡ WrongAt kind.InvalidCharDelimiter 0 p = rw f at e in
+    let z : _≡_ {A = ℕ} 0 1 = cc in
+    absurd (omega arith))
+
+pub thirteen-only : (t : List ℕ) (p : ℕ) → Thirteen t p → Ten t × Delimited t p
+thirteen-only t p e = ten-from t p (modes t) e
