@@ -140,7 +140,7 @@ table =
     ∷ ((spliceSyntax ∷ opens ∷ a ∷ closes ∷ []) gives Nodes (node abbreviation 0 2 ∷ node plainList 1 1 ∷ node symbol 2 0 ∷ []))
     ∷ ((quote ∷ drops ∷ a ∷ a ∷ []) gives Nodes (node abbreviation 0 1 ∷ node symbol 3 0 ∷ []))
     ∷ ((drops ∷ drops ∷ a ∷ a ∷ a ∷ []) gives Nodes (node symbol 4 0 ∷ []))
-    -- 48: kind 32, kind 100, kind 113, a boolean 2, an opening 4, a surrogate; 45
+    -- 48: kind 32, kind 100, a kind past the last error, a boolean 2, an opening 4, a surrogate; 45
     ∷ ((noToken ∷ []) gives No 48 0)
     ∷ ((a ∷ noError ∷ []) gives No 48 1)
     ∷ ((pastErrors ∷ []) gives No 48 0)
