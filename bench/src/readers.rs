@@ -62,6 +62,12 @@ pub const NUMBERS: &[Reader] = &[
 /// Building the index of line starts, and counting newline bytes; their items are the line starts.
 pub const LINES: &[Reader] = &[
     Reader { name: "lines", title: "index of lines", inside: &["mihadrena_lines"], ready: lines },
+    Reader {
+        name: "lines-counted",
+        title: "in as many words as lines",
+        inside: &["mihadrena_lines"],
+        ready: lines_counted,
+    },
     Reader { name: "rust-count", title: "Rust's count of newline bytes", inside: &["rust_count"], ready: rust_counts },
     Reader {
         name: "rust-lines",
@@ -216,7 +222,16 @@ fn rust_number(text: &str) -> bool {
 }
 
 fn lines(text: &str) -> Run<'_> {
-    let mut index = vec![0; text.len() + 1];
+    lines_into(text, text.len() + 1)
+}
+
+/// Memory that is no longer than the text has its lines counted first.
+fn lines_counted(text: &str) -> Run<'_> {
+    lines_into(text, rust_count(text.as_bytes()) as usize)
+}
+
+fn lines_into(text: &str, words: usize) -> Run<'_> {
+    let mut index = vec![0; words];
     Box::new(move || {
         let (answer, [count, _]) = proved::lines::build(text.as_bytes(), &mut index);
         (answer == proved::lines::SERVED).then_some(count)

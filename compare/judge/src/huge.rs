@@ -5,7 +5,7 @@ use crate::pieces::{Answer, Lent, Reads, What};
 use crate::tally::{Count, Tally};
 use crate::Options;
 use item::Record;
-use proved::{NUMBER_WORDS, RECORD_WORDS};
+use proved::{lines, NUMBER_WORDS, RECORD_WORDS};
 
 /// The longest text, and how many bytes the mapping has: one too many.
 const LONGEST: usize = u32::MAX as usize;
@@ -15,12 +15,16 @@ const SIDES: [&str; 2] = ["01", "proved"];
 const PLAIN: u32 = 0;
 const NO_MODE: u32 = 2;
 
+/// What an index's memory holds before a call.
+const OLD: u32 = 0xAAAA_AAAA;
+
 pub fn judge(options: &Options) -> Count {
     let mut count = Count::default();
     count.add(comments());
     if options.huge {
         let mut text = vec![b' '; TOO_MANY];
         count.add(refused(&mut text));
+        count.add(line_index(&mut text));
         count.add(served(&mut text));
         count.add(counted(&mut text));
         drop(text);
@@ -121,6 +125,54 @@ fn served(text: &mut [u8]) -> Count {
     same(serves(vec![string]), text, false, "one string");
     let number = proved::number(text, &mut [0; NUMBER_WORDS]);
     tally.same(proved::NO_NUMBER, number, || "number call, one string".into());
+    tally.close()
+}
+
+/// The line index of the longest text, whole and from pieces, with newline bytes at its two ends: the last place, and the place past a final
+/// newline. One byte more is 20; nothing is written then, or, from pieces, the starts before that byte.
+fn line_index(text: &mut [u8]) -> Count {
+    let mut tally = Tally::between(SIDES, "huge line index, 2^32 - 1 bytes and one more");
+    text[0] = b'\n';
+    text[LONGEST - 1] = b'\n';
+    text[LONGEST] = b'\n';
+    let starts = [0, 1, LONGEST as u32];
+    let laid = [0, 1, LONGEST as u32, OLD];
+    let told = |number, first| (number, [first, 0]);
+    let longest = &text[..LONGEST];
+
+    tally.text();
+    let mut index = [OLD; 4];
+    tally.same(told(lines::NO_ROOM, 3), lines::build(longest, &mut index[..2]), || "build, two words".into());
+    tally.same([OLD; 4], index, || "build, two words untouched".into());
+    tally.same(told(lines::SERVED, 3), lines::build(longest, &mut index), || "build".into());
+    tally.same(laid, index, || "build, the starts".into());
+    let column = (lines::SERVED, [2, LONGEST as u64 - 1]);
+    tally.same(column, lines::locate(longest, &starts, LONGEST - 1), || "locate, the last place".into());
+    let past = told(lines::NO_PLACE, LONGEST as u64 + 1);
+    tally.same(past, lines::locate(longest, &starts, LONGEST + 1), || "locate, past the end".into());
+    let mut found = [0; 6];
+    let asked = lines::locate_all(longest, &starts, &starts, &mut found);
+    tally.same(told(lines::SERVED, 3), asked, || "locate_all, the line starts".into());
+    tally.same([1, 1, 2, 1, 3, 1], found, || "locate_all, the answers".into());
+
+    tally.text();
+    let mut index = [OLD; 4];
+    let too_long = told(proved::TOO_LONG, LONGEST as u64);
+    tally.same(too_long, lines::build(text, &mut index), || "build, one byte too many".into());
+    tally.same([OLD; 4], index, || "build, nothing written".into());
+    tally.same(told(lines::NOT_ITS_INDEX, 0), lines::locate(text, &starts, 0), || "locate, one byte too many".into());
+    let mut state = [0; lines::STATE_WORDS];
+    lines::open(&mut state, &mut index);
+    for piece in longest.chunks(1 << 30) {
+        lines::piece(&mut state, piece, &mut index);
+    }
+    tally.same(told(lines::SERVED, 3), lines::end(&state, &index), || "pieces".into());
+    tally.same(laid, index, || "pieces, the starts".into());
+    lines::piece(&mut state, b"\n", &mut index);
+    tally.same(too_long, lines::end(&state, &index), || "pieces, one byte too many".into());
+    tally.same(laid, index, || "pieces, the starts before it".into());
+    text[0] = b' ';
+    text[LONGEST - 1] = b' ';
     tally.close()
 }
 

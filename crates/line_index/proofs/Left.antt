@@ -38,8 +38,8 @@ module _ (s : List ℕ) (i : ℕ) where
       (λ e. rw (ne-eqb (getD s i 0) newline e, left-miss h e) (omega arith))
 
 -- what `if_newline` says of a byte
-pub newline-most : (x : Bool) (j : ℕ) {r : ℕ} → r ≡ (if x then j else 0) → r ≤ j
-newline-most x j e = rw e (if-all (λ (n : ℕ). n ≤ j) x (omega arith) (omega arith))
+newline-most : (x : Bool) {r : ℕ} → r ≡ (if x then 1 else 0) → r ≤ 1
+newline-most x e = rw e (if-all (λ (n : ℕ). n ≤ 1) x (omega arith) (omega arith))
 
 -- ---- counting
 
@@ -52,15 +52,8 @@ module _ (s : List ℕ) (at : ℕ) where
   counted-next j n {r} h e g =
       let z : at + (j + 1) ≡ at + j + 1 = omega arith in
       let l : length (left s (at + j)) ≡ r + length (left s (at + j + 1)) = left-one s (at + j) h ∙ ap (λ (x : ℕ). x + length (left s (at + j + 1))) (sym e) in
-      let o = newline-most (eqb (getD s (at + j) 0) newline) 1 e in
+      let o = newline-most (eqb (getD s (at + j) 0) newline) e in
       (o, rw z (omega (arith, l, g)))
-
-pub counted-one : (s : List ℕ) (i n : ℕ) {r : ℕ} → i < length s → r ≡ (if eqb (getD s i 0) newline then 1 else 0)
-    → length (starts s) ≡ n + length (left s i) → (r ≤ 1) × (length (starts s) ≡ n + r + length (left s (i + 1)))
-counted-one s i n {r} h e g =
-    let l : length (left s i) ≡ r + length (left s (i + 1)) = left-one s i h ∙ ap (λ (x : ℕ). x + length (left s (i + 1))) (sym e) in
-    let o = newline-most (eqb (getD s i 0) newline) 1 e in
-    (o, omega (arith, l, g))
 
 pub counted-all : (s : List ℕ) (i n : ℕ) → length s ≤ i → length (starts s) ≡ n + length (left s i) → n ≡ length (starts s)
 counted-all s i n h g = omega (arith, g, ap length (left-end s i h))

@@ -16,28 +16,28 @@ ghost use Rattle.line_index.specs.Left.{left, Storing, block, wide};
 // How many bytes are stored of at once.
 const BLOCK: usize = 16;
 
-// How many bytes are counted at once.
+// How many bytes are counted at once, in a byte.
 const WIDE: usize = 192;
 
-// j for a newline byte, 0 for another.
-fn if_newline(b: u8, j: u8) -> u8
-    ensures { λ r. ⌜ r ≡ (if eqb b newline then j else 0) ⌝ }
+// 1 for a newline byte, 0 for another.
+fn if_newline(b: u8) -> u8
+    ensures { λ r. ⌜ r ≡ (if eqb b newline then 1 else 0) ⌝ }
 {
     if b == NEWLINE {
-        return j;
+        return 1;
     }
     0
 }
 
-// How many newline bytes stand in the wide block at a place.
-fn count_block(text: &[u8], at: usize) -> u8
-    requires { ⌜ at + wide ≤ length (now text) ⌝ }
-    ensures { λ r. ⌜ (r ≤ wide) × (length (left (now (text .entry)) at) ≡ r + length (left (now (text .entry)) (at + wide))) ⌝ }
+// How many newline bytes stand in a part of the text, which is no longer than WIDE.
+fn count_part(text: &[u8], at: usize, bytes: usize) -> u8
+    requires { ⌜ (at + bytes ≤ length (now text)) × (bytes ≤ wide) ⌝ }
+    ensures { λ r. ⌜ (r ≤ bytes) × (length (left (now (text .entry)) at) ≡ r + length (left (now (text .entry)) (at + bytes))) ⌝ }
 {
     let mut n: u8 = 0;
     let mut j: usize = 0;
-    while j < WIDE {
-        n += if_newline(text[at + j], 1);
+    while j < bytes {
+        n += if_newline(text[at + j]);
         j += 1;
     }
     n
@@ -50,14 +50,10 @@ fn count(text: &[u8]) -> usize
     let mut n: usize = 1;
     let mut i: usize = 0;
     while WIDE <= text.len() - i {
-        n += count_block(text, i) as usize;
+        n += count_part(text, i, WIDE) as usize;
         i += WIDE;
     }
-    while i < text.len() {
-        n += if_newline(text[i], 1) as usize;
-        i += 1;
-    }
-    n
+    n + count_part(text, i, text.len() - i) as usize
 }
 
 // Whether a newline byte stands in the block at a place.

@@ -1,1 +1,6 @@
-pub mod Extents
+pub mod Along
+pub mod Outcomes
+pub mod Bytes
+pub mod Texts
+pub mod First
+pub mod Records

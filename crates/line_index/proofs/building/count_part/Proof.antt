@@ -5,16 +5,16 @@ use Prim.Native.Nat.{ℕ, _+_, _-_, _*_, _≤_, _<_}
 use mathlib.Core.Path.{_≡_, refl, sym, ap, subst, _∙_}
 use denote.Ref.{now}
 use lib.ListN.{length}
-use Rattle.line_index.specs.Left.{left, wide}
+use Rattle.line_index.specs.Left.{left}
 use Rattle.line_index.proofs.Left.{counted-none, counted-next}
-use Rattle.line_index.proofs.building.count_block.Statement.{statement}
-use Rattle.line_index.proofs.building.count_block.Tie as tie
+use Rattle.line_index.proofs.building.count_part.Statement.{statement}
+use Rattle.line_index.proofs.building.count_part.Tie as tie
 
 abbrev Inv-loop : tie.InvT-loop
-Inv-loop text at n₀ j₀ n j = (j ≤ wide) × (n ≤ j) × (length (left text at) ≡ n + length (left text (at + j)))
+Inv-loop text at bytes n₀ j₀ n j = (j ≤ bytes) × (n ≤ j) × (length (left text at) ≡ n + length (left text (at + j)))
 
 abbrev μ-loop : tie.MeasureT-loop
-μ-loop text at n₀ j₀ n j = wide - j
+μ-loop text at bytes n₀ j₀ n j = bytes - j
 
 loop-holds : tie.Need-loop-holds Inv-loop μ-loop
 loop-holds c = (omega arith, omega arith, counted-none (now (c .before .args .text)) (c .before .args .at))
@@ -41,10 +41,10 @@ loop-again : tie.Need-loop-again Inv-loop μ-loop
 loop-again c = let l = c .before .before .before .loop in let v = counted-next (now (c .before .before .before .before .before .args .text)) (c .before .before .before .before .before .args .at) (l .j) (l .n) (omega arith) (c .if-newline .ensures) (l .inv .2) in (omega arith, omega (arith, v .0), v .1)
 
 returns : tie.Need-returns Inv-loop μ-loop
-returns c = let l = c .before .loop in let e : l .j ≡ wide = omega arith in (omega arith, l .inv .2 ∙ ap (λ (j : ℕ). l .n + length (left (now (c .before .before .before .args .text)) (c .before .before .before .args .at + j))) e)
+returns c = let l = c .before .loop in let e : l .j ≡ c .before .before .before .args .bytes = omega arith in (omega arith, l .inv .2 ∙ ap (λ (j : ℕ). l .n + length (left (now (c .before .before .before .args .text)) (c .before .before .before .args .at + j))) e)
 
-pub count-block-spec : {M : Type 1} → statement M
-count-block-spec =
+pub count-part-spec : {M : Type 1} → statement M
+count-part-spec =
     tie.close
     (tie.spec
     Inv-loop
