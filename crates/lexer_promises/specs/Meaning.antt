@@ -68,7 +68,7 @@ secondStart [] = 0
 secondStart (m ∷ []) = 0
 secondStart (m ∷ n ∷ ms) = startOf (n .text)
 
-never-at-the-plus : (ms : List Means) → secondStart ms ≡ 3 → ms ≡ sizedAll (meaningOf Word 3 7 (spelled "+foo")) → ⊥
+never-at-the-plus : (ms : List Means) → secondStart ms ≡ 3 → ms ≡ sizedAll (meaningOf false Word 3 7 (spelled "+foo")) → ⊥
 never-at-the-plus ms plus h = omega (arith, plus, ap secondStart (h ∙ rows .plus))
 
 -- nor one that counts a skipped comment

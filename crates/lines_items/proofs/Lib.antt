@@ -1,6 +1,1 @@
-pub mod Along
-pub mod Outcomes
-pub mod Bytes
-pub mod Texts
-pub mod First
-pub mod Records
+pub mod Extents
