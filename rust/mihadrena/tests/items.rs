@@ -1,7 +1,7 @@
 //! The interface against document 01's examples, its errors and its refusals.
-use mihadrena::{needed, number, raw};
+use mihadrena::{needed, nest, number, raw};
 use mihadrena::{
-    Decimal, Error, HexError, Int, Items, Kind, Mode, Needed, NotNumber, Number, Options, Paren, ParenMod,
+    Decimal, Error, HexError, Int, Items, Kind, Mode, Needed, NotNested, NotNumber, Number, Options, Paren, ParenMod,
 };
 use mihadrena::{Real, Record, Refusal, Sign};
 
@@ -100,6 +100,9 @@ fn a_delimiter_in_a_character_name() {
     assert_eq!(Error::InvalidCharDelimiter.to_string(), "delimiter in a character name");
     assert_eq!(pointed("#\\abc", REPORT), (Error::InvalidCharName, "#\\abc"));
     assert_eq!(read("#\\;", REPORT), [(shown(Kind::CharacterLiteral(';')), 0..3)]);
+    let mut records = [Record::default(); 2];
+    let items = Items::new("a #\\a;", REPORT, &mut records, &mut []).expect("two records are enough");
+    assert_eq!(nest(&items, &mut []).err(), Some(NotNested::ErrorItem(1)));
 }
 
 #[test]
