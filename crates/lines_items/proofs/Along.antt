@@ -1,7 +1,7 @@
 -- A law of places that holds between the characters of a text holds where an item starts and where it ends, since an item is read
 -- character by character. `M` is the law: what it says does not matter here.
-use Prim.Native.Nat.{ℕ, zero, suc, _+_}
-use mathlib.Core.Path.{_≡_, subst}
+use Prim.Native.Nat.{ℕ, suc, _+_}
+use mathlib.Core.Path.{_≡_, sym, subst}
 use mathlib.Core.Bool.{Bool}
 use mathlib.Core.List.{List, [], _∷_}
 use lib.ListN.{length, take}
@@ -34,6 +34,13 @@ module _ (M : ℕ → Type 0) where
   pub at-start : (at : ℕ) (cs : List ℕ) → Along M at cs → M at
   at-start at [] h = h
   at-start at (c ∷ cs) h = h .0
+
+  pub at-end : (at : ℕ) (cs : List ℕ) → Along M at cs → M (at + length (bytesOf cs))
+  unfolding bytesOf
+  at-end at [] h = subst M (sym (add-zero at)) h
+  at-end at (c ∷ cs) h =
+      let z : at + width c + length (bytesOf cs) ≡ at + length (bytesOf (c ∷ cs)) = omega (arith, length-bytes c cs) in
+      subst M z (at-end (at + width c) cs (h .1))
 
   module _ (report : Bool) where
     scan-along : (p : Phase) (i : SoFar) (cs : List ℕ) → Along M (i .at) cs → Along M (scanOf report p i cs .item .at) (scanOf report p i cs .rest)

@@ -1,7 +1,7 @@
 -- Which bytes start a character: those of ASCII and those from 0xC0 on, since the bytes within a character are those from 0x80 to 0xBF.
 -- So a law M of the places between characters holds wherever such a byte stands, and after a byte of ASCII one stands or the text ends.
 use Prim.Native.Nat.{ℕ, zero, suc, _+_, _/_, _%_, _≤_, _<_}
-use mathlib.Core.Path.{_≡_, refl, sym, ap, subst, _∙_}
+use mathlib.Core.Path.{_≡_, ap, subst}
 use mathlib.Core.List.{List, [], _∷_, _++_}
 use mathlib.Core.Logic.{_⊎_, inl, inr}
 use lib.ListN.{length, getD, take, drop}
@@ -12,7 +12,7 @@ use Rattle.laws.proofs.Choice.{by-bool}
 use Rattle.chars.specs.Encode.{utf8, width, bytesOf}
 use Rattle.chars.proofs.Width.{width-utf8, utf8-one, utf8-two, utf8-three, utf8-four}
 use Rattle.items.proofs.Every.{Every}
-use Rattle.lines_items.proofs.Along.{Along, at-start}
+use Rattle.lines_items.proofs.Along.{Along}
 
 -- b starts a character
 abbrev pub Starts : ℕ → Type 0
@@ -48,6 +48,20 @@ spelt c =
     (λ k. shaped c (0xE0 + c / 4096) _ (utf8-three c g (ltb-true c 0x10000 k)) (omega arith) (within (c / 64), (within c, tt)))
     (λ k. shaped c (0xF0 + c / 262144) _ (utf8-four c (ltb-false c 0x10000 k)) (omega arith) (within (c / 4096), (within (c / 64), (within c, tt))))))
 
+-- but for its first byte, no byte of a character starts one
+pub inner-byte : {P : Type 0} (c n : ℕ) → 0 < n → n < length (utf8 c) → Starts (getD (utf8 c) n 0) → P
+inner-byte {P} c n some h g = go (utf8 c) (spelt c) n some h g
+  where
+    later : (u : List ℕ) (n : ℕ) → Every Within u → n < length u → Starts (getD u n 0) → P
+    later [] n r h g = absurd (omega arith)
+    later (b ∷ u) zero r h g = within-starts b (r .0) g
+    later (b ∷ u) (suc n) r h g = later u n (r .1) (omega arith) g
+
+    go : (u : List ℕ) → Spelt c u → (n : ℕ) → 0 < n → n < length u → Starts (getD u n 0) → P
+    go u s zero some h g = absurd (omega arith)
+    go u (low l) (suc n) some h g = absurd (omega arith)
+    go u (high x v l r) (suc n) some h g = later v n r (omega arith) g
+
 -- ---- bytes in a row
 
 -- M holds where a byte stands that starts a character; the first byte stands at the place `at`
@@ -66,14 +80,17 @@ Tidy [] = Unit {0}
 Tidy (b ∷ l) = (b < 0x80 → Fresh l) × Tidy l
 
 -- of the bytes of characters all three hold
+pub fresh-char : (c : ℕ) (l : List ℕ) → Fresh (utf8 c ++ l)
+fresh-char c l = go (utf8 c) (spelt c)
+  where
+    go : (u : List ℕ) → Spelt c u → Fresh (u ++ l)
+    go u (low h) = inl h
+    go u (high x v h r) = inr h
+
 fresh : (cs : List ℕ) → Fresh (bytesOf cs)
 unfolding bytesOf
 fresh [] = tt
-fresh (c ∷ cs) = go (utf8 c) (spelt c)
-  where
-    go : (u : List ℕ) → Spelt c u → Fresh (u ++ bytesOf cs)
-    go u (low h) = inl h
-    go u (high x v h r) = inr h
+fresh (c ∷ cs) = fresh-char c (bytesOf cs)
 
 pub tidy : (cs : List ℕ) → Tidy (bytesOf cs)
 unfolding bytesOf

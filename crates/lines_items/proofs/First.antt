@@ -1,7 +1,7 @@
 -- An item that starts with a character past ASCII is a word: no other kind of item starts so.
 use Prim.Native.Nat.{ℕ, _<_}
 use mathlib.Core.Path.{_≡_, refl, sym, ap, _∙_}
-use mathlib.Core.Bool.{Bool, true, false, _&&_, _||_}
+use mathlib.Core.Bool.{Bool, true, _&&_}
 use mathlib.Core.List.{List, [], _∷_, _++_}
 use mathlib.Core.Logic.{_⊎_, inl, inr}
 use lib.ListN.{length, getD, List·getD-append}
@@ -10,11 +10,10 @@ use native.Mathlib.Omega.{arith}
 use borrow.Author.Tests.{eqb-true, ltb-true}
 use Rattle.laws.specs.Quoted.{code, codes, oneOf}
 use Rattle.laws.proofs.Choice.{by-bool, if-is, and-true}
-use Rattle.chars.specs.Encode.{utf8, bytesOf}
+use Rattle.chars.specs.Encode.{bytesOf}
 use Rattle.chars.proofs.Width.{wide, utf8-one}
-use Rattle.items.specs.declared.Outcome.{Outcome}
 use Rattle.items.specs.declared.Outcome.the-variants.{Word}
-use Rattle.items.specs.Classes.{First, firstOf, startsRun, wordy, inWord, breaks, skips, goes}
+use Rattle.items.specs.Classes.{First, firstOf, startsRun, wordy, inWord}
 use Rattle.items.specs.Readers.{SoFar, soFar, eat, wordOn, wordSkip, readItem}
 use Rattle.items.proofs.Cases.{by-word}
 use Rattle.items.proofs.Splits.{read-splits, read-longer}
@@ -40,7 +39,7 @@ abbrev allBelow : ℕ → List ℕ → Bool
 allBelow n [] = true
 allBelow n (k ∷ ks) = ltb k n && allBelow n ks
 
-one-below : (n : ℕ) (ks : List ℕ) (c : ℕ) → allBelow n ks ≡ true → oneOf ks c ≡ true → c < n
+pub one-below : (n : ℕ) (ks : List ℕ) (c : ℕ) → allBelow n ks ≡ true → oneOf ks c ≡ true → c < n
 one-below n [] c h = λ e. let z : _≡_ {A = ℕ} 0 1 = cc in absurd (omega arith)
 one-below n (k ∷ ks) c h =
     let v = and-true (ltb k n) (allBelow n ks) h in

@@ -1,10 +1,11 @@
 -- What an outcome says of the places of its item. The range that an error sets starts and ends between two characters: at its backslash,
--- at the place read to, or past the next character; so a law M of those places holds at both ends. A here-string's third byte is ASCII,
--- so its delimiter starts with a character. A phase keeps M of the place of its backslash, and every step of the machine keeps that.
-use Prim.Native.Nat.{ℕ, _+_, _<_}
+-- at the place read to, or past the next character; so a law M of those places holds at both ends. Error 11 in report mode is left to
+-- Failing. A here-string's third byte is ASCII, so its delimiter starts with a character. A phase keeps M of the place of its backslash, and every step of the machine keeps that.
+use Prim.Native.Nat.{ℕ, _+_, _-_, _<_}
 use mathlib.Core.Path.{_≡_, refl, ap, subst}
-use mathlib.Core.Bool.{Bool, true, false}
+use mathlib.Core.Bool.{Bool, true}
 use mathlib.Core.List.{List, [], _∷_, _++_}
+use mathlib.Core.Logic.{_⊎_, inl, inr}
 use lib.ListN.{length, getD, drop, length-append, List·getD-append}
 use lib.Seq.{getD-append-add}
 use lib.Dec.{eqb, leb}
@@ -13,7 +14,9 @@ use borrow.Author.Tests.{eqb-true}
 use Rattle.laws.specs.Quoted.{code, codes, oneOf}
 use Rattle.laws.specs.Texts.{begins, same}
 use Rattle.laws.proofs.Choice.{by-bool, if-all, if-is}
-use Rattle.chars.specs.Encode.{utf8, width, spelled}
+use Rattle.chars.specs.Encode.{utf8, width, spelled, isScalar}
+use Rattle.digits.specs.declared.Hex.{Hex}
+use Rattle.digits.specs.declared.Hex.the-variants as hex
 use Rattle.digits.specs.Hex.{hexValue}
 use Rattle.items.specs.declared.Quotes.{Quotes}
 use Rattle.items.specs.declared.Quotes.the-variants.{Double, Lines}
@@ -26,7 +29,8 @@ use Rattle.items.specs.declared.Next.the-variants.{Eat, Stop}
 use Rattle.items.specs.declared.HashKind.{HashKind}
 use Rattle.items.specs.declared.HashKind.the-variants.{Decided, Bracket, Undecided}
 use Rattle.items.specs.declared.CharValue.{CharValue}
-use Rattle.items.specs.declared.CharValue.the-variants.{Scalar, Wrong}
+use Rattle.items.specs.declared.CharValue.the-variants.{Scalar, Wrong, WrongAt}
+use Rattle.items.specs.Kinds as kind
 use Rattle.items.specs.Classes.{startsRun, firstOf, First, inQuotes, afterBackslash, inHex, inTrim, inNest, inWord, inRun, afterHash, inHash, inDelim}
 use Rattle.items.specs.Classes.{InQuotes, ends, escapes, plain, AfterBackslash, simple, hexX, hexU, blank, newline, invalid}
 use Rattle.items.specs.Classes.{InHex, closes, stops, digit, InTrim, space, line, solid, InNest, bar, sharp, inside}
@@ -35,7 +39,7 @@ use Rattle.items.specs.Classes.{AfterHash, radix, opensNest, datum, twice, angl
 use Rattle.items.specs.Classes.{InHash, skipsTwo, tick, commas, stopsHash, staysHash, InDelim, endsDelim, returns, blankDelim, ofDelim}
 use Rattle.items.specs.Machine.{onNest, onBar, onSharp, onQuoted, onEscape, onBrace, closeHex, onHex, onTrimBefore, onTrimAfter}
 use Rattle.items.specs.Machine.{onWord, enterWord, onRun, hashThen, hashLast, onHash, onAfterHash, onDelim, stepOf, finishOf, onFirst, scanOf}
-use Rattle.items.specs.Readers.{SoFar, soFar, eat, firstIs, lastIs, linedOf, closed, unclosed, cut, scalarOf}
+use Rattle.items.specs.Readers.{SoFar, soFar, eat, firstIs, lastIs, linedOf, closed, unclosed, cut, scalarOf, failing}
 use Rattle.items.specs.Readers.{boolKind, quoteKind, formKind, orElse, hashKind, hereEnds, readItem}
 use Rattle.items.proofs.Cases.{by-next}
 use Rattle.items.proofs.Same.{item-same}
@@ -76,7 +80,22 @@ angle-is c h =
     absurd (if-all P (oneOf (codes "xXdDoObB") c) (other radix tt) (if-all P (eqb c (code "|")) (other opensNest tt) (if-all P (eqb c (code ";")) (other datum tt)
     (if-all P (eqb c (code "#")) (other twice tt) (rw e (other value tt))))) h))
 
-module _ (M : ℕ → Type 0) where
+-- what fails at a place is a digit
+abbrev Digit : CharValue → Type 0
+Digit (Scalar v) = Unit {0}
+Digit (Wrong n d) = Unit {0}
+Digit (WrongAt n d p) = n ≡ kind.InvalidHexEscapeLiteral
+
+digit-fails : (h : Hex) → Digit (scalarOf h)
+unfolding scalarOf
+digit-fails (hex.Value v) = if-all Digit (isScalar v) tt tt
+digit-fails (hex.Wrong d p) = refl
+
+module _ (M : ℕ → Type 0) (report : Bool) where
+  -- error 11 in report mode, whose range is not told here
+  abbrev pub Aside : ℕ → Type 0
+  Aside n = (report ≡ true) × (n ≡ kind.InvalidHexEscapeLiteral)
+
   -- of an item with the bytes raw: M holds at both ends of the range that it sets, and a here-string has its third byte
   abbrev pub Known : List ℕ → Outcome → Type 0
   Known raw (Token k d) = Unit {0}
@@ -88,7 +107,7 @@ module _ (M : ℕ → Type 0) where
   Known raw Keyword = Unit {0}
   Known raw Character = Unit {0}
   Known raw (Error n d) = Unit {0}
-  Known raw (ErrorAt n d a b) = M a × M b
+  Known raw (ErrorAt n d a b) = Aside n ⊎ (M a × M b)
 
   abbrev KnownKind : List ℕ → HashKind → Type 0
   KnownKind raw (Decided o) = Known raw o
@@ -216,26 +235,34 @@ module _ (M : ℕ → Type 0) where
     goes-escape hexU q from h = h
     goes-escape blank q from h = tt
     goes-escape newline q from h = tt
-    goes-escape invalid q from h = (h, past)
+    goes-escape invalid q from h = inr (h, past)
 
-    goes-brace : (k : InHex) (q : Quotes) (from : ℕ) → M from → Goes (onBrace k q from i c)
-    goes-brace closes q from h = (h, past)
-    goes-brace stops q from h = (h, here)
+    -- in report mode it is aside, in plain mode it sets the whole escape
+    known-failing : (raw : List ℕ) (n d from to at : ℕ) (rest : List ℕ) → n ≡ kind.InvalidHexEscapeLiteral → M from → M to
+        → Known raw (failing report n d from to at rest)
+    known-failing raw n d from to at rest e h g = if-is (Known raw) report (λ r. inl (r, e)) (λ r. inr (h, g))
+
+    goes-brace : (k : InHex) (q : Quotes) (from : ℕ) → M from → Goes (onBrace report k q from i c)
+    goes-brace closes q from h = known-failing (eat i c .bytes) _ _ from _ (i .at) [] refl h past
+    goes-brace stops q from h = inr (h, here)
     goes-brace digit q from h = h
 
-    goes-close : (v : CharValue) (q : Quotes) (from : ℕ) → M from → Goes (closeHex v q from (eat i c .at))
-    goes-close (Scalar x) q from h = tt
-    goes-close (Wrong n d) q from h = (h, past)
+    goes-close : (v : CharValue) → Digit v → (q : Quotes) (from m : ℕ) → M from → Goes (closeHex report v q from m (eat i c .at) i)
+    goes-close (Scalar x) f q from m h = tt
+    goes-close (Wrong n d) f q from m h = inr (h, past)
+    goes-close (WrongAt n d p) f q from m h =
+        let rest : List ℕ = drop p (drop m (i .bytes)) in known-failing (eat i c .bytes) n d from _ (i .at - length rest) rest f h past
 
-    goes-hex : (k : InHex) (q : Quotes) (closer from m : ℕ) → M from → Goes (onHex k q closer from m i c)
-    goes-hex closes q closer from m h = goes-close (scalarOf (hexValue (drop m (i .bytes)))) q from h
-    goes-hex stops q closer from m h = (h, here)
+    goes-hex : (k : InHex) (q : Quotes) (closer from m : ℕ) → M from → Goes (onHex report k q closer from m i c)
+    goes-hex closes q closer from m h =
+        goes-close (scalarOf (hexValue (drop m (i .bytes)))) (digit-fails (hexValue (drop m (i .bytes)))) q from m h
+    goes-hex stops q closer from m h = inr (h, here)
     goes-hex digit q closer from m h = h
 
     goes-before : (k : InTrim) (q : Quotes) → Goes (onTrimBefore k q i c)
     goes-before space q = tt
     goes-before line q = tt
-    goes-before solid q = (here, past)
+    goes-before solid q = inr (here, past)
 
     goes-trim : (k : InTrim) (q : Quotes) → Goes (onTrimAfter k q i c)
     goes-trim space q = tt
@@ -291,32 +318,32 @@ module _ (M : ℕ → Type 0) where
     goes-delim blankDelim h = tt
     goes-delim ofDelim h = third-stays h
 
-    goes-on : (report : Bool) (p : Phase) → Keeps (i .bytes) p → Goes (stepOf report p i c)
-    goes-on report ph.InLine h = if-all Goes (eqb c (code "\n")) tt tt
-    goes-on report ph.AfterComma h = if-all Goes (eqb c (code "@")) tt tt
-    goes-on report ph.AfterHash h = goes-after (afterHash c) refl h
-    goes-on report ph.AfterAngle h = if-is Goes (eqb c (code "<")) (λ e. third-comes (eqb-true c (code "<") e) h) (λ e. goes-enter)
-    goes-on report ph.HereDelim h = goes-delim (inDelim c) h
-    goes-on report ph.HereStart h = third-stays h
-    goes-on report ph.HereBody h = if-all Goes (hereEnds (i .bytes)) h (third-stays h)
-    goes-on report ph.InWord h = goes-word (inWord c)
-    goes-on report ph.WordEscape h = tt
-    goes-on report ph.InRun h = goes-run (inRun report c)
-    goes-on report ph.InHash h = goes-hash (inHash c)
-    goes-on report ph.HashEscape h = tt
-    goes-on report ph.HashTick h = goes-then (hashKind (i .bytes)) (known-kind (i .bytes))
-    goes-on report ph.HashComma h = if-all Goes (eqb c (code "@")) tt (goes-then (hashKind (i .bytes)) (known-kind (i .bytes)))
-    goes-on report (ph.Nest d) h = goes-nest (inNest c) d
-    goes-on report (ph.NestBar d) h = goes-bar (inNest c) d
-    goes-on report (ph.NestSharp d) h = goes-sharp (inNest c) d
-    goes-on report (ph.Quoted k) h = goes-quoted (inQuotes k c) k
-    goes-on report (ph.Closed k) h = known-closed k (i .bytes)
-    goes-on report (ph.TrimBefore k) h = goes-before (inTrim c) k
-    goes-on report (ph.TrimAfter k) h = goes-trim (inTrim c) k
-    goes-on report (ph.Escape k from) h = goes-escape (afterBackslash c) k from h
-    goes-on report (ph.Brace k from) h = if-all Goes (eqb c (code "{")) h (goes-brace (inHex k (code ";") c) k from h)
-    goes-on report (ph.Hex k closer from m) h = goes-hex (inHex k closer c) k closer from m h
-    goes-on report (ph.Done o) h = h
+    goes-on : (p : Phase) → Keeps (i .bytes) p → Goes (stepOf report p i c)
+    goes-on ph.InLine h = if-all Goes (eqb c (code "\n")) tt tt
+    goes-on ph.AfterComma h = if-all Goes (eqb c (code "@")) tt tt
+    goes-on ph.AfterHash h = goes-after (afterHash c) refl h
+    goes-on ph.AfterAngle h = if-is Goes (eqb c (code "<")) (λ e. third-comes (eqb-true c (code "<") e) h) (λ e. goes-enter)
+    goes-on ph.HereDelim h = goes-delim (inDelim c) h
+    goes-on ph.HereStart h = third-stays h
+    goes-on ph.HereBody h = if-all Goes (hereEnds (i .bytes)) h (third-stays h)
+    goes-on ph.InWord h = goes-word (inWord c)
+    goes-on ph.WordEscape h = tt
+    goes-on ph.InRun h = goes-run (inRun report c)
+    goes-on ph.InHash h = goes-hash (inHash c)
+    goes-on ph.HashEscape h = tt
+    goes-on ph.HashTick h = goes-then (hashKind (i .bytes)) (known-kind (i .bytes))
+    goes-on ph.HashComma h = if-all Goes (eqb c (code "@")) tt (goes-then (hashKind (i .bytes)) (known-kind (i .bytes)))
+    goes-on (ph.Nest d) h = goes-nest (inNest c) d
+    goes-on (ph.NestBar d) h = goes-bar (inNest c) d
+    goes-on (ph.NestSharp d) h = goes-sharp (inNest c) d
+    goes-on (ph.Quoted k) h = goes-quoted (inQuotes k c) k
+    goes-on (ph.Closed k) h = known-closed k (i .bytes)
+    goes-on (ph.TrimBefore k) h = goes-before (inTrim c) k
+    goes-on (ph.TrimAfter k) h = goes-trim (inTrim c) k
+    goes-on (ph.Escape k from) h = goes-escape (afterBackslash c) k from h
+    goes-on (ph.Brace k from) h = if-all Goes (eqb c (code "{")) h (goes-brace (inHex k (code ";") c) k from h)
+    goes-on (ph.Hex k closer from m) h = goes-hex (inHex k closer c) k closer from m h
+    goes-on (ph.Done o) h = h
 
   -- ---- the end, the start, and the whole item
 
@@ -347,14 +374,14 @@ module _ (M : ℕ → Type 0) where
   known-finish raw (ph.Hex k closer from m) h = known-cut k raw
   known-finish raw (ph.Done o) h = h
 
-  scan-known : (report : Bool) (p : Phase) (i : SoFar) (cs : List ℕ) → Keeps (i .bytes) p → Along M (i .at) cs
+  scan-known : (p : Phase) (i : SoFar) (cs : List ℕ) → Keeps (i .bytes) p → Along M (i .at) cs
       → Known (scanOf report p i cs .item .bytes) (scanOf report p i cs .what)
   unfolding scanOf
-  scan-known report p i [] h l = known-finish (i .bytes) p h
-  scan-known report p i (c ∷ cs) h l =
-      let g : Next-of i c (stepOf report p i c) = goes-on i c (l .0) (at-start M (i .at + width c) cs (l .1)) report p h in
+  scan-known p i [] h l = known-finish (i .bytes) p h
+  scan-known p i (c ∷ cs) h l =
+      let g : Next-of i c (stepOf report p i c) = goes-on i c (l .0) (at-start M (i .at + width c) cs (l .1)) p h in
       by-next (stepOf report p i c)
-      (λ q e. rw (e, scanOf) (scan-known report q (eat i c) cs (rw e at g) (l .1)))
+      (λ q e. rw (e, scanOf) (scan-known q (eat i c) cs (rw e at g) (l .1)))
       (λ o e. rw (e, scanOf) (rw e at g))
 
   first-keeps : (c : ℕ) → Keeps (utf8 c) (onFirst (firstOf c))
@@ -367,7 +394,7 @@ module _ (M : ℕ → Type 0) where
       (if-all P (eqb c (code "]")) tt (if-all P (eqb c (code "}")) tt (if-all P (eqb c (code "'")) tt (if-all P (eqb c (code "`")) tt
       (if-all P (startsRun c) tt (if-all P (eqb c (code "|")) tt (if-all P (eqb c (code "\\")) tt tt)))))))))))))))
 
-  pub read-known : (report : Bool) (at c : ℕ) (cs : List ℕ) → Along M at (c ∷ cs)
+  pub read-known : (at c : ℕ) (cs : List ℕ) → Along M at (c ∷ cs)
       → Known (readItem report at c cs .item .bytes) (readItem report at c cs .what)
-  read-known report at c cs h =
-      rw (item-same report at c cs) at (scan-known report (onFirst (firstOf c)) (eat (soFar [] at) c) cs (first-keeps c) (h .1))
+  read-known at c cs h =
+      rw (item-same report at c cs) at (scan-known (onFirst (firstOf c)) (eat (soFar [] at) c) cs (first-keeps c) (h .1))

@@ -1,8 +1,8 @@
 -- An item's text in the source starts and ends between two characters. It is the extent; or it starts after a byte of ASCII, a plus, a
 -- quote or a newline, and ends before one; or it ends where a here-string's delimiter stands, which starts with a character.
-use Prim.Native.Nat.{ℕ, zero, suc, _+_, _-_, _≤_, _<_}
-use mathlib.Core.Path.{_≡_, refl, sym, ap, subst, _∙_}
-use mathlib.Core.Bool.{Bool, true, false, not, _&&_}
+use Prim.Native.Nat.{ℕ, suc, _+_, _-_, _≤_, _<_}
+use mathlib.Core.Path.{_≡_, sym, subst, _∙_}
+use mathlib.Core.Bool.{Bool, true, false, _&&_}
 use mathlib.Core.List.{List, [], _∷_}
 use mathlib.Core.Logic.{_⊎_, inl, inr}
 use lib.ListN.{length, getD, take, drop, length-drop}
@@ -20,11 +20,11 @@ use Rattle.items.specs.declared.Quotes.the-variants.{Lines}
 use Rattle.items.specs.declared.Outcome.{Outcome}
 use Rattle.items.specs.declared.Outcome.the-variants.{Token, Str, HereStr, Word, Run, Lined, Keyword, Character, Error, ErrorAt}
 use Rattle.items.specs.declared.CharValue.{CharValue}
-use Rattle.items.specs.declared.CharValue.the-variants.{Scalar, Wrong}
+use Rattle.items.specs.declared.CharValue.the-variants.{Scalar, Wrong, WrongAt}
 use Rattle.items.specs.Kinds as kind
-use Rattle.items.specs.Meaning.{Text, none, source, decoded, Meaning, one, wordKind, wordMeans, runMeans, escaped, unescape, stringText, linedText, hereText}
+use Rattle.items.specs.Meaning.{Text, none, source, decoded, Meaning, wordKind, wordMeans, runMeans, escaped, unescape, stringText, linedText, hereText}
 use Rattle.items.specs.Meaning.{characterOf, charInside, characterMeans, meaningOf}
-use Rattle.items.specs.Readers.{firstIs, lastIs, unreturned, lineOf, afterLine, endsWith, hereInside, hereEnds}
+use Rattle.items.specs.Readers.{firstIs, unreturned, lineOf, afterLine, endsWith, hereInside, hereEnds}
 use Rattle.items.proofs.Every.{Every}
 use Rattle.items.proofs.Fine.{Between, Fine}
 use Rattle.lines.proofs.Tests.{by-less}
@@ -77,11 +77,11 @@ module _ (M : ℕ → Type 0) where
 
   module _ (s e : ℕ) (raw : List ℕ) (long : e ≡ s + length raw) (starts : M s) (ends : M e) (placed : Placed M s raw) (tidy : Tidy raw) where
     -- where a byte starts a character
-    at-byte : (n : ℕ) → n < length raw → Starts (getD raw n 0) → M (s + n)
+    pub at-byte : (n : ℕ) → n < length raw → Starts (getD raw n 0) → M (s + n)
     at-byte n h g = placed-at M n s raw h placed g
 
     -- past a byte of ASCII
-    past-byte : (n : ℕ) → n < length raw → getD raw n 0 < 0x80 → M (s + suc n)
+    pub past-byte : (n : ℕ) → n < length raw → getD raw n 0 < 0x80 → M (s + suc n)
     past-byte n h g =
         by-less (suc n) (length raw)
         (λ k. at-byte (suc n) k (fresh-at (suc n) raw k (fresh-after n raw h tidy g)))
@@ -170,21 +170,22 @@ module _ (M : ℕ → Type 0) where
     character-texts : (v : CharValue) → Every Meant (characterMeans v)
     character-texts (Scalar c) = (tt, tt)
     character-texts (Wrong n d) = (tt, tt)
+    character-texts (WrongAt n d p) = (tt, tt)
 
     -- only a word may start past ASCII
     low-first : (o : Outcome) → (o ≡ Word → ⊥) → (getD raw 0 0 < 0x80) ⊎ (o ≡ Word) → getD raw 0 0 < 0x80
     low-first o other (inl h) = h
     low-first o other (inr w) = absurd (other w)
 
-    pub meaning-texts : (n : ℕ) (o : Outcome) → (getD raw 0 0 < 0x80) ⊎ (o ≡ Word) → Fine (λ _. Unit {0}) n raw o → Known M raw o
-        → Every Meant (meaningOf o s e raw)
-    meaning-texts n (Token k d) f h g = (tt, tt)
-    meaning-texts n Str f h g = (string-text (low-first Str (λ z. let w : _≡_ {A = ℕ} 0 1 = cc in omega arith) f) h, tt)
-    meaning-texts n HereStr f h g = (here-text g h, tt)
-    meaning-texts n Word f h g = word-texts
-    meaning-texts n Run f h g = run-texts (parseNumber raw)
-    meaning-texts n Lined f h g = (lined-text (low-first Lined (λ z. let w : _≡_ {A = ℕ} 0 1 = cc in omega arith) f) h, tt)
-    meaning-texts n Keyword f h g = ((starts, ends), tt)
-    meaning-texts n Character f h g = character-texts (characterOf (charInside raw))
-    meaning-texts n (Error k d) f h g = (tt, tt)
-    meaning-texts n (ErrorAt k d a b) f h g = (tt, tt)
+    pub meaning-texts : (report : Bool) (n : ℕ) (o : Outcome) → (getD raw 0 0 < 0x80) ⊎ (o ≡ Word) → Fine (λ _. Unit {0}) n raw o → Known M report raw o
+        → Every Meant (meaningOf report o s e raw)
+    meaning-texts report n (Token k d) f h g = (tt, tt)
+    meaning-texts report n Str f h g = (string-text (low-first Str (λ z. let w : _≡_ {A = ℕ} 0 1 = cc in omega arith) f) h, tt)
+    meaning-texts report n HereStr f h g = (here-text g h, tt)
+    meaning-texts report n Word f h g = word-texts
+    meaning-texts report n Run f h g = run-texts (parseNumber raw)
+    meaning-texts report n Lined f h g = (lined-text (low-first Lined (λ z. let w : _≡_ {A = ℕ} 0 1 = cc in omega arith) f) h, tt)
+    meaning-texts report n Keyword f h g = ((starts, ends), tt)
+    meaning-texts report n Character f h g = character-texts (characterOf report (charInside raw))
+    meaning-texts report n (Error k d) f h g = (tt, tt)
+    meaning-texts report n (ErrorAt k d a b) f h g = (tt, tt)
