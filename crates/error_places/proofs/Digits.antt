@@ -1,6 +1,6 @@
 -- What the digit reader refuses, in the digits' characters and bytes: the character that is no digit, and the digit that is one too many.
 use Prim.Native.Nat.{ℕ, zero, suc, _+_, _*_, _^_, _≤_, _<_}
-use mathlib.Core.Path.{_≡_, refl, sym, ap, _∙_}
+use mathlib.Core.Path.{_≡_, refl, sym, ap, subst, _∙_}
 use mathlib.Core.Bool.{true, false}
 use mathlib.Core.List.{List, [], _∷_, _++_}
 use mathlib.Core.Logic.{_⊎_, inl, inr}
@@ -20,13 +20,16 @@ use Rattle.coverage.proofs.Bytes.{bytes-some, Spelt, low, high, spelt}
 use Rattle.error_places.specs.Failing.{IsDigit}
 
 -- no byte and no character past ASCII is a digit
-pub high-none : (c : ℕ) → 0x80 ≤ c → 16 ≤ digitOf c
+high-none : (c : ℕ) → 0x80 ≤ c → 16 ≤ digitOf c
 unfolding digitOf
 high-none c h =
     by-bool (within (code "0") (code "9") c) (λ e. absurd (omega (arith, within-is (code "0") (code "9") c e .1)))
     (λ e. by-bool (within (code "A") (code "F") c) (λ f. absurd (omega (arith, within-is (code "A") (code "F") c f .1)))
     (λ f. by-bool (within (code "a") (code "f") c) (λ g. absurd (omega (arith, within-is (code "a") (code "f") c g .1)))
     (λ g. rw (e, f, g) (omega arith))))
+
+pub digit-small : (c : ℕ) → IsDigit c → c < 0x80
+digit-small c h = by-bool (ltb c 0x80) (λ e. ltb-true c 0x80 e) (λ e. absurd (omega (arith, high-none c (ltb-false c 0x80 e))))
 
 plus-none : 16 ≤ digitOf (code "+")
 unfolding digitOf within
@@ -127,6 +130,29 @@ unfolding hexValue hexAfterPlus
 known [] = inl refl
 known (c ∷ []) = if-all Known (eqb c (code "+")) (inr (inl refl)) (known-digits 0 0 (c ∷ []))
 known (c ∷ d ∷ s) = if-all Known (eqb c (code "+")) (known-digits 1 0 (d ∷ s)) (known-digits 0 0 (c ∷ d ∷ s))
+
+-- only no digits at all are empty
+abbrev NotEmpty : Hex → Type 0
+NotEmpty (Value v) = Unit {0}
+NotEmpty (Wrong d p) = (d ≡ empty → ⊥)
+
+digits-not-empty : (q v : ℕ) (s : List ℕ) → NotEmpty (hexDigits q v s)
+unfolding hexDigits
+digits-not-empty q v [] = tt
+digits-not-empty q v (c ∷ s) =
+    if-all NotEmpty (ltb (digitOf c) 16)
+    (if-all NotEmpty (ltb (v * 16 + digitOf c) (2 ^ 32)) (digits-not-empty (q + 1) (v * 16 + digitOf c) s) (λ e. omega arith))
+    (λ e. omega arith)
+
+some-not-empty : (c : ℕ) (s : List ℕ) → NotEmpty (hexValue (c ∷ s))
+unfolding hexValue hexAfterPlus
+some-not-empty c [] = if-all NotEmpty (eqb c (code "+")) (λ e. omega arith) (digits-not-empty 0 0 (c ∷ []))
+some-not-empty c (d ∷ s) = if-all NotEmpty (eqb c (code "+")) (digits-not-empty 1 0 (d ∷ s)) (digits-not-empty 0 0 (c ∷ d ∷ s))
+
+pub empty-value : (s : List ℕ) (p : ℕ) → hexValue s ≡ Wrong empty p → p ≡ 0
+unfolding hexValue
+empty-value [] p e = let z : p ≡ 0 = cc in z
+empty-value (c ∷ s) p e = absurd (subst NotEmpty e (some-not-empty c s) refl)
 
 after-plus : (l : List ℕ) → 0 < length l → hexAfterPlus l ≡ hexDigits 1 0 l
 unfolding hexAfterPlus

@@ -122,19 +122,23 @@ thirteen-from t p d Modes.none e = let n = place-is t p d in rw (n, lt-ltb p (le
 pub thirteen-if : (t : List ℕ) (p : ℕ) → Ten t → Delimited t p → Thirteen t p
 thirteen-if t p ten d = thirteen-from t p d (modes t) ten
 
-ten-from : (t : List ℕ) (p : ℕ) {v w : CharValue} → Modes t v w → v ≡ WrongAt kind.InvalidCharDelimiter 0 p
+delimited-from : (t : List ℕ) (d p : ℕ) {v w : CharValue} → Modes t v w → v ≡ WrongAt kind.InvalidCharDelimiter d p
     → (w ≡ Wrong kind.InvalidCharName 0) × Delimited t p
 unfolding nameless
-ten-from t p (Modes.same v a) e = absurd (subst Apart e a refl)
-ten-from t p Modes.none e =
+delimited-from t d p (Modes.same v a) e = absurd (subst Apart e a refl)
+delimited-from t d p Modes.none e =
     let n : ℕ = suc (beforeDelimiter (drop 1 t)) in
     by-bool (ltb n (length t))
-    (λ f. let g : WrongAt kind.InvalidCharDelimiter 0 n ≡ WrongAt kind.InvalidCharDelimiter 0 p = rw f at e in
+    (λ f. let g : WrongAt kind.InvalidCharDelimiter 0 n ≡ WrongAt kind.InvalidCharDelimiter d p = rw f at e in
     let z : n ≡ p = cc in
     (refl, found t p (sym z) (rw z at (ltb-true n (length t) f))))
-    (λ f. let g : Wrong kind.InvalidCharName 0 ≡ WrongAt kind.InvalidCharDelimiter 0 p = rw f at e in
+    (λ f. let g : Wrong kind.InvalidCharName 0 ≡ WrongAt kind.InvalidCharDelimiter d p = rw f at e in
     let z : _≡_ {A = ℕ} 0 1 = cc in
     absurd (omega arith))
 
+-- with any detail
+pub delimited-there : (t : List ℕ) (d p : ℕ) → characterOf true t ≡ WrongAt kind.InvalidCharDelimiter d p → Delimited t p
+delimited-there t d p e = delimited-from t d p (modes t) e .1
+
 pub thirteen-only : (t : List ℕ) (p : ℕ) → Thirteen t p → Ten t × Delimited t p
-thirteen-only t p e = ten-from t p (modes t) e
+thirteen-only t p e = delimited-from t 0 p (modes t) e

@@ -8,9 +8,9 @@ use lib.ListN.{length, drop, take, length-append, take-append-drop, length-drop}
 use lib.Seq.{drop-append-seam, length-take-le, drop-append-le, drop-drop}
 use lib.Dec.{eqb, leb, ltb}
 use native.Mathlib.Omega.{arith}
-use borrow.Author.Tests.{lt-ltb, le-leb, ltb-true, ltb-false}
+use borrow.Author.Tests.{lt-ltb, le-leb}
 use Rattle.laws.specs.Quoted.{code}
-use Rattle.laws.proofs.Choice.{by-bool, if-all}
+use Rattle.laws.proofs.Choice.{if-all}
 use Rattle.chars.specs.Encode.{utf8, width, bytesOf, isScalar}
 use Rattle.chars.specs.Utf8.{front}
 use Rattle.chars.proofs.Good.{Scalars}
@@ -20,7 +20,6 @@ use Rattle.numbers.specs.declared.Parsed.{Parsed}
 use Rattle.numbers.specs.declared.Parsed.the-variants as parsed
 use Rattle.digits.specs.declared.Hex.{Hex}
 use Rattle.digits.specs.declared.Hex.the-variants as hex
-use Rattle.digits.specs.Digits.{digitOf}
 use Rattle.digits.specs.Hex.{hexValue, empty, badDigit, overflow}
 use Rattle.items.specs.Kinds as kind
 use Rattle.items.specs.declared.Outcome.{Outcome}
@@ -38,9 +37,9 @@ use Rattle.items.proofs.Splits.{read-at}
 use Rattle.coverage.proofs.Bytes.{bytes-append, passed}
 use Rattle.coverage.proofs.Extents.{Taken, taken}
 use Rattle.coverage.proofs.Located.{itemsThere, every-item}
-use Rattle.error_places.specs.Failing.{BadDigit, Overflow, Fails, Pointed}
+use Rattle.error_places.specs.Failing.{NoDigits, BadDigit, Overflow, Fails, Pointed}
 use Rattle.error_places.proofs.Ascii.{Split, split}
-use Rattle.error_places.proofs.Digits.{high-none, Bad, Over, Many, Known, known, bad-value, over-value}
+use Rattle.error_places.proofs.Digits.{digit-small, Bad, Over, Many, Known, known, empty-value, bad-value, over-value}
 use Rattle.error_places.proofs.Phases.{Stops, Digits, Told, read-told}
 use Rattle.error_places.proofs.Characters.{Named, Of, of-character}
 
@@ -67,10 +66,27 @@ whole-digits ds ys (Stops.byte y zs small) vs e h =
     let r : Split y small zs vs ds = split y small zs vs ds e in
     record { hs = r .us; is = sym (r .before); chars = every-left IsChar (r .us) (y ∷ r .vs) (subst (Every IsChar) (r .chars) h) }
 
--- ---- what fails among the digits ds, which stand after u in the text and before v
+-- ---- what fails among the digits ds, which stand after x and k in the text and before v
 
-module _ (whole : List ℕ) (s : ℕ) (u ds v : List ℕ) (stands : drop s whole ≡ u ++ (ds ++ v)) (zs : List ℕ) (a b p : ℕ)
-    (from : a ≡ s + (length u + p)) where
+module _ (whole : List ℕ) (s : ℕ) (x : List ℕ) (k : ℕ) (ascii : k < 0x80) (ds v : List ℕ) (stands : drop s whole ≡ (x ++ (k ∷ [])) ++ (ds ++ v))
+    (zs : List ℕ) (a b p : ℕ) (from : a ≡ s + (length (x ++ (k ∷ [])) + p)) where
+  abbrev u : List ℕ
+  u = x ++ (k ∷ [])
+
+  none-there : hexValue ds ≡ hex.Wrong empty p → b ≡ pastFailing empty a (drop p ds ++ zs) → NoDigits whole a b
+  unfolding pastFailing
+  none-there e to =
+      let z : p ≡ 0 = empty-value ds p e in
+      let at : a - 1 ≡ s + length x = omega (arith, from, length-append x (k ∷ [])) in
+      record {
+        k = k;
+        after = ds ++ v;
+        back = omega (arith, from, length-append x (k ∷ []));
+        stands = ap (λ (n : ℕ). drop n whole) at ∙ passed whole s x (k ∷ (ds ++ v)) (stands ∙ append-assoc x (k ∷ []) (ds ++ v));
+        ascii = ascii;
+        empty = to;
+      }
+
   bad-there : Whole ds → hexValue ds ≡ hex.Wrong badDigit p → b ≡ pastFailing badDigit a (drop p ds ++ zs) → BadDigit whole a b
   unfolding bytesOf pastFailing
   bad-there w e to =
@@ -124,17 +140,14 @@ module _ (whole : List ℕ) (s : ℕ) (u ds v : List ℕ) (stands : drop s whole
         fits = r .fits;
         large = r .large;
       }
-    where
-      digit-small : (c : ℕ) → digitOf c < 16 → c < 0x80
-      digit-small c h = by-bool (ltb c 0x80) (λ e. ltb-true c 0x80 e) (λ e. absurd (omega (arith, high-none c (ltb-false c 0x80 e))))
 
   fails-there : (d : ℕ) → Known (hex.Wrong d p) → Whole ds → hexValue ds ≡ hex.Wrong d p → b ≡ pastFailing d a (drop p ds ++ zs) → Fails whole a b d
-  unfolding pastFailing
-  fails-there d (inl k) w e to = subst (Fails whole a b) (sym k) (Fails.none (to ∙ (rw k)))
-  fails-there d (inr (inl k)) w e to =
-      subst (Fails whole a b) (sym k) (Fails.bad (bad-there w (e ∙ ap (λ (n : ℕ). hex.Wrong n p) k) (to ∙ ap (λ (n : ℕ). pastFailing n a (drop p ds ++ zs)) k)))
-  fails-there d (inr (inr k)) w e to =
-      subst (Fails whole a b) (sym k) (Fails.over (over-there (e ∙ ap (λ (n : ℕ). hex.Wrong n p) k) (to ∙ ap (λ (n : ℕ). pastFailing n a (drop p ds ++ zs)) k)))
+  fails-there d (inl f) w e to =
+      subst (Fails whole a b) (sym f) (Fails.none (none-there (e ∙ ap (λ (n : ℕ). hex.Wrong n p) f) (to ∙ ap (λ (n : ℕ). pastFailing n a (drop p ds ++ zs)) f)))
+  fails-there d (inr (inl f)) w e to =
+      subst (Fails whole a b) (sym f) (Fails.bad (bad-there w (e ∙ ap (λ (n : ℕ). hex.Wrong n p) f) (to ∙ ap (λ (n : ℕ). pastFailing n a (drop p ds ++ zs)) f)))
+  fails-there d (inr (inr f)) w e to =
+      subst (Fails whole a b) (sym f) (Fails.over (over-there (e ∙ ap (λ (n : ℕ). hex.Wrong n p) f) (to ∙ ap (λ (n : ℕ). pastFailing n a (drop p ds ++ zs)) f)))
 
 -- ---- an extent, whose bytes are whole characters
 
@@ -148,7 +161,7 @@ digits-fail whole s raw rest stands cs chars good d a b g =
     let there : drop s whole ≡ (g .x ++ (g .k ∷ [])) ++ (g .ds ++ (g .ys ++ rest))
     = stands ∙ ap (λ (l : List ℕ). l ++ rest) (g .is ∙ sym (append-assoc (g .x) (g .k ∷ []) (g .ds ++ g .ys)))
     ∙ append-assoc (g .x ++ (g .k ∷ [])) (g .ds ++ g .ys) rest ∙ ap (λ (l : List ℕ). (g .x ++ (g .k ∷ [])) ++ l) (append-assoc (g .ds) (g .ys) rest) in
-    fails-there whole s (g .x ++ (g .k ∷ [])) (g .ds) (g .ys ++ rest) there (g .zs) a b (g .p)
+    fails-there whole s (g .x) (g .k) (g .ascii) (g .ds) (g .ys ++ rest) there (g .zs) a b (g .p)
     (omega (arith, g .from, length-append (g .x) (g .k ∷ []))) d (subst Known (g .fails) (known (g .ds))) w (g .fails) (g .to)
 
 -- a place of its own that is set

@@ -14,6 +14,15 @@ use Rattle.items.proofs.Every.{Every}
 abbrev pub IsDigit : ℕ → Type 0
 IsDigit c = digitOf c < 16
 
+-- the empty place where digits should stand, right after a byte k of ASCII: `"\x;"`
+pub record NoDigits (whole : List ℕ) (a b : ℕ) : Type 0 where
+  pub k : ℕ
+  pub after : List ℕ
+  pub back : 0 < a
+  pub stands : drop (a - 1) whole ≡ k ∷ after
+  pub ascii : k < 0x80
+  pub empty : b ≡ a
+
 -- one character c of the text, which is no hexadecimal digit: `"\x4G1;"`
 pub record BadDigit (whole : List ℕ) (a b : ℕ) : Type 0 where
   pub c : ℕ
@@ -38,8 +47,7 @@ pub record Overflow (whole : List ℕ) (a b : ℕ) : Type 0 where
 
 -- what an item of error 11 points at, by its detail
 pub data Fails (whole : List ℕ) (a b : ℕ) : ℕ → Type 0 where
-  -- nothing where digits should stand: `"\x;"`
-  none : b ≡ a → Fails whole a b empty
+  none : NoDigits whole a b → Fails whole a b empty
   bad : BadDigit whole a b → Fails whole a b badDigit
   over : Overflow whole a b → Fails whole a b overflow
 

@@ -1,1 +1,7 @@
-pub mod Extents
+pub mod Along
+pub mod Outcomes
+pub mod Bytes
+pub mod Texts
+pub mod First
+pub mod Failing
+pub mod Records

@@ -1,1 +1,1 @@
-// The places of items are places that the question about lines answers. It has no code: proofs/Extents shows it.
+// The places of items are places that the question about lines answers. It has no code: proofs/Records shows it.
