@@ -1,5 +1,4 @@
--- One item a call: `lexer::next_at`, `reader::next` and `reader::next_of` ensure `replied (replyOf r) text′ ≡ nextOf source position text`, `next` for the
--- source and the position that its reader holds.
+-- One item a call: `lexer::next_at` ensures `replied (replyOf r) text′ ≡ nextOf source position text`. Crate `reader_promises` has the reader that moves.
 use Prim.Native.Nat.{ℕ, _+_, _<_}
 use mathlib.Core.Path.{_≡_, refl, ap, sym, _∙_}
 use mathlib.Core.Bool.{Bool, true, false}
