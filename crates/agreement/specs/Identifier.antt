@@ -34,7 +34,7 @@ pub data Initial : ℕ → Type 0 where
   letter : {c : ℕ} → oneOf letters c ≡ true → Initial c
   special : {c : ℕ} → oneOf specialInitials c ≡ true → Initial c
   -- the standard lets an implementation take other characters of Unicode, by their general category: letters, marks, numbers,
-  -- punctuation, symbols. None of these is White_Space
+  -- punctuation, symbols. None of these is White_Space. Departure: what is read as one here is more, `«` and a digit first (B30)
   beyond : {c : ℕ} → 0x80 ≤ c → isBlank c ≡ false → Initial c
 
 pub data Subsequent : ℕ → Type 0 where
