@@ -20,3 +20,4 @@ pub mod Lined
 pub mod Number
 pub mod Token
 pub mod Example
+pub mod Witness
