@@ -18,6 +18,8 @@ pub mod Character
 pub mod Identifier
 pub mod Lined
 pub mod Number
+pub mod Below
+pub mod Written
 pub mod Token
 pub mod Example
 pub mod Witness
