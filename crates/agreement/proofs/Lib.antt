@@ -20,6 +20,7 @@ pub mod Lined
 pub mod Number
 pub mod Below
 pub mod Written
+pub mod NoNumber
 pub mod Token
 pub mod Example
 pub mod Witness
