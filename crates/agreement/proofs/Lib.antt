@@ -22,5 +22,7 @@ pub mod Below
 pub mod Written
 pub mod NoNumber
 pub mod Token
+pub mod Whole
 pub mod Example
 pub mod Witness
+pub mod Texts

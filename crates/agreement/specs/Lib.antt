@@ -11,4 +11,5 @@ pub mod Identifier
 pub mod Number
 pub mod Written
 pub mod Token
+pub mod Whole
 pub mod Departures

@@ -1,0 +1,93 @@
+-- A whole text for each constructor of <token> and of a text, its items by the theorem on whole texts alone.
+use Prim.Native.Nat.{ℕ}
+use mathlib.Core.Path.{_≡_, refl, sym, _∙_}
+use mathlib.Core.Bool.{Bool}
+use mathlib.Core.List.{List, [], _∷_, _++_}
+use native.Mathlib.Omega.{arith}
+use Rattle.laws.specs.Quoted.{codes, code, within}
+use Rattle.laws.specs.Texts.{span, starts, begins, same}
+use Rattle.chars.specs.Encode.{isScalar, utf8, width, bytesOf}
+use Rattle.digits.specs.Digits.{digitOf, sign, uinteger, value, fit, signed, wholeOf, integer}
+use Rattle.numbers.specs.declared.MaybeParts.the-variants.{NoParts}
+use Rattle.numbers.specs.Grammar.{prefix, justOf, radixMark, startsE, toSign}
+use Rattle.standard.specs.Characters.{lower, isSign}
+use Rattle.standard.specs.Grammar as standard
+use Rattle.standard.specs.Reals as standard-real
+use Rattle.difference.specs.Conditions.{NumberText, SignBelowSlash}
+use Rattle.difference.proofs.Whole.{parts-is, no-parts}
+use Rattle.difference.proofs.Differs.{number-at, bought-alone}
+use Rattle.items.specs.Items.{items, byteCount}
+use Rattle.items.specs.Meaning.{lookup, words, wordKind}
+use Rattle.items.specs.Kinds as kind
+use Rattle.agreement.specs.Reading.{Spelling, bytes, nothing}
+use Rattle.agreement.specs.Repeated.{done, more, some}
+use Rattle.agreement.specs.Delimiter.{atEnd, before}
+use Rattle.agreement.specs.Boolean.{short-true}
+use Rattle.agreement.specs.Character.{any}
+use Rattle.agreement.specs.String as string
+use Rattle.agreement.specs.Identifier as identifier
+use Rattle.agreement.specs.Comment as comment
+use Rattle.agreement.specs.Punctuation.{open-list}
+use Rattle.agreement.specs.Number.{a-real, no-sign, is-integer}
+use Rattle.agreement.specs.Token as token
+use Rattle.agreement.specs.Whole.{said, Tokens, no-more, space, token, Whole, tokens, first-line, only-line, AreSaid}
+use Rattle.agreement.proofs.Computed.{lone-no-number}
+use Rattle.agreement.proofs.Whole.{whole-items}
+
+module _ (report : Bool) where
+  -- nothing, and a space
+  pub nothing-at-all : AreSaid [] (items report [])
+  unfolding begins
+  nothing-at-all = whole-items report (tokens refl no-more)
+
+  pub a-space : AreSaid [] (items report (codes " "))
+  unfolding begins
+  a-space = whole-items report (tokens refl (space refl no-more))
+
+  pub a-boolean : AreSaid (said kind.BooleanLiteral 1 0 (codes "#t") nothing ∷ []) (items report (codes "#t"))
+  unfolding begins
+  a-boolean = whole-items report (tokens refl (token (codes "t") [] (token.boolean short-true atEnd) no-more))
+
+  pub a-character : AreSaid (said kind.CharacterLiteral (code "a") 0 (codes "#\\a") nothing ∷ []) (items report (codes "#\\a"))
+  unfolding begins isScalar within
+  a-character = whole-items report (tokens refl (token (codes "\\a") [] (token.character (any refl) atEnd) no-more))
+
+  pub a-string : AreSaid (said kind.StringLiteral 0 0 (codes "\"a\"") (bytes (bytesOf (codes "a"))) ∷ []) (items report (codes "\"a\""))
+  unfolding begins
+  a-string = whole-items report (tokens refl (token (codes "a\"") [] (token.string (string.quoted (string.itself refl string.no-more))) no-more))
+
+  pub an-identifier : AreSaid (said kind.Identifier 0 0 (codes "a") (bytes (bytesOf (codes "a"))) ∷ []) (items report (codes "a"))
+  unfolding begins wordKind lookup words same bytesOf utf8
+  an-identifier = whole-items report (tokens refl (token [] [] (token.identifier (identifier.plain (identifier.letter refl) done) refl atEnd) no-more))
+
+  pub in-lines : AreSaid (said kind.Identifier 0 0 (codes "|a|") (bytes (bytesOf (codes "a"))) ∷ []) (items report (codes "|a|"))
+  unfolding begins
+  in-lines = whole-items report (tokens refl (token (codes "a|") [] (token.lined (identifier.lined (identifier.itself refl identifier.no-more))) no-more))
+
+  pub a-number : AreSaid (said kind.Number 0 0 (codes "1") nothing ∷ []) (items report (codes "1"))
+  unfolding begins
+  a-number = whole-items report (tokens refl (token [] [] (token.number (a-real [] (codes "1") no-sign (is-integer (some refl done))) atEnd) no-more))
+
+  pub a-mark : AreSaid (said kind.OpenParen kind.Round 0 (codes "(") nothing ∷ []) (items report (codes "("))
+  unfolding begins
+  a-mark = whole-items report (tokens refl (token [] [] (token.punctuation open-list tt) no-more))
+
+  pub a-line-comment : AreSaid (said kind.Comment 0 0 (codes ";a\n") nothing ∷ []) (items report (codes ";a\n"))
+  unfolding begins
+  a-line-comment = whole-items report (tokens refl (token (codes "a\n") [] (token.line-comment (codes ";a") (codes "\n") (comment.line (more refl done)) comment.newline) no-more))
+
+  pub a-nested-comment : AreSaid (said kind.Comment 0 0 (codes "#||#") nothing ∷ []) (items report (codes "#||#"))
+  unfolding begins
+  a-nested-comment = whole-items report (tokens refl (token (codes "||#") [] (token.nested-comment (comment.nested (comment.closes [] refl))) no-more))
+
+  pub a-datum-comment : AreSaid (said kind.DatumComment 0 0 (codes "#;") nothing ∷ []) (items report (codes "#;"))
+  unfolding begins
+  a-datum-comment = whole-items report (tokens refl (token (codes ";") [] token.datum-comment no-more))
+
+  -- a first line with #!, alone and before a token
+  pub a-first-line : AreSaid [] (items report (codes "#!a"))
+  a-first-line = whole-items report (only-line (more refl done))
+
+  pub after-first-line : AreSaid (said kind.OpenParen kind.Round 4 (codes "(") nothing ∷ []) (items report (codes "#!a\n("))
+  unfolding width
+  after-first-line = whole-items report (first-line (codes "a") (codes "(") (more refl done) (space refl (token [] [] (token.punctuation open-list tt) no-more)))
