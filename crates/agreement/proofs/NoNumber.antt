@@ -12,8 +12,8 @@ use Rattle.numbers.specs.declared.MaybeParts.the-variants.{SomeParts, NoParts}
 use Rattle.numbers.specs.Grammar.{judged, parseNumber}
 use Rattle.standard.specs.Grammar.{numberParts, parseStandard}
 use Rattle.difference.specs.Conditions.{NumberText, SignBelowSlash, OddE, Differs}
-use Rattle.difference.proofs.Whole.{parts-inv}
-use Rattle.difference.proofs.Differs.{number-text, differs}
+use Rattle.difference.proofs.Whole.{no-parts, parts-is, parts-inv}
+use Rattle.difference.proofs.Differs.{number-text, number-at, differs, bought-alone}
 
 module _ (s : List ℕ) (n : NumberText s → ⊥) (b : SignBelowSlash s → ⊥) where
   standard-none : parseStandard s ≡ NoNumber
@@ -39,3 +39,10 @@ module _ (s : List ℕ) (n : NumberText s → ⊥) (b : SignBelowSlash s → ⊥
       go NoNumber e = e
       go (Is p) e = absurd (alike (differs s .0 (λ q. let z : Is p ≡ NoNumber = sym e ∙ (q ∙ standard-none) in let y : _≡_ {A = ℕ} 0 1 = cc in omega arith)))
       go ZeroDenominator e = absurd (alike (differs s .0 (λ q. let z : ZeroDenominator ≡ NoNumber = sym e ∙ (q ∙ standard-none) in let y : _≡_ {A = ℕ} 0 1 = cc in omega arith)))
+
+-- how a text is seen to be neither: both readers find no number
+pub unnumbered : (s : List ℕ) → numberParts s ≡ NoParts → NumberText s → ⊥
+unnumbered s e n = let f = number-at n in no-parts (sym e ∙ parts-is (f .1))
+
+pub unslashed : (s : List ℕ) → parseNumber s ≡ NoNumber → SignBelowSlash s → ⊥
+unslashed s e c = bought-alone s c .0 e

@@ -1,27 +1,22 @@
 -- A whole text for each constructor of <token> and of a text, its items by the theorem on whole texts alone.
-use Prim.Native.Nat.{ℕ}
-use mathlib.Core.Path.{_≡_, refl, sym, _∙_}
+use mathlib.Core.Path.{refl}
 use mathlib.Core.Bool.{Bool}
-use mathlib.Core.List.{List, [], _∷_, _++_}
-use native.Mathlib.Omega.{arith}
+use mathlib.Core.List.{[], _∷_}
 use Rattle.laws.specs.Quoted.{codes, code, within}
 use Rattle.laws.specs.Texts.{span, starts, begins, same}
 use Rattle.chars.specs.Encode.{isScalar, utf8, width, bytesOf}
-use Rattle.digits.specs.Digits.{digitOf, sign, uinteger, value, fit, signed, wholeOf, integer}
-use Rattle.numbers.specs.declared.MaybeParts.the-variants.{NoParts}
+use Rattle.digits.specs.Digits.{digitOf, sign, uinteger, value, signed, wholeOf}
 use Rattle.numbers.specs.Grammar.{prefix, justOf, radixMark, startsE, toSign}
+use Rattle.numbers.specs.Reals as bought
 use Rattle.standard.specs.Characters.{lower, isSign}
 use Rattle.standard.specs.Grammar as standard
 use Rattle.standard.specs.Reals as standard-real
-use Rattle.difference.specs.Conditions.{NumberText, SignBelowSlash}
-use Rattle.difference.proofs.Whole.{parts-is, no-parts}
-use Rattle.difference.proofs.Differs.{number-at, bought-alone}
-use Rattle.items.specs.Items.{items, byteCount}
+use Rattle.items.specs.Items.{items}
 use Rattle.items.specs.Meaning.{lookup, words, wordKind}
 use Rattle.items.specs.Kinds as kind
-use Rattle.agreement.specs.Reading.{Spelling, bytes, nothing}
+use Rattle.agreement.specs.Reading.{bytes, nothing}
 use Rattle.agreement.specs.Repeated.{done, more, some}
-use Rattle.agreement.specs.Delimiter.{atEnd, before}
+use Rattle.agreement.specs.Delimiter.{atEnd}
 use Rattle.agreement.specs.Boolean.{short-true}
 use Rattle.agreement.specs.Character.{any}
 use Rattle.agreement.specs.String as string
@@ -30,8 +25,9 @@ use Rattle.agreement.specs.Comment as comment
 use Rattle.agreement.specs.Punctuation.{open-list}
 use Rattle.agreement.specs.Number.{a-real, no-sign, is-integer}
 use Rattle.agreement.specs.Token as token
-use Rattle.agreement.specs.Whole.{said, Tokens, no-more, space, token, Whole, tokens, first-line, only-line, AreSaid}
+use Rattle.agreement.specs.Whole.{said, no-more, space, token, tokens, first-line, only-line, AreSaid}
 use Rattle.agreement.proofs.Computed.{lone-no-number}
+use Rattle.agreement.proofs.NoNumber.{unnumbered, unslashed}
 use Rattle.agreement.proofs.Whole.{whole-items}
 
 module _ (report : Bool) where
@@ -59,6 +55,15 @@ module _ (report : Bool) where
   pub an-identifier : AreSaid (said kind.Identifier 0 0 (codes "a") (bytes (bytesOf (codes "a"))) ∷ []) (items report (codes "a"))
   unfolding begins wordKind lookup words same bytesOf utf8
   an-identifier = whole-items report (tokens refl (token [] [] (token.identifier (identifier.plain (identifier.letter refl) done) refl atEnd) no-more))
+
+  pub a-peculiar : AreSaid (said kind.Identifier 0 0 (codes "-") (bytes (bytesOf (codes "-"))) ∷ []) (items report (codes "-"))
+  unfolding begins wordKind lookup words same bytesOf utf8 span starts within digitOf sign uinteger value signed wholeOf bought.exponentMarker bought.exponent bought.suffix bought.pointOf bought.dotted bought.undotted bought.decimal bought.integralOf bought.rationalOf bought.orElse justOf toSign startsE radixMark prefix lower isSign standard-real.infnan standard-real.ratio standard-real.ureal standard-real.real standard.endsI standard.imaginary standard.aloneOf standard.pairOf standard.joint standard.rectangular standard.complex standard.numberParts bought.infnan
+  a-peculiar =
+      whole-items report
+      (tokens refl
+      (token [] []
+      (token.peculiar (identifier.alone refl) (identifier.other refl) (unnumbered (codes "-") refl) (unslashed (codes "-") (lone-no-number (code "-") refl)) refl atEnd)
+      no-more))
 
   pub in-lines : AreSaid (said kind.Identifier 0 0 (codes "|a|") (bytes (bytesOf (codes "a"))) ∷ []) (items report (codes "|a|"))
   unfolding begins
