@@ -23,6 +23,7 @@ pub mod Written
 pub mod NoNumber
 pub mod Token
 pub mod Whole
+pub mod OnlyBooleans
 pub mod Example
 pub mod Witness
 pub mod Texts

@@ -12,4 +12,5 @@ pub mod Number
 pub mod Written
 pub mod Token
 pub mod Whole
+pub mod Converse
 pub mod Departures
