@@ -24,6 +24,7 @@ pub mod NoNumber
 pub mod Token
 pub mod Whole
 pub mod OnlyBooleans
+pub mod Converse
 pub mod Example
 pub mod Witness
 pub mod Texts
