@@ -18,5 +18,13 @@ pub mod Character
 pub mod Identifier
 pub mod Lined
 pub mod Number
+pub mod Below
+pub mod Written
+pub mod NoNumber
 pub mod Token
+pub mod Whole
+pub mod OnlyBooleans
+pub mod Converse
 pub mod Example
+pub mod Witness
+pub mod Texts

@@ -19,7 +19,7 @@ use Rattle.items.specs.Items.{byteCount}
 use Rattle.items.specs.Meaning.{escaped, linedText, Text}
 use Rattle.items.specs.Readers.{soFar, got, lastIs, linedOf, readQuoted, readItem, SoFar}
 use Rattle.items.specs.Kinds as kind
-use Rattle.agreement.specs.Identifier.{SymbolElements, no-more, itself, mnemonic, vertical, hex, Lined, lined}
+use Rattle.agreement.specs.Identifier.{SymbolElements, no-more, itself, mnemonic, vertical, doublequote, backslash, hex, Lined, lined}
 use Rattle.agreement.specs.Reading.{spelling, bytes, ReadAs}
 use Rattle.agreement.proofs.Between.{between, between-bytes, spells-between, between-unescaped, between-same}
 use Rattle.agreement.proofs.Bytes.{bytes-some}
@@ -38,6 +38,8 @@ elements no-more = empty
 elements (itself {c = c} h s) = character (itself-plain c h) (elements s)
 elements (mnemonic m s) = quoted-mnemonic Lines m (elements s)
 elements (vertical s) = escape refl refl refl (elements s)
+elements (doublequote s) = escape refl refl refl (elements s)
+elements (backslash s) = escape refl refl refl (elements s)
 elements (hex h x s) = hexadecimal h x (elements s)
 
 -- where there is an escape, the name is not empty
@@ -47,6 +49,8 @@ named no-more h = cc
 named (itself {c = c} {v = v} p s) h = bytes-some c v
 named (mnemonic {x = x} {v = v} m s) h = bytes-some x v
 named (vertical {v = v} s) h = bytes-some (code "|") v
+named (doublequote {v = v} s) h = bytes-some (code "\"") v
+named (backslash {v = v} s) h = bytes-some (code "\\") v
 named (hex d {x = x} {v = v} n s) h = bytes-some x v
 
 -- the closing line is the last byte

@@ -127,7 +127,7 @@ real-run : {t : List ℕ} → RealText t → (0 < length t) × (startsRun (getD 
 real-run (a-real s u g x) = signed-run g (shape x)
 real-run (an-infnan x) = infnan-run x
 
-first-run : (report : Bool) (t cs : List ℕ) → 0 < length t → startsRun (getD t 0 0) ≡ true → Many Stays t → (p : Parts) → parseNumber (bytesOf t) ≡ parsed.Is p
+pub first-run : (report : Bool) (t cs : List ℕ) → 0 < length t → startsRun (getD t 0 0) ≡ true → Many Stays t → (p : Parts) → parseNumber (bytesOf t) ≡ parsed.Is p
     → Ends (numberDelimiters report) cs → ReadAs report t cs kind.Number 0 nothing
 first-run report [] cs l s m p n e = absurd (omega arith)
 first-run report (c ∷ t) cs l s (more h m) p n e = number-run report c s m p n e

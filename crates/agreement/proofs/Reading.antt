@@ -72,7 +72,7 @@ nothing-left report zero at last = refl
 nothing-left report (suc turns) at last = refl
 
 -- each turn takes a blank or an item, so there are turns enough
-turns-on : (report : Bool) (turns : ℕ) (last : Place) {at : ℕ} {cs : List ℕ} {is : List Item} → Reads report at cs is → length cs ≤ turns
+pub turns-on : (report : Bool) (turns : ℕ) (last : Place) {at : ℕ} {cs : List ℕ} {is : List Item} → Reads report at cs is → length cs ≤ turns
     → itemsFrom report turns last at cs ≡ is
 unfolding itemsFrom
 turns-on report turns last (ends {at = at}) h = nothing-left report turns at last

@@ -18,7 +18,7 @@ use Rattle.items.specs.Readers.{soFar, got, readQuoted, readItem, SoFar}
 use Rattle.items.specs.Kinds as kind
 use Rattle.agreement.specs.Escape.{Mnemonic, alarm, backspace, tab, linefeed, return}
 use Rattle.agreement.specs.Reading.{spelling, bytes, ReadAs}
-use Rattle.agreement.specs.String.{StringElements, no-more, itself, mnemonic, doublequote, backslash, goes-on, hex, StringText, quoted}
+use Rattle.agreement.specs.String.{StringElements, no-more, itself, mnemonic, doublequote, backslash, vertical, goes-on, hex, StringText, quoted}
 use Rattle.agreement.proofs.Between.{between, spells-between, between-unescaped, between-same}
 use Rattle.agreement.proofs.Classes.{not-first, not-others}
 use Rattle.agreement.proofs.Quoted.{quoted-on, Quoted, empty, character, escape, hexadecimal, continued}
@@ -53,6 +53,7 @@ elements (itself {c = c} h s) = character (itself-plain c h) (elements s)
 elements (mnemonic m s) = quoted-mnemonic Double m (elements s)
 elements (doublequote s) = escape refl refl refl (elements s)
 elements (backslash s) = escape refl refl refl (elements s)
+elements (vertical s) = escape refl refl refl (elements s)
 elements (goes-on u w m n h s) = continued u w m n h (elements s)
 elements (hex h x s) = hexadecimal h x (elements s)
 

@@ -34,7 +34,7 @@ pub data Initial : ℕ → Type 0 where
   letter : {c : ℕ} → oneOf letters c ≡ true → Initial c
   special : {c : ℕ} → oneOf specialInitials c ≡ true → Initial c
   -- the standard lets an implementation take other characters of Unicode, by their general category: letters, marks, numbers,
-  -- punctuation, symbols. None of these is White_Space
+  -- punctuation, symbols. None of these is White_Space. Departure: what is read as one here is more, `«` and a digit first (B30)
   beyond : {c : ℕ} → 0x80 ≤ c → isBlank c ≡ false → Initial c
 
 pub data Subsequent : ℕ → Type 0 where
@@ -68,11 +68,15 @@ pub data Unsplit : List ℕ → Type 0 where
 
 -- <symbol element>*, and the characters that it denotes:
 --   <symbol element> → <any character other than <vertical line> or \> | <inline hex escape> | <mnemonic escape> | \|
+-- 2.1: "characters can be specified using either an <inline hex escape> or the same escapes that are available in strings", so \" and \\
+-- are elements too. Departure: a line that goes on and leaves nothing of the name (B33)
 pub data SymbolElements : List ℕ → List ℕ → Type 0 where
   no-more : SymbolElements [] []
   itself : {c : ℕ} {t v : List ℕ} → oneOf (codes "|\\") c ≡ false → SymbolElements t v → SymbolElements (c ∷ t) (c ∷ v)
   mnemonic : {c x : ℕ} {t v : List ℕ} → Mnemonic c x → SymbolElements t v → SymbolElements (code "\\" ∷ c ∷ t) (x ∷ v)
   vertical : {t v : List ℕ} → SymbolElements t v → SymbolElements (code "\\" ∷ code "|" ∷ t) (code "|" ∷ v)
+  doublequote : {t v : List ℕ} → SymbolElements t v → SymbolElements (code "\\" ∷ code "\"" ∷ t) (code "\"" ∷ v)
+  backslash : {t v : List ℕ} → SymbolElements t v → SymbolElements (code "\\" ∷ code "\\" ∷ t) (code "\\" ∷ v)
   hex : (h : List ℕ) {x : ℕ} {t v : List ℕ} → HexScalar h x → SymbolElements t v → SymbolElements (code "\\" ∷ code "x" ∷ h ++ (code ";" ∷ t)) (x ∷ v)
 
 -- an identifier in vertical lines, and its name

@@ -9,5 +9,8 @@ pub mod String
 pub mod Character
 pub mod Identifier
 pub mod Number
+pub mod Written
 pub mod Token
+pub mod Whole
+pub mod Converse
 pub mod Departures

@@ -1,5 +1,4 @@
--- R7RS 7.1.1, numbers in radix 10 that have no prefix and one part. The whole of <number> is crate numbers' Grammar, a function for a
--- production, with its departures.
+-- R7RS 7.1.1, numbers in radix 10 that have no prefix and one part. The whole of <number> is in Written.
 --   <real R> → <sign> <ureal R> | <infnan>
 --   <ureal R> → <uinteger R> | <uinteger R> / <uinteger R> | <decimal R>
 --   <decimal 10> → <uinteger 10> <suffix> | . <digit 10>+ <suffix> | <digit 10>+ . <digit 10>* <suffix>

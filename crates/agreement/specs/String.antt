@@ -31,6 +31,8 @@ pub data StringElements : List ℕ → List ℕ → Type 0 where
   mnemonic : {c x : ℕ} {t v : List ℕ} → Mnemonic c x → StringElements t v → StringElements (code "\\" ∷ c ∷ t) (x ∷ v)
   doublequote : {t v : List ℕ} → StringElements t v → StringElements (code "\\" ∷ code "\"" ∷ t) (code "\"" ∷ v)
   backslash : {t v : List ℕ} → StringElements t v → StringElements (code "\\" ∷ code "\\" ∷ t) (code "\\" ∷ v)
+  -- 6.7 has it among the escapes, 7.1.1 has not
+  vertical : {t v : List ℕ} → StringElements t v → StringElements (code "\\" ∷ code "|" ∷ t) (code "|" ∷ v)
   -- all the whitespace of the next line's start is this element's
   goes-on : (trailing indent : List ℕ) {t v : List ℕ} → Many Intraline trailing → Many Intraline indent → indented t ≡ false → StringElements t v
       → StringElements (code "\\" ∷ trailing ++ (code "\n" ∷ indent ++ t)) v

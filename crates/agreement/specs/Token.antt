@@ -1,13 +1,13 @@
 -- R7RS 7.1.1: <token>, and <comment>, all productions in one: a text that may stand before cs, the kind and the detail of its item, and
--- what its item's text spells. Numbers are those of radix 10 with no prefix and one part; proofs/Number has a theorem for all.
+-- what its item's text spells.
 use Prim.Native.Nat.{ℕ}
 use mathlib.Core.Path.{_≡_}
 use mathlib.Core.Bool.{Bool}
 use mathlib.Core.List.{List, _++_}
 use Rattle.laws.specs.Quoted.{codes}
 use Rattle.chars.specs.Encode.{bytesOf}
-use Rattle.numbers.specs.declared.Parsed.the-variants.{NoNumber}
-use Rattle.numbers.specs.Grammar.{parseNumber}
+use Rattle.numbers.specs.declared.Parts.{Parts}
+use Rattle.difference.specs.Conditions.{NumberText, SignBelowSlash}
 use Rattle.items.specs.Meaning.{wordKind}
 use Rattle.items.specs.Kinds as kind
 use Rattle.agreement.specs.Reading.{Spelling, nothing, bytes}
@@ -19,6 +19,7 @@ use Rattle.agreement.specs.String.{StringText}
 use Rattle.agreement.specs.Character.{CharacterText}
 use Rattle.agreement.specs.Identifier.{Plain, Peculiar, Unsplit, Lined}
 use Rattle.agreement.specs.Number.{RealText}
+use Rattle.agreement.specs.Written.{Written}
 
 pub data Token (report : Bool) (cs : List ℕ) : List ℕ → ℕ → ℕ → Spelling → Type 0 where
   boolean : {t : List ℕ} {b : Bool} → Boolean t b → Ends hashDelimiters cs → Token report cs t kind.BooleanLiteral (truth b) nothing
@@ -27,11 +28,13 @@ pub data Token (report : Bool) (cs : List ℕ) : List ℕ → ℕ → ℕ → Sp
   -- Departure: the Rust has kinds of their own for some identifiers. `if`
   identifier : {t : List ℕ} → Plain t → wordKind (bytesOf t) ≡ kind.Identifier → Ends delimiters cs → Token report cs t kind.Identifier 0 (bytes (bytesOf t))
   -- "Note that +i, -i and <infnan> below are exceptions to the <peculiar identifier> rule; they are parsed as numbers, not identifiers":
-  -- so is any text that is also a number
-  peculiar : {t : List ℕ} → Peculiar t → Unsplit t → parseNumber (bytesOf t) ≡ NoNumber → wordKind (bytesOf t) ≡ kind.Identifier → Ends delimiters cs
+  -- so is any text that is also a number. Departure: a polar number with a sign below the slash is a number too (B18)
+  peculiar : {t : List ℕ} → Peculiar t → Unsplit t → (NumberText (bytesOf t) → ⊥) → (SignBelowSlash (bytesOf t) → ⊥) → wordKind (bytesOf t) ≡ kind.Identifier → Ends delimiters cs
       → Token report cs t kind.Identifier 0 (bytes (bytesOf t))
   lined : {t v : List ℕ} → Lined t v → Token report cs t kind.Identifier 0 (bytes (bytesOf v))
+  -- a number of radix 10 with no prefix and one part, and any number
   number : {t : List ℕ} → RealText t → Ends (numberDelimiters report) cs → Token report cs t kind.Number 0 nothing
+  any-number : {t : List ℕ} {a : Parts} → Written t a → Ends (numberDelimiters report) cs → Token report cs t kind.Number 0 nothing
   punctuation : {t : List ℕ} {k d : ℕ} (p : Punctuation t k d) → MayFollow p cs → Token report cs t k d nothing
   line-comment : (t e : List ℕ) → LineComment t → LineEnd e cs → Token report cs (t ++ e) kind.Comment 0 nothing
   nested-comment : {t : List ℕ} → NestedComment t → Token report cs t kind.Comment 0 nothing
