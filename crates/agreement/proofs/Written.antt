@@ -88,8 +88,8 @@ unfolding lower isCapital
 loose-stays b c h k =
     by-bool (within (code "A") (code "Z") c)
     (λ e. let w = within-is (code "A") (code "Z") c e in
-      by-bool (eqb c (code "I")) (λ i. let z = rw i at k in cc) (λ i.
-      by-bool (eqb c (code "N")) (λ n. let z = rw (i, n) at k in cc) (λ n. upper-stays c (omega (arith, w .1)) h i n)))
+    by-bool (eqb c (code "I")) (λ i. let z = rw i at k in cc) (λ i.
+    by-bool (eqb c (code "N")) (λ n. let z = rw (i, n) at k in cc) (λ n. upper-stays c (omega (arith, w .1)) h i n)))
     (λ e. rw e at h)
 
 -- ---- the characters of a number
