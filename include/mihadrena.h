@@ -217,9 +217,9 @@ uint32_t mihadrena_open(uint32_t mode, bool skip_comments, uint8_t *bytes, size_
  * MIHADRENA_ITEM: the item's record goes to `record`, its text, a number's digits too, to the front of `text` (MIHADRENA_IN_MEMORY); no
  * other byte of `text` changes. MIHADRENA_MORE changes neither. values[0] is how many bytes were taken, values[1] is 0.
  *
- * Refusals: values[1] is what they come with.
+ * Refusals: values[0] is how many bytes were taken here too, values[1] is what they come with.
  *   MIHADRENA_TOO_FEW  `record` has under MIHADRENA_RECORD_WORDS words or `values` under MIHADRENA_PIECE_VALUES: before anything else, and
- *       nothing changes; where there are two values they are what is needed, 1 item and 0 bytes of text
+ *       nothing changes; where there are two values they are 0, the bytes taken, and 1, the records needed
  *   MIHADRENA_BAD_STATE (slices of other lengths too), MIHADRENA_LITTLE_TEXT, MIHADRENA_AFTER_END  nothing is taken, nothing changes
  *   MIHADRENA_TOO_LONG, MIHADRENA_NOT_UTF8, MIHADRENA_LONG_ITEM  the reading stops, at the byte that shows it, which is taken; every
  *       later call takes nothing and answers the same

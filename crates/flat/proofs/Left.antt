@@ -76,7 +76,7 @@ module _ (m : Memory) (call : State → Said) where
   abbrev state : Bool
   state = isState (length (m .buf)) (length (m .words))
 
-  pub too-few : {v : List ℕ} → room ≡ false → v ≡ lay (1 ∷ 0 ∷ []) (m .values) → left 22 (memory (m .buf) (m .words) (m .text) (m .item) v) ≡ called m call
+  pub too-few : {v : List ℕ} → room ≡ false → v ≡ lay (0 ∷ 1 ∷ []) (m .values) → left 22 (memory (m .buf) (m .words) (m .text) (m .item) v) ≡ called m call
   unfolding called
   too-few h e = if-no room _ _ h (ap (λ (x : List ℕ). left 22 (memory (m .buf) (m .words) (m .text) (m .item) x)) e)
 

@@ -128,13 +128,13 @@ refuses m n a b = left n (memory (m .buf) (m .words) (m .text) (m .item) (lay (a
 abbrev pub isRoom : ℕ → ℕ → Bool
 isRoom i values = leb recordWords i && leb 2 values
 
--- 22, "items and text bytes needed", where there is no room for what is given; 27 where there are not the bytes and words of a state; then
+-- 22, with no byte taken and one record needed, where there is no room for what is given; 27 where there are not the bytes and words of a state; then
 -- the call
 unfoldable pub called : Memory → (State → Said) → Left
 called m call =
     if isRoom (length (m .item)) (length (m .values))
     then (if isState (length (m .buf)) (length (m .words)) then gives m (call (lent (wordsIn (m .words)) (m .buf))) else refuses m 27 0 0)
-    else refuses m 22 1 0
+    else refuses m 22 0 1
 
 abbrev pub pieceLeft : Memory → List ℕ → Left
 pieceLeft m piece = called m (λ s. pieceFor s piece (length (m .text)))

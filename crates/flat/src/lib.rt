@@ -210,7 +210,7 @@ pub fn open(mode: u32, skip: bool, buf: &mut [u8], words: &mut [u64]) -> u32
 
 // Reads on in a piece: takes the fewest bytes of it that make an item ready, or all of them. `values` gets how many were taken, and a
 // refusal's place or 0. An item's record goes to `item`, its text to the front of `text`; nothing else is written there. TOO_FEW with
-// ONE_RECORD and 0 if `item` or `values` are too few, and BAD_STATE if these are not the bytes and words of a state: then nothing else
+// 0 and ONE_RECORD if `item` or `values` are too few, and BAD_STATE if these are not the bytes and words of a state: then nothing else
 // is written.
 pub fn piece(
     buf: &mut [u8],
@@ -224,7 +224,7 @@ pub fn piece(
         ≡ pieceLeft (memory (now (buf .entry)) (now (words .entry)) (now (text .entry)) (now (item .entry)) (now (values .entry))) (now (piece .entry)) ⌝ }
 {
     if !is_room(item.len(), values.len()) {
-        put_values(values, ONE_RECORD, 0);
+        put_values(values, 0, ONE_RECORD);
         return TOO_FEW;
     }
     if !is_state(buf.len(), words.len()) {
@@ -247,7 +247,7 @@ pub fn end(
         ≡ endLeft (memory (now (buf .entry)) (now (words .entry)) (now (text .entry)) (now (item .entry)) (now (values .entry))) ⌝ }
 {
     if !is_room(item.len(), values.len()) {
-        put_values(values, ONE_RECORD, 0);
+        put_values(values, 0, ONE_RECORD);
         return TOO_FEW;
     }
     if !is_state(buf.len(), words.len()) {

@@ -89,7 +89,7 @@ pub record Rows : Type 0 where
   -- a refusal comes with its place
   pub placed : pieceLeft (holding halted) (spelled "a") ≡ leaves 21 halted bytes (replicate 9 7) (0 ∷ 5 ∷ [])
   -- no room for a record is 22 with 1 and 0, slices that are no state's 27
-  pub no-record : pieceLeft (memory [] [] [] [] (7 ∷ 7 ∷ [])) [] ≡ left 22 (memory [] [] [] [] (1 ∷ 0 ∷ []))
+  pub no-record : pieceLeft (memory [] [] [] [] (7 ∷ 7 ∷ [])) [] ≡ left 22 (memory [] [] [] [] (0 ∷ 1 ∷ []))
   pub no-slices : pieceLeft (memory [] [] [] (replicate 9 7) (7 ∷ 7 ∷ [])) [] ≡ left 27 (memory [] [] [] (replicate 9 7) (0 ∷ 0 ∷ []))
   -- two values are laid where there is room for both
   pub values : lay (1 ∷ 2 ∷ []) (7 ∷ 7 ∷ []) ≡ 1 ∷ 2 ∷ []
