@@ -1,5 +1,5 @@
 -- What an extent means: `meaning` ensures `meant r ≡ sizedAll (meaningOf ..)`, which leaves one answer (One, `meaning-one-answer`), `record_of` and `put`
--- the record and its nine words, `place` the place, `count_of` `r ≡ countOf ..`.
+-- the record and its nine words, `place` the place.
 use Prim.Native.Nat.{ℕ, _+_}
 use mathlib.Core.Path.{_≡_, refl, ap, _∙_}
 use mathlib.Core.Bool.{true, false}
@@ -10,11 +10,9 @@ use Rattle.laws.specs.Texts.{same}
 use Rattle.chars.specs.Encode.{utf8, bytesOf, spelled}
 use Rattle.items.specs.Kinds as kind
 use Rattle.promises.specs.Shapes.{room}
-use Rattle.items.specs.Items.{range, unset, placeOf, wordsOf, extentItems, kept, texts}
+use Rattle.items.specs.Items.{range, unset, placeOf, wordsOf}
 use Rattle.items.specs.Meaning.{lookup, words, wordKind, wordMeans, meaningOf}
-use Rattle.items.specs.declared.Outcome.the-variants.{Token, Word}
-use Rattle.meaning.specs.Counts.{sum, countOf}
-use Rattle.meaning.specs.declared.Counted.{Counted}
+use Rattle.items.specs.declared.Outcome.the-variants.{Word}
 use Rattle.meaning.specs.declared.Means.{Means}
 use Rattle.meaning.specs.declared.Text.{Text}
 use Rattle.meaning.specs.Meant.{means, sizedAll}
@@ -39,12 +37,9 @@ pub record Rows : Type 0 where
   pub item-place : placeOf false kind.Number (range 1 8) (range 8 9) ≡ range 8 9
   -- in report mode an empty range of its own is an error's place too: `"\x;"`
   pub empty-place : placeOf true (kind.firstError + kind.InvalidHexEscapeLiteral) (range 3 3) (range 0 4) ≡ range 3 3
-  -- count_of: `+foo` counts for two items, a skipped comment for none
-  pub two : countOf Word false (spelled "+foo") ≡ sum 2 0
-  pub comment : countOf (Token kind.Comment 0) true (spelled ";") ≡ sum 0 0
 
 rows : Rows
-unfolding same utf8 bytesOf lookup words wordKind wordMeans extentItems kept texts countOf
+unfolding same utf8 bytesOf lookup words wordKind wordMeans
 rows = record {
   word = refl;
   plus = refl;
@@ -53,8 +48,6 @@ rows = record {
   first-place = refl;
   item-place = refl;
   empty-place = refl;
-  two = refl;
-  comment = refl;
 }
 
 -- no program whose second item of `+foo` has a text that starts at the plus meets the promise
@@ -70,7 +63,3 @@ secondStart (m ∷ n ∷ ms) = startOf (n .text)
 
 never-at-the-plus : (ms : List Means) → secondStart ms ≡ 3 → ms ≡ sizedAll (meaningOf false Word 3 7 (spelled "+foo")) → ⊥
 never-at-the-plus ms plus h = omega (arith, plus, ap secondStart (h ∙ rows .plus))
-
--- nor one that counts a skipped comment
-never-counts-skipped : (n m : ℕ) → sum n m ≡ countOf (Token kind.Comment 0) true (spelled ";") → n ≡ 0
-never-counts-skipped n m h = ap (λ (c : Counted). c .items) (h ∙ rows .comment)

@@ -1,4 +1,3 @@
 pub mod Errors
 pub mod Lines
 pub mod Both
-pub mod Counting

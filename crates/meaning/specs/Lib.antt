@@ -1,4 +1,3 @@
 pub mod Meant
 pub mod Places
 pub mod Records
-pub mod Counts

@@ -18,7 +18,6 @@ ghost use Rattle.numbers.specs.Grammar.{parseNumber};
 ghost use Rattle.items.specs.Meaning.{wordMeans, runMeans, characterMeans, characterOf, charInside, meaningOf};
 ghost use Rattle.meaning.specs.Meant.{only, pair, meant, sizedAll, errorOf, lastError};
 
-pub mod counts;
 pub mod places;
 mod quoted;
 pub mod records;
@@ -72,12 +71,6 @@ pub enum Meant {
 pub struct Range {
     pub from: u32,
     pub to: u32,
-}
-
-// How many items there are, and how many bytes of text memory they take.
-pub struct Counted {
-    pub items: usize,
-    pub text: usize,
 }
 
 fn one(kind: u32, detail: u32, text: Text) -> Meant
