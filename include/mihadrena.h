@@ -119,8 +119,9 @@ MIHADRENA_ASSERT(sizeof(mihadrena_record) == 4 * MIHADRENA_RECORD_WORDS, "a reco
 /* What a call answers that was served. */
 #define MIHADRENA_SERVED 0
 
-/* A refused call changes nothing that it was lent but its values. Reading in pieces, a stop (20, 21 and 23) changes the state too, and
- * mihadrena_open makes a plain state of a mode that is none. With each stands what it comes with. */
+/* A refused call changes nothing that it was lent but its values, of mihadrena_number and mihadrena_number_by the first word. Reading in
+ * pieces, a stop (20, 21 and 23) changes the state too, and mihadrena_open makes a plain state of a mode that is none. With each stands
+ * what it comes with. */
 #define MIHADRENA_TOO_LONG 20     /* the text exceeds MIHADRENA_LONGEST bytes: MIHADRENA_LONGEST */
 #define MIHADRENA_NOT_UTF8 21     /* bytes aren't UTF-8: the start of the first bad sequence */
 #define MIHADRENA_TOO_FEW 22      /* records or text memory are too few: items and text bytes needed */
@@ -345,15 +346,17 @@ typedef struct mihadrena_real {
 #define MIHADRENA_POLAR 2   /* 1@2   one: the magnitude; two: the angle */
 
 typedef struct mihadrena_parts {
-    uint64_t form; /* of a refusal, what it comes with */
+    uint64_t form; /* of MIHADRENA_TOO_LONG and MIHADRENA_NOT_UTF8, what they come with */
     mihadrena_real one;
     mihadrena_real two;
 } mihadrena_parts;
 
 MIHADRENA_ASSERT(sizeof(mihadrena_parts) == 8 * MIHADRENA_NUMBER_WORDS, "a number is 27 words");
 
-/* What a text is as a number: its parts go to the first MIHADRENA_NUMBER_WORDS words, whatever is not there is 0. With fewer words the
- * answer is MIHADRENA_TOO_FEW, and none is written. The text of an item of kind MIHADRENA_NUMBER is its extent in the source.
+/* What a text is as a number: its parts go to the first MIHADRENA_NUMBER_WORDS words, whatever is not there is 0. If it
+ * is none, or a denominator is zero, these words are all 0. The text of an item of kind MIHADRENA_NUMBER is its extent in the source.
+ * Refused: MIHADRENA_TOO_LONG, then MIHADRENA_NOT_UTF8, whatever words there are: what they come with goes to the first word, if there is
+ * one, and no other is written. Last MIHADRENA_TOO_FEW, if there are fewer than MIHADRENA_NUMBER_WORDS words; none is written.
  *
  *     mihadrena_parts parts;
  *     uint32_t answer = mihadrena_number((const uint8_t *)"-1/2", 4, (uint64_t *)&parts, MIHADRENA_NUMBER_WORDS);
@@ -462,7 +465,7 @@ uint32_t mihadrena_nest(const uint32_t *records, size_t records_length, uint32_t
 #define MIHADRENA_BOUGHT 0   /* as mihadrena_number reads, and the items' Number: 1@1/-2 is a number, +I and #xe+1i are none */
 #define MIHADRENA_STANDARD 1 /* by the number grammar of R7RS 7.1.1: +I and #xe+1i are numbers, 1@1/-2 is none */
 
-/* Refused: the choice is neither; comes with 0, before MIHADRENA_TOO_LONG and MIHADRENA_NOT_UTF8. */
+/* Refused: the choice is neither. It goes before every other refusal, and no word is written. */
 #define MIHADRENA_NO_CHOICE 39
 
 /* What a text is as a number by the reader of a choice; else as mihadrena_number.

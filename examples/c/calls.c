@@ -105,6 +105,13 @@ static void number(void)
     expect(answer == MIHADRENA_ZERO, "mihadrena_number, zero");
     answer = mihadrena_number((const uint8_t *)"5", 1, (uint64_t *)&parts, MIHADRENA_NUMBER_WORDS - 1);
     expect(answer == MIHADRENA_TOO_FEW, "mihadrena_number, too few");
+    uint64_t words[] = {7, 7};
+    answer = mihadrena_number((const uint8_t *)"5", 1, words, 2);
+    expect(answer == MIHADRENA_TOO_FEW && words[0] == 7 && words[1] == 7, "mihadrena_number, too few, the words");
+    answer = mihadrena_number((const uint8_t *)"1\xff", 2, words, 2);
+    expect(answer == MIHADRENA_NOT_UTF8 && words[0] == 1 && words[1] == 7, "mihadrena_number, not UTF-8 before too few");
+    answer = mihadrena_number((const uint8_t *)"1\xff", 2, words, 0);
+    expect(answer == MIHADRENA_NOT_UTF8 && words[0] == 1, "mihadrena_number, not UTF-8 without a word");
 }
 
 static void characters(void)

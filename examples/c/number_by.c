@@ -20,6 +20,11 @@ static uint32_t by(uint32_t choice, const char *text)
     return mihadrena_number_by(choice, (const uint8_t *)text, strlen(text), (uint64_t *)&parts, MIHADRENA_NUMBER_WORDS);
 }
 
+static uint32_t few(uint32_t choice, const char *text)
+{
+    return mihadrena_number_by(choice, (const uint8_t *)text, strlen(text), (uint64_t *)&parts, MIHADRENA_NUMBER_WORDS - 1);
+}
+
 /* A text that one reader takes for a number and the other does not. */
 static void one_alone(uint32_t choice, const char *text)
 {
@@ -38,10 +43,12 @@ int main(void)
     one_alone(MIHADRENA_STANDARD, "+I");
     one_alone(MIHADRENA_STANDARD, "#xe+1i");
     expect(by(MIHADRENA_STANDARD, "1/0") == MIHADRENA_ZERO, "1/0");
-    expect(by(MIHADRENA_STANDARD, "1\xff") == MIHADRENA_NOT_UTF8 && parts.form == 1, "not UTF-8");
-    expect(by(2, "1\xff") == MIHADRENA_NO_CHOICE && parts.form == 0, "no choice, before not UTF-8");
-    expect(mihadrena_number_by(2, (const uint8_t *)"1", 1, (uint64_t *)&parts, MIHADRENA_NUMBER_WORDS - 1) == MIHADRENA_TOO_FEW,
-           "too few words");
+    parts.one.form = MIHADRENA_NAN;
+    expect(by(MIHADRENA_STANDARD, "1\xff") == MIHADRENA_NOT_UTF8 && parts.form == 1 && parts.one.form == MIHADRENA_NAN, "not UTF-8");
+    expect(by(2, "1\xff") == MIHADRENA_NO_CHOICE && parts.form == 1, "no choice, before not UTF-8");
+    expect(few(2, "1") == MIHADRENA_NO_CHOICE, "no choice, before too few words");
+    expect(few(MIHADRENA_STANDARD, "\xff") == MIHADRENA_NOT_UTF8 && parts.form == 0, "not UTF-8, before too few words");
+    expect(few(MIHADRENA_STANDARD, "1@2") == MIHADRENA_TOO_FEW && parts.form == 0, "too few words");
     puts("the number call with a choice of reader: ok");
     return EXIT_SUCCESS;
 }

@@ -3,7 +3,7 @@ use Prim.Native.Nat.{ℕ, suc, _+_, _-_, _^_, _≤_, _<_}
 use mathlib.Core.Path.{_≡_, refl, sym, ap, _∙_}
 use mathlib.Core.Bool.{true, false}
 use mathlib.Core.List.{List, [], _∷_, _++_}
-use lib.ListN.{length, take, drop, set, length-append}
+use lib.ListN.{length, take, drop, set}
 use lib.IntN.{ℤ, pos, negsuc, natAbs, _-ℤ_}
 use lib.Signed.{ltZ}
 use mir.Syntax.{w64}
@@ -15,16 +15,10 @@ use borrow.Rule.Slice.PartMut.{putMid}
 use Rattle.laws.specs.Lent.{written}
 use Rattle.laws.proofs.Lent.{written-push, length-written, length-part, part-written}
 use Rattle.chars.specs.Encode.{lay}
-use Rattle.digits.specs.declared.Int.{Int}
-use Rattle.digits.specs.declared.Int.the-variants.{Small, Big}
-use Rattle.numbers.specs.declared.Real.{Real}
-use Rattle.numbers.specs.declared.Real.the-variants.{Integer, Rational, Decimal, PosInf, NegInf, PosNan, NegNan, ImpliedZero, ImpliedOne}
-use Rattle.numbers.specs.declared.Parts.{Parts}
-use Rattle.numbers.specs.declared.Parts.the-variants.{Just, Complex, Polar}
-use Rattle.numbers.specs.Call.{Answer, parts, noNumber, error, refused}
+use Rattle.numbers.specs.Call.{Answer}
 use Rattle.number_words.specs.declared.Flat.{Flat}
 use Rattle.number_words.specs.declared.Flattened.{Flattened}
-use Rattle.number_words.specs.Words.{minus, value, intWords, formed, realWords, joined, partsWords, flattened, answerNumber, numberOr, figure, real, answer}
+use Rattle.number_words.specs.Words.{minus, value, formed, joined, flattened, roomOr, numberOr, figure, real, answer}
 
 -- -1 less a negative value is its magnitude less 1
 less : (n : ℕ) → negsuc 0 -ℤ negsuc n ≡ pos n
@@ -68,36 +62,10 @@ pub answer-is : (w : Flattened) (a b : List ℕ) → real (w .one) ≡ a → rea
 unfolding answer
 answer-is w a b e f = ap (λ (x : List ℕ). joined (w .first) x (real (w .two))) e ∙ ap (λ (x : List ℕ). joined (w .first) a x) f
 
--- every answer has as many words
-length-int : (n : Int) → length (intWords n) ≡ 4
-unfolding intWords
-length-int (Small v) = refl
-length-int (Big neg d) = refl
-
-length-real : (a : Real) → length (realWords a) ≡ 13
-unfolding realWords formed
-length-real (Integer n) = simp (length-append, length-int n)
-length-real (Rational n d) = simp (length-append, length-int n, length-int d)
-length-real (Decimal d) = refl
-length-real PosInf = refl
-length-real NegInf = refl
-length-real PosNan = refl
-length-real NegNan = refl
-length-real ImpliedZero = refl
-length-real (ImpliedOne neg) = refl
-
-length-parts : (p : Parts) → length (partsWords p) ≡ 27
-unfolding partsWords joined formed
-length-parts (Just a) = simp (length-append, length-real a)
-length-parts (Complex a b) = simp (length-append, length-real a, length-real b)
-length-parts (Polar a b) = simp (length-append, length-real a, length-real b)
-
-length-flattened : (a : Answer) → length (flattened a) ≡ 27
-unfolding flattened joined formed
-length-flattened (parts p) = length-parts p
-length-flattened noNumber = refl
-length-flattened (error n) = refl
-length-flattened (refused n v) = refl
+-- every answer that is no refusal has as many words
+pub length-answer : (w : Flattened) → length (answer w) ≡ 27
+unfolding answer joined real formed
+length-answer w = refl
 
 -- words are laid where there is room for all of them
 module _ (w memory : List ℕ) where
@@ -109,17 +77,42 @@ module _ (w memory : List ℕ) where
   unfolding lay
   laid-all h e = simp (le-ltb (length memory) (length w) h) e
 
-module _ (a : Answer) (memory : List ℕ) where
-  pub too-few : length memory < 27 → (22 ≡ numberOr memory a) × (memory ≡ lay (flattened a) memory)
+-- 22, or the number of an answer that there is room for
+module _ (w : Flattened) (memory : List ℕ) where
+  pub too-few : length memory < 27 → (22 ≡ roomOr memory (w .number)) × (memory ≡ lay (answer w) memory)
   too-few h =
-      (simp (length-flattened a, lt-ltb (length memory) 27 h), laid-none (flattened a) memory (omega (arith, length-flattened a)))
+      (simp (lt-ltb (length memory) 27 h), laid-none (answer w) memory (omega (arith, length-answer w)))
 
-  pub served : {b : Answer} {n : ℕ} {l now : List ℕ} → 27 ≤ length memory → b ≡ a → n ≡ answerNumber b → l ≡ flattened b → now ≡ written l memory
-      → (n ≡ numberOr memory a) × (now ≡ lay (flattened a) memory)
-  served h e f g k = (
-    rw (f, e) (simp (length-flattened a, le-ltb (length memory) 27 h)),
-    laid-all (flattened a) memory (omega (arith, length-flattened a)) (rw (k, g, e)),
-  )
+  pub served : {now : List ℕ} → 27 ≤ length memory → now ≡ written (answer w) memory → (w .number ≡ roomOr memory (w .number)) × (now ≡ lay (answer w) memory)
+  served h e = (simp (le-ltb (length memory) 27 h), laid-all (answer w) memory (omega (arith, length-answer w)) e)
+
+-- an answer told by the words and the number that it is known to have
+pub served-as : (memory : List ℕ) (w : Flattened) (l : List ℕ) (n : ℕ) {r : ℕ} {now : List ℕ} → w .number ≡ n → answer w ≡ l
+    → r ≡ roomOr memory (w .number) → now ≡ lay (answer w) memory → (r ≡ roomOr memory n) × (now ≡ lay l memory)
+served-as memory w l n d e f g = (
+  f ∙ ap (λ (m : ℕ). roomOr memory m) d,
+  g ∙ ap (λ (x : List ℕ). lay x memory) e,
+)
+
+-- the one word of a refusal
+module _ (x : ℕ) (memory : List ℕ) where
+  pub refused-none : length memory < 1 → memory ≡ lay (x ∷ []) memory
+  refused-none h = laid-none (x ∷ []) memory h
+
+  pub refused-one : 1 ≤ length memory → set memory 0 x ≡ lay (x ∷ []) memory
+  refused-one h = laid-all (x ∷ []) memory h (written-push [] memory x (omega arith))
+
+-- no word
+pub none-laid : (memory : List ℕ) → memory ≡ lay [] memory
+none-laid memory = laid-all [] memory (omega arith) refl
+
+-- what is told of an answer is told of one that it equals
+pub told-of : (memory : List ℕ) {a b : Answer} {r : ℕ} {now : List ℕ} → a ≡ b
+    → (r ≡ numberOr memory a) × (now ≡ lay (flattened a) memory) → (r ≡ numberOr memory b) × (now ≡ lay (flattened b) memory)
+told-of memory e t = (
+  t .0 ∙ ap (λ (x : Answer). numberOr memory x) e,
+  t .1 ∙ ap (λ (x : Answer). lay (flattened x) memory) e,
+)
 
 -- the words put one part after the other: the first, then the reals
 module _ (old : List ℕ) (x : ℕ) (h : 27 ≤ length old) where

@@ -1,9 +1,9 @@
 -- The number call's answer as a number, and a number's parts as words: what C passes on.
 use Prim.Native.Nat.{ℕ}
-use mathlib.Core.Bool.{Bool, true, false}
+use mathlib.Core.Bool.{Bool, true, false, _||_}
 use mathlib.Core.List.{List, [], _∷_, _++_}
 use lib.ListN.{length}
-use lib.Dec.{ltb}
+use lib.Dec.{ltb, eqb}
 use lib.IntN.{ℤ, pos, negsuc, natAbs}
 use Rattle.laws.specs.Choice.{if_then_else_}
 use Rattle.digits.specs.declared.Span.{Span}
@@ -13,7 +13,7 @@ use Rattle.numbers.specs.declared.Real.{Real}
 use Rattle.numbers.specs.declared.Real.the-variants.{Integer, Rational, Decimal, PosInf, NegInf, PosNan, NegNan, ImpliedZero, ImpliedOne}
 use Rattle.numbers.specs.declared.Parts.{Parts}
 use Rattle.numbers.specs.declared.Parts.the-variants.{Just, Complex, Polar}
-use Rattle.numbers.specs.Call.{Answer, parts, noNumber, error, refused}
+use Rattle.numbers.specs.Call.{Answer, parts, noNumber, error, refused, tooLong, notUtf8}
 use Rattle.number_words.specs.declared.Figure.{Figure}
 use Rattle.number_words.specs.declared.Flat.{Flat}
 use Rattle.number_words.specs.declared.Flattened.{Flattened}
@@ -63,7 +63,7 @@ realWords NegNan = formed 5 (sign true) nothing nothing
 realWords ImpliedZero = formed 6 nothing nothing nothing
 realWords (ImpliedOne neg) = formed 7 (sign neg) nothing nothing
 
--- An answer, twenty-seven words: its first one and two reals. The first is the number's form, or what a refusal comes with.
+-- An answer to a text that is not refused, twenty-seven words: its first one, the number's form, and two reals.
 unfoldable pub joined : ℕ → List ℕ → List ℕ → List ℕ
 joined first a b = first ∷ (a ++ b)
 
@@ -72,22 +72,28 @@ partsWords (Just a) = joined 0 (realWords a) noReal
 partsWords (Complex a b) = joined 1 (realWords a) (realWords b)
 partsWords (Polar a b) = joined 2 (realWords a) (realWords b)
 
+-- A refusal has just the word that it comes with: 20 the limit, 21 the place of the bad sequence. Any other has none.
+unfoldable pub refusalWords : ℕ → ℕ → List ℕ
+refusalWords n v = if eqb n tooLong || eqb n notUtf8 then v ∷ [] else []
+
+-- The words of an answer. Where there are so many they are written at the front, and every other word stays; else every word stays.
 unfoldable pub flattened : Answer → List ℕ
 flattened (parts p) = partsWords p
 flattened noNumber = joined 0 noReal noReal
 flattened (error n) = joined 0 noReal noReal
-flattened (refused n v) = joined v noReal noReal
+flattened (refused n v) = refusalWords n v
 
--- The answer's number: 0 for a number, 1 for none, else document 01's.
-unfoldable pub answerNumber : Answer → ℕ
-answerNumber (parts p) = 0
-answerNumber noNumber = 1
-answerNumber (error n) = n
-answerNumber (refused n v) = n
+-- "22: records or text memory are too few" (01): here fewer words than an answer has that is no refusal
+abbrev pub roomOr : List ℕ → ℕ → ℕ
+roomOr memory n = if ltb (length memory) 27 then 22 else n
 
--- "22: records or text memory are too few" (01): here fewer words than an answer has, whatever the text is
-abbrev pub numberOr : List ℕ → Answer → ℕ
-numberOr memory a = if ltb (length memory) (length (flattened a)) then 22 else answerNumber a
+-- The number that the call tells: 0 for a number, 1 for none, else document 01's. 22 goes last: a refused text is told as one, however
+-- few the words are.
+unfoldable pub numberOr : List ℕ → Answer → ℕ
+numberOr memory (parts p) = roomOr memory 0
+numberOr memory noNumber = roomOr memory 1
+numberOr memory (error n) = roomOr memory n
+numberOr memory (refused n v) = n
 
 -- the words of the code's structs, in order
 abbrev pub figure : Figure → List ℕ

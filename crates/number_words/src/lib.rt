@@ -1,6 +1,7 @@
-// An answer of the number call as a number, and a number's parts as twenty-seven words: what C and Rust are told. Internal.
+// An answer of the number call as a number, and a number's parts as twenty-seven words: what C and Rust are told. Internal. A refusal
+// of the text has one word instead, what it comes with.
 //
-//     0         the number's form (REAL, COMPLEX, POLAR); of a refusal, what it comes with
+//     0         the number's form (REAL, COMPLEX, POLAR)
 //     1 to 13   a real: the number itself, the real part, or the magnitude
 //     14 to 26  a second one: the imaginary part, or the angle
 //
@@ -20,10 +21,12 @@ ghost use Prim.Native.Nat.{_≤_};
 ghost use lib.ListN.{length};
 ghost use lib.IntN.{natAbs};
 ghost use Rattle.laws.specs.Lent.{written};
+ghost use mathlib.Core.List.{[], _∷_};
+ghost use Rattle.chars.specs.Encode.{lay};
 ghost use Rattle.numbers.specs.Call.{answered};
-ghost use Rattle.number_words.specs.Words.{bit, minus, sign, nothing, places, intWords, formed, noReal, realWords, joined, partsWords, flattened, answerNumber, figure, real, answer};
+ghost use Rattle.number_words.specs.Words.{bit, minus, sign, nothing, places, intWords, formed, noReal, realWords, joined, partsWords, flattened, roomOr, numberOr, figure, real, answer};
 
-// What the call answers: a number, none, document 01's error 8, or its refusals 20 and 21.
+// What the call answers: a number, none, document 01's error 8, or its refusals 20, 21 and 22 (too few words).
 const A_NUMBER: u32 = 0;
 
 const NO_NUMBER: u32 = 1;
@@ -34,8 +37,13 @@ const TOO_LONG: u32 = 20;
 
 const NOT_UTF8: u32 = 21;
 
+const TOO_FEW: u32 = 22;
+
 // What refusal 20 comes with.
 const LONGEST: u64 = 4_294_967_295;
+
+// How many words an answer has that is no refusal.
+const NUMBER_WORDS: usize = 27;
 
 // Where the words of the two reals start.
 const ONE_FROM: usize = 1;
@@ -89,7 +97,7 @@ pub struct Flat {
     pub three: Figure,
 }
 
-// The answer's number and its words.
+// The number of an answer that is no refusal, and its words.
 pub struct Flattened {
     pub number: u32,
     pub first: u64,
@@ -234,7 +242,7 @@ fn no_real() -> Flat
 }
 
 // An answer without parts: its number and its first word.
-pub fn bare(number: u32, first: u64) -> Flattened
+fn bare(number: u32, first: u64) -> Flattened
     ensures { λ r. ⌜ (r .number ≡ number) × (answer r ≡ joined first noReal noReal) ⌝ }
 {
     Flattened {
@@ -273,19 +281,6 @@ fn parts_words(p: Parts) -> Flattened
     }
 }
 
-// The number and the words of an answer.
-pub fn answer_words(a: NumberAnswer) -> Flattened
-    ensures { λ r. ⌜ (r .number ≡ answerNumber (answered a)) × (answer r ≡ flattened (answered a)) ⌝ }
-{
-    match a {
-        NumberAnswer::Is(p) => parts_words(p),
-        NumberAnswer::NoNumber => bare(NO_NUMBER, 0),
-        NumberAnswer::ZeroDenominator => bare(ZERO_DENOMINATOR, 0),
-        NumberAnswer::TooLong => bare(TOO_LONG, LONGEST),
-        NumberAnswer::NotUtf8(at) => bare(NOT_UTF8, at as u64),
-    }
-}
-
 // Writes a real's words at the front of `words`.
 fn put_real(words: &mut [u64], r: Flat)
     requires { ⌜ 13 ≤ length (now words) ⌝ }
@@ -307,11 +302,47 @@ fn put_real(words: &mut [u64], r: Flat)
 }
 
 // Writes an answer's words at the front of `words`.
-pub fn put_answer(words: &mut [u64], w: Flattened)
+fn put_answer(words: &mut [u64], w: Flattened)
     requires { ⌜ 27 ≤ length (now words) ⌝ }
     ensures { λ _. ⌜ now (words .exit) ≡ written (answer w) (now (words .entry)) ⌝ }
 {
     words[0] = w.first;
     put_real(&mut words[ONE_FROM..], w.one);
     put_real(&mut words[TWO_FROM..], w.two);
+}
+
+// Tells an answer that is no refusal: its number, and its words at the front of `words`. With fewer than NUMBER_WORDS words it is
+// TOO_FEW, and nothing is written.
+fn tell_served(words: &mut [u64], w: Flattened) -> u32
+    ensures { λ r. ⌜ (r ≡ roomOr (now (words .entry)) (w .number)) × (now (words .exit) ≡ lay (answer w) (now (words .entry))) ⌝ }
+{
+    if words.len() < NUMBER_WORDS {
+        return TOO_FEW;
+    }
+    put_answer(words, w);
+    w.number
+}
+
+// Tells a refusal: its number, and what it comes with as the first word, where there is one. Every other word stays.
+fn tell_refused(words: &mut [u64], number: u32, with: u64) -> u32
+    ensures { λ r. ⌜ (r ≡ number) × (now (words .exit) ≡ lay (with ∷ []) (now (words .entry))) ⌝ }
+{
+    if words.len() < 1 {
+        return number;
+    }
+    words[0] = with;
+    number
+}
+
+// Tells an answer: its number, and its words at the front of `words`, where there are so many.
+pub fn tell(words: &mut [u64], a: NumberAnswer) -> u32
+    ensures { λ r. ⌜ (r ≡ numberOr (now (words .entry)) (answered a)) × (now (words .exit) ≡ lay (flattened (answered a)) (now (words .entry))) ⌝ }
+{
+    match a {
+        NumberAnswer::Is(p) => tell_served(words, parts_words(p)),
+        NumberAnswer::NoNumber => tell_served(words, bare(NO_NUMBER, 0)),
+        NumberAnswer::ZeroDenominator => tell_served(words, bare(ZERO_DENOMINATOR, 0)),
+        NumberAnswer::TooLong => tell_refused(words, TOO_LONG, LONGEST),
+        NumberAnswer::NotUtf8(at) => tell_refused(words, NOT_UTF8, at as u64),
+    }
 }

@@ -13,7 +13,7 @@ use Rattle.numbers.specs.Call.{number}
 use Rattle.items.specs.Whole.{readOf}
 use Rattle.lexer.specs.Text.{textMark}
 use Rattle.exports.specs.Read.{readNumber, readValues}
-use Rattle.number_words.specs.Words.{bit, numberOr}
+use Rattle.number_words.specs.Words.{bit, flattened, numberOr}
 use Rattle.exports.specs.Utf8.{goodBytes, codeOr, nextOr}
 use Rattle.outer_promises.specs.Exports.{Rows, computed, unroomed, cutLambda, goodThenBad}
 
@@ -54,12 +54,21 @@ module _ (call : List ℕ → List ℕ → ℕ → ℕ → ℕ → ℕ)
   never-the-other h =
       omega (arith, h [] (spelled "ab") 2 0 2, meets [] (spelled "ab") 2 0 2 ∙ computed .marked, computed .unmarked-source)
 
--- ---- `mihadrena_number`: its answer
+-- ---- `mihadrena_number`: its answer, and the words that it leaves
 
 module _ (call : List ℕ → List ℕ → ℕ) (meets : (text words : List ℕ) → call text words ≡ numberOr words (number text)) where
   -- it refuses just as many words as an answer has
   pub never-unroomed : (call (spelled "1@2") (replicate 27 7) ≡ 22) → ⊥
   never-unroomed h = omega (arith, h, meets (spelled "1@2") (replicate 27 7) ∙ computed .number-roomed)
+
+  -- it tells too few words before it looks at the text
+  pub never-few-first : (call goodThenBad (7 ∷ 7 ∷ []) ≡ 22) → ⊥
+  never-few-first h = omega (arith, h, meets goodThenBad (7 ∷ 7 ∷ []) ∙ computed .number-bad)
+
+module _ (left : List ℕ → List ℕ → List ℕ) (meets : (text words : List ℕ) → left text words ≡ lay (flattened (number text)) words) where
+  -- refused, it overwrites a second word
+  pub never-second : (getD (left goodThenBad (7 ∷ 7 ∷ [])) 1 7 ≡ 0) → ⊥
+  never-second h = omega (arith, h, ap (λ (l : List ℕ). getD l 1 7) (meets goodThenBad (7 ∷ 7 ∷ []) ∙ computed .number-bad-words))
 
 -- ---- characters
 

@@ -22,7 +22,7 @@ use Rattle.items.specs.Items.{extentItems, itemsFrom, pastLine, afterPound, ite
 use Rattle.items.specs.Whole.{Call, call, served, refused, deliver, readOf}
 use Rattle.lexer.specs.Text.{textMark}
 use Rattle.exports.specs.Read.{readNumber, readValues}
-use Rattle.number_words.specs.Words.{intWords, formed, realWords, joined, partsWords, flattened, answerNumber, numberOr}
+use Rattle.number_words.specs.Words.{intWords, formed, realWords, joined, partsWords, refusalWords, flattened, numberOr}
 use Rattle.exports.specs.Utf8.{goodBytes, codeOr, nextOr}
 
 -- a call that has no memory for records and text
@@ -59,6 +59,11 @@ pub record Rows : Type 0 where
   pub number-unroomed : numberOr (replicate 26 7) (number (spelled "1@2")) ≡ 22
   pub polar : getD (flattened (number (spelled "1@2"))) 0 7 ≡ 2
   pub rectangular-form : getD (flattened (number (spelled "1+2i"))) 0 7 ≡ 1
+  -- 21 goes before 22, and changes the first word alone, where there is one; 22 changes none
+  pub number-bad : numberOr (7 ∷ 7 ∷ []) (number goodThenBad) ≡ 21
+  pub number-bad-words : lay (flattened (number goodThenBad)) (7 ∷ 7 ∷ []) ≡ 1 ∷ 7 ∷ []
+  pub number-bad-wordless : lay (flattened (number goodThenBad)) [] ≡ []
+  pub number-unroomed-words : lay (flattened (number (spelled "1@2"))) (7 ∷ 7 ∷ []) ≡ 7 ∷ 7 ∷ []
   -- the bytes before the first bad sequence
   pub all-good : goodBytes 3 (firstBad (spelled "abc")) ≡ 3
   pub one-good : goodBytes 2 (firstBad goodThenBad) ≡ 1
@@ -78,7 +83,7 @@ pub record Rows : Type 0 where
   pub put-count : laid (encode (code "λ")) (7 ∷ 7 ∷ 7 ∷ []) ≡ 2
 
 pub computed : Rows
-unfolding readNumber readValues readOf deliver textMark number intWords formed realWords joined partsWords flattened answerNumber lay laid firstBad sequences chars span starts begins same isScalar utf8 width encode bytesOf isBlank within first rest front digitOf sign uinteger value fit signed wholeOf integer exponentMarker exponent suffix pointOf dotted undotted decimal infnan integralOf rationalOf denominator exact orElse ureal real justOf complexOf polarOf endsI imaginary aloneOf pairOf toSign startsE rectangular complex zeroInt zeroReal zeroParts judged radixMark prefix parseNumber startsRun firstOf inQuotes afterBackslash stopsHex inHex inTrim inNest breaksWord inWord staysRun endsRun inRun afterHash endsHash inHash inDelim readLine linedOf scalarOf readWord readRun boolKind quoteKind formKind hashKind hashBracket hashAt hashComma unreturned endsWith hereEnds hereBody hereDelim afterAngle readHash readComma readItem readNest readQuoted wordOn hashOn lookup words wordKind wordMeans runMeans escaped stringText linedText hereText unescape extentItems itemsFrom pastLine afterPound items kept records texts
+unfolding readNumber readValues readOf deliver textMark number intWords formed realWords joined partsWords refusalWords flattened numberOr lay laid firstBad sequences chars span starts begins same isScalar utf8 width encode bytesOf isBlank within first rest front digitOf sign uinteger value fit signed wholeOf integer exponentMarker exponent suffix pointOf dotted undotted decimal infnan integralOf rationalOf denominator exact orElse ureal real justOf complexOf polarOf endsI imaginary aloneOf pairOf toSign startsE rectangular complex zeroInt zeroReal zeroParts judged radixMark prefix parseNumber startsRun firstOf inQuotes afterBackslash stopsHex inHex inTrim inNest breaksWord inWord staysRun endsRun inRun afterHash endsHash inHash inDelim readLine linedOf scalarOf readWord readRun boolKind quoteKind formKind hashKind hashBracket hashAt hashComma unreturned endsWith hereEnds hereBody hereDelim afterAngle readHash readComma readItem readNest readQuoted wordOn hashOn lookup words wordKind wordMeans runMeans escaped stringText linedText hereText unescape extentItems itemsFrom pastLine afterPound items kept records texts
 computed =
     record {
       read-skipped = refl;
@@ -93,6 +98,10 @@ computed =
       number-unroomed = refl;
       polar = refl;
       rectangular-form = refl;
+      number-bad = refl;
+      number-bad-words = refl;
+      number-bad-wordless = refl;
+      number-unroomed-words = refl;
       all-good = refl;
       one-good = refl;
       code-char = refl;

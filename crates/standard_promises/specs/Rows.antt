@@ -5,11 +5,11 @@ use mathlib.Core.Path.{_≡_, refl}
 use mathlib.Core.Bool.{false}
 use mathlib.Core.List.{List, [], _∷_}
 use lib.IntN.{pos, negsuc}
-use lib.ListN.{getD}
+use lib.ListN.{replicate}
 use Rattle.laws.specs.Quoted.{within}
 use Rattle.laws.specs.Texts.{span, starts, same}
 use Rattle.chars.specs.Utf8.{first, rest, front, sequences, firstBad}
-use Rattle.chars.specs.Encode.{utf8, bytesOf, spelled}
+use Rattle.chars.specs.Encode.{utf8, bytesOf, spelled, lay}
 use Rattle.digits.specs.declared.Int.the-variants.{Small}
 use Rattle.digits.specs.Digits.{digitOf, sign, uinteger, value, signed, wholeOf, integer}
 use Rattle.numbers.specs.declared.Real.the-variants.{Integer, Rational, PosNan, ImpliedZero, ImpliedOne}
@@ -21,7 +21,7 @@ use Rattle.standard.specs.Characters.{lower, isSign}
 use Rattle.standard.specs.Reals.{infnan, ratio, ureal, real}
 use Rattle.standard.specs.Grammar.{endsI, imaginary, aloneOf, pairOf, joint, rectangular, complex, numberParts, parseStandard}
 use Rattle.standard.specs.Call.{bought, standard, byStandard, numberBy}
-use Rattle.number_words.specs.Words.{intWords, formed, realWords, joined, partsWords, flattened, answerNumber}
+use Rattle.number_words.specs.Words.{intWords, formed, realWords, joined, partsWords, refusalWords, flattened, numberOr}
 
 -- a byte that begins no sequence
 abbrev pub bad : List ℕ
@@ -48,14 +48,17 @@ pub record Rows : Type 0 where
   pub unknown-first : numberBy unknown bad ≡ refused 39 0
   pub bad-bought : numberBy bought bad ≡ refused 21 0
   pub bad-standard : numberBy standard bad ≡ refused 21 0
-  -- what C is told: the answer's number, and the first word
-  pub told-standard : answerNumber (numberBy standard (spelled "#xe+1i")) ≡ 0
-  pub told-bought : answerNumber (numberBy bought (spelled "#xe+1i")) ≡ 1
-  pub told-unknown : answerNumber (numberBy unknown bad) ≡ 39
-  pub word-unknown : getD (flattened (numberBy unknown bad)) 0 7 ≡ 0
+  -- what C is told: the answer's number; 39 and 21 go before 22
+  pub told-standard : numberOr (replicate 27 7) (numberBy standard (spelled "#xe+1i")) ≡ 0
+  pub told-bought : numberOr (replicate 27 7) (numberBy bought (spelled "#xe+1i")) ≡ 1
+  pub told-unknown : numberOr [] (numberBy unknown bad) ≡ 39
+  pub told-bad : numberOr [] (numberBy standard bad) ≡ 21
+  -- and the words: 39 changes none, 21 the first alone
+  pub words-unknown : lay (flattened (numberBy unknown bad)) (7 ∷ 7 ∷ []) ≡ 7 ∷ 7 ∷ []
+  pub words-bad : lay (flattened (numberBy standard bad)) (7 ∷ 7 ∷ []) ≡ 0 ∷ 7 ∷ []
 
 pub computed : Rows
-unfolding within span starts same first rest front sequences firstBad utf8 bytesOf digitOf sign uinteger value signed wholeOf integer bought-reals.exponentMarker bought-reals.exponent bought-reals.suffix bought-reals.pointOf bought-reals.dotted bought-reals.undotted bought-reals.decimal bought-reals.infnan bought-reals.integralOf bought-reals.rationalOf bought-reals.denominator bought-reals.exact bought-reals.orElse bought-reals.ureal bought-reals.real bought-grammar.justOf bought-grammar.complexOf bought-grammar.polarOf bought-grammar.endsI bought-grammar.imaginary bought-grammar.aloneOf bought-grammar.pairOf bought-grammar.toSign bought-grammar.startsE bought-grammar.rectangular bought-grammar.complex bought-grammar.zeroInt bought-grammar.zeroReal bought-grammar.zeroParts bought-grammar.judged bought-grammar.radixMark bought-grammar.prefix bought-grammar.parseNumber number lower isSign infnan ratio ureal real endsI imaginary aloneOf pairOf joint rectangular complex numberParts parseStandard byStandard numberBy intWords formed realWords joined partsWords flattened answerNumber
+unfolding within span starts same first rest front sequences firstBad utf8 bytesOf digitOf sign uinteger value signed wholeOf integer bought-reals.exponentMarker bought-reals.exponent bought-reals.suffix bought-reals.pointOf bought-reals.dotted bought-reals.undotted bought-reals.decimal bought-reals.infnan bought-reals.integralOf bought-reals.rationalOf bought-reals.denominator bought-reals.exact bought-reals.orElse bought-reals.ureal bought-reals.real bought-grammar.justOf bought-grammar.complexOf bought-grammar.polarOf bought-grammar.endsI bought-grammar.imaginary bought-grammar.aloneOf bought-grammar.pairOf bought-grammar.toSign bought-grammar.startsE bought-grammar.rectangular bought-grammar.complex bought-grammar.zeroInt bought-grammar.zeroReal bought-grammar.zeroParts bought-grammar.judged bought-grammar.radixMark bought-grammar.prefix bought-grammar.parseNumber number lower isSign infnan ratio ureal real endsI imaginary aloneOf pairOf joint rectangular complex numberParts parseStandard byStandard numberBy intWords formed realWords joined partsWords refusalWords flattened numberOr lay
 computed = record {
   slash-bought = refl;
   slash-standard = refl;
@@ -72,5 +75,7 @@ computed = record {
   told-standard = refl;
   told-bought = refl;
   told-unknown = refl;
-  word-unknown = refl;
+  told-bad = refl;
+  words-unknown = refl;
+  words-bad = refl;
 }

@@ -1,25 +1,28 @@
--- With too few words nothing is called; else the words of the answer are put, and there are as many as were asked for.
+-- The answer of a known choice is told; an unknown one has no word.
+use mathlib.Core.Path.{refl, sym, ap, _∙_}
 use borrow.Author.Needs.{needs}
-use Rattle.number_words.proofs.Words.{too-few, served}
+use Rattle.number_words.specs.Words.{refusalWords, flattened, numberOr}
+use Rattle.number_words.proofs.Words.{none-laid, told-of}
+use Rattle.standard.specs.Call.{answeredBy}
 use Rattle.standard_exports.proofs.mihadrena_number_by.Statement.{statement}
 use Rattle.standard_exports.proofs.mihadrena_number_by.Tie as tie
 
 returns : tie.Need-returns
-returns c = too-few _ _ (c .if1 .taken)
+returns c =
+    told-of _ (ap answeredBy (sym (c .before .before .before .before .before .a .given .1)) ∙ c .before .before .before .before .before .before .before .number-by .ensures) (c .before .before .tell .ensures)
 
 returns-2 : tie.Need-returns-2
-returns-2 c =
-    served _ _ (c .before .before .before .before .before .before .if1 .left) (c .before .before .before .before .before .number-by .ensures)
-    (c .before .before .before .before .choice-words .ensures .0) (c .before .before .before .before .choice-words .ensures .1)
-    (c .before .before .put-answer .ensures)
+unfolding refusalWords flattened numberOr
+returns-2 c = told-of _ (ap answeredBy (sym (c .enum-told .given .1)) ∙ c .before .before .number-by .ensures) (refl, none-laid _)
 
 pub mihadrena-number-by-spec : {M : Type 1} → statement M
 mihadrena-number-by-spec =
     tie.close
     (tie.spec
-    returns
-    (λ c κs. search needs)
-    (λ c κs. search needs)
     (λ c κs. search needs)
     (λ c. search needs)
+    (λ c κs. search needs)
+    (λ c. search needs)
+    (λ c. search needs)
+    returns
     returns-2)
