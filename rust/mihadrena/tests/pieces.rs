@@ -233,7 +233,7 @@ fn a_mode_that_is_none_opens_a_plain_state() {
 #[test]
 fn raw_refusals_change_nothing_else() {
     let lent = Lent::opened();
-    Lent { record: vec![OLD_WORD; raw::RECORD_WORDS - 1], ..lent.clone() }.refuses(raw::TOO_FEW, &[1, 0]);
+    Lent { record: vec![OLD_WORD; raw::RECORD_WORDS - 1], ..lent.clone() }.refuses(raw::TOO_FEW, &[0, 1]);
     Lent { values: vec![OLD_VALUE], ..lent.clone() }.refuses(raw::TOO_FEW, &[OLD_VALUE]);
     Lent { text: vec![OLD_BYTE; raw::PIECE_TEXT - 1], ..lent.clone() }.refuses(raw::LITTLE_TEXT, &[0, 0]);
     for word in 0..raw::STATE_WORDS {
