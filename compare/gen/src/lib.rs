@@ -72,7 +72,7 @@ pub const FAMILIES: &[Family] = &[
     lists("bytes", "all byte sequences of up to 3 bytes", short::bytes),
     lists("long", "every kind of item, 4,090 to 4,102 bytes long", long::texts),
     draws("reals", "numbers by their grammar, some damaged", real::texts),
-    draws("nests", "brackets of every shape, some hundred deep, and closes too many", nest::texts),
+    draws("nests", "brackets of every shape, up to some hundred deep, and closes too many", nest::texts),
     draws("plans", "felling plans by their grammar", plan::texts),
     draws("damaged", "plans with some characters lost, added or changed", damage::characters),
     draws("bad", "plans with some bytes lost, added or changed: mostly no UTF-8", damage::bytes),
