@@ -451,7 +451,8 @@ MIHADRENA_ASSERT(sizeof(mihadrena_node) == 4 * MIHADRENA_NODE_WORDS, "a node is 
 /* Builds the nodes of records: they go to `nodes`, MIHADRENA_NODE_WORDS words each, from the front on.
  *
  * MIHADRENA_SERVED: values[0] is how many nodes were written; all memory behind them stays as it was. A refused call writes no node, and
- * values[0] is what it comes with. With no room for a value none is written. There are never more nodes than records.
+ * values[0] is what it comes with. With no room for a value none is written. There are never more nodes than records. The records' depths
+ * are not looked at.
  *
  *     // records of (a), from mihadrena_read
  *     mihadrena_node nodes[3];

@@ -107,6 +107,35 @@ fn just_enough_words_and_one_too_few() {
 }
 
 #[test]
+fn nodes_are_the_same_whatever_the_depths() {
+    let mut records = [Record::default(); 8];
+    let items = Items::new("(a #(b) 'c)", PLAIN, &mut records, &mut []).expect("eight records are enough").len();
+    assert_eq!(items, records.len());
+    let built = |records: &[Record]| {
+        let mut nodes = [raw::Node::default(); 8];
+        let mut values = [0; raw::NEST_VALUES];
+        // SAFETY: each pointer and length is those of an array or a slice, and the mutable ones are borrowed as such.
+        let answer = unsafe {
+            raw::mihadrena_nest(
+                records.as_ptr().cast(),
+                records.len() * raw::RECORD_WORDS,
+                nodes.as_mut_ptr().cast(),
+                nodes.len() * raw::NODE_WORDS,
+                values.as_mut_ptr(),
+                values.len(),
+            )
+        };
+        (answer, values, nodes)
+    };
+    let first = built(&records);
+    assert_eq!((first.0, first.1), (raw::SERVED, [6]));
+    for depth in [0, 77, u32::MAX] {
+        records.iter_mut().for_each(|record| record.depth = depth);
+        assert_eq!(built(&records), first, "every depth {depth}");
+    }
+}
+
+#[test]
 fn an_errors_place_is_its_own() {
     let mut records = [Record::default(); 2];
     let items = Items::new("\"\\xD800;\"", PLAIN, &mut records, &mut []).expect("two records are enough");
