@@ -115,14 +115,7 @@ fn has_text(kind: u32, source: Text) -> bool
 }
 
 // The record of an item with so many bytes of text in the text memory.
-fn record_with(
-    m: Means,
-    extent: Range,
-    place: Range,
-    source: u32,
-    past: u32,
-    depth: u32,
-) -> Record
+fn record_with(m: Means, extent: Range, place: Range, source: u32, past: u32, depth: u32) -> Record
     ensures { λ r. ⌜ r ≡ record { nine = nineWith (m .kind ∷ m .detail ∷ extent .from ∷ extent .to ∷ place .from ∷ place .to ∷ source ∷ 0 ∷ past ∷ []); depth = depth } ⌝ }
 {
     Record {
