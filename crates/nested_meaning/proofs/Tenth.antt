@@ -42,7 +42,7 @@ module _ (free d : ℕ) (i : Item) (l : List ℕ) where
   abbrev words : List ℕ
   words = recordOf free d i ++ l
 
-  with : Text → Item
+  abbrev with : Text → Item
   with t = record { kind = i .kind; detail = i .detail; start = i .start; end = i .end; place = i .place; text = t }
 
   ten : length (recordOf free d i) ≡ recordWords
