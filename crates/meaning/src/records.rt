@@ -83,21 +83,22 @@ pub fn put(records: &mut [u32], r: Record)
     records[9] = r.depth;
 }
 
-// The depth after an item of a kind, from the depth before it. A close with none open leaves 0.
+// The depth after an item of a kind, from the depth before it. A close with none open leaves 0. The brackets are the first two kinds, so
+// that one test tells most items, which are none.
 pub fn depth_after(kind: u32, depth: u32) -> u32
     ensures { λ r. ⌜ r ≡ depthAfter kind depth ⌝ }
 {
+    if kinds::CLOSE_PAREN < kind {
+        return depth;
+    }
     if kind == kinds::OPEN_PAREN {
         if depth < DEEPEST {
             return depth + 1;
         }
         return depth;
     }
-    if kind == kinds::CLOSE_PAREN {
-        if depth == 0 {
-            return 0;
-        }
-        return depth - 1;
+    if depth == 0 {
+        return 0;
     }
-    depth
+    depth - 1
 }
