@@ -1,8 +1,8 @@
 /* Mihadrena: a proved reader of felling plans, for C.
  *
- * A text goes in as bytes of UTF-8, whole or in pieces. Out come items, one record of nine 32-bit words each, in the order of the text,
- * and the decoded texts of those that have an escape. All memory is the caller's: the library allocates nothing, keeps nothing between
- * two calls, and writes only to the memory that a call is lent. Every call ends.
+ * A text goes in as bytes of UTF-8, whole or in pieces. Out come items, one record of MIHADRENA_RECORD_WORDS 32-bit words each, in the
+ * order of the text, and the decoded texts of those that have an escape. All memory is the caller's: the library allocates nothing, keeps
+ * nothing between two calls, and writes only to the memory that a call is lent. Every call ends.
  *
  * Link with libmihadrena.a, which `.ci/archive` writes to target/staticlib. Nothing else is needed.
  *
@@ -28,7 +28,7 @@ extern "C" {
 /* -- The record of an item ---------------------------------------------------------------------------------------------------- */
 
 /* How many words a record has. */
-#define MIHADRENA_RECORD_WORDS 9
+#define MIHADRENA_RECORD_WORDS 10
 
 typedef struct mihadrena_record {
     uint32_t kind;        /* MIHADRENA_OPEN_PAREN and so on; of an error, MIHADRENA_UNEXPECTED_CHAR and so on */
@@ -42,9 +42,11 @@ typedef struct mihadrena_record {
     uint32_t text_source; /* MIHADRENA_NO_TEXT, MIHADRENA_IN_SOURCE or MIHADRENA_IN_MEMORY */
     uint32_t text_start;  /* where the text lies there, in bytes */
     uint32_t text_end;
+    uint32_t depth;       /* how many brackets are open before the item: of (a) 0, 1 and 1. Every MIHADRENA_OPEN_PAREN opens one and every
+                           * MIHADRENA_CLOSE_PAREN closes one, whatever their details; a close with none open leaves 0: of )( 0 and 0 */
 } mihadrena_record;
 
-MIHADRENA_ASSERT(sizeof(mihadrena_record) == 4 * MIHADRENA_RECORD_WORDS, "a record is nine words");
+MIHADRENA_ASSERT(sizeof(mihadrena_record) == 4 * MIHADRENA_RECORD_WORDS, "a record is MIHADRENA_RECORD_WORDS words");
 
 /* Where a record's text lies. */
 #define MIHADRENA_NO_TEXT 0
@@ -146,7 +148,7 @@ MIHADRENA_ASSERT(sizeof(mihadrena_record) == 4 * MIHADRENA_RECORD_WORDS, "a reco
 #define MIHADRENA_READ_VALUES 2
 
 /* Reads a whole text: the items' records go to `records`, MIHADRENA_RECORD_WORDS words each, and their decoded texts to `text`, both
- * from the front on. With `skip_comments` items of kind MIHADRENA_COMMENT are left out.
+ * from the front on. With `skip_comments` items of kind MIHADRENA_COMMENT are left out; the other records are the same.
  *
  * MIHADRENA_SERVED: values[0] is how many items were written, values[1] how many bytes of text; all memory behind them stays as it was.
  * Refusals, in this order: MIHADRENA_NO_MODE, MIHADRENA_TOO_LONG, MIHADRENA_NOT_UTF8, MIHADRENA_TOO_FEW; `records` and `text` keep every
@@ -161,7 +163,8 @@ MIHADRENA_ASSERT(sizeof(mihadrena_record) == 4 * MIHADRENA_RECORD_WORDS, "a reco
  *     uint32_t answer = mihadrena_read(source, sizeof source - 1, MIHADRENA_PLAIN, false,
  *                                      (uint32_t *)records, 8 * MIHADRENA_RECORD_WORDS, text, sizeof text,
  *                                      values, MIHADRENA_READ_VALUES);
- *     // answer == MIHADRENA_SERVED, values[0] == 4 (OPEN_PAREN, IDENTIFIER, NUMBER, CLOSE_PAREN), values[1] == 0
+ *     // answer == MIHADRENA_SERVED, values[0] == 4 (OPEN_PAREN, IDENTIFIER, NUMBER, CLOSE_PAREN), values[1] == 0,
+ *     // and the depths are 0, 1, 1, 1
  *     answer = mihadrena_read(source, sizeof source - 1, MIHADRENA_PLAIN, false,
  *                             (uint32_t *)records, 0, text, 0, values, MIHADRENA_READ_VALUES);
  *     // answer == MIHADRENA_TOO_FEW, values[0] == 4, values[1] == 0
@@ -184,15 +187,15 @@ uint32_t mihadrena_read(const uint8_t *source, size_t source_length, uint32_t mo
 /* The state of a reading, which the caller keeps from call to call. docs/STATE.md says what its words mean, and outside which bounds a
  * state is refused with MIHADRENA_BAD_STATE: none that the calls made is. */
 #define MIHADRENA_STATE_BYTES 4096
-#define MIHADRENA_STATE_WORDS 18
-#define MIHADRENA_STATE_SIZE 4240
+#define MIHADRENA_STATE_WORDS 19
+#define MIHADRENA_STATE_SIZE 4248
 #define MIHADRENA_STATE_ALIGN 8
 
 typedef struct mihadrena_state {
     uint8_t bytes[MIHADRENA_STATE_BYTES]; /* the bytes of the item that is being read */
     uint64_t words[MIHADRENA_STATE_WORDS];
 } mihadrena_state;
-MIHADRENA_ASSERT(sizeof(mihadrena_state) == MIHADRENA_STATE_SIZE, "a state is 4,096 bytes and 18 words");
+MIHADRENA_ASSERT(sizeof(mihadrena_state) == MIHADRENA_STATE_SIZE, "a state is MIHADRENA_STATE_BYTES bytes and MIHADRENA_STATE_WORDS words");
 MIHADRENA_ASSERT(MIHADRENA_ALIGN_OF(mihadrena_state) == MIHADRENA_STATE_ALIGN, "a state is aligned as its words are");
 
 /* The values of a piece or end call. */
@@ -231,7 +234,7 @@ uint32_t mihadrena_open(uint32_t mode, bool skip_comments, uint8_t *bytes, size_
  *     uint32_t answer = mihadrena_piece(state.bytes, MIHADRENA_STATE_BYTES, state.words, MIHADRENA_STATE_WORDS,
  *                                       (const uint8_t *)"(cor", 4, text, sizeof text,
  *                                       (uint32_t *)&record, MIHADRENA_RECORD_WORDS, values, MIHADRENA_PIECE_VALUES);
- *     // answer == MIHADRENA_ITEM, values[0] == 2, record.kind == MIHADRENA_OPEN_PAREN
+ *     // answer == MIHADRENA_ITEM, values[0] == 2, record.kind == MIHADRENA_OPEN_PAREN, record.depth == 0
  */
 uint32_t mihadrena_piece(uint8_t *bytes, size_t bytes_length, uint64_t *words, size_t words_length,
                          const uint8_t *piece, size_t piece_length, uint8_t *text, size_t text_length,
@@ -255,7 +258,7 @@ uint32_t mihadrena_end(uint8_t *bytes, size_t bytes_length, uint64_t *words, siz
  *     mihadrena_state_open(&state, MIHADRENA_PLAIN, false);                                          // MIHADRENA_SERVED
  *     mihadrena_state_piece(&state, (const uint8_t *)"(cor", 4, text, sizeof text, &record, &told);  // MIHADRENA_ITEM, told.taken == 2
  *     mihadrena_state_piece(&state, (const uint8_t *)"or", 2, text, sizeof text, &record, &told);    // MIHADRENA_MORE, told.taken == 2
- *     mihadrena_state_end(&state, text, sizeof text, &record, &told);                                // MIHADRENA_ITEM: `cor` at 1..4
+ *     mihadrena_state_end(&state, text, sizeof text, &record, &told);                                // MIHADRENA_ITEM: `cor`, depth 1
  *     mihadrena_state_end(&state, text, sizeof text, &record, &told);                                // MIHADRENA_FINISHED
  */
 static inline uint32_t mihadrena_state_open(mihadrena_state *state, uint32_t mode, bool skip_comments)
@@ -279,7 +282,7 @@ static inline uint32_t mihadrena_state_end(mihadrena_state *state, uint8_t *text
 
 /* -- The text of an item ------------------------------------------------------------------------------------------------------ */
 
-/* Whether a record's text lies where its last three words say: MIHADRENA_SERVED if it is the part from `start` to `end` of the source
+/* Whether a record's text lies where its three text words say: MIHADRENA_SERVED if it is the part from `start` to `end` of the source
  * (text source MIHADRENA_IN_SOURCE) or of the text memory (MIHADRENA_IN_MEMORY), else MIHADRENA_BAD_STATE. Records that mihadrena_read
  * wrote and that have text always get MIHADRENA_SERVED with the same source and text memory, and those that a piece or end call wrote
  * with the same text memory, until the next call.
@@ -351,7 +354,7 @@ typedef struct mihadrena_parts {
     mihadrena_real two;
 } mihadrena_parts;
 
-MIHADRENA_ASSERT(sizeof(mihadrena_parts) == 8 * MIHADRENA_NUMBER_WORDS, "a number is 27 words");
+MIHADRENA_ASSERT(sizeof(mihadrena_parts) == 8 * MIHADRENA_NUMBER_WORDS, "a number is MIHADRENA_NUMBER_WORDS words");
 
 /* What a text is as a number: its parts go to the first MIHADRENA_NUMBER_WORDS words, whatever is not there is 0. If it
  * is none, or a denominator is zero, these words are all 0. The text of an item of kind MIHADRENA_NUMBER is its extent in the source.
@@ -415,7 +418,7 @@ typedef struct mihadrena_node {
 /* How many words a node has. */
 #define MIHADRENA_NODE_WORDS 3
 
-MIHADRENA_ASSERT(sizeof(mihadrena_node) == 4 * MIHADRENA_NODE_WORDS, "a node is 3 words");
+MIHADRENA_ASSERT(sizeof(mihadrena_node) == 4 * MIHADRENA_NODE_WORDS, "a node is MIHADRENA_NODE_WORDS words");
 
 /* The kinds of nodes, each with the smallest text that makes it. */
 #define MIHADRENA_NODE_BOOLEAN 0     /* #t */
@@ -448,7 +451,8 @@ MIHADRENA_ASSERT(sizeof(mihadrena_node) == 4 * MIHADRENA_NODE_WORDS, "a node is 
 /* Builds the nodes of records: they go to `nodes`, MIHADRENA_NODE_WORDS words each, from the front on.
  *
  * MIHADRENA_SERVED: values[0] is how many nodes were written; all memory behind them stays as it was. A refused call writes no node, and
- * values[0] is what it comes with. With no room for a value none is written. There are never more nodes than records.
+ * values[0] is what it comes with. With no room for a value none is written. There are never more nodes than records. The records' depths
+ * are not looked at.
  *
  *     // records of (a), from mihadrena_read
  *     mihadrena_node nodes[3];

@@ -25,6 +25,7 @@ static void read_and_text(void)
     expect(records[0].kind == MIHADRENA_OPEN_PAREN && records[1].kind == MIHADRENA_IDENTIFIER &&
                records[2].kind == MIHADRENA_NUMBER && records[3].kind == MIHADRENA_CLOSE_PAREN,
            "the kinds");
+    expect(records[0].depth == 0 && records[1].depth == 1 && records[2].depth == 1 && records[3].depth == 1, "the depths");
     const uint8_t *name = mihadrena_text(&records[1], source, sizeof source - 1, text, sizeof text);
     expect(name == source + 1 && records[1].text_end - records[1].text_start == 6, "mihadrena_text");
     expect(mihadrena_text(&records[0], source, sizeof source - 1, text, sizeof text) == NULL, "mihadrena_text, none");
@@ -55,7 +56,7 @@ static void pieces(void)
     expect(answer == MIHADRENA_NO_MODE, "mihadrena_open, no mode");
     answer = mihadrena_piece(state.bytes, MIHADRENA_STATE_BYTES, state.words, MIHADRENA_STATE_WORDS, (const uint8_t *)"(cor", 4, text,
                              sizeof text, (uint32_t *)&record, MIHADRENA_RECORD_WORDS, values, MIHADRENA_PIECE_VALUES);
-    expect(answer == MIHADRENA_ITEM && values[0] == 2 && record.kind == MIHADRENA_OPEN_PAREN, "mihadrena_piece");
+    expect(answer == MIHADRENA_ITEM && values[0] == 2 && record.kind == MIHADRENA_OPEN_PAREN && record.depth == 0, "mihadrena_piece");
     answer = mihadrena_piece(state.bytes, MIHADRENA_STATE_BYTES, state.words, MIHADRENA_STATE_WORDS, (const uint8_t *)"or", 2, text,
                              sizeof text, (uint32_t *)&record, MIHADRENA_RECORD_WORDS - 1, values, MIHADRENA_PIECE_VALUES);
     expect(answer == MIHADRENA_TOO_FEW && values[0] == 0 && values[1] == 1, "mihadrena_piece, too few");
@@ -80,7 +81,7 @@ static void states(void)
     expect(answer == MIHADRENA_LITTLE_TEXT && told.place == 0, "mihadrena_state_end, little text");
     answer = mihadrena_state_end(&state, text, sizeof text, &record, &told);
     expect(answer == MIHADRENA_ITEM && record.kind == MIHADRENA_IDENTIFIER && record.start == 1 && record.end == 4 &&
-               memcmp(text, "cor", 3) == 0,
+               record.depth == 1 && memcmp(text, "cor", 3) == 0,
            "mihadrena_state_end");
     answer = mihadrena_state_end(&state, text, sizeof text, &record, &told);
     expect(answer == MIHADRENA_FINISHED, "mihadrena_state_end, finished");
@@ -150,9 +151,29 @@ static void nest(void)
     expect(answer == MIHADRENA_FEW_NODES && values[0] == 2, "mihadrena_nest, few nodes");
 }
 
+/* A word less than the records need is too few, and each record has its depth. */
+static void depths(void)
+{
+    static const uint32_t DEPTHS[] = {0, 0, 1, 2, 3, 3, 2};
+    enum { ITEMS = sizeof DEPTHS / sizeof *DEPTHS };
+    const uint8_t source[] = ")([#u8(;c\n]a";
+    mihadrena_record records[ITEMS];
+    uint8_t text[1];
+    uint64_t values[MIHADRENA_READ_VALUES];
+    uint32_t answer = mihadrena_read(source, sizeof source - 1, MIHADRENA_PLAIN, false, (uint32_t *)records,
+                                     ITEMS * MIHADRENA_RECORD_WORDS - 1, text, 0, values, MIHADRENA_READ_VALUES);
+    expect(answer == MIHADRENA_TOO_FEW && values[0] == ITEMS && values[1] == 0, "mihadrena_read, a word too few");
+    answer = mihadrena_read(source, sizeof source - 1, MIHADRENA_PLAIN, false, (uint32_t *)records,
+                            ITEMS * MIHADRENA_RECORD_WORDS, text, 0, values, MIHADRENA_READ_VALUES);
+    expect(answer == MIHADRENA_SERVED && values[0] == ITEMS, "mihadrena_read, just enough words");
+    for (size_t i = 0; i < ITEMS; i++)
+        expect(records[i].depth == DEPTHS[i], "a depth");
+}
+
 int main(void)
 {
     read_and_text();
+    depths();
     pieces();
     states();
     number();

@@ -2,6 +2,7 @@
 mod damage;
 mod frame;
 mod long;
+mod nest;
 mod plan;
 mod random;
 mod real;
@@ -66,10 +67,12 @@ pub const FAMILIES: &[Family] = &[
     lists("characters", "#\\ and up to 5 of 12 characters", short::characters),
     lists("here", "#<< and up to 7 of 8 characters", short::here),
     lists("comments", "all texts of up to 8 of 6 characters that make comments", short::comments),
+    lists("brackets", "all texts of up to 6 of 10 brackets, comments, words and strings", short::brackets),
     lists("numbers", "all texts of up to 6 of 17 characters that make numbers", short::numbers),
     lists("bytes", "all byte sequences of up to 3 bytes", short::bytes),
     lists("long", "every kind of item, 4,090 to 4,102 bytes long", long::texts),
     draws("reals", "numbers by their grammar, some damaged", real::texts),
+    draws("nests", "brackets of every shape, up to some hundred deep, and closes too many", nest::texts),
     draws("plans", "felling plans by their grammar", plan::texts),
     draws("damaged", "plans with some characters lost, added or changed", damage::characters),
     draws("bad", "plans with some bytes lost, added or changed: mostly no UTF-8", damage::bytes),

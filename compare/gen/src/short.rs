@@ -74,6 +74,10 @@ pub fn comments(_: &mut Random, sink: &mut Sink) {
     all("", &["#", "|", ";", "\n", "a", "\""], 8, sink);
 }
 
+pub fn brackets(_: &mut Random, sink: &mut Sink) {
+    all("", &["(", "[", "#(", "#u8(", ")", "}", ";(\n", "a", "+b", "\"(\""], 6, sink);
+}
+
 const IN_NUMBERS: &[&str] = &["0", "1", "9", "+", "-", ".", "e", "E", "/", "i", "@", "#", "x", "b", "a", "_", "é"];
 
 pub fn numbers(_: &mut Random, sink: &mut Sink) {

@@ -1,13 +1,17 @@
-//! Items as document 01 writes them down, whoever read them: the nine words of a record, the text memory, the parts of a number.
+//! Items as document 01 writes them down, whoever read them: the words of a record, its depth (02, (vi)) the last of them, the text memory,
+//! the parts of a number.
 //! Both judge and judged are put into these types, so that a comparison is `==`.
 use std::fmt;
 
 mod number;
 pub use number::{Int, Number, Real};
 
-/// The words of a record, in 01's order.
-pub const WORDS: usize = 9;
+/// The words of a record: 01's, in its order, and the depth.
+pub const WORDS: usize = 10;
 pub type Record = [u32; WORDS];
+
+/// Which of them is the depth.
+pub const DEPTH: usize = 9;
 
 /// Where a record's text lies: its seventh word.
 pub const NO_TEXT: u32 = 0;
@@ -36,7 +40,7 @@ impl Reading {
 
     /// The text of an item of this reading of `source`; none if it has none.
     pub fn text<'a>(&'a self, source: &'a [u8], item: &Item) -> Option<&'a [u8]> {
-        let [.., place, start, end] = item.record;
+        let [.., place, start, end, _depth] = item.record;
         let range = start as usize..end as usize;
         match place {
             IN_SOURCE => source.get(range),
@@ -45,7 +49,7 @@ impl Reading {
         }
     }
 
-    /// The reading as lines, one an item: the nine words, the text in hex (`-` for none), the number's parts if it is one.
+    /// The reading as lines, one an item: the record's words, the text in hex (`-` for none), the number's parts if it is one.
     pub fn lines<'a>(&'a self, source: &'a [u8]) -> Lines<'a> {
         Lines { reading: self, source }
     }

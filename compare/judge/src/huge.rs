@@ -4,7 +4,7 @@
 use crate::pieces::{Answer, Lent, Reads, What};
 use crate::tally::{Count, Tally};
 use crate::Options;
-use item::Record;
+use item::{Record, DEPTH};
 use proved::{lines, NUMBER_WORDS, RECORD_WORDS};
 
 /// The longest text, and how many bytes the mapping has: one too many.
@@ -47,7 +47,7 @@ fn read(text: &[u8], mode: u32, skip: bool, records: usize) -> Told {
     let mut values = [0; 2];
     let number = proved::read(text, mode, skip, &mut words, &mut [], &mut values);
     let written = if number == proved::SERVED { values[0] as usize } else { 0 };
-    let records = words.chunks_exact(RECORD_WORDS).take(written).map(|record| record.try_into().expect("nine words"));
+    let records = words.chunks_exact(RECORD_WORDS).take(written).map(|record| record.try_into().expect("a record"));
     Told { number, values, records: records.collect() }
 }
 
@@ -59,15 +59,21 @@ fn serves(records: Vec<Record>) -> Told {
     Told { number: proved::SERVED, values: [records.len() as u64, 0], records }
 }
 
-/// A record without text, its place its extent.
+/// A record without text, its place its extent, outside of all brackets.
 fn bare(kind: u32, detail: u32, start: usize, end: usize) -> Record {
     with_text(kind, detail, start..end, [0; 3])
+}
+
+/// The same record inside so many brackets.
+fn inside(depth: u32, mut record: Record) -> Record {
+    record[DEPTH] = depth;
+    record
 }
 
 fn with_text(kind: u32, detail: u32, extent: std::ops::Range<usize>, [source, from, to]: [usize; 3]) -> Record {
     let word = |place: usize| u32::try_from(place).expect("a place");
     let (start, end) = (word(extent.start), word(extent.end));
-    [kind, detail, start, end, start, end, word(source), word(from), word(to)]
+    [kind, detail, start, end, start, end, word(source), word(from), word(to), 0]
 }
 
 /// Kinds of document 01.
@@ -112,7 +118,8 @@ fn served(text: &mut [u8]) -> Count {
     let first = LONGEST - END.len();
     text[first..].copy_from_slice(END);
     let word = with_text(IDENTIFIER, 0, first + 1..first + 2, [IN_SOURCE, first + 1, first + 2]);
-    let items = vec![bare(OPEN, 0, first, first + 1), word, bare(CLOSE, 0, first + 2, LONGEST)];
+    let close = bare(CLOSE, 0, first + 2, LONGEST);
+    let items = vec![bare(OPEN, 0, first, first + 1), inside(1, word), inside(1, close)];
     same(serves(items), text, false, "blanks, then (a)");
     text[LONGEST - 1] = 0xC3;
     same(refuses(proved::NOT_UTF8, LONGEST as u64 - 1, 0), text, false, "the last sequence cut by the end");

@@ -12,8 +12,8 @@ use std::panic::{self, AssertUnwindSafe};
 use std::str;
 
 const FAMILIES: &[&str] = &[
-    "short", "escapes", "hashes", "digits", "characters", "here", "comments", "numbers", "long", "reals", "plans",
-    "damaged", "bad",
+    "short", "escapes", "hashes", "digits", "characters", "here", "comments", "brackets", "numbers", "long", "reals",
+    "nests", "plans", "damaged", "bad",
 ];
 
 /// How many texts of a family are read at most. Of the numbers those of up to 5 characters: the number call itself is compared on all
@@ -148,7 +148,7 @@ impl Call {
         const NUMBER: u32 = 29;
         let records = self.records[..items * WORDS].chunks_exact(WORDS);
         let items = records.map(|words| {
-            let record: item::Record = words.try_into().expect("nine words");
+            let record: item::Record = words.try_into().expect("a record");
             let [kind, _, start, end, ..] = record;
             let number = (kind == NUMBER).then(|| source.get(start as usize..end as usize).and_then(numbers::parts));
             Item { record, number: number.flatten() }

@@ -36,7 +36,7 @@ const fn drawn(part: &'static str, family: &'static str, texts: u64) -> Job {
     Job { part, family: Some(family), texts }
 }
 
-/// Ten million random texts for the whole-text call, and as many for the number call.
+/// Eleven million random texts for the whole-text call, and ten for the number call.
 const JOBS: &[Job] = &[
     all("examples"),
     all("edges"),
@@ -53,9 +53,11 @@ const JOBS: &[Job] = &[
     listed("lexer", "characters"),
     listed("lexer", "here"),
     listed("lexer", "comments"),
+    listed("lexer", "brackets"),
     listed("lexer", "numbers"),
     listed("lexer", "long"),
     drawn("lexer", "reals", 1_000_000),
+    drawn("lexer", "nests", 1_000_000),
     drawn("lexer", "plans", 3_500_000),
     drawn("lexer", "damaged", 3_500_000),
     drawn("lexer", "bad", 2_000_000),
@@ -66,8 +68,10 @@ const JOBS: &[Job] = &[
     listed("pieces", "characters"),
     listed("pieces", "here"),
     listed("pieces", "comments"),
+    listed("pieces", "brackets"),
     listed("pieces", "long"),
     drawn("pieces", "reals", 250_000),
+    drawn("pieces", "nests", 250_000),
     drawn("pieces", "plans", 750_000),
     drawn("pieces", "damaged", 750_000),
     drawn("pieces", "bad", 750_000),

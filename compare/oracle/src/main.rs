@@ -1,5 +1,5 @@
 //! `oracle [--report] [--skip] [--number] [--framed]` prints what the Rust reads standard input as: a line for each item,
-//! with its nine words, its text in hex (`-` for none, else behind an `x`) and a number's parts; then `end` and the count.
+//! with its record's words, its text in hex (`-` for none, else behind an `x`) and a number's parts; then `end` and the count.
 //!
 //! --report   with report mode's lines changed (steel_report/lexer.diff): an aid, not the Rust's own word
 //! --skip     comments are skipped

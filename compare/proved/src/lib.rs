@@ -102,7 +102,7 @@ pub fn number_by(choice: u32, text: &[u8], words: &mut [u64]) -> u32 {
 }
 
 /// The words of a record, and what else `read` answers: the items were written.
-pub const RECORD_WORDS: usize = 9;
+pub const RECORD_WORDS: usize = 10;
 pub const SERVED: u32 = 0;
 
 pub fn read(source: &[u8], mode: u32, skip: bool, records: &mut [u32], text: &mut [u8], values: &mut [u64]) -> u32 {
@@ -113,7 +113,7 @@ pub fn read(source: &[u8], mode: u32, skip: bool, records: &mut [u32], text: &mu
 
 /// What a piece state has.
 pub const STATE_BYTES: usize = 4096;
-pub const STATE_WORDS: usize = 18;
+pub const STATE_WORDS: usize = 19;
 
 pub fn open(mode: u32, skip: bool, bytes: &mut [u8], words: &mut [u64]) -> u32 {
     unsafe { mihadrena_open(mode, skip, bytes.as_mut_ptr(), bytes.len(), words.as_mut_ptr(), words.len()) }

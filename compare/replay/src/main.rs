@@ -3,7 +3,9 @@
 //! piece calls alone. It prints how many answers and items they have.
 //!
 //! A text is kept if the Rust's reading of it shows something that no text before it showed (`features`). The texts tried are those of
-//! `gen`, family by family; of each at most `KEPT` are kept. `frame` says how a text is written down.
+//! `gen`, family by family; of each at most `KEPT` are kept. Before them stand document 01's examples and the texts that its rules and
+//! docs/DIFFERENCES.md turn on (examples.txt), behind them those that the depth turns on (depths.txt). `frame` says how a text is written
+//! down.
 mod features;
 mod frame;
 mod told;
@@ -47,10 +49,11 @@ fn main() -> io::Result<()> {
     let mut stops = BufWriter::new(File::create(folder.join("stops"))?);
     let worker = thread::Builder::new().stack_size(STACK).spawn(move || {
         let mut list = List { answers: &mut answers, stops: &mut stops, seen: HashSet::new(), count: Count::default() };
-        list.examples()?;
+        list.all(include_str!("examples.txt"))?;
         for &(name, tried) in FAMILIES {
             list.family(name, tried)?;
         }
+        list.all(include_str!("depths.txt"))?;
         let count = list.count;
         println!("{} answers, {} stops, {} items", count.answers, count.stops, count.items);
         answers.flush()?;
@@ -74,9 +77,9 @@ struct List<'a, W: Write> {
 }
 
 impl<W: Write> List<'_, W> {
-    /// Document 01's examples, and the texts that its rules and docs/DIFFERENCES.md turn on: all are kept.
-    fn examples(&mut self) -> io::Result<()> {
-        for text in include_str!("examples.txt").lines() {
+    /// The texts of a file, a line each: all are kept.
+    fn all(&mut self, file: &str) -> io::Result<()> {
+        for text in file.lines() {
             let text = text.replace("\\LF", "\n").replace("\\CR", "\r");
             self.fresh(text.as_bytes());
             self.put(text.as_bytes())?;

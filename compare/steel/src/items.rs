@@ -2,7 +2,8 @@
 //!
 //! Everything is taken from what `TokenStream` hands out. Its `source` slice is the extent, of an error too; its `span` is the
 //! place. Whether a text was decoded is seen by comparing it with the source between its delimiters: an escape is always longer
-//! than the character it stands for, so the two are equal exactly if nothing was decoded.
+//! than the character it stands for, so the two are equal exactly if nothing was decoded. The brackets that its tokens open and close are
+//! laid on a pile, one on the other: an item's depth is how high it is.
 use crate::lexer::{number_call, TokenError, TokenStream};
 use crate::number::parts;
 use crate::span::Span;
@@ -21,6 +22,7 @@ pub fn read(text: &str, skip_comments: bool, out: &mut Reading) -> u64 {
     out.clear();
     let mut zeros = 0;
     let mut last = 0..0;
+    let mut open = Vec::new();
     for answer in TokenStream::new(text, skip_comments, None) {
         let (slice, span) = match &answer {
             Ok(token) => (token.source, token.span),
@@ -28,16 +30,22 @@ pub fn read(text: &str, skip_comments: bool, out: &mut Reading) -> u64 {
         };
         let start = slice.as_ptr() as usize - text.as_ptr() as usize;
         let extent = start..start + slice.len();
+        let depth = open.len();
         let item = match &answer {
             Ok(token) => {
-                let at = Token { slice, extent: extent.clone(), queued: extent == last };
+                let at = Token { slice, extent: extent.clone(), queued: extent == last, depth };
                 at.item(&token.ty, span, &mut out.memory, &mut zeros)
             }
             Err(error) => {
                 let (number, detail) = error_words(&error.ty);
-                item([ERROR + number, detail], &extent, span, (NO_TEXT, 0..0), None)
+                item([ERROR + number, detail], &extent, span, (NO_TEXT, 0..0), depth, None)
             }
         };
+        match &answer {
+            Ok(token) if matches!(token.ty, OpenParen(..)) => open.push(start),
+            Ok(token) if matches!(token.ty, CloseParen(_)) => drop(open.pop()),
+            _ => (),
+        }
         out.items.push(item);
         last = extent;
     }
@@ -49,6 +57,7 @@ fn item(
     extent: &Range<usize>,
     place: Span,
     (source, text): (u32, Range<usize>),
+    depth: usize,
     number: Option<Number>,
 ) -> Item {
     let record = [
@@ -61,6 +70,7 @@ fn item(
         source,
         word(text.start),
         word(text.end),
+        word(depth),
     ];
     Item { record, number }
 }
@@ -74,6 +84,7 @@ struct Token<'a> {
     slice: &'a str,
     extent: Range<usize>,
     queued: bool,
+    depth: usize,
 }
 
 impl Token<'_> {
@@ -88,7 +99,7 @@ impl Token<'_> {
             Number(interned) => Some(self.number(interned, zeros)),
             _ => None,
         };
-        item([kind(token), detail(token)], &self.extent, place, text, number)
+        item([kind(token), detail(token)], &self.extent, place, text, self.depth, number)
     }
 
     /// Text that stands in the source `skip` bytes behind the extent's start.

@@ -17,6 +17,7 @@ pub record Numbers (m : Marks) : Type 0 where
   pub small : m .len ≤ longest
   pub from : m .from ≤ limit
   pub to : m .to ≤ limit
+  pub deep : m .depth + m .len ≤ m .at
 
 pub numbers : (m : Marks) → numberBounds m ≡ true → Numbers m
 numbers m e =
@@ -25,7 +26,9 @@ numbers m e =
     let l : Bool = leb (m .len) longest in
     let f : Bool = isPlace (m .from) in
     let t : Bool = isPlace (m .to) in
-    let e5 = and-true (a && b && l && f) t e in
+    let d : Bool = leb (m .depth + m .len) (m .at) in
+    let e6 = and-true (a && b && l && f && t) d e in
+    let e5 = and-true (a && b && l && f) t (e6 .0) in
     let e4 = and-true (a && b && l) f (e5 .0) in
     let e3 = and-true (a && b) l (e4 .0) in
     let e2 = and-true a b (e3 .0) in
@@ -35,4 +38,5 @@ numbers m e =
       small = leb-true (m .len) longest (e3 .1);
       from = leb-true (m .from) limit (e4 .1);
       to = leb-true (m .to) limit (e5 .1);
+      deep = leb-true (m .depth + m .len) (m .at) (e6 .1);
     }

@@ -243,7 +243,8 @@ fn stage_bounds(stage: Stage, m: Marks) -> bool
     }
 }
 
-// Whether the numbers of the marks are within the longest text, the longest item and the modes.
+// Whether the numbers of the marks are within the longest text, the longest item and the modes, and no more brackets are open than bytes lie
+// before the item.
 fn number_bounds(m: Marks) -> bool
     ensures { λ r. ⌜ r ≡ numberBounds m ⌝ }
 {
@@ -262,7 +263,13 @@ fn number_bounds(m: Marks) -> bool
     if LIMIT < m.from {
         return false;
     }
-    m.to <= LIMIT
+    if LIMIT < m.to {
+        return false;
+    }
+    if m.at < m.len {
+        return false;
+    }
+    m.depth as usize <= m.at - m.len
 }
 
 // Whether a state with these marks is within its bounds.

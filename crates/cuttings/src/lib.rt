@@ -1,5 +1,6 @@
 // Reads a text by the piece calls under a cutting, and writes down what they give: an aid of the programs that run the piece calls, and
 // no part of the reader. Its functions promise that they end and stay within what they are lent.
+use items::Nine;
 use items::Record;
 use meaning::records::WORDS;
 use meaning::records::put;
@@ -111,7 +112,7 @@ fn note_item(
 ) -> Reading {
     let items = before.items;
     let bytes = before.bytes;
-    let past = r.past as usize;
+    let past = r.nine.past as usize;
     if records.len() / WORDS <= items {
         return broken(before);
     }
@@ -184,28 +185,34 @@ fn note(
 pub fn record_at(words: &[u32], n: usize) -> Record {
     if words.len() / WORDS <= n {
         return Record {
-            kind: 0,
-            detail: 0,
-            start: 0,
-            end: 0,
-            from: 0,
-            to: 0,
-            source: 0,
-            first: 0,
-            past: 0,
+            nine: Nine {
+                kind: 0,
+                detail: 0,
+                start: 0,
+                end: 0,
+                from: 0,
+                to: 0,
+                source: 0,
+                first: 0,
+                past: 0,
+            },
+            depth: 0,
         };
     }
     let at = n * WORDS;
     Record {
-        kind: words[at],
-        detail: words[at + 1],
-        start: words[at + 2],
-        end: words[at + 3],
-        from: words[at + 4],
-        to: words[at + 5],
-        source: words[at + 6],
-        first: words[at + 7],
-        past: words[at + 8],
+        nine: Nine {
+            kind: words[at],
+            detail: words[at + 1],
+            start: words[at + 2],
+            end: words[at + 3],
+            from: words[at + 4],
+            to: words[at + 5],
+            source: words[at + 6],
+            first: words[at + 7],
+            past: words[at + 8],
+        },
+        depth: words[at + 9],
     }
 }
 

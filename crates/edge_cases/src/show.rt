@@ -61,17 +61,19 @@ pub fn runs(bytes: &[u8]) {
     }
 }
 
-// The nine words of a record.
+// The words of a record.
 pub fn record(r: Record) {
-    number(r.kind as u64);
-    number(r.detail as u64);
-    number(r.start as u64);
-    number(r.end as u64);
-    number(r.from as u64);
-    number(r.to as u64);
-    number(r.source as u64);
-    number(r.first as u64);
-    number(r.past as u64);
+    let nine = r.nine;
+    number(nine.kind as u64);
+    number(nine.detail as u64);
+    number(nine.start as u64);
+    number(nine.end as u64);
+    number(nine.from as u64);
+    number(nine.to as u64);
+    number(nine.source as u64);
+    number(nine.first as u64);
+    number(nine.past as u64);
+    number(r.depth as u64);
 }
 
 // An item on a line: how many bytes were taken when it was given, its record, its text.
@@ -94,7 +96,7 @@ fn items(count: usize, records: &[u32], counts: &[usize], texts: &[u8]) {
         }
         let taken = counts[n];
         let r = record_at(records, n);
-        let next = std::num::wrapping_add_usize(at, r.past as usize);
+        let next = std::num::wrapping_add_usize(at, r.nine.past as usize);
         item(taken, r, part(texts, at, next));
         at = next;
         n = n + 1;

@@ -2,7 +2,7 @@
 ghost use mathlib.Core.Path.{_≡_};
 ghost use Rattle.flat.specs.Piece.{opened, openLeft, left, memory, pieceLeft, endLeft};
 
-// Opens a state of 4,096 bytes and 18 words: 0, or document 01's refusals 25 (with a plain state) and 27 (slices of other lengths, left as
+// Opens a state of 4,096 bytes and 19 words: 0, or document 01's refusals 25 (with a plain state) and 27 (slices of other lengths, left as
 // they were).
 #[no_mangle]
 pub extern "C" fn mihadrena_open(mode: u32, skip: bool, buf: &mut [u8], words: &mut [u64]) -> u32

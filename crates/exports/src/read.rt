@@ -53,7 +53,7 @@ fn answer(a: ReadAnswer) -> Told
     }
 }
 
-// Reads a whole text. `mode` is 0 for plain and 1 for report; `skip` leaves comments out. The items' records, nine words each, and
+// Reads a whole text. `mode` is 0 for plain and 1 for report; `skip` leaves comments out. The items' records, ten words each, and
 // their decoded texts are written from the front of `records` and `text` on. `values` gets how many items and how many bytes of text
 // were written, or the two values of the refusal; where there is no room for both it is left as it was.
 #[no_mangle]

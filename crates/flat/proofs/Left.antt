@@ -55,7 +55,7 @@ loads-back l i (suc n) h =
 
 -- words that are read and written back are as they were: what a refused call leaves
 pub kept : (l : List ℕ) → length l ≡ stateWords → written (listed (wordsIn l)) l ≡ l
-kept l h = loads-back l 0 18 (omega arith)
+kept l h = loads-back l 0 stateWords (omega arith)
 
 -- opening
 module _ (mode : ℕ) (skip : Bool) (buf words : List ℕ) where

@@ -17,7 +17,7 @@ use Rattle.lent.specs.Calls.{Said, lent, openFor, pieceFor, endFor}
 -- the words of a state as they stand in memory, docs/STATE.md
 abbrev pub listed : Words → List ℕ
 listed w =
-    w .mode ∷ w .skip ∷ w .ended ∷ w .stage ∷ w .start ∷ w .which ∷ w .detail ∷ w .one ∷ w .two ∷ w .at ∷ w .count ∷ w .need ∷ w .low ∷ w .high ∷ w .code ∷ w .from ∷ w .to ∷ w .len ∷ []
+    w .mode ∷ w .skip ∷ w .ended ∷ w .stage ∷ w .start ∷ w .which ∷ w .detail ∷ w .one ∷ w .two ∷ w .at ∷ w .count ∷ w .need ∷ w .low ∷ w .high ∷ w .code ∷ w .from ∷ w .to ∷ w .len ∷ w .depth ∷ []
 
 abbrev pub wordsIn : List ℕ → Words
 wordsIn l =
@@ -40,10 +40,11 @@ wordsIn l =
       from = getD l 15 0;
       to = getD l 16 0;
       len = getD l 17 0;
+      depth = getD l 18 0;
     }
 
 abbrev pub stateWords : ℕ
-stateWords = 18
+stateWords = 19
 
 -- how many bytes and words are a state's
 abbrev pub isState : ℕ → ℕ → Bool

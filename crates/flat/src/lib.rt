@@ -39,7 +39,7 @@ const BAD_STATE: u32 = 27;
 // What a state has.
 const STATE_BYTES: usize = 4096;
 
-const STATE_WORDS: usize = 18;
+const STATE_WORDS: usize = 19;
 
 // How many values are written.
 const VALUES: usize = 2;
@@ -91,6 +91,7 @@ fn words_in(words: &[u64]) -> Words
         from: words[15],
         to: words[16],
         len: words[17],
+        depth: words[18],
     }
 }
 
@@ -117,6 +118,7 @@ fn put_words(words: &mut [u64], w: Words)
     words[15] = w.from;
     words[16] = w.to;
     words[17] = w.len;
+    words[18] = w.depth;
 }
 
 // What opening answers.

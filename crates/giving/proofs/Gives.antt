@@ -22,7 +22,7 @@ use Rattle.meaning.specs.declared.Text.the-variants.{Nowhere, Source, Decoded}
 use Rattle.meaning.specs.declared.Means.{Means}
 use Rattle.meaning.specs.declared.Range.{Range}
 use Rattle.meaning.specs.Places.{rangeOf}
-use Rattle.meaning.specs.Records.{recordWith}
+use Rattle.meaning.specs.Records.{nineWith}
 use Rattle.pieces.specs.declared.Got.the-variants.{Item}
 use Rattle.pieces.specs.Calls.{What, item}
 use Rattle.giving.specs.Answers.{whatOf}
@@ -70,26 +70,26 @@ copied-short k s raw Nowhere = if-all (λ (l : List ℕ). length l ≤ length ra
 copied-short k s raw (Source a b) = omega (arith, length-take (b - a) (drop (a - s) raw), length-drop (a - s) raw)
 copied-short k s raw (Decoded n) = omega (arith, shorter (quotesOf k) (drop 1 raw), length-drop 1 raw)
 
-module _ (report : Bool) (m : Means) (last : Place) (s e : ℕ) (raw old now : List ℕ) (place : Range) (r : Record)
+module _ (depth : ℕ) (report : Bool) (m : Means) (last : Place) (s e : ℕ) (raw old now : List ℕ) (place : Range) (r : Record)
     (put : place ≡ rangeOf (placeOf report (m .kind) last (range s e)))
     (laid : now ≡ written (copiedBy (m .kind) s raw (m .text)) old) where
   pub given-with : (n : ℕ) → hasText (m .kind) (m .text) ≡ true → n ≡ length (copiedBy (m .kind) s raw (m .text))
-      → r ≡ recordWith (m .kind ∷ m .detail ∷ s ∷ e ∷ place .from ∷ place .to ∷ 2 ∷ 0 ∷ n ∷ [])
-      → whatOf (Item r) now ≡ item (givenBy report m last s e raw)
+      → r ≡ record { nine = nineWith (m .kind ∷ m .detail ∷ s ∷ e ∷ place .from ∷ place .to ∷ 2 ∷ 0 ∷ n ∷ []); depth = depth }
+      → whatOf (Item r) now ≡ item (givenBy depth report m last s e raw)
   given-with n h size is =
       let t : List ℕ = copiedBy (m .kind) s raw (m .text) in
       rw (is, put, laid, size, h)
       (ap (λ (l : List ℕ). item (record {
-        words = m .kind ∷ m .detail ∷ s ∷ e ∷ placeOf report (m .kind) last (range s e) .from ∷ placeOf report (m .kind) last (range s e) .to ∷ 2 ∷ 0 ∷ length t ∷ [];
+        words = m .kind ∷ m .detail ∷ s ∷ e ∷ placeOf report (m .kind) last (range s e) .from ∷ placeOf report (m .kind) last (range s e) .to ∷ 2 ∷ 0 ∷ length t ∷ depth ∷ [];
         text = l;
       })) (take-append-seam t (drop (length t) old)))
 
   pub given-without : hasText (m .kind) (m .text) ≡ false
-      → r ≡ recordWith (m .kind ∷ m .detail ∷ s ∷ e ∷ place .from ∷ place .to ∷ 0 ∷ 0 ∷ 0 ∷ [])
-      → whatOf (Item r) now ≡ item (givenBy report m last s e raw)
+      → r ≡ record { nine = nineWith (m .kind ∷ m .detail ∷ s ∷ e ∷ place .from ∷ place .to ∷ 0 ∷ 0 ∷ 0 ∷ []); depth = depth }
+      → whatOf (Item r) now ≡ item (givenBy depth report m last s e raw)
   given-without h is =
       rw (is, put, h)
       (ap (λ (l : List ℕ). item (record {
-        words = m .kind ∷ m .detail ∷ s ∷ e ∷ placeOf report (m .kind) last (range s e) .from ∷ placeOf report (m .kind) last (range s e) .to ∷ 0 ∷ 0 ∷ 0 ∷ [];
+        words = m .kind ∷ m .detail ∷ s ∷ e ∷ placeOf report (m .kind) last (range s e) .from ∷ placeOf report (m .kind) last (range s e) .to ∷ 0 ∷ 0 ∷ 0 ∷ depth ∷ [];
         text = l;
       })) (sym (no-text (m .kind) s raw (m .text) h)))

@@ -28,7 +28,7 @@ use Rattle.pieces.specs.declared.Beyond.{Beyond}
 use Rattle.pieces.specs.declared.Stage.the-variants.{Waiting}
 use Rattle.pieces.specs.declared.State.{State}
 use Rattle.pieces.specs.Given.{Given, given}
-use Rattle.pieces.specs.Calls.{Turn, on, off, item, itemSoFar, lastOf, gives, report, ends, beyond, becomes}
+use Rattle.pieces.specs.Calls.{Turn, on, off, item, itemSoFar, lastOf, gives, report, ends, beyond, becomes, deeper}
 use Rattle.giving.specs.Copied.{quotesOf, givenBy, oneGiven, pairGiven}
 use Rattle.pieces.proofs.Pairs.{Shape, alone, pair, shape}
 
@@ -91,15 +91,16 @@ module _ (s e : ℕ) (raw : List ℕ) where
 
 -- ---- an item
 
-shown : (report : Bool) (last : Place) (s e : ℕ) (raw : List ℕ) (k d : ℕ) (t : Text) → QuotedText raw k t
-    → givenBy report (sized (record { kind = k; detail = d; text = t })) last s e raw ≡ given raw (itemOf report last s e (record { kind = k; detail = d; text = t }))
-shown report last s e raw k d none q = refl
-shown report last s e raw k d (source a b) q = refl
-shown report last s e raw k d (decoded bs) q = rw (sym q)
+shown : (depth : ℕ) (report : Bool) (last : Place) (s e : ℕ) (raw : List ℕ) (k d : ℕ) (t : Text) → QuotedText raw k t
+    → givenBy depth report (sized (record { kind = k; detail = d; text = t })) last s e raw
+    ≡ given depth raw (itemOf report last s e (record { kind = k; detail = d; text = t }))
+shown depth report last s e raw k d none q = refl
+shown depth report last s e raw k d (source a b) q = refl
+shown depth report last s e raw k d (decoded bs) q = rw (sym q)
 
-shown-as : (report : Bool) (last : Place) (s e : ℕ) (raw : List ℕ) (m : Meaning) (x : Means) → x ≡ sized m → QuotedText raw (m .kind) (m .text)
-    → givenBy report x last s e raw ≡ given raw (itemOf report last s e m)
-shown-as report last s e raw m x h q = ap (λ (y : Means). givenBy report y last s e raw) h ∙ shown report last s e raw (m .kind) (m .detail) (m .text) q
+shown-as : (depth : ℕ) (report : Bool) (last : Place) (s e : ℕ) (raw : List ℕ) (m : Meaning) (x : Means) → x ≡ sized m → QuotedText raw (m .kind) (m .text)
+    → givenBy depth report x last s e raw ≡ given depth raw (itemOf report last s e m)
+shown-as depth report last s e raw m x h q = ap (λ (y : Means). givenBy depth report y last s e raw) h ∙ shown depth report last s e raw (m .kind) (m .detail) (m .text) q
 
 -- ---- the items of an extent
 
@@ -111,9 +112,9 @@ module _ (s : State) (st : ℕ) (set last : Place) (b : Beyond) where
       → oneGiven s st set last b x ≡ gives s st last b (itemsOf (report s) set st (s .marks .at) ms)
   one-shown ms x (alone m) q h =
       let e : x ≡ sized m = cc in
-      let g = shown-as (report s) set st (s .marks .at) raw m x e (q .0) in
-      ap (λ (t : Given). if s .marks .skip && eqb (x .kind) kind.Comment then on (beyond s last b) else off (beyond s last b) (item t)) g
-      ∙ ap (λ (k : ℕ). if s .marks .skip && eqb k kind.Comment then on (beyond s last b) else off (beyond s last b) (item (given raw (itemOf (report s) set st (s .marks .at) m)))) (ap (λ (y : Means). y .kind) e)
+      let g = shown-as (s .marks .depth) (report s) set st (s .marks .at) raw m x e (q .0) in
+      ap (λ (t : Given). if s .marks .skip && eqb (x .kind) kind.Comment then on (beyond s last b) else off (beyond (deeper (x .kind) s) last b) (item t)) g
+      ∙ ap (λ (k : ℕ). if s .marks .skip && eqb k kind.Comment then on (beyond s last b) else off (beyond (deeper k s) last b) (item (given (s .marks .depth) raw (itemOf (report s) set st (s .marks .at) m)))) (ap (λ (y : Means). y .kind) e)
   one-shown ms x (pair two) q h = absurd (let z : _≡_ {A = ℕ} 1 2 = ap length h in omega arith)
 
   pair-shown : (ms : List Meaning) (x y : Means) → Shape st (s .marks .at) raw ms → QuotedAll raw ms → meant (Two x y) ≡ sizedAll ms
@@ -122,7 +123,7 @@ module _ (s : State) (st : ℕ) (set last : Place) (b : Beyond) where
   pair-shown ms x y (pair two) q h =
       let e : x ≡ sized (record { kind = kind.Identifier; detail = 0; text = source st (st + 1) }) = cc in
       ap (λ (t : Given). off (becomes s (s .buf) (Waiting st b) (s .marks .at) (s .marks .len) last) (item t))
-      (shown-as (report s) set st (s .marks .at) raw (record { kind = kind.Identifier; detail = 0; text = source st (st + 1) }) x e tt)
+      (shown-as (s .marks .depth) (report s) set st (s .marks .at) raw (record { kind = kind.Identifier; detail = 0; text = source st (st + 1) }) x e tt)
 
 module _ (s : State) (st : ℕ) (o : Outcome) (b : Beyond) (e : ℕ) (at : e ≡ s .marks .at) where
   pub ends-one : (x : Means) → meant (One x) ≡ sizedAll (meaningOf (report s) o st e (itemSoFar s .bytes))

@@ -15,7 +15,7 @@ use Rattle.pieces.specs.Calls.{What, item, more, finished, refused, Turn, on, o
 -- an item's text is what the text memory holds from 0 to the place that the record's last word says; `text` is the text memory after
 -- the call
 abbrev pub whatOf : Got → List ℕ → What
-whatOf (Item r) text = item (record { words = wordsOf r; text = take (r .past) text })
+whatOf (Item r) text = item (record { words = wordsOf r; text = take (r .nine .past) text })
 whatOf More text = more
 whatOf Finished text = finished
 whatOf (Refused n p) text = refused n p
@@ -51,4 +51,4 @@ stops m n p = record { marks = marks m (Stopped n p) (m .at) 0 (lastIn m); got =
 -- the marks with another character begun
 abbrev pub begun : Marks → Part → Marks
 begun m p =
-    record { mode = m .mode; skip = m .skip; ended = m .ended; stage = m .stage; at = m .at; part = p; from = m .from; to = m .to; len = m .len }
+    record { mode = m .mode; skip = m .skip; ended = m .ended; stage = m .stage; at = m .at; part = p; from = m .from; to = m .to; len = m .len; depth = m .depth }

@@ -18,7 +18,7 @@ use Rattle.pieces.specs.declared.Beyond.{Beyond}
 use Rattle.pieces.specs.declared.Stage.the-variants.{Waiting}
 use Rattle.pieces.specs.declared.State.{State}
 use Rattle.pieces.specs.Given.{Given}
-use Rattle.pieces.specs.Calls.{item, Turn, on, off, beyond, becomes, report, itemSoFar}
+use Rattle.pieces.specs.Calls.{item, Turn, on, off, beyond, becomes, deeper, report, itemSoFar}
 
 -- a string's text stood between double quotes, an identifier's between vertical lines
 abbrev pub quotesOf : ℕ → Quotes
@@ -34,14 +34,14 @@ hasText k Nowhere = eqb k kind.Number
 hasText k (Source a b) = true
 hasText k (Decoded n) = true
 
-abbrev pub givenBy : Bool → Means → Place → ℕ → ℕ → List ℕ → Given
-givenBy report m last s e raw =
+abbrev pub givenBy : ℕ → Bool → Means → Place → ℕ → ℕ → List ℕ → Given
+givenBy depth report m last s e raw =
     let place : Place = placeOf report (m .kind) last (range s e) in
     let text : List ℕ = copiedBy (m .kind) s raw (m .text) in
     record {
       words =
           m .kind ∷ m .detail ∷ s ∷ e ∷ place .from ∷ place .to
-          ∷ (if hasText (m .kind) (m .text) then 2 ∷ 0 ∷ length text ∷ [] else 0 ∷ 0 ∷ 0 ∷ []);
+          ∷ (if hasText (m .kind) (m .text) then 2 ∷ 0 ∷ length text ∷ [] else 0 ∷ 0 ∷ 0 ∷ []) ++ (depth ∷ []);
       text = text;
     }
 
@@ -51,8 +51,8 @@ abbrev pub oneGiven : State → ℕ → Place → Place → Beyond → Means →
 oneGiven s st set last b m =
     if s .marks .skip && eqb (m .kind) kind.Comment
     then on (beyond s last b)
-    else off (beyond s last b) (item (givenBy (report s) m set st (s .marks .at) (itemSoFar s .bytes)))
+    else off (beyond (deeper (m .kind) s) last b) (item (givenBy (s .marks .depth) (report s) m set st (s .marks .at) (itemSoFar s .bytes)))
 
 abbrev pub pairGiven : State → ℕ → Place → Place → Beyond → Means → Turn
 pairGiven s st set last b m =
-    off (becomes s (s .buf) (Waiting st b) (s .marks .at) (s .marks .len) last) (item (givenBy (report s) m set st (s .marks .at) (itemSoFar s .bytes)))
+    off (becomes s (s .buf) (Waiting st b) (s .marks .at) (s .marks .len) last) (item (givenBy (s .marks .depth) (report s) m set st (s .marks .at) (itemSoFar s .bytes)))

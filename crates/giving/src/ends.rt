@@ -1,6 +1,7 @@
 // What follows an extent that ended: its items are given, and the character beyond it begins another.
 use crate::give::give;
 use crate::lay::lay;
+use crate::marks::counted;
 use crate::marks::marks_at;
 use bounds::limits::REPORT;
 use chars::char_width;
@@ -160,6 +161,7 @@ fn give_one(
         return go_on(beyond(m, buf, last, b));
     }
     let r = give(
+        m.depth,
         m.mode == REPORT,
         one,
         shown,
@@ -167,7 +169,7 @@ fn give_one(
         &buf[..len],
         text,
     );
-    let next = beyond(m, buf, last, b);
+    let next = beyond(counted(m, one.kind), buf, last, b);
     Turned {
         marks: next,
         got: Got::Item(r),
@@ -191,6 +193,7 @@ fn give_pair(
 {
     let len = m.len;
     let r = give(
+        m.depth,
         m.mode == REPORT,
         one,
         shown,
@@ -246,6 +249,7 @@ pub fn give_second(m: Marks, buf: &[u8], text: &mut [u8], start: usize) -> Recor
         text: Text::Source(start + PLUS, m.at),
     };
     give(
+        m.depth,
         m.mode == REPORT,
         second,
         extent(m.from, m.to),

@@ -1,5 +1,6 @@
 // An item as it is given: its text is copied to the start of the text memory, and its record says so.
 use escapes::decode;
+use items::Nine;
 use items::Quotes;
 use items::Record;
 use items::kinds;
@@ -15,7 +16,7 @@ ghost use Prim.Native.Nat.{_-_, _≤_, _<_};
 ghost use lib.ListN.{length, take, drop};
 ghost use Rattle.laws.specs.Lent.{written};
 ghost use Rattle.meaning.specs.Places.{placeIn};
-ghost use Rattle.meaning.specs.Records.{recordWith};
+ghost use Rattle.meaning.specs.Records.{nineWith};
 ghost use Rattle.pieces.specs.Calls.{item};
 ghost use Rattle.giving.specs.Answers.{whatOf};
 ghost use Rattle.giving.specs.Copied.{quotesOf, copiedBy, hasText, givenBy};
@@ -114,24 +115,28 @@ fn has_text(kind: u32, source: Text) -> bool
 }
 
 // The record of an item with so many bytes of text in the text memory.
-fn record_with(m: Means, extent: Range, place: Range, source: u32, past: u32) -> Record
-    ensures { λ r. ⌜ r ≡ recordWith (m .kind ∷ m .detail ∷ extent .from ∷ extent .to ∷ place .from ∷ place .to ∷ source ∷ 0 ∷ past ∷ []) ⌝ }
+fn record_with(m: Means, extent: Range, place: Range, source: u32, past: u32, depth: u32) -> Record
+    ensures { λ r. ⌜ r ≡ record { nine = nineWith (m .kind ∷ m .detail ∷ extent .from ∷ extent .to ∷ place .from ∷ place .to ∷ source ∷ 0 ∷ past ∷ []); depth = depth } ⌝ }
 {
     Record {
-        kind: m.kind,
-        detail: m.detail,
-        start: extent.from,
-        end: extent.to,
-        from: place.from,
-        to: place.to,
-        source,
-        first: 0,
-        past,
+        nine: Nine {
+            kind: m.kind,
+            detail: m.detail,
+            start: extent.from,
+            end: extent.to,
+            from: place.from,
+            to: place.to,
+            source,
+            first: 0,
+            past,
+        },
+        depth,
     }
 }
 
 // Gives an item: its text in the text memory, and its record. `last` is the error range that stands, its own counted in.
 pub fn give(
+    depth: u32,
     report: bool,
     m: Means,
     last: Range,
@@ -140,15 +145,15 @@ pub fn give(
     text: &mut [u8],
 ) -> Record
     requires { ⌜ (0 < length (now raw)) × (length (now raw) ≤ 4096) × (4096 ≤ length (now text)) ⌝ }
-    ensures { λ r. ⌜ (whatOf (Got.Item r) (now (text .exit)) ≡ item (givenBy report m (placeIn last) (extent .from) (extent .to) (now (raw .entry))))
-        × (now (text .exit) ≡ written (givenBy report m (placeIn last) (extent .from) (extent .to) (now (raw .entry)) .text) (now (text .entry))) ⌝ }
+    ensures { λ r. ⌜ (whatOf (Got.Item r) (now (text .exit)) ≡ item (givenBy depth report m (placeIn last) (extent .from) (extent .to) (now (raw .entry))))
+        × (now (text .exit) ≡ written (givenBy depth report m (placeIn last) (extent .from) (extent .to) (now (raw .entry)) .text) (now (text .entry))) ⌝ }
 {
     let kind = m.kind;
     let source = m.text;
     let copied = copy_text(kind, source, extent.from as usize, raw, text);
     let at = place(report, kind, last, extent);
     if has_text(kind, source) {
-        return record_with(m, extent, at, IN_MEMORY, copied as u32);
+        return record_with(m, extent, at, IN_MEMORY, copied as u32, depth);
     }
-    record_with(m, extent, at, NOWHERE, 0)
+    record_with(m, extent, at, NOWHERE, 0, depth)
 }

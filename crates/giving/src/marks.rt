@@ -1,11 +1,12 @@
 // The marks of a state as they become others.
 use chars::State as Begun;
+use meaning::records::depth_after;
 use pieces::Marks;
 use pieces::Part;
 use pieces::Stage;
 ghost use mathlib.Core.Path.{_≡_};
-ghost use Rattle.items.specs.Items.{range};
-ghost use Rattle.pieces.specs.Calls.{whole, marks};
+ghost use Rattle.items.specs.Items.{depthAfter, range};
+ghost use Rattle.pieces.specs.Calls.{whole, marks, withDepth};
 ghost use Rattle.giving.specs.Answers.{begun};
 
 // Between two characters.
@@ -37,6 +38,27 @@ pub fn marks_at(m: Marks, stage: Stage, at: usize, len: usize, from: usize, to: 
         from,
         to,
         len,
+        depth: m.depth,
+    }
+}
+
+// The marks after an item of a kind was given.
+pub fn counted(m: Marks, kind: u32) -> Marks
+    ensures { λ r. ⌜ r ≡ withDepth (depthAfter kind (m .depth)) m ⌝ }
+{
+    let stage = m.stage;
+    let part = m.part;
+    Marks {
+        mode: m.mode,
+        skip: m.skip,
+        ended: m.ended,
+        stage,
+        at: m.at,
+        part,
+        from: m.from,
+        to: m.to,
+        len: m.len,
+        depth: depth_after(kind, m.depth),
     }
 }
 
@@ -55,5 +77,6 @@ pub fn with_part(m: Marks, part: Part) -> Marks
         from: m.from,
         to: m.to,
         len: m.len,
+        depth: m.depth,
     }
 }

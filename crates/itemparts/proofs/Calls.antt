@@ -1,5 +1,5 @@
 -- The same of the calls: of the records that `read` served, and of the items that the piece calls gave, before a stop too.
-use Rattle.items.specs.Items.{Item, items, kept, memoryOf, byteCount, endsBefore}
+use Rattle.items.specs.Items.{Item, items, kept, depthAfter, memoryOf, byteCount, endsBefore}
 use Rattle.items.specs.Kinds as kind
 use Rattle.items.specs.Whole.{served, inReport, readOf}
 use Rattle.items.proofs.Every.{Every}
@@ -32,9 +32,10 @@ use native.Mathlib.Omega.{arith}
 
 -- ---- records in memory
 
-rows-parts : (whole : List ℕ) (free : ℕ) (is : List Item) → Every (NumberIn whole) is → Every (RowHasParts whole) (rowsFrom free is)
-rows-parts whole free [] h = tt
-rows-parts whole free (i ∷ is) h = ((λ e. h .0 e .1), rows-parts whole (free + length (memoryOf (i .text))) is (h .1))
+rows-parts : (whole : List ℕ) (free depth : ℕ) (is : List Item) → Every (NumberIn whole) is → Every (RowHasParts whole) (rowsFrom free depth is)
+rows-parts whole free depth [] h = tt
+rows-parts whole free depth (i ∷ is) h =
+    ((λ e. h .0 e .1), rows-parts whole (free + length (memoryOf (i .text))) (depthAfter (i .kind) depth) is (h .1))
 
 -- WHATEVER `read` SERVED: the number call on the extent of every record of kind Number gives parts
 pub read-parts : (source : List ℕ) (mode : ℕ) (skip : Bool) (recs text : List ℕ) (n m : ℕ) → readOf source mode skip recs text .answer ≡ served n m
@@ -46,7 +47,7 @@ read-parts source mode skip recs text n m e =
     let numbers : Every (NumberIn source) (items (inReport mode) cs)
     = subst (λ (l : List ℕ). Every (NumberIn l) (items (inReport mode) cs)) b
     (number-items (inReport mode) cs (good-scalars source (r .good)) (omega (arith, ap length b, r .short))) in
-    rw (r .rows) (rows-parts source 0 (kept skip (items (inReport mode) cs)) (kept-every (NumberIn source) skip (items (inReport mode) cs) numbers))
+    rw (r .rows) (rows-parts source 0 0 (kept skip (items (inReport mode) cs)) (kept-every (NumberIn source) skip (items (inReport mode) cs) numbers))
 
 -- ---- items that piece calls gave. The characters of `whole` are read, and it is the front of all bytes
 
@@ -61,8 +62,8 @@ before-every P n [] h = tt
 before-every P n (i ∷ is) h = if-all (Every P) (ltb (i .end) n) (h .0, before-every P n is (h .1)) (before-every P n is (h .1))
 
 module _ (bytes whole v : List ℕ) (front : whole ++ v ≡ bytes) where
-  given-parts : (i : Item) → NumberIn whole i → Placed (length whole) i → GivenHasParts bytes (given (between (i .start) (i .end) bytes) i)
-  given-parts i h z =
+  given-parts : (depth : ℕ) (i : Item) → NumberIn whole i → Placed (length whole) i → GivenHasParts bytes (given depth (between (i .start) (i .end) bytes) i)
+  given-parts depth i h z =
       let raw : List ℕ = between (i .start) (i .end) bytes in
       let text : eqb (i .kind) kind.Number ≡ true → copied (i .kind) (i .start) raw (i .text) ≡ raw
       = λ e. ap (copied (i .kind) (i .start) raw) (h e .0) ∙ rw e in
@@ -70,10 +71,10 @@ module _ (bytes whole v : List ℕ) (front : whole ++ v ≡ bytes) where
       = ap (between (i .start) (i .end)) (sym front) ∙ between-front (i .start) (i .end) whole v (omega (arith, z .some)) (z .ends) in
       record { extent = text; parts = λ e. subst HasParts (sym (text e ∙ stands)) (h e .1) }
 
-  all-given : (is : List Item) → Every (NumberIn whole) is → Every (Placed (length whole)) is → Every (GivenHasParts bytes) (givenAll bytes is)
+  all-given : (depth : ℕ) (is : List Item) → Every (NumberIn whole) is → Every (Placed (length whole)) is → Every (GivenHasParts bytes) (givenAll bytes depth is)
   unfolding givenAll
-  all-given [] h z = tt
-  all-given (i ∷ is) h z = (given-parts i (h .0) (z .0), all-given is (h .1) (z .1))
+  all-given depth [] h z = tt
+  all-given depth (i ∷ is) h z = (given-parts depth i (h .0) (z .0), all-given (depthAfter (i .kind) depth) is (h .1) (z .1))
 
 -- what is so of the items of some characters is so of those among them that are given
 module _ (report : Bool) (q : List ℕ) where
@@ -86,12 +87,12 @@ module _ (report skip : Bool) (bytes : List ℕ) where
   by-ending is (all h) =
       let cs : List ℕ = chars bytes in
       let c = clean-only report bytes is in
-      all-given bytes (bytesOf cs) [] (append-nil (bytesOf cs) ∙ h) (kept skip (items report cs))
+      all-given bytes (bytesOf cs) [] (append-nil (bytesOf cs) ∙ h) 0 (kept skip (items report cs))
       (kept-every (NumberIn (bytesOf cs)) skip (items report cs) (number-items report cs (good-scalars bytes (c .0)) (omega (arith, ap length h, c .1 .0))))
       (kept-every (Placed (length (bytesOf cs))) skip (items report cs) (placed-in report cs))
   by-ending is (up-to number place q u v g h k) =
       let n : ℕ = byteCount q in
-      all-given bytes (bytesOf q) v (ap (λ (l : List ℕ). bytesOf l ++ v) g ∙ h) (kept skip (endsBefore n (items report q)))
+      all-given bytes (bytesOf q) v (ap (λ (l : List ℕ). bytesOf l ++ v) g ∙ h) 0 (kept skip (endsBefore n (items report q)))
       (kept-every (NumberIn (bytesOf q)) skip (endsBefore n (items report q))
       (before-every (NumberIn (bytesOf q)) n (items report q) (number-items report q (k .scalars) (omega (arith, length-bytes q, k .short)))))
       (kept-every (Placed (length (bytesOf q))) skip (endsBefore n (items report q))

@@ -12,6 +12,7 @@ pub mod Shorter
 pub mod Meanings
 pub mod Order
 pub mod Skipped
+pub mod Depth
 pub mod Fit
 pub mod Few
 pub mod Places

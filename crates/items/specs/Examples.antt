@@ -1,5 +1,5 @@
--- E1 to E16 of document 01 and its `lexlist` text: all words of every record, and the text memory. One table, one statement, proved by
--- computation.
+-- E1 to E16 of document 01, its `lexlist` text, and the requests' texts: all words of every record, and the text memory. One table, one
+-- statement, proved by computation.
 use Prim.Native.Nat.{ℕ, _+_}
 use Prim.Native.String.{String}
 use mathlib.Core.Path.{_≡_, refl}
@@ -18,7 +18,8 @@ use Rattle.numbers.specs.Grammar.{justOf, complexOf, polarOf, endsI, imaginary,
 use Rattle.items.specs.Classes.{startsRun, firstOf, inQuotes, afterBackslash, stopsHex, inHex, inTrim, inNest, breaksWord, inWord, staysRun, endsRun, inRun, afterHash, endsHash, inHash, inDelim}
 use Rattle.items.specs.Readers.{readLine, linedOf, scalarOf, pastFailing, readWord, readRun, boolKind, quoteKind, formKind, hashKind, hashBracket, hashAt, hashComma, unreturned, endsWith, hereEnds, hereBody, hereDelim, afterAngle, readHash, readComma, readItem, readNest, readQuoted, wordOn, hashOn}
 use Rattle.items.specs.Meaning.{lookup, words, wordKind, wordMeans, runMeans, escaped, stringText, linedText, hereText, charNames, isDelimiter, nameless, hexNamed, spelledOut, characterOf, unescape}
-use Rattle.items.specs.Items.{extentItems, itemsFrom, pastLine, afterPound, items, kept, records, texts, Item}
+use lib.ListN.{take}
+use Rattle.items.specs.Items.{extentItems, itemsFrom, pastLine, afterPound, items, kept, ownWords, records, texts, Item}
 
 -- what the whole-text call writes for a text: its records' words, and its text memory
 record Shown : Type 0 where
@@ -30,7 +31,7 @@ shows [] m = record { words = []; memory = m }
 shows (r ∷ rs) m = record { words = r ++ shows rs m .words; memory = m }
 
 abbrev shown : List Item → Shown
-shown is = record { words = records 0 is; memory = texts is }
+shown is = record { words = records 0 0 is; memory = texts is }
 
 record Example : Type 0 where
   report : Bool
@@ -46,24 +47,28 @@ plain s r m = plainly (codes s) r m
 abbrev reported : String → List (List ℕ) → List ℕ → Example
 reported s r m = record { report = true; text = codes s; wanted = shows r m }
 
--- a record: kind, detail, extent, place, text source, text places
-abbrev nine : ℕ → ℕ → ℕ → ℕ → ℕ → ℕ → ℕ → ℕ → ℕ → List ℕ
-nine k d s e a b o f t = k ∷ d ∷ s ∷ e ∷ a ∷ b ∷ o ∷ f ∷ t ∷ []
+-- a record outside all brackets: kind, detail, extent, place, text source, text places, and the depth 0
+abbrev outside : ℕ → ℕ → ℕ → ℕ → ℕ → ℕ → ℕ → ℕ → ℕ → List ℕ
+outside k d s e a b o f t = k ∷ d ∷ s ∷ e ∷ a ∷ b ∷ o ∷ f ∷ t ∷ 0 ∷ []
+
+-- the same with n brackets open
+abbrev deep : ℕ → List ℕ → List ℕ
+deep n r = take ownWords r ++ (n ∷ [])
 
 -- an item with no text, whose place is its extent
 abbrev bare : ℕ → ℕ → ℕ → ℕ → List ℕ
-bare k d s e = nine k d s e s e 0 0 0
+bare k d s e = outside k d s e s e 0 0 0
 
 -- an error: its number, its detail, its extent and its place
 abbrev error : ℕ → ℕ → ℕ → ℕ → ℕ → ℕ → List ℕ
-error n d s e a b = nine (kind.firstError + n) d s e a b 0 0 0
+error n d s e a b = outside (kind.firstError + n) d s e a b 0 0 0
 
 -- an item with its text in the source, and one with its text in the text memory
 abbrev sourced : ℕ → ℕ → ℕ → ℕ → ℕ → List ℕ
-sourced k s e f t = nine k 0 s e s e 1 f t
+sourced k s e f t = outside k 0 s e s e 1 f t
 
 abbrev decoded : ℕ → ℕ → ℕ → ℕ → ℕ → List ℕ
-decoded k s e f t = nine k 0 s e s e 2 f t
+decoded k s e f t = outside k 0 s e s e 2 f t
 
 table : List Example
 table =
@@ -171,7 +176,24 @@ table =
     -- E16
     ∷ plain "12,5" (sourced kind.Identifier 0 2 0 2 ∷ bare kind.Unquote 0 2 3 ∷ bare kind.Number 0 3 4 ∷ []) []
     -- the text of `lexlist`
-    ∷ plain "(a 14.7;gps\n" (bare kind.OpenParen kind.Round 0 1 ∷ sourced kind.Identifier 1 2 1 2 ∷ sourced kind.Identifier 3 7 3 7 ∷ bare kind.Comment 0 7 12 ∷ []) []
+    ∷ plain "(a 14.7;gps\n"
+    (bare kind.OpenParen kind.Round 0 1 ∷ deep 1 (sourced kind.Identifier 1 2 1 2) ∷ deep 1 (sourced kind.Identifier 3 7 3 7) ∷ deep 1 (bare kind.Comment 0 7 12) ∷ []) []
+    -- 02 (vi): the depth is that before the item; a close with none open leaves it at 0
+    ∷ plain "(a)" (bare kind.OpenParen kind.Round 0 1 ∷ deep 1 (sourced kind.Identifier 1 2 1 2) ∷ deep 1 (bare kind.CloseParen kind.Round 2 3) ∷ []) []
+    ∷ plain ")(" (bare kind.CloseParen kind.Round 0 1 ∷ bare kind.OpenParen kind.Round 1 2 ∷ []) []
+    ∷ plain ")))a"
+    (bare kind.CloseParen kind.Round 0 1 ∷ bare kind.CloseParen kind.Round 1 2 ∷ bare kind.CloseParen kind.Round 2 3 ∷ sourced kind.Identifier 3 4 3 4 ∷ []) []
+    -- every bracket opens, and any closes
+    ∷ plain "([{#(#u8()]"
+    (bare kind.OpenParen kind.Round 0 1 ∷ deep 1 (bare kind.OpenParen kind.Square 1 2) ∷ deep 2 (bare kind.OpenParen kind.Curly 2 3)
+    ∷ deep 3 (bare kind.OpenParen kind.Vector 3 5) ∷ deep 4 (bare kind.OpenParen kind.Bytes 5 9) ∷ deep 5 (bare kind.CloseParen kind.Round 9 10)
+    ∷ deep 4 (bare kind.CloseParen kind.Square 10 11) ∷ [])
+    []
+    -- brackets in strings, characters and comments are none; both items of a pair have the same depth
+    ∷ plain "(\"(\"#\\( ;(\n+a"
+    (bare kind.OpenParen kind.Round 0 1 ∷ deep 1 (sourced kind.StringLiteral 1 4 2 3) ∷ deep 1 (bare kind.CharacterLiteral (code "(") 4 7)
+    ∷ deep 1 (bare kind.Comment 0 8 11) ∷ deep 1 (sourced kind.Identifier 11 13 11 12) ∷ deep 1 (sourced kind.Identifier 11 13 12 13) ∷ [])
+    []
     -- a first line; words with a kind; characters, and a bad one; a blank past ASCII
     ∷ plain "#!x\nif" (bare kind.If 0 4 6 ∷ []) []
     ∷ plain "λ ... ." (bare kind.Lambda 0 0 2 ∷ bare kind.Ellipses 0 3 6 ∷ bare kind.Dot 0 7 8 ∷ []) []

@@ -1,5 +1,5 @@
 -- The definition, part 3: the items of a text, their records and their texts. Document 01, "An item".
-use Prim.Native.Nat.{ℕ, zero, suc, _+_}
+use Prim.Native.Nat.{ℕ, zero, suc, _+_, _-_}
 use mathlib.Core.Bool.{Bool, true, false, _&&_}
 use mathlib.Core.List.{List, [], _∷_, _++_}
 use lib.ListN.{length, drop}
@@ -10,6 +10,7 @@ use Rattle.chars.specs.Encode.{width}
 use Rattle.chars.specs.Blank.{isBlank}
 use Rattle.items.specs.declared.Outcome.{Outcome}
 use Rattle.items.specs.declared.Outcome.the-variants.{Token, Str, HereStr, Word, Run, Lined, Keyword, Character, Error, ErrorAt}
+use Rattle.items.specs.declared.Nine.{Nine}
 use Rattle.items.specs.declared.Record.{Record}
 use Rattle.items.specs.declared.CharValue.{CharValue}
 use Rattle.items.specs.declared.CharValue.the-variants.{Scalar, Wrong, WrongAt}
@@ -126,23 +127,49 @@ unfoldable pub kept : Bool → List Item → List Item
 kept skip [] = []
 kept skip (i ∷ is) = let more = kept skip is in if skip && eqb (i .kind) kind.Comment then more else i ∷ more
 
+-- ---- depth: 02 (vi), "the number of open brackets before the item, where a close with none open leaves it at 0"
+
+-- the greatest depth that a word holds. No text has as many brackets; a position that a caller makes up may stand there, and stays
+abbrev pub deepest : ℕ
+deepest = 4294967295
+
+-- the depth after an item of a kind, from the depth before it: any of the brackets opens or closes, whatever its shape
+abbrev pub depthAfter : ℕ → ℕ → ℕ
+depthAfter k d = if eqb k kind.OpenParen then (if ltb d deepest then suc d else d) else (if eqb k kind.CloseParen then d - 1 else d)
+
+-- the depth after some items
+unfoldable pub depthPast : ℕ → List Item → ℕ
+depthPast d [] = d
+depthPast d (i ∷ is) = depthPast (depthAfter (i .kind) d) is
+
 -- ---- records. `free` is the first free byte of the text memory
 
--- how many words a record has
+-- how many words a record has, and how many of them an item has by itself
 abbrev pub recordWords : ℕ
-recordWords = 9
+recordWords = 10
+
+abbrev pub ownWords : ℕ
+ownWords = 9
 
 abbrev pub textWords : ℕ → Text → List ℕ
 textWords free none = 0 ∷ 0 ∷ 0 ∷ []
 textWords free (source a b) = 1 ∷ a ∷ b ∷ []
 textWords free (decoded bs) = 2 ∷ free ∷ (free + length bs) ∷ []
 
-abbrev pub recordOf : ℕ → Item → List ℕ
-recordOf free i = i .kind ∷ i .detail ∷ i .start ∷ i .end ∷ i .place .from ∷ i .place .to ∷ textWords free (i .text)
+-- an item by itself: demand 2 speaks of these nine words
+abbrev pub nineOf : ℕ → Item → List ℕ
+nineOf free i = i .kind ∷ i .detail ∷ i .start ∷ i .end ∷ i .place .from ∷ i .place .to ∷ textWords free (i .text)
+
+-- and with its depth
+abbrev pub recordOf : ℕ → ℕ → Item → List ℕ
+recordOf free depth i = nineOf free i ++ (depth ∷ [])
 
 -- the words of a record, as they lie in lent memory
+abbrev pub nineWords : Nine → List ℕ
+nineWords r = r .kind ∷ r .detail ∷ r .start ∷ r .end ∷ r .from ∷ r .to ∷ r .source ∷ r .first ∷ r .past ∷ []
+
 abbrev pub wordsOf : Record → List ℕ
-wordsOf r = r .kind ∷ r .detail ∷ r .start ∷ r .end ∷ r .from ∷ r .to ∷ r .source ∷ r .first ∷ r .past ∷ []
+wordsOf r = nineWords (r .nine) ++ (r .depth ∷ [])
 
 -- the bytes of a text that go into the text memory
 abbrev pub memoryOf : Text → List ℕ
@@ -150,10 +177,10 @@ memoryOf none = []
 memoryOf (source a b) = []
 memoryOf (decoded bs) = bs
 
--- the words of all records, and the bytes of all decoded texts, in order
-unfoldable pub records : ℕ → List Item → List ℕ
-records free [] = []
-records free (i ∷ is) = recordOf free i ++ records (free + length (memoryOf (i .text))) is
+-- the words of all records, and the bytes of all decoded texts, in order; `depth` is the depth before the first item
+unfoldable pub records : ℕ → ℕ → List Item → List ℕ
+records free depth [] = []
+records free depth (i ∷ is) = recordOf free depth i ++ records (free + length (memoryOf (i .text))) (depthAfter (i .kind) depth) is
 
 unfoldable pub texts : List Item → List ℕ
 texts [] = []

@@ -46,7 +46,7 @@ deliver is recs text =
     if leb (length is) (length recs / recordWords)
     then
     (if leb (length (texts is)) (length text)
-    then call (served (length is) (length (texts is))) (written (records 0 is) recs) (written (texts is) text)
+    then call (served (length is) (length (texts is))) (written (records 0 0 is) recs) (written (texts is) text)
     else call (refused 22 (length is) (length (texts is))) recs text)
     else call (refused 22 (length is) (length (texts is))) recs text
 

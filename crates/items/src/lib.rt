@@ -1,9 +1,9 @@
 // What the reader speaks of: what an item turned out to be, where in an item the machine stands, and what a character does there.
 //
 // The definition of the items of a text, which is what a reviewer must believe, stands in specs/: Kinds, Classes, Readers, Meaning,
-// Items, Whole, with 01's examples in Examples. The machine, in specs/Machine and specs/Run, is a means of proof and cited by no
-// public contract: proofs/ shows that it gives exactly the definition's items, however a text is cut. The code of its steps is in
-// crate `steps`. `kinds` has the numbers of kinds, errors and details for all code.
+// Items, Whole, with 01's examples in Examples. The machine, in specs/Machine and specs/Run, is a means of proof: of public contracts only
+// those of the piece calls cite it, for states that no call made. proofs/ shows that it gives exactly the definition's items, however a text
+// is cut. The code of its steps is in crate `steps`. `kinds` has the numbers of kinds, errors and details for all code.
 
 pub mod kinds;
 
@@ -121,8 +121,8 @@ pub enum CharValue {
     WrongAt(u32, u32, usize),
 }
 
-// A record: an item in nine words, as document 01 lays them out.
-pub struct Record {
+// An item in nine words, as document 01 lays them out.
+pub struct Nine {
     // the kind, or 100 plus an error's number
     pub kind: u32,
     pub detail: u32,
@@ -136,4 +136,10 @@ pub struct Record {
     pub source: u32,
     pub first: u32,
     pub past: u32,
+}
+
+// A record: those nine words, and how many brackets are open before the item.
+pub struct Record {
+    pub nine: Nine,
+    pub depth: u32,
 }

@@ -37,7 +37,8 @@ module _ (w : Words) where
   pub narrowed : narrow w ≡ true → Narrowed w
   unfolding narrow
   narrowed e =
-      let code = and-true _ _ e in
+      let depth = and-true _ _ e in
+      let code = and-true _ _ (depth .0) in
       let high = and-true _ _ (code .0) in
       let low = and-true _ _ (high .0) in
       let need = and-true _ _ (low .0) in
@@ -50,6 +51,7 @@ module _ (w : Words) where
         low = ltb-true (w .low) (2 ^ 8) (low .1);
         high = ltb-true (w .high) (2 ^ 8) (high .1);
         code = ltb-true (w .code) (2 ^ 32) (code .1);
+        depth = ltb-true (w .depth) (2 ^ 32) (depth .1);
       }
 
   -- the code's comparison of a row with its stage's
@@ -134,6 +136,7 @@ with m skip ended stage =
       from = m .from;
       to = m .to;
       len = m .len;
+      depth = m .depth;
     }
 
 pub standing-coded : (m : Marks) → standing (coded m) ≡ m
@@ -193,6 +196,7 @@ words-with w skip ended r =
       from = w .from;
       to = w .to;
       len = w .len;
+      depth = w .depth;
     }
 
 pub coded-standing : (w : Words) → isCode w ≡ true → coded (standing w) ≡ w

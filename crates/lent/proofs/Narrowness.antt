@@ -25,7 +25,8 @@ use Rattle.pieces.specs.declared.Stage.the-variants.{Opening, Pound, FirstLine,
 use Rattle.pieces.specs.declared.State.{State}
 use Rattle.pieces.specs.Bounds.{inBounds}
 use Rattle.pieces.specs.Expected.{longest}
-use Rattle.pieces.specs.Calls.{Turn, on, off, Reply, reply, finished, lastOf, itemSoFar, stopped, begin, beyond, gives, report, ends, onNext, onStage, partly, turnOf}
+use Rattle.items.proofs.Depth.{depth-within}
+use Rattle.pieces.specs.Calls.{Turn, on, off, Reply, reply, finished, deeper, lastOf, itemSoFar, stopped, begin, beyond, gives, report, ends, onNext, onStage, partly, turnOf}
 use Rattle.pieces.specs.Calls.{after, feedOf, pieceStage, pieceOf, declared, replied, unlessCut, endUnlessStopped, endOf, fresh, openOf}
 use Rattle.pieces.specs.Produced.{Produced, opened, pieced, ended}
 use Rattle.lent.proofs.Slight.{Small, Slight, Eaten, slight-step, slight-first}
@@ -98,6 +99,7 @@ pub record Lean (s : State) : Type 0 where
   pub mode : Small (s .marks .mode)
   pub begun : Slender (s .marks .part .state)
   pub stage : Staged (s .marks .stage)
+  pub depth : Small (s .marks .depth)
 
 -- between two characters
 abbrev none : Slender (record { need = 0; low = 0; high = 0; code = 0 })
@@ -110,45 +112,50 @@ LeanTurn (off s w) = Lean s
 abbrev LeanReply : Reply → Type 0
 LeanReply r = Lean (r .state)
 
+-- an item of a kind was given
+lean-deeper : (k : ℕ) (s : State) → Lean s → Lean (deeper k s)
+lean-deeper k s h = record { mode = h .mode; begun = h .begun; stage = h .stage; depth = omega (arith, depth-within k (s .marks .depth) (omega (arith, h .depth))) }
+
 -- ---- one character
 
 module _ (s : State) (h : Lean s) where
   lean-begin : (last : Place) (c : ℕ) → Lean (begin s last c)
   lean-begin last c =
       if-all Lean (isBlank c)
-      (record { mode = h .mode; begun = none; stage = tt })
-      (record { mode = h .mode; begun = none; stage = slight-first c })
+      (record { mode = h .mode; begun = none; stage = tt; depth = h .depth })
+      (record { mode = h .mode; begun = none; stage = slight-first c; depth = h .depth })
 
   lean-beyond : (last : Place) (b : Beyond) → Lean (beyond s last b)
   lean-beyond last (Char c) = lean-begin last c
-  lean-beyond last End = record { mode = h .mode; begun = none; stage = tt }
+  lean-beyond last End = record { mode = h .mode; begun = none; stage = tt; depth = h .depth }
 
+module _ (s : State) (h : Lean s) where
   lean-gives : (st : ℕ) (last : Place) (b : Beyond) → Ahead b → (is : List Item) → LeanTurn (gives s st last b is)
-  lean-gives st last b a [] = lean-beyond last b
-  lean-gives st last b a (i ∷ []) = if-all LeanTurn (s .marks .skip && eqb (i .kind) kind.Comment) (lean-beyond last b) (lean-beyond last b)
-  lean-gives st last b a (i ∷ j ∷ is) = record { mode = h .mode; begun = none; stage = a }
+  lean-gives st last b a [] = lean-beyond s h last b
+  lean-gives st last b a (i ∷ []) = if-all LeanTurn (s .marks .skip && eqb (i .kind) kind.Comment) (lean-beyond s h last b) (lean-beyond (deeper (i .kind) s) (lean-deeper (i .kind) s h) last b)
+  lean-gives st last b a (i ∷ j ∷ is) = record { mode = h .mode; begun = none; stage = a; depth = h .depth }
 
   lean-ends : (st : ℕ) (o : Outcome) (b : Beyond) → Ahead b → LeanTurn (ends s st o b)
   lean-ends st o b a =
       lean-gives st (rangeAfter (report s) (lastOf s) st o (itemSoFar s)) b a (extentItems (report s) (lastOf s) st o (itemSoFar s))
 
   lean-stopped : (n p : ℕ) → Small n → LeanTurn (stopped s n p)
-  lean-stopped n p z = record { mode = h .mode; begun = none; stage = z }
+  lean-stopped n p z = record { mode = h .mode; begun = none; stage = z; depth = h .depth }
 
   lean-next : (st c : ℕ) → Small c → (n : Next) → Eaten n → LeanTurn (onNext s st c n)
   lean-next st c z (Eat q) e =
-      if-all LeanTurn (ltb longest (s .marks .len + width c)) (lean-stopped 23 st (omega arith)) (record { mode = h .mode; begun = none; stage = e })
+      if-all LeanTurn (ltb longest (s .marks .len + width c)) (lean-stopped 23 st (omega arith)) (record { mode = h .mode; begun = none; stage = e; depth = h .depth })
   lean-next st c z (Stop o) e = lean-ends st o (Char c) z
 
   lean-stage : (c : ℕ) → Small c → (g : Stage) → Staged g → LeanTurn (onStage s g c)
   lean-stage c z Opening e =
-      if-all Lean (eqb c (code "#")) (record { mode = h .mode; begun = none; stage = tt }) (lean-begin (lastOf s) c)
+      if-all Lean (eqb c (code "#")) (record { mode = h .mode; begun = none; stage = tt; depth = h .depth }) (lean-begin s h (lastOf s) c)
   lean-stage c z Pound e =
-      if-all LeanTurn (eqb c (code "!")) (record { mode = h .mode; begun = none; stage = tt })
+      if-all LeanTurn (eqb c (code "!")) (record { mode = h .mode; begun = none; stage = tt; depth = h .depth })
       (lean-next 0 c z (stepOf (report s) AfterHash (itemSoFar s) c) (slight-step (itemSoFar s) c z (report s) AfterHash tt))
   lean-stage c z FirstLine e =
-      if-all Lean (eqb c (code "\n")) (lean-begin (lastOf s) c) (record { mode = h .mode; begun = none; stage = tt })
-  lean-stage c z Idle e = lean-begin (lastOf s) c
+      if-all Lean (eqb c (code "\n")) (lean-begin s h (lastOf s) c) (record { mode = h .mode; begun = none; stage = tt; depth = h .depth })
+  lean-stage c z Idle e = lean-begin s h (lastOf s) c
   lean-stage c z (Busy st p) e =
       lean-next st c z (stepOf (report s) p (itemSoFar s) c) (slight-step (itemSoFar s) c z (report s) p e)
   lean-stage c z (Waiting st b) e = h
@@ -156,7 +163,7 @@ module _ (s : State) (h : Lean s) where
 
   lean-told : (o : Step) → Steps o
       → LeanTurn (told o (λ u. on (partly s (record { count = s .marks .part .count + 1; state = u }))) (λ c. onStage s (s .marks .stage) c) (stopped s 21 (s .marks .at)))
-  lean-told (steps.More u) z = record { mode = h .mode; begun = z; stage = h .stage }
+  lean-told (steps.More u) z = record { mode = h .mode; begun = z; stage = h .stage; depth = h .depth }
   lean-told (steps.Char c) z = lean-stage c z (s .marks .stage) (h .stage)
   lean-told steps.Bad z = lean-stopped 21 (s .marks .at) (omega arith)
 
@@ -192,7 +199,7 @@ module _ (s : State) (h : Lean s) where
   lean-piece bs room = if-all LeanReply (inBounds s) (if-all LeanReply (ltb room longest) h (lean-work bs (s .marks .stage))) h
 
   lean-declared : Lean (declared s)
-  lean-declared = record { mode = h .mode; begun = h .begun; stage = h .stage }
+  lean-declared = record { mode = h .mode; begun = h .begun; stage = h .stage; depth = h .depth }
 
 lean-replied : (t : Turn) → LeanTurn t → LeanReply (replied t)
 lean-replied (on s) h = h
@@ -218,7 +225,7 @@ unfolding endOf
 lean-end s h room = if-all LeanReply (inBounds s) (if-all LeanReply (ltb room longest) h (lean-last s h (s .marks .stage))) h
 
 lean-fresh : (mode : ℕ) (skip : Bool) → Small mode → Lean (fresh mode skip)
-lean-fresh mode skip h = record { mode = h; begun = none; stage = tt }
+lean-fresh mode skip h = record { mode = h; begun = none; stage = tt; depth = omega arith }
 
 pub lean : {s : State} → Produced s → Lean s
 unfolding openOf

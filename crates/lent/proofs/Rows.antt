@@ -78,7 +78,7 @@ unfolding coded narrow
 lean-is-code s h =
     let r : Narrow (stageRow (s .marks .stage)) = stage-narrow (s .marks .stage) (h .stage) in
     coded-is-code (s .marks)
-    (both (both (both (both (both (both
+    (both (both (both (both (both (both (both
     (lt-ltb (s .marks .mode) (2 ^ 32) (h .mode))
     (lt-ltb (stageRow (s .marks .stage) .which) (2 ^ 32) (r .which)))
     (lt-ltb (stageRow (s .marks .stage) .detail) (2 ^ 32) (r .detail)))
@@ -86,3 +86,4 @@ lean-is-code s h =
     (lt-ltb (s .marks .part .state .low) (2 ^ 8) (h .begun .low)))
     (lt-ltb (s .marks .part .state .high) (2 ^ 8) (h .begun .high)))
     (lt-ltb (s .marks .part .state .code) (2 ^ 32) (h .begun .code)))
+    (lt-ltb (s .marks .depth) (2 ^ 32) (h .depth)))

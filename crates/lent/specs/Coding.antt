@@ -108,6 +108,7 @@ standing w =
       from = w .from;
       to = w .to;
       len = w .len;
+      depth = w .depth;
     }
 
 -- ---- from marks to words
@@ -198,6 +199,7 @@ withRow m r =
       from = m .from;
       to = m .to;
       len = m .len;
+      depth = m .depth;
     }
 
 -- the words that stand for marks
@@ -216,6 +218,7 @@ isNarrow n = ltb n (2 ^ 32)
 unfoldable pub narrow : Words → Bool
 narrow w =
     isNarrow (w .mode) && isNarrow (w .which) && isNarrow (w .detail) && isByte (w .need) && isByte (w .low) && isByte (w .high) && isNarrow (w .code)
+    && isNarrow (w .depth)
 
 -- the same, as what the code asks of a row and of words before it reads them
 pub record Narrow (r : Row) : Type 0 where
@@ -229,6 +232,7 @@ pub record Narrowed (w : Words) : Type 0 where
   pub low : w .low < 2 ^ 8
   pub high : w .high < 2 ^ 8
   pub code : w .code < 2 ^ 32
+  pub depth : w .depth < 2 ^ 32
 
 unfoldable pub sameRow : Row → Row → Bool
 sameRow a b =

@@ -26,7 +26,7 @@ new = openFor 0 false (replicate longest 0) .state
 abbrev after : List ℕ → Words
 after bytes = pieceFor new bytes longest .state .words
 
--- the words of a plain state, comments kept, with a stage, the place, the bytes held, and the numbers of a character begun
+-- the words of a plain state, comments kept, outside all brackets, with a stage, the place, the bytes held, and the numbers of a character begun
 abbrev words : Row → ℕ → ℕ → ℕ → ℕ → ℕ → ℕ → ℕ → Words
 words r at len count need low high code =
     record {
@@ -48,6 +48,7 @@ words r at len count need low high code =
       from = 0;
       to = 0;
       len = len;
+      depth = 0;
     }
 
 -- opened: every word is 0

@@ -148,6 +148,7 @@ fn stand(words: Words) -> Marks
         from: words.from as usize,
         to: words.to as usize,
         len: words.len as usize,
+        depth: words.depth as u32,
     }
 }
 
@@ -173,7 +174,10 @@ fn narrow(words: Words) -> bool
     if BYTE_END <= words.high {
         return false;
     }
-    words.code < NARROW_END
+    if NARROW_END <= words.code {
+        return false;
+    }
+    words.depth < NARROW_END
 }
 
 fn same_row(a: Row, b: Row) -> bool

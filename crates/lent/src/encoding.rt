@@ -162,6 +162,7 @@ pub fn encode(m: Marks) -> Words
         from: m.from as u64,
         to: m.to as u64,
         len: m.len as u64,
+        depth: m.depth as u64,
     }
 }
 
@@ -188,5 +189,6 @@ pub(crate) fn fresh_words(mode: u32, skip: bool) -> Words
         from: 0,
         to: 0,
         len: 0,
+        depth: 0,
     }
 }

@@ -1,5 +1,5 @@
 // Reading in pieces with a state that the caller keeps: document 01, "The piece state is lent and updated where the caller keeps it".
-// The state is numbers alone, 4,096 bytes and eighteen words, so that it can stand in the memory of a program in any language.
+// The state is numbers alone, 4,096 bytes and nineteen words, so that it can stand in the memory of a program in any language.
 //
 // specs/Coding says which words stand for which marks of crate `pieces`, specs/Calls what the calls do. docs/STATE.md lists the words.
 use pieces::Got;
@@ -47,6 +47,8 @@ pub struct Words {
     pub to: u64,
     // how many bytes of the item are held
     pub len: u64,
+    // how many brackets are open before it
+    pub depth: u64,
 }
 
 // A stage as numbers.

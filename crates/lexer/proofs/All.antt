@@ -1,5 +1,5 @@
 -- Reading on gives the items of the definition, one after the other: turn by turn all of them, and where comments are skipped those that
--- are kept. A position's size falls with every turn, so that as many turns as the size are enough.
+-- are kept. A spot's size falls with every turn, so that as many turns as the size are enough.
 use Rattle.chars.specs.Utf8.{chars}
 use Rattle.items.specs.Kinds as kind
 use Rattle.items.specs.Readers.{Read, readItem}
@@ -7,7 +7,7 @@ use Rattle.items.specs.Items.{Item, kept}
 use Rattle.meaning.specs.Places.{placeIn}
 use Rattle.laws.proofs.Choice.{by-bool}
 use Rattle.lexer.specs.Reading.{Turn, gives, ends, turnOf, turn, startFrom, sizeOf, nextAt, andThen, allFrom, allItems}
-use Rattle.lexer.specs.declared.Position.{Position}
+use Rattle.lexer.specs.declared.Spot.{Spot}
 use Rattle.lexer.specs.declared.Start.{Start}
 use Rattle.lexer.specs.declared.Start.the-variants.{At, Nothing}
 use Rattle.lexer.proofs.Left.{left-here}
@@ -25,33 +25,33 @@ use native.Mathlib.Omega.{arith}
 
 module _ (s : List ℕ) where
   -- all that turns give
-  unfoldable turnsFrom : ℕ → Position → List Item
+  unfoldable turnsFrom : ℕ → Spot → List Item
   turnsFrom zero p = []
   turnsFrom (suc n) p = andThen (turn s p) (λ q. turnsFrom n q)
 
-  turns-give : (n : ℕ) (p q : Position) (i : Item) → turn s p ≡ gives i q → turnsFrom (suc n) p ≡ i ∷ turnsFrom n q
+  turns-give : (n : ℕ) (p q : Spot) (i : Item) → turn s p ≡ gives i q → turnsFrom (suc n) p ≡ i ∷ turnsFrom n q
   unfolding turnsFrom
   turns-give n p q i e = rw e
 
-  turns-end : (n : ℕ) (p : Position) → turn s p ≡ ends → turnsFrom (suc n) p ≡ []
+  turns-end : (n : ℕ) (p : Spot) → turn s p ≡ ends → turnsFrom (suc n) p ≡ []
   unfolding turnsFrom
   turns-end n p e = rw e
 
-  -- the items of the definition from a position on
-  abbrev itemsAfter : Position → List Item
+  -- the items of the definition from a spot on
+  abbrev itemsAfter : Spot → List Item
   itemsAfter p = itemsOn (p .report) (placeIn (p .last)) (p .at) (chars (drop (p .at) s))
 
   -- ---- turn by turn
 
-  module _ (k : ℕ) (rec : (m : ℕ) (p : Position) → p .second ≡ false → sizeOf s p < k → sizeOf s p < m → turnsFrom m p ≡ itemsAfter p)
-      (p : Position) (b : p .second ≡ false) (size : sizeOf s p < suc k) (c a n : ℕ) (S : Started s (p .at) (chars (drop (p .at) s)) c a n) where
+  module _ (k : ℕ) (rec : (m : ℕ) (p : Spot) → p .second ≡ false → sizeOf s p < k → sizeOf s p < m → turnsFrom m p ≡ itemsAfter p)
+      (p : Spot) (b : p .second ≡ false) (size : sizeOf s p < suc k) (c a n : ℕ) (S : Started s (p .at) (chars (drop (p .at) s)) c a n) where
     abbrev it : Read
     it = readItem (p .report) a c (chars (drop n s))
 
-    abbrev gone : Position
+    abbrev gone : Spot
     gone = past p a (it .what) (it .item)
 
-    abbrev stay : Position
+    abbrev stay : Spot
     stay = halfway p a (it .what) (it .item)
 
     turns : turn s p ≡ turnOf p a (it .what) (it .item)
@@ -65,7 +65,7 @@ module _ (s : List ℕ) where
     splits : itemsAfter p ≡ both p a (it .what) (it .item) ++ itemsAfter gone
     splits = S .items (p .report) (placeIn (p .last)) ∙ rw rest
 
-    falls : (x : Item) (q : Position) → turn s p ≡ gives x q → sizeOf s q < sizeOf s p
+    falls : (x : Item) (q : Spot) → turn s p ≡ gives x q → sizeOf s q < sizeOf s p
     falls x q e = turn-moved s p x q e .smaller
 
     single : (m : ℕ) (x : Item) → both p a (it .what) (it .item) ≡ x ∷ [] → turn s p ≡ gives x gone → sizeOf s p < m → turnsFrom m p ≡ itemsAfter p
@@ -96,7 +96,7 @@ module _ (s : List ℕ) where
         (λ x y f _ g. double m x y f (turns ∙ g) (again x y f) h)
         (λ x y f t g. let z : true ≡ false = sym t ∙ b in let w : _≡_ {A = ℕ} 0 1 = cc in absurd (omega arith))
 
-  all-turns : (k m : ℕ) (p : Position) → p .second ≡ false → sizeOf s p < k → sizeOf s p < m → turnsFrom m p ≡ itemsAfter p
+  all-turns : (k m : ℕ) (p : Spot) → p .second ≡ false → sizeOf s p < k → sizeOf s p < m → turnsFrom m p ≡ itemsAfter p
   unfolding turn
   all-turns zero m p b h g = absurd (omega arith)
   all-turns (suc k) m p b h g = go (startFrom (p .at) (chars (drop (p .at) s))) refl (λ m p b h g. all-turns k m p b h g)
@@ -106,7 +106,7 @@ module _ (s : List ℕ) where
       nothing (suc m) h e f = turns-end m p e ∙ sym f
 
       go : (x : Start) → startFrom (p .at) (chars (drop (p .at) s)) ≡ x
-          → ((m : ℕ) (p : Position) → p .second ≡ false → sizeOf s p < k → sizeOf s p < m → turnsFrom m p ≡ itemsAfter p)
+          → ((m : ℕ) (p : Spot) → p .second ≡ false → sizeOf s p < k → sizeOf s p < m → turnsFrom m p ≡ itemsAfter p)
           → turnsFrom m p ≡ itemsAfter p
       go (At c a n) f rec = one-extent k rec p b h c a n (started s (chars (drop (p .at) s)) (p .at) refl c a n f) m g
       go Nothing f rec =
@@ -115,15 +115,15 @@ module _ (s : List ℕ) where
 
   -- ---- with skipped comments
 
-  next-all : (m : ℕ) (p q : Position) → nextAt s p ≡ nextAt s q → allFrom (suc m) s p ≡ allFrom (suc m) s q
+  next-all : (m : ℕ) (p q : Spot) → nextAt s p ≡ nextAt s q → allFrom (suc m) s p ≡ allFrom (suc m) s q
   unfolding allFrom
   next-all m p q e = ap (λ (t : Turn). andThen t (λ u. allFrom m s u)) e
 
-  pub all-gives : (m : ℕ) (p q : Position) (i : Item) → nextAt s p ≡ gives i q → allFrom (suc m) s p ≡ i ∷ allFrom m s q
+  pub all-gives : (m : ℕ) (p q : Spot) (i : Item) → nextAt s p ≡ gives i q → allFrom (suc m) s p ≡ i ∷ allFrom m s q
   unfolding allFrom
   all-gives m p q i e = rw e
 
-  pub all-ends : (m : ℕ) (p : Position) → nextAt s p ≡ ends → allFrom (suc m) s p ≡ []
+  pub all-ends : (m : ℕ) (p : Spot) → nextAt s p ≡ ends → allFrom (suc m) s p ≡ []
   unfolding allFrom
   all-ends m p e = rw e
 
@@ -139,13 +139,13 @@ module _ (s : List ℕ) where
   unfolding kept
   kept-none skip = refl
 
-  all-kept : (k m n : ℕ) (p : Position) → sizeOf s p < k → sizeOf s p < m → sizeOf s p < n → allFrom m s p ≡ kept (p .skip) (turnsFrom n p)
+  all-kept : (k m n : ℕ) (p : Spot) → sizeOf s p < k → sizeOf s p < m → sizeOf s p < n → allFrom m s p ≡ kept (p .skip) (turnsFrom n p)
   all-kept zero m n p h f g = absurd (omega arith)
   all-kept (suc k) zero n p h f g = absurd (omega arith)
   all-kept (suc k) (suc m) zero p h f g = absurd (omega arith)
   all-kept (suc k) (suc m) (suc n) p h f g = go (λ m n p h f g. all-kept k m n p h f g) (turn s p) refl
     where
-      go : ((m n : ℕ) (p : Position) → sizeOf s p < k → sizeOf s p < m → sizeOf s p < n → allFrom m s p ≡ kept (p .skip) (turnsFrom n p))
+      go : ((m n : ℕ) (p : Spot) → sizeOf s p < k → sizeOf s p < m → sizeOf s p < n → allFrom m s p ≡ kept (p .skip) (turnsFrom n p))
           → (t : Turn) → turn s p ≡ t → allFrom (suc m) s p ≡ kept (p .skip) (turnsFrom (suc n) p)
       go rec ends e = all-ends m p (next-at-ends s p e) ∙ sym (ap (kept (p .skip)) (turns-end n p e) ∙ kept-none (p .skip))
       go rec (gives i q) e =
@@ -159,8 +159,8 @@ module _ (s : List ℕ) where
           ∙ ap (λ (l : List Item). i ∷ l) (rec m n q (omega (arith, M .smaller)) (omega (arith, M .smaller)) (omega (arith, M .smaller)) ∙ ap (λ (x : Bool). kept x (turnsFrom n q)) (M .skip))
           ∙ sym (ap (kept (p .skip)) (turns-give n p q i e) ∙ keeps (p .skip) i (turnsFrom n q) b))
 
-  -- all that reading on gives from a position between extents
-  pub all-read : (p : Position) → p .second ≡ false → allItems s p ≡ kept (p .skip) (itemsOn (p .report) (placeIn (p .last)) (p .at) (chars (drop (p .at) s)))
+  -- all that reading on gives from a spot between extents
+  pub all-read : (p : Spot) → p .second ≡ false → allItems s p ≡ kept (p .skip) (itemsOn (p .report) (placeIn (p .last)) (p .at) (chars (drop (p .at) s)))
   unfolding allItems
   all-read p b =
       let n : ℕ = suc (sizeOf s p) in

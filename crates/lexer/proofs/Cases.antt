@@ -8,7 +8,7 @@ use Rattle.items.proofs.Few.{OneOrTwo, few-items}
 use Rattle.laws.proofs.Choice.{by-bool}
 use Rattle.meaning.specs.Places.{placeIn}
 use Rattle.lexer.specs.Reading.{gives, moved, turnOf, turnAt, turnFrom, turn}
-use Rattle.lexer.specs.declared.Position.{Position}
+use Rattle.lexer.specs.declared.Spot.{Spot}
 use Prim.Native.Nat.{ℕ}
 use mathlib.Core.Path.{_≡_, refl, ap, _∙_}
 use mathlib.Core.Bool.{true, false}
@@ -16,12 +16,12 @@ use mathlib.Core.List.{List, [], _∷_}
 use lib.ListN.{drop}
 use native.Mathlib.Omega.{arith}
 
-module _ (p : Position) (s : ℕ) (what : Outcome) (i : SoFar) where
+module _ (p : Spot) (s : ℕ) (what : Outcome) (i : SoFar) where
   -- where reading goes on: past the extent, or at its start again
-  abbrev pub past : Position
+  abbrev pub past : Spot
   past = moved p (i .at) (rangeAfter (p .report) (placeIn (p .last)) s what i) false
 
-  abbrev pub halfway : Position
+  abbrev pub halfway : Spot
   halfway = moved p s (placeIn (p .last)) true
 
   abbrev pub both : List Item
@@ -40,6 +40,6 @@ module _ (p : Position) (s : ℕ) (what : Outcome) (i : SoFar) where
       go (x ∷ y ∷ z ∷ l) e few = absurd (omega arith)
 
 -- a turn at a character that is no blank
-pub turn-here : (s : List ℕ) (p : Position) (c : ℕ) (cs : List ℕ) → chars (drop (p .at) s) ≡ c ∷ cs → isBlank c ≡ false → turn s p ≡ turnAt p (p .at) c cs
+pub turn-here : (s : List ℕ) (p : Spot) (c : ℕ) (cs : List ℕ) → chars (drop (p .at) s) ≡ c ∷ cs → isBlank c ≡ false → turn s p ≡ turnAt p (p .at) c cs
 unfolding turn turnFrom
 turn-here s p c cs e b = ap (turnFrom p (p .at)) e ∙ rw (b, turnFrom)

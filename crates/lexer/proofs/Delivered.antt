@@ -1,19 +1,20 @@
 -- What is delivered, by the tests of the code; and the reader's replies.
 use Rattle.laws.specs.Lent.{written}
-use Rattle.items.specs.Items.{Item, recordWords, wordsOf, memoryOf, records, texts}
+use Rattle.items.specs.Items.{Item, depthAfter, recordWords, wordsOf, memoryOf, records, texts}
 use Rattle.items.specs.Whole.{call, served, refused, limit, deliver}
-use Rattle.items.specs.declared.Record.{Record}
+use Rattle.items.specs.declared.Nine.{Nine}
 use Rattle.meaning.specs.Records.{packed}
 use Rattle.lexer.specs.Reading.{Turn, gives, ends, nextAt, foundOf}
-use Rattle.lexer.specs.Answers.{item, finished, refuses, replied, giveOf, nextOf}
-use Rattle.lexer.specs.Inner.{neededOf, bytesFor, freeAfter, Few}
+use Rattle.lexer.specs.Answers.{item, finished, refuses, replied, positionAt, giveOf, nextOf}
+use Rattle.lexer.specs.Inner.{neededOf, bytesFor, freeAfter, deepAt, Few}
+use Rattle.lexer.specs.declared.Spot.{Spot}
 use Rattle.lexer.specs.declared.Position.{Position}
 use Rattle.lexer.specs.declared.Needed.{Needed}
 use Rattle.lexer.specs.declared.Found.the-variants.{One, End}
 use Rattle.lexer.proofs.Moves.{Whole}
 use Rattle.lexer.proofs.Nexts.{found-gives, found-ends, next-moved}
-use Rattle.lexer.proofs.Memory.{words-packed, free-packed, bytes-packed}
-use Rattle.lexer.proofs.Writing.{record-fits}
+use Rattle.lexer.proofs.Memory.{record-packed, free-packed, bytes-packed}
+use Rattle.lexer.proofs.Writing.{nine-fits}
 use Prim.Native.Nat.{ℕ, _+_, _*_, _/_, _≤_, _<_}
 use mathlib.Core.Path.{_≡_, sym, ap, _∙_}
 use mathlib.Core.List.{List}
@@ -50,13 +51,13 @@ module _ (is : List Item) (recs text : List ℕ) (n : Needed) (e : n ≡ neededO
       pub room : (recordWords * length is ≤ length recs) × (length (texts is) ≤ length text)
       room = let f : length is ≤ length recs / recordWords = fits in (omega arith, fits-text)
 
-      pub delivered : {r t : List ℕ} → r ≡ written (records 0 is) recs → t ≡ written (texts is) text → call (served (n .items) (n .text)) r t ≡ deliver is recs text
+      pub delivered : {r t : List ℕ} → r ≡ written (records 0 0 is) recs → t ≡ written (texts is) text → call (served (n .items) (n .text)) r t ≡ deliver is recs text
       unfolding deliver
       delivered a b =
           rw (counts .0, counts .1, le-leb (length is) (length recs / recordWords) fits, le-leb (length (texts is)) (length text) fits-text, a, b)
 
   -- where there is a record and a byte of text memory for each byte of the source
-  pub ample : (s : List ℕ) → Few s is → length s ≤ length recs / recordWords → length s ≤ length text → {r t : List ℕ} → r ≡ written (records 0 is) recs
+  pub ample : (s : List ℕ) → Few s is → length s ≤ length recs / recordWords → length s ≤ length text → {r t : List ℕ} → r ≡ written (records 0 0 is) recs
       → t ≡ written (texts is) text → call (served (n .items) (n .text)) r t ≡ deliver is recs text
   ample s few h k a b = delivered (omega (arith, counts, few .0)) (omega (arith, counts, few .1)) a b
 
@@ -68,26 +69,26 @@ module _ (s : List ℕ) (p : Position) (text : List ℕ) where
   reply-long h = rw (lt-ltb limit (length s) h)
 
   module _ (short : length s ≤ limit) where
-    reply-is : (t : Turn) → nextAt s p ≡ t → nextOf s p text ≡ giveOf t text
+    reply-is : (t : Turn) → nextAt s (p .spot) ≡ t → nextOf s p text ≡ giveOf (p .depth) t text
     unfolding nextOf
-    reply-is t e = rw (le-ltb limit (length s) short) (ap (λ (x : Turn). giveOf x text) e)
+    reply-is t e = rw (le-ltb limit (length s) short) (ap (λ (x : Turn). giveOf (p .depth) x text) e)
 
-    pub reply-end : End ≡ foundOf 0 (nextAt s p) → replied finished text ≡ nextOf s p text
+    pub reply-end : End ≡ foundOf 0 (nextAt s (p .spot)) → replied finished text ≡ nextOf s p text
     unfolding giveOf
-    reply-end e = sym (reply-is ends (found-ends 0 (nextAt s p) e))
+    reply-end e = sym (reply-is ends (found-ends 0 (nextAt s (p .spot)) e))
 
-    module _ (r : Record) (q : Position) (e : One r q ≡ foundOf 0 (nextAt s p)) where
+    module _ (r : Nine) (q : Spot) (e : One r q ≡ foundOf 0 (nextAt s (p .spot))) where
       abbrev i : Item
-      i = found-gives 0 (nextAt s p) r q e .0
+      i = found-gives 0 (nextAt s (p .spot)) r q e .0
 
-      given : nextAt s p ≡ gives i q
-      given = found-gives 0 (nextAt s p) r q e .1 .0
+      given : nextAt s (p .spot) ≡ gives i q
+      given = found-gives 0 (nextAt s (p .spot)) r q e .1 .0
 
       is-packed : r ≡ packed 0 i
-      is-packed = found-gives 0 (nextAt s p) r q e .1 .1
+      is-packed = found-gives 0 (nextAt s (p .spot)) r q e .1 .1
 
       whole : Whole s i
-      whole = next-moved s p q i given .whole
+      whole = next-moved s (p .spot) q i given .whole
 
       pub needs : freeAfter 0 r ≡ length (memoryOf (i .text))
       needs = let z : freeAfter 0 r ≡ 0 + length (memoryOf (i .text)) = ap (freeAfter 0) is-packed ∙ free-packed 0 i in omega arith
@@ -107,11 +108,16 @@ module _ (s : List ℕ) (p : Position) (text : List ℕ) where
         held = omega (arith, needs)
 
         pub reply-fits : (r .start < r .end) × (r .end ≤ length s) × (length (bytesFor s r) ≤ length text)
-        reply-fits = record-fits s 0 (length text) r i is-packed whole held
+        reply-fits = nine-fits s 0 (length text) r i is-packed whole held
 
-        pub reply-item : {t : List ℕ} → t ≡ written (bytesFor s r) text → replied (item (wordsOf r) q) t ≡ nextOf s p text
+        -- the depth after the item goes by its kind
+        pub reply-item : (d : ℕ) → d ≡ depthAfter (r .kind) (p .depth) → {t : List ℕ} → t ≡ written (bytesFor s r) text
+            → replied (item (wordsOf (deepAt (p .depth) r)) (positionAt q d)) t ≡ nextOf s p text
         unfolding giveOf
-        reply-item {t} w =
-            ap (replied (item (wordsOf r) q)) (w ∙ ap (λ (l : List ℕ). written l text) bytes)
-            ∙ ap (λ (l : List ℕ). replied (item l q) (written (memoryOf (i .text)) text)) (ap wordsOf is-packed ∙ words-packed 0 i)
+        reply-item d hd {t} w =
+            let after : d ≡ depthAfter (i .kind) (p .depth) = hd ∙ ap (λ (x : Nine). depthAfter (x .kind) (p .depth)) is-packed in
+            ap (replied (item (wordsOf (deepAt (p .depth) r)) (positionAt q d))) (w ∙ ap (λ (l : List ℕ). written l text) bytes)
+            ∙ ap (λ (n : ℕ). replied (item (wordsOf (deepAt (p .depth) r)) (positionAt q n)) (written (memoryOf (i .text)) text)) after
+            ∙ ap (λ (l : List ℕ). replied (item l (positionAt q (depthAfter (i .kind) (p .depth)))) (written (memoryOf (i .text)) text))
+            (ap (λ (x : Nine). wordsOf (deepAt (p .depth) x)) is-packed ∙ record-packed 0 (p .depth) i)
             ∙ sym (reply-is (gives i q) given ∙ rw (le-leb (length (memoryOf (i .text))) (length text) held))

@@ -1,18 +1,18 @@
--- What the code makes of an extent is what the definition gives: its one meaning or two are the definition's, and a record built of a
--- meaning is the record of its item.
+-- What the code makes of an extent is what the definition gives: its one meaning or two are the definition's, and the nine words built of
+-- a meaning are those of its item.
 use Rattle.items.specs.Readers.{soFar}
 use Rattle.items.specs.Meaning.{Text, none, source, decoded, Meaning, means, meaningOf}
 use Rattle.items.specs.Items.{Place, range, placeOf, Item, itemOf, itemsOf, rangeAfter, standing, extentItems}
 use Rattle.items.specs.declared.Outcome.{Outcome}
-use Rattle.items.specs.declared.Record.{Record}
+use Rattle.items.specs.declared.Nine.{Nine}
 use Rattle.meaning.specs.declared.Range.{Range}
 use Rattle.meaning.specs.declared.Means.{Means}
 use Rattle.meaning.specs.Meant.{sized, sizedAll}
 use Rattle.meaning.specs.Places.{placeIn, rangeOf}
-use Rattle.meaning.specs.Records.{packed, recordFor, TextFits}
+use Rattle.meaning.specs.Records.{packed, nineFor, TextFits}
 use Rattle.lexer.specs.Reading.{Turn, gives, moved, pick, turnOf, foundOf}
 use Rattle.lexer.specs.Inner.{TextsFit}
-use Rattle.lexer.specs.declared.Position.{Position}
+use Rattle.lexer.specs.declared.Spot.{Spot}
 use Rattle.lexer.specs.declared.Found.{Found}
 use Rattle.lexer.specs.declared.Found.the-variants.{One}
 use Prim.Native.Nat.{ℕ, _+_}
@@ -44,12 +44,12 @@ fits-two free (x ∷ []) m n e h = let z : _≡_ {A = ℕ} 0 1 = cc in absurd (o
 fits-two free (x ∷ y ∷ l) m n e h = let z : m ≡ sized x = cc in let w : n ≡ sized y = cc in (rw z (h .0), rw w (h .1 .0))
 
 packed-is : (free : ℕ) (report : Bool) (last : Place) (s e k d : ℕ) (t : Text)
-    → recordFor free (sized (means k d t)) (rangeOf (range s e)) (rangeOf (placeOf report k last (range s e))) ≡ packed free (itemOf report last s e (means k d t))
+    → nineFor free (sized (means k d t)) (rangeOf (range s e)) (rangeOf (placeOf report k last (range s e))) ≡ packed free (itemOf report last s e (means k d t))
 packed-is free report last s e k d none = refl
 packed-is free report last s e k d (source a b) = refl
 packed-is free report last s e k d (decoded bs) = refl
 
-module _ (free : ℕ) (p : Position) (start : ℕ) (what : Outcome) (raw : List ℕ) where
+module _ (free : ℕ) (p : Spot) (start : ℕ) (what : Outcome) (raw : List ℕ) where
   abbrev end : ℕ
   end = start + length raw
 
@@ -64,15 +64,15 @@ module _ (free : ℕ) (p : Position) (start : ℕ) (what : Outcome) (raw : List 
   extent = rangeOf (range start end)
 
   -- what the code makes of a meaning
-  abbrev made : Means → Range → Position → Found
-  made m last q = One (recordFor free m extent (rangeOf (placeOf (p .report) (m .kind) (placeIn last) (placeIn extent)))) q
+  abbrev made : Means → Range → Spot → Found
+  made m last q = One (nineFor free m extent (rangeOf (placeOf (p .report) (m .kind) (placeIn last) (placeIn extent)))) q
 
-  made-is : (x : Meaning) (m : Means) (last : Range) (q : Position) → sized x ≡ m → last ≡ rangeOf shown
+  made-is : (x : Meaning) (m : Means) (last : Range) (q : Spot) → sized x ≡ m → last ≡ rangeOf shown
       → made m last q ≡ One (packed free (itemOf (p .report) shown start end x)) q
   made-is x m last q g l =
       ap (λ (y : Means). made y last q) (sym g)
       ∙ ap (λ (y : Range). made (sized x) y q) l
-      ∙ ap (λ (y : Record). One y q) (packed-is free (p .report) shown start end (x .kind) (x .detail) (x .text))
+      ∙ ap (λ (y : Nine). One y q) (packed-is free (p .report) shown start end (x .kind) (x .detail) (x .text))
 
   abbrev item : Meaning → Item
   item x = itemOf (p .report) shown start end x
@@ -84,7 +84,7 @@ module _ (free : ℕ) (p : Position) (start : ℕ) (what : Outcome) (raw : List 
   unfolding extentItems
   turn-of l f = ap picked f
 
-  module _ (set last : Range) (g : set ≡ rangeOf shown) (l : last ≡ rangeOf after) (r : Found) (q : Position) where
+  module _ (set last : Range) (g : set ≡ rangeOf shown) (l : last ≡ rangeOf after) (r : Found) (q : Spot) where
     pub found-one : (m : Means) → m ∷ [] ≡ sizedAll (meaningOf (p .report) what start end raw) → r ≡ made m set q → q ≡ moved p end (placeIn last) false
         → r ≡ foundOf free (turnOf p start what (soFar raw end))
     found-one m e h u =

@@ -1,4 +1,4 @@
--- An item that one look tells is the next item: the scan is the definition's reader there, and its one meaning gives its record.
+-- An item that one look tells is the next item: the scan is the definition's reader there, and its one meaning gives its nine words.
 use Rattle.chars.specs.Utf8.{front, placed, chars}
 use Rattle.chars.specs.declared.Decoded.the-variants as decoded
 use Rattle.chars.specs.Blank.{isBlank}
@@ -12,7 +12,7 @@ use Rattle.items.specs.Items.{Place, range, rangeAfter, standing, placeOf}
 use Rattle.items.specs.Whole.{limit}
 use Rattle.items.specs.declared.Outcome.{Outcome}
 use Rattle.items.specs.declared.Phase.{Phase}
-use Rattle.items.specs.declared.Record.{Record}
+use Rattle.items.specs.declared.Nine.{Nine}
 use Rattle.steps.specs.Scan.{part, scanned, answer}
 use Rattle.steps.specs.declared.Scanned.{Scanned}
 use Rattle.steps.proofs.Kept.{ascii-found}
@@ -22,12 +22,12 @@ use Rattle.meaning.specs.Meant.{means}
 use Rattle.meaning.specs.declared.Text.{Text}
 use Rattle.meaning.specs.declared.Text.the-variants.{Nowhere, Source, Decoded}
 use Rattle.meaning.specs.Places.{placeIn, rangeOf}
-use Rattle.meaning.specs.Records.{recordFor, TextFits}
+use Rattle.meaning.specs.Records.{nineFor, TextFits}
 use Rattle.lexer.specs.Inner as inner
 use Rattle.lexer.specs.Inner.{ExtentFits, bytesFor, freeAfter}
 use Rattle.lexer.specs.Reading.{moved, turn, turnAt, turnOf, nextAt, startFrom, foundOf}
 use Rattle.lexer.specs.Glance.{Begins, Alone, Glanced, Undecoded}
-use Rattle.lexer.specs.declared.Position.{Position}
+use Rattle.lexer.specs.declared.Spot.{Spot}
 use Rattle.lexer.specs.declared.Start.the-variants.{At}
 use Rattle.lexer.specs.declared.Found.{Found}
 use Rattle.lexer.specs.declared.Found.the-variants.{One}
@@ -58,11 +58,11 @@ unfolding startFrom
 start-first s a c n F = ap (startFrom a) (F .first) ∙ rw (F .solid) (ap (At c a) (sym (F .on)))
 
 -- an item with the next item's place and its meaning
-pub next-found : (s : List ℕ) (free : ℕ) (p : Position) (r : Record) (q : Position) → One r q ≡ foundOf free (turn s p)
+pub next-found : (s : List ℕ) (free : ℕ) (p : Spot) (r : Nine) (q : Spot) → One r q ≡ foundOf free (turn s p)
     → (p .skip && eqb (r .kind) kind.Comment) ≡ false → One r q ≡ foundOf free (nextAt s p)
 next-found s free p r q e b =
     let g = found-gives free (turn s p) r q e in
-    e ∙ ap (foundOf free) (g .1 .0 ∙ sym (next-at-gives s p q (g .0) (g .1 .0) (ap (λ (x : Record). p .skip && eqb (x .kind) kind.Comment) (sym (g .1 .1)) ∙ b)))
+    e ∙ ap (foundOf free) (g .1 .0 ∙ sym (next-at-gives s p q (g .0) (g .1 .0) (ap (λ (x : Nine). p .skip && eqb (x .kind) kind.Comment) (sym (g .1 .1)) ∙ b)))
 
 module _ (s : List ℕ) (report skip : Bool) (a e : ℕ) (m : Means) (G : Glanced s report skip a e m) where
   abbrev x : Scanned
@@ -89,17 +89,17 @@ module _ (s : List ℕ) (report skip : Bool) (a e : ℕ) (m : Means) (G : Glance
       (scan-fits s report a (G .begins .c) (a + 1) F x scan-first free (omega arith) k .texts)
 
   -- the place of the item
-  abbrev pub spot : Position → Range
-  spot p = rangeOf (placeOf (p .report) (m .kind) (standing (p .report) (placeIn (p .last))) (range a e))
+  abbrev pub toldPlace : Spot → Range
+  toldPlace p = rangeOf (placeOf (p .report) (m .kind) (standing (p .report) (placeIn (p .last))) (range a e))
 
-  abbrev made : ℕ → Position → Found
-  made free p = One (recordFor free m extent (spot p)) (moved p e (placeIn (p .last)) false)
+  abbrev made : ℕ → Spot → Found
+  made free p = One (nineFor free m extent (toldPlace p)) (moved p e (placeIn (p .last)) false)
 
   -- the item sets no range
-  quiet-in : (p : Position) → p .report ≡ report → (last : Place) (i : SoFar) → rangeAfter (p .report) last a (G .what) i ≡ last
+  quiet-in : (p : Spot) → p .report ≡ report → (last : Place) (i : SoFar) → rangeAfter (p .report) last a (G .what) i ≡ last
   quiet-in p u last i = rw u (G .quiet last i)
 
-  turn-told : (free : ℕ) (p : Position) → p .report ≡ report
+  turn-told : (free : ℕ) (p : Spot) → p .report ≡ report
       → made free p ≡ foundOf free (turnAt p a (G .begins .c) (chars (drop (a + 1) s)))
   turn-told free p u =
       found-is s report a (G .begins .c) (a + 1) F x scan-first free p (made free p) u
@@ -110,26 +110,26 @@ module _ (s : List ℕ) (report skip : Bool) (a e : ℕ) (m : Means) (G : Glance
       (rw ends-there)
       (rw ends-there))
 
-  pub next-told : (free : ℕ) (p : Position) → p .report ≡ report → p .skip ≡ skip
+  pub next-told : (free : ℕ) (p : Spot) → p .report ≡ report → p .skip ≡ skip
       → startFrom a (chars (drop a s)) ≡ startFrom (p .at) (chars (drop (p .at) s))
       → made free p ≡ foundOf free (nextAt s p)
   next-told free p u v w =
       let c = G .begins .c in
       let S : Started s (p .at) (chars (drop (p .at) s)) c a (a + 1) = started s (chars (drop (p .at) s)) (p .at) refl c a (a + 1) (sym w ∙ start-first s a c (a + 1) F) in
-      next-found s free p (recordFor free m extent (spot p)) (moved p e (placeIn (p .last)) false)
+      next-found s free p (nineFor free m extent (toldPlace p)) (moved p e (placeIn (p .last)) false)
       (turn-told free p u ∙ sym (ap (foundOf free) (turn-started s p c a (a + 1) S)))
       (ap (λ (b : Bool). b && eqb (m .kind) kind.Comment) v ∙ G .kept)
 
   -- the place of an item that is no error is its extent
-  pub spot-fine : m .kind < kind.firstError → (p : Position) → spot p ≡ extent
-  spot-fine fine p = rw (lt-leb kind.firstError (m .kind) fine)
+  pub place-fine : m .kind < kind.firstError → (p : Spot) → toldPlace p ≡ extent
+  place-fine fine p = rw (lt-leb kind.firstError (m .kind) fine)
 
--- the record of an item without a decoded text takes nothing of the text memory
-pub bare-record : (s : List ℕ) (free : ℕ) (extent place : Range) (m : Means) → Undecoded (m .text)
-    → (freeAfter free (recordFor free m extent place) ≡ free) × (bytesFor s (recordFor free m extent place) ≡ [])
-bare-record s free extent place m h = go (m .text) h
+-- an item without a decoded text takes nothing of the text memory
+pub bare-nine : (s : List ℕ) (free : ℕ) (extent place : Range) (m : Means) → Undecoded (m .text)
+    → (freeAfter free (nineFor free m extent place) ≡ free) × (bytesFor s (nineFor free m extent place) ≡ [])
+bare-nine s free extent place m h = go (m .text) h
   where
-    go : (t : Text) → Undecoded t → (freeAfter free (recordFor free (means (m .kind) (m .detail) t) extent place) ≡ free) × (bytesFor s (recordFor free (means (m .kind) (m .detail) t) extent place) ≡ [])
+    go : (t : Text) → Undecoded t → (freeAfter free (nineFor free (means (m .kind) (m .detail) t) extent place) ≡ free) × (bytesFor s (nineFor free (means (m .kind) (m .detail) t) extent place) ≡ [])
     go Nowhere k = (refl, refl)
     go (Source a b) k = (refl, refl)
     go (Decoded n) k = absurd k

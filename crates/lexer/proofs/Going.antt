@@ -1,10 +1,10 @@
--- Reading on: the items that are done, and those from a position on. It serves the counting loop and the writing loop.
+-- Reading on: the items that are done, and those from a spot on. It serves the counting loop and the writing loop.
 use Rattle.items.specs.Items.{Item, memoryOf, texts}
-use Rattle.items.specs.declared.Record.{Record}
+use Rattle.items.specs.declared.Nine.{Nine}
 use Rattle.meaning.specs.Records.{packed}
 use Rattle.lexer.specs.Reading.{gives, sizeOf, nextAt, allFrom, allItems, foundOf}
 use Rattle.lexer.specs.Inner.{freeAfter, neededOf}
-use Rattle.lexer.specs.declared.Position.{Position}
+use Rattle.lexer.specs.declared.Spot.{Spot}
 use Rattle.lexer.specs.declared.Needed.{Needed}
 use Rattle.lexer.specs.declared.Found.the-variants.{One, End}
 use Rattle.lexer.proofs.All.{all-gives, all-ends}
@@ -19,7 +19,7 @@ use mathlib.Core.List.{List, [], _∷_, _++_, append-assoc, append-nil}
 use lib.ListN.{length, length-append}
 use native.Mathlib.Omega.{arith}
 
-pub record Going (s : List ℕ) (start p : Position) (free : ℕ) (done : List Item) : Type 0 where
+pub record Going (s : List ℕ) (start p : Spot) (free : ℕ) (done : List Item) : Type 0 where
   pub left : ℕ
   pub enough : sizeOf s p < left
   pub few : length done + sizeOf s p ≤ sizeOf s start
@@ -27,14 +27,14 @@ pub record Going (s : List ℕ) (start p : Position) (free : ℕ) (done : List I
   pub bytes : length (texts done) ≡ free
   pub items : allItems s start ≡ done ++ allFrom left s p
 
-pub going : (s : List ℕ) (start : Position) → Going s start start 0 []
+pub going : (s : List ℕ) (start : Spot) → Going s start start 0 []
 unfolding allItems texts
 going s start = record { left = suc (sizeOf s start); enough = omega arith; few = omega arith; behind = omega arith; bytes = refl; items = refl }
 
 abbrev needs : ℕ → ℕ → Needed
 needs n b = record { items = n; text = b }
 
-module _ (s : List ℕ) (start p : Position) (free : ℕ) (done : List Item) (g : Going s start p free done) where
+module _ (s : List ℕ) (start p : Spot) (free : ℕ) (done : List Item) (g : Going s start p free done) where
   pub going-end : End ≡ foundOf free (nextAt s p) → allItems s start ≡ done
   going-end e = go (g .left) refl
     where
@@ -49,7 +49,7 @@ module _ (s : List ℕ) (start p : Position) (free : ℕ) (done : List Item) (g 
       let a : allItems s start ≡ done = going-end e in
       ap (λ (x : ℕ). needs x free) (sym h) ∙ ap (needs (length done)) (sym (g .bytes)) ∙ ap neededOf (sym a)
 
-  module _ (r : Record) (q : Position) (e : One r q ≡ foundOf free (nextAt s p)) where
+  module _ (r : Nine) (q : Spot) (e : One r q ≡ foundOf free (nextAt s p)) where
     abbrev pub it : Item
     it = found-gives free (nextAt s p) r q e .0
 
@@ -85,5 +85,5 @@ half-le : (b : Bool) → _≤_ (if b then 0 else 1) 1
 half-le true = omega arith
 half-le false = omega arith
 
-pub size-le : (s : List ℕ) (p : Position) → sizeOf s p ≤ 2 * length s + 1
+pub size-le : (s : List ℕ) (p : Spot) → sizeOf s p ≤ 2 * length s + 1
 size-le s p = omega (arith, half-le (p .second))

@@ -1,4 +1,4 @@
--- A turn goes forward: the position after it is smaller, lies in the source, and is as far past the one before as the item's decoded text
+-- A turn goes forward: the spot after it is smaller, lies in the source, and is as far past the one before as the item's decoded text
 -- is long. A turn's item has its extent in the source.
 use Rattle.chars.specs.Utf8.{chars}
 use Rattle.items.specs.Readers.{Read, SoFar, readItem}
@@ -11,7 +11,7 @@ use Rattle.items.proofs.Splits.{read-forward}
 use Rattle.meaning.specs.Places.{placeIn}
 use Rattle.laws.specs.Choice.{if_then_else_}
 use Rattle.lexer.specs.Reading.{gives, ends, turnOf, turn, startFrom, sizeOf}
-use Rattle.lexer.specs.declared.Position.{Position}
+use Rattle.lexer.specs.declared.Spot.{Spot}
 use Rattle.lexer.specs.declared.Start.{Start}
 use Rattle.lexer.specs.declared.Start.the-variants.{At, Nothing}
 use Rattle.lexer.proofs.Left.{Left, left-here, part}
@@ -33,7 +33,7 @@ pub record Whole (s : List ℕ) (i : Item) : Type 0 where
   pub inside : Inside (i .start) (i .end) (i .text)
   pub text : SpelledText (part s (i .start) (i .end)) (i .kind) (i .text)
 
-pub record Moved (s : List ℕ) (p : Position) (i : Item) (q : Position) : Type 0 where
+pub record Moved (s : List ℕ) (p : Spot) (i : Item) (q : Spot) : Type 0 where
   pub smaller : sizeOf s q < sizeOf s p
   pub report : q .report ≡ p .report
   pub skip : q .skip ≡ p .skip
@@ -86,7 +86,7 @@ module _ (report : Bool) (last : Place) (s : ℕ) (what : Outcome) (i : SoFar) w
 
 -- ---- a turn
 
-module _ (s : List ℕ) (p : Position) (c a n : ℕ) (S : Started s (p .at) (chars (drop (p .at) s)) c a n) where
+module _ (s : List ℕ) (p : Spot) (c a n : ℕ) (S : Started s (p .at) (chars (drop (p .at) s)) c a n) where
   abbrev it : Read
   it = readItem (p .report) a c (chars (drop n s))
 
@@ -122,7 +122,7 @@ module _ (s : List ℕ) (p : Position) (c a n : ℕ) (S : Started s (p .at) (cha
         whole = w;
       }
 
-  given : (i : Item) (q : Position) → turnOf p a (it .what) (it .item) ≡ gives i q → Moved s p i q
+  given : (i : Item) (q : Spot) → turnOf p a (it .what) (it .item) ≡ gives i q → Moved s p i q
   given i q e = by-turn p a (it .what) (it .item)
       (λ x f g. let z : gives x (past p a (it .what) (it .item)) ≡ gives i q = sym g ∙ e in
       same x (past p a (it .what) (it .item)) z (moved-past x (subst (Every (Whole s)) f all-whole .0) (subst (Every (λ (x : Item). (x .start ≡ a) × (x .end ≡ it .item .at))) f all-end .0)))
@@ -131,13 +131,13 @@ module _ (s : List ℕ) (p : Position) (c a n : ℕ) (S : Started s (p .at) (cha
       (λ x y f b g. let z : gives y (past p a (it .what) (it .item)) ≡ gives i q = sym g ∙ e in
       same y (past p a (it .what) (it .item)) z (moved-past y (subst (Every (Whole s)) f all-whole .1 .0) (subst (Every (λ (x : Item). (x .start ≡ a) × (x .end ≡ it .item .at))) f all-end .1 .0)))
     where
-      same : (x : Item) (t : Position) → gives x t ≡ gives i q → Moved s p x t → Moved s p i q
+      same : (x : Item) (t : Spot) → gives x t ≡ gives i q → Moved s p x t → Moved s p i q
       same x t z m =
           let o : x ≡ i = cc in
           let u : t ≡ q = cc in
-          subst (λ (y : Position). Moved s p i y) u (subst (λ (y : Item). Moved s p y t) o m)
+          subst (λ (y : Spot). Moved s p i y) u (subst (λ (y : Item). Moved s p y t) o m)
 
-pub turn-moved : (s : List ℕ) (p : Position) (i : Item) (q : Position) → turn s p ≡ gives i q → Moved s p i q
+pub turn-moved : (s : List ℕ) (p : Spot) (i : Item) (q : Spot) → turn s p ≡ gives i q → Moved s p i q
 unfolding turn
 turn-moved s p i q e = go (startFrom (p .at) (chars (drop (p .at) s))) refl
   where

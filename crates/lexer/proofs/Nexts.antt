@@ -1,11 +1,11 @@
 -- The next item that is not skipped, a turn at a time.
 use Rattle.items.specs.Kinds as kind
 use Rattle.items.specs.Items.{Item}
-use Rattle.items.specs.declared.Record.{Record}
+use Rattle.items.specs.declared.Nine.{Nine}
 use Rattle.meaning.specs.Records.{packed}
 use Rattle.laws.proofs.Choice.{by-bool}
 use Rattle.lexer.specs.Reading.{Turn, gives, ends, turn, sizeOf, nextFrom, nextAt, foundOf}
-use Rattle.lexer.specs.declared.Position.{Position}
+use Rattle.lexer.specs.declared.Spot.{Spot}
 use Rattle.lexer.specs.declared.Found.the-variants.{One, End}
 use Rattle.lexer.proofs.Moves.{Moved, turn-moved}
 use Prim.Native.Nat.{ℕ, zero, suc, _≤_, _<_}
@@ -16,7 +16,7 @@ use lib.Dec.{eqb}
 use native.Mathlib.Omega.{arith}
 
 -- what was found is an item of the definition, or the end
-pub found-gives : (free : ℕ) (t : Turn) (r : Record) (q : Position) → One r q ≡ foundOf free t → (i : Item) × ((t ≡ gives i q) × (r ≡ packed free i))
+pub found-gives : (free : ℕ) (t : Turn) (r : Nine) (q : Spot) → One r q ≡ foundOf free t → (i : Item) × ((t ≡ gives i q) × (r ≡ packed free i))
 found-gives free (gives i u) r q e = let a : r ≡ packed free i = cc in let b : u ≡ q = cc in (i, (ap (gives i) b, a))
 found-gives free ends r q e = let z : _≡_ {A = ℕ} 0 1 = cc in absurd (omega arith)
 
@@ -24,38 +24,38 @@ pub found-ends : (free : ℕ) (t : Turn) → End ≡ foundOf free t → t ≡ en
 found-ends free (gives i u) e = let z : _≡_ {A = ℕ} 0 1 = cc in absurd (omega arith)
 found-ends free ends e = refl
 
--- what is left to find from a position on is what was to find from the start
-pub record Seeking (s : List ℕ) (free : ℕ) (start p : Position) : Type 0 where
+-- what is left to find from a spot on is what was to find from the start
+pub record Seeking (s : List ℕ) (free : ℕ) (start p : Spot) : Type 0 where
   pub left : ℕ
   pub enough : sizeOf s p < left
   pub behind : free ≤ p .at
   pub same : nextAt s start ≡ nextFrom left s p
 
-pub seeking : (s : List ℕ) (free : ℕ) (p : Position) → free ≤ p .at → Seeking s free p p
+pub seeking : (s : List ℕ) (free : ℕ) (p : Spot) → free ≤ p .at → Seeking s free p p
 unfolding nextAt
 seeking s free p h = record { left = suc (sizeOf s p); enough = omega arith; behind = h; same = refl }
 
 module _ (s : List ℕ) where
-  next-skips : (n : ℕ) (p q : Position) (i : Item) → turn s p ≡ gives i q → (p .skip && eqb (i .kind) kind.Comment) ≡ true → nextFrom (suc n) s p ≡ nextFrom n s q
+  next-skips : (n : ℕ) (p q : Spot) (i : Item) → turn s p ≡ gives i q → (p .skip && eqb (i .kind) kind.Comment) ≡ true → nextFrom (suc n) s p ≡ nextFrom n s q
   unfolding nextFrom
   next-skips n p q i e b = rw (e, b)
 
-  next-gives : (n : ℕ) (p q : Position) (i : Item) → turn s p ≡ gives i q → (p .skip && eqb (i .kind) kind.Comment) ≡ false → nextFrom (suc n) s p ≡ gives i q
+  next-gives : (n : ℕ) (p q : Spot) (i : Item) → turn s p ≡ gives i q → (p .skip && eqb (i .kind) kind.Comment) ≡ false → nextFrom (suc n) s p ≡ gives i q
   unfolding nextFrom
   next-gives n p q i e b = rw (e, b)
 
-  next-ends : (n : ℕ) (p : Position) → turn s p ≡ ends → nextFrom (suc n) s p ≡ ends
+  next-ends : (n : ℕ) (p : Spot) → turn s p ≡ ends → nextFrom (suc n) s p ≡ ends
   unfolding nextFrom
   next-ends n p e = rw e
 
   -- more turns than the size change nothing
-  next-enough : (k m n : ℕ) (p : Position) → sizeOf s p < k → sizeOf s p < m → sizeOf s p < n → nextFrom m s p ≡ nextFrom n s p
+  next-enough : (k m n : ℕ) (p : Spot) → sizeOf s p < k → sizeOf s p < m → sizeOf s p < n → nextFrom m s p ≡ nextFrom n s p
   next-enough zero m n p h f g = absurd (omega arith)
   next-enough (suc k) zero n p h f g = absurd (omega arith)
   next-enough (suc k) (suc m) zero p h f g = absurd (omega arith)
   next-enough (suc k) (suc m) (suc n) p h f g = go (λ m n p h f g. next-enough k m n p h f g) (turn s p) refl
     where
-      go : ((m n : ℕ) (p : Position) → sizeOf s p < k → sizeOf s p < m → sizeOf s p < n → nextFrom m s p ≡ nextFrom n s p)
+      go : ((m n : ℕ) (p : Spot) → sizeOf s p < k → sizeOf s p < m → sizeOf s p < n → nextFrom m s p ≡ nextFrom n s p)
           → (t : Turn) → turn s p ≡ t → nextFrom (suc m) s p ≡ nextFrom (suc n) s p
       go rec ends e = next-ends m p e ∙ sym (next-ends n p e)
       go rec (gives i q) e =
@@ -64,22 +64,22 @@ module _ (s : List ℕ) where
           (λ b. next-skips m p q i e b ∙ rec m n q (omega arith) (omega arith) (omega arith) ∙ sym (next-skips n p q i e b))
           (λ b. next-gives m p q i e b ∙ sym (next-gives n p q i e b))
 
-  pub next-at-skips : (p q : Position) (i : Item) → turn s p ≡ gives i q → (p .skip && eqb (i .kind) kind.Comment) ≡ true → nextAt s p ≡ nextAt s q
+  pub next-at-skips : (p q : Spot) (i : Item) → turn s p ≡ gives i q → (p .skip && eqb (i .kind) kind.Comment) ≡ true → nextAt s p ≡ nextAt s q
   unfolding nextAt
   next-at-skips p q i e b =
       let l : sizeOf s q < sizeOf s p = turn-moved s p i q e .smaller in
       next-skips (sizeOf s p) p q i e b ∙ next-enough (suc (sizeOf s q)) (sizeOf s p) (suc (sizeOf s q)) q (omega arith) (omega arith) (omega arith)
 
-  pub next-at-gives : (p q : Position) (i : Item) → turn s p ≡ gives i q → (p .skip && eqb (i .kind) kind.Comment) ≡ false → nextAt s p ≡ gives i q
+  pub next-at-gives : (p q : Spot) (i : Item) → turn s p ≡ gives i q → (p .skip && eqb (i .kind) kind.Comment) ≡ false → nextAt s p ≡ gives i q
   unfolding nextAt
   next-at-gives p q i e b = next-gives (sizeOf s p) p q i e b
 
-  pub next-at-ends : (p : Position) → turn s p ≡ ends → nextAt s p ≡ ends
+  pub next-at-ends : (p : Spot) → turn s p ≡ ends → nextAt s p ≡ ends
   unfolding nextAt
   next-at-ends p e = next-ends (sizeOf s p) p e
 
   -- the next item goes forward as a turn does
-  then-moved : (p t q : Position) (x i : Item) → Moved s p x t → Moved s t i q → Moved s p i q
+  then-moved : (p t q : Spot) (x i : Item) → Moved s p x t → Moved s t i q → Moved s p i q
   then-moved p t q x i a b = record {
     smaller = omega (arith, a .smaller, b .smaller);
     report = b .report ∙ a .report;
@@ -89,22 +89,22 @@ module _ (s : List ℕ) where
     whole = b .whole;
   }
 
-  from-moved : (n : ℕ) (p q : Position) (i : Item) → nextFrom n s p ≡ gives i q → Moved s p i q
+  from-moved : (n : ℕ) (p q : Spot) (i : Item) → nextFrom n s p ≡ gives i q → Moved s p i q
   unfolding nextFrom
   from-moved zero p q i e = let z : _≡_ {A = ℕ} 0 1 = cc in absurd (omega arith)
   from-moved (suc n) p q i e = go (λ t f. from-moved n t q i f) (turn s p) refl
     where
-      go : ((t : Position) → nextFrom n s t ≡ gives i q → Moved s t i q) → (t : Turn) → turn s p ≡ t → Moved s p i q
+      go : ((t : Spot) → nextFrom n s t ≡ gives i q → Moved s t i q) → (t : Turn) → turn s p ≡ t → Moved s p i q
       go rec ends f = let z : ends ≡ gives i q = sym (next-ends n p f) ∙ e in let y : _≡_ {A = ℕ} 0 1 = cc in absurd (omega arith)
       go rec (gives x t) f = by-bool (p .skip && eqb (x .kind) kind.Comment)
           (λ b. then-moved p t q x i (turn-moved s p x t f) (rec t (sym (next-skips n p t x f b) ∙ e)))
           (λ b. turn-moved s p i q (f ∙ (sym (next-gives n p t x f b) ∙ e)))
 
-  pub next-moved : (p q : Position) (i : Item) → nextAt s p ≡ gives i q → Moved s p i q
+  pub next-moved : (p q : Spot) (i : Item) → nextAt s p ≡ gives i q → Moved s p i q
   unfolding nextAt
   next-moved p q i e = from-moved (suc (sizeOf s p)) p q i e
 
-  module _ (free : ℕ) (start p : Position) (k : Seeking s free start p) where
+  module _ (free : ℕ) (start p : Spot) (k : Seeking s free start p) where
     pub seeks-end : turn s p ≡ ends → End ≡ foundOf free (nextAt s start)
     seeks-end e = sym (ap (foundOf free) (k .same ∙ go (k .left) (k .enough)))
       where
@@ -112,7 +112,7 @@ module _ (s : List ℕ) where
         go zero h = absurd (omega arith)
         go (suc n) h = next-ends n p e
 
-    module _ (r : Record) (q : Position) (e : One r q ≡ foundOf free (turn s p)) where
+    module _ (r : Nine) (q : Spot) (e : One r q ≡ foundOf free (turn s p)) where
       abbrev i : Item
       i = found-gives free (turn s p) r q e .0
 
@@ -120,7 +120,7 @@ module _ (s : List ℕ) where
       gave = found-gives free (turn s p) r q e .1 .0
 
       kinds : r .kind ≡ i .kind
-      kinds = ap (λ (x : Record). x .kind) (found-gives free (turn s p) r q e .1 .1)
+      kinds = ap (λ (x : Nine). x .kind) (found-gives free (turn s p) r q e .1 .1)
 
       pub seeks-moved : Moved s p i q
       seeks-moved = turn-moved s p i q gave

@@ -117,8 +117,8 @@ module _ (s : List ℕ) (report : Bool) where
       (λ b. rw (b, items) (zero-items (c ∷ cs) e))
 
 -- reading all items of a source from its start on gives the items of the definition, comments kept or not
-pub reads-all : (s : List ℕ) (report skip : Bool) → allItems s (opening s report skip) ≡ kept skip (items report (chars s))
-reads-all s report skip = all-read s (opening s report skip) refl ∙ ap (kept skip) (sym (start-items s report (chars s) refl))
+pub reads-all : (s : List ℕ) (report skip : Bool) → allItems s (opening s report skip .spot) ≡ kept skip (items report (chars s))
+reads-all s report skip = all-read s (opening s report skip .spot) refl ∙ ap (kept skip) (sym (start-items s report (chars s) refl))
 
 -- they are no more than its bytes, nor are their decoded texts
 few-items : (s : List ℕ) (report skip : Bool) → Few s (kept skip (items report (chars s)))
@@ -132,7 +132,7 @@ few-items s report skip =
 -- ---- the whole-text call by what opening says
 
 module _ (s : List ℕ) (mode : ℕ) (skip : Bool) (recs text : List ℕ) where
-  pub read-opened : (p : Position) → opened p ≡ openOf s mode skip → (length s ≤ limit) × Few s (allItems s p) × (readOf s mode skip recs text ≡ deliver (allItems s p) recs text)
+  pub read-opened : (p : Position) → opened p ≡ openOf s mode skip → (length s ≤ limit) × Few s (allItems s (p .spot)) × (readOf s mode skip recs text ≡ deliver (allItems s (p .spot)) recs text)
   unfolding openOf readOf
   read-opened p e = by-bool (isMode mode)
       (λ m. by-bool (ltb limit (length s))
@@ -141,11 +141,11 @@ module _ (s : List ℕ) (mode : ℕ) (skip : Bool) (recs text : List ℕ) where
       (λ m. let z : opened p ≡ refused 25 mode = rw m at e in let y : _≡_ {A = ℕ} 0 1 = cc in absurd (omega arith))
     where
       good : isMode mode ≡ true → ltb limit (length s) ≡ false → (u : Utf8) → firstBad s ≡ u → opened p ≡ ifUtf8 (firstBad s) (opening s (inReport mode) skip)
-          → (length s ≤ limit) × Few s (allItems s p) × (readOf s mode skip recs text ≡ deliver (allItems s p) recs text)
+          → (length s ≤ limit) × Few s (allItems s (p .spot)) × (readOf s mode skip recs text ≡ deliver (allItems s (p .spot)) recs text)
       good m l Good f h =
           let z : opened p ≡ opened (opening s (inReport mode) skip) = h ∙ ap (λ (u : Utf8). ifUtf8 u (opening s (inReport mode) skip)) f in
           let q : p ≡ opening s (inReport mode) skip = cc in
-          let a : allItems s p ≡ itemsIn s mode skip = ap (allItems s) q ∙ reads-all s (inReport mode) skip in
+          let a : allItems s (p .spot) ≡ itemsIn s mode skip = ap (λ (x : Position). allItems s (x .spot)) q ∙ reads-all s (inReport mode) skip in
           (ltb-false limit (length s) l, subst (Few s) (sym a) (few-items s (inReport mode) skip), rw (m, l, f) (ap (λ (i : List Item). deliver i recs text) (sym a)))
       good m l (Bad at) f h =
           let z : opened p ≡ refused 21 at = h ∙ ap (λ (u : Utf8). ifUtf8 u (opening s (inReport mode) skip)) f in

@@ -2,7 +2,7 @@
 use Rattle.laws.specs.Lent.{written}
 use Rattle.chars.specs.Utf8.{chars}
 use Rattle.items.specs.Meaning.{Text, none, source, decoded}
-use Rattle.items.specs.Items.{Item, items, textWords, recordOf, memoryOf, records, texts, byteCount}
+use Rattle.items.specs.Items.{Item, items, depthAfter, depthPast, textWords, recordOf, memoryOf, records, texts, byteCount}
 use Rattle.items.specs.Whole.{inReport, itemsIn}
 use Rattle.items.proofs.Every.{Every}
 use Rattle.items.proofs.Order.{items-placed}
@@ -32,7 +32,7 @@ HasText none = ⊥
 HasText (source a b) = Unit {0}
 HasText (decoded bs) = Unit {0}
 
--- the text call on a record's last three words
+-- the text call on a record's three words for its text
 abbrev pub markOf : List ℕ → List ℕ → List ℕ → ℕ
 markOf s text words = textMark s text (getD words 0 0) (getD words 1 0) (getD words 2 0)
 
@@ -63,12 +63,17 @@ module _ (s old : List ℕ) (mode : ℕ) (skip : Bool) (a : List Item) (i : Item
   abbrev pub free : ℕ
   free = length (texts a)
 
+  -- and how many brackets were open there
+  abbrev pub depth : ℕ
+  depth = depthPast 0 a
+
   -- the item's record is written after those before it
-  pub record-there : records 0 (itemsIn s mode skip) ≡ records 0 a ++ (recordOf free i ++ records (free + length (memoryOf (i .text))) b)
+  pub record-there : records 0 0 (itemsIn s mode skip)
+      ≡ records 0 0 a ++ (recordOf free depth i ++ records (free + length (memoryOf (i .text))) (depthAfter (i .kind) depth) b)
   unfolding records
   record-there =
       let z : 0 + free ≡ free = omega arith in
-      ap (records 0) split ∙ records-join 0 a (i ∷ b) ∙ ap (λ (n : ℕ). records 0 a ++ records n (i ∷ b)) z
+      ap (records 0 0) split ∙ records-join 0 0 a (i ∷ b) ∙ ap (λ (n : ℕ). records 0 0 a ++ records n depth (i ∷ b)) z
 
   memory-is : (bs : List ℕ) → memoryOf (i .text) ≡ bs → memory ≡ texts a ++ (bs ++ (texts b ++ drop (length (texts (itemsIn s mode skip))) old))
   unfolding texts

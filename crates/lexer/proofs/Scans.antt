@@ -12,7 +12,7 @@ use Rattle.steps.specs.declared.Scanned.{Scanned}
 use Rattle.lexer.specs.Inner as inner
 use Rattle.lexer.specs.Inner.{ExtentFits}
 use Rattle.lexer.specs.Reading.{turnOf, turnAt, foundOf}
-use Rattle.lexer.specs.declared.Position.{Position}
+use Rattle.lexer.specs.declared.Spot.{Spot}
 use Rattle.lexer.specs.declared.Found.{Found}
 use Rattle.lexer.proofs.Here.{Here, char-here}
 use Rattle.lexer.proofs.Left.{Left, left-here, part}
@@ -72,7 +72,7 @@ module _ (s : List ℕ) (report : Bool) (at c next : ℕ) (F : inner.First s at 
         (subst (λ (o : Outcome). ExtentFits report free at (it .item .bytes) o) (sym (ap (λ (y : Scanned). y .what) scan-is))
         (extent-fits s report at c (chars (drop next s)) (F .first) free h k))
 
-    item-is : (p : Position) → p .report ≡ report
+    item-is : (p : Spot) → p .report ≡ report
         → turnOf p at (x .what) (soFar (part s at (x .end)) (at + length (part s at (x .end)))) ≡ turnAt p at c (chars (drop next s))
     item-is p u =
         let n : at + length (it .item .bytes) ≡ it .item .at = sym (read-at report at c (chars (drop next s))) in
@@ -81,7 +81,7 @@ module _ (s : List ℕ) (report : Bool) (at c next : ℕ) (F : inner.First s at 
         ∙ ap (λ (y : ℕ). turnOf p at (it .what) (soFar (it .item .bytes) y)) n
         ∙ ap (λ (b : Bool). turnOf p at (readItem b at c (chars (drop next s)) .what) (readItem b at c (chars (drop next s)) .item)) (sym u)
 
-    pub found-is : (free : ℕ) (p : Position) (r : Found) → p .report ≡ report
+    pub found-is : (free : ℕ) (p : Spot) (r : Found) → p .report ≡ report
         → r ≡ foundOf free (turnOf p at (x .what) (soFar (part s at (x .end)) (at + length (part s at (x .end)))))
         → r ≡ foundOf free (turnAt p at c (chars (drop next s)))
     found-is free p r u h = h ∙ ap (foundOf free) (item-is p u)

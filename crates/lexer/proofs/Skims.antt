@@ -11,7 +11,7 @@ use Rattle.items.specs.declared.Outcome.the-variants.{Str, Word, Run}
 use Rattle.items.specs.declared.Phase.{Phase}
 use Rattle.items.specs.declared.Phase.the-variants as ph
 use Rattle.items.specs.declared.Quotes.the-variants.{Double}
-use Rattle.items.specs.declared.Record.{Record}
+use Rattle.items.specs.declared.Nine.{Nine}
 use Rattle.laws.specs.Quoted.{code}
 use Rattle.laws.specs.Texts.{same}
 use Rattle.laws.proofs.Choice.{by-bool}
@@ -26,13 +26,13 @@ use Rattle.meaning.specs.Meant.{means}
 use Rattle.meaning.specs.declared.Means.{Means}
 use Rattle.meaning.specs.declared.Text.the-variants.{Nowhere, Source}
 use Rattle.meaning.specs.Places.{rangeOf}
-use Rattle.meaning.specs.Records.{recordFor}
+use Rattle.meaning.specs.Records.{nineFor}
 use Rattle.lexer.specs.Glance.{Begins, Alone, Glanced, SkimAt, SkimFrom}
 use Rattle.lexer.specs.Reading.{startFrom}
-use Rattle.lexer.specs.declared.Position.{Position}
+use Rattle.lexer.specs.declared.Spot.{Spot}
 use Rattle.lexer.specs.Reading.{nextAt, sizeOf, foundOf}
 use Rattle.lexer.specs.declared.Found.the-variants.{One}
-use Rattle.lexer.proofs.Glances.{next-told, spot, bare-record}
+use Rattle.lexer.proofs.Glances.{next-told, toldPlace, bare-nine}
 use Rattle.lexer.proofs.Going.{Going, going-on, it, it-moved}
 use Rattle.lexer.proofs.Quickly.{here}
 use Rattle.lexer.proofs.Tells.{and-false, spans, ends-here, line-told, string-tells, identifier-tells, word-tells, run-tells}
@@ -152,7 +152,7 @@ skim-there s report skip from at w (ending.At e) t = (at, (t .0, (w, t .1)))
 
 -- ---- a turn of the counting loop
 
-module _ (s : List ℕ) (start p : Position) (at : ℕ) (second : Bool) (free : ℕ) (done : List Item) (g : Going s start (here p at second) free done) (r : Ending) (e : ℕ)
+module _ (s : List ℕ) (start p : Spot) (at : ℕ) (second : Bool) (free : ℕ) (done : List Item) (g : Going s start (here p at second) free done) (r : Ending) (e : ℕ)
     (is : r ≡ ending.At e) (h : SkimFrom s (p .report) (p .skip) at r) where
   pub there : SkimFrom s (p .report) (p .skip) at (ending.At e)
   there = subst (λ (x : Ending). SkimFrom s (p .report) (p .skip) at x) is h
@@ -163,8 +163,8 @@ module _ (s : List ℕ) (start p : Position) (at : ℕ) (second : Bool) (free : 
   abbrev pub G : Glanced s (p .report) (p .skip) (there .0) e m
   G = there .1 .1 .1
 
-  abbrev pub written : Record
-  written = recordFor free m (rangeOf (range (there .0) e)) (spot s (p .report) (p .skip) (there .0) e m G (here p at second))
+  abbrev pub written : Nine
+  written = nineFor free m (rangeOf (range (there .0) e)) (toldPlace s (p .report) (p .skip) (there .0) e m G (here p at second))
 
   pub next : One written (here p e false) ≡ foundOf free (nextAt s (here p at second))
   next = next-told s (p .report) (p .skip) (there .0) e m G free (here p at second) refl refl (there .1 .1 .0)
@@ -177,6 +177,6 @@ module _ (s : List ℕ) (start p : Position) (at : ℕ) (second : Bool) (free : 
 
   pub skim-on : Going s start (here p e false) free (done ++ (skimmed ∷ []))
   skim-on =
-      let b = bare-record s free (rangeOf (range (there .0) e)) (spot s (p .report) (p .skip) (there .0) e m G (here p at second)) m (G .alone .undecoded) in
+      let b = bare-nine s free (rangeOf (range (there .0) e)) (toldPlace s (p .report) (p .skip) (there .0) e m G (here p at second)) m (G .alone .undecoded) in
       subst (λ (k : ℕ). Going s start (here p e false) k (done ++ (skimmed ∷ []))) (b .0)
       (going-on s start (here p at second) free done g written (here p e false) next)

@@ -1,7 +1,7 @@
--- The decoded text of a record.
+-- The decoded text of an item, by its nine words.
 use Rattle.items.specs.Meaning.{unescape}
 use Rattle.items.specs.declared.Quotes.{Quotes}
-use Rattle.items.specs.declared.Record.{Record}
+use Rattle.items.specs.declared.Nine.{Nine}
 use Rattle.lexer.specs.Inner.{bytesFor, quotesOf}
 use Prim.Native.Nat.{ℕ, _-_, _≤_, _<_}
 use mathlib.Core.Path.{_≡_}
@@ -11,7 +11,7 @@ use lib.Seq.{length-take-le}
 use native.Mathlib.Omega.{arith}
 use borrow.Author.Tests.{eq-eqb, ne-eqb}
 
-module _ (s : List ℕ) (r : Record) where
+module _ (s : List ℕ) (r : Nine) where
   pub decodes : (k : Quotes) → r .source ≡ 2 → k ≡ quotesOf (r .kind) → bytesFor s r ≡ unescape k (drop 1 (take (r .end - r .start) (drop (r .start) s)))
   decodes k h e = rw (eq-eqb (r .source) 2 h, e)
 

@@ -8,7 +8,7 @@ use Rattle.items.specs.Items.{Place, Item, rangeAfter, extentItems, itemsFrom}
 use Rattle.items.proofs.Run.{turns-enough, read-left}
 use Rattle.laws.proofs.Choice.{by-bool}
 use Rattle.lexer.specs.Reading.{ends, turnAt, turnFrom, turn, startFrom}
-use Rattle.lexer.specs.declared.Position.{Position}
+use Rattle.lexer.specs.declared.Spot.{Spot}
 use Rattle.lexer.specs.declared.Start.the-variants.{At, Nothing}
 use Rattle.lexer.proofs.Here.{Here, char-here}
 use Prim.Native.Nat.{ℕ, _+_, _≤_}
@@ -35,7 +35,7 @@ pub record Started (s : List ℕ) (at : ℕ) (cs : List ℕ) (c a n : ℕ) : Typ
   pub first : chars (drop a s) ≡ c ∷ chars (drop n s)
   pub next : n ≡ a + width c
   pub solid : isBlank c ≡ false
-  pub turn : (p : Position) → turnFrom p at cs ≡ turnAt p a c (chars (drop n s))
+  pub turn : (p : Spot) → turnFrom p at cs ≡ turnAt p a c (chars (drop n s))
   pub items : (report : Bool) (last : Place) → itemsOn report last at cs ≡ extentThen report last a c (chars (drop n s))
 
 module _ (s : List ℕ) where
@@ -77,7 +77,7 @@ module _ (s : List ℕ) where
 
 -- only blanks are left
 pub none-started : (cs : List ℕ) (at : ℕ) → startFrom at cs ≡ Nothing
-    → ((p : Position) → turnFrom p at cs ≡ ends) × ((report : Bool) (last : Place) → itemsOn report last at cs ≡ [])
+    → ((p : Spot) → turnFrom p at cs ≡ ends) × ((report : Bool) (last : Place) → itemsOn report last at cs ≡ [])
 unfolding startFrom turnFrom itemsFrom
 none-started [] at f = ((λ p. refl), (λ report last. refl))
 none-started (d ∷ cs) at f = by-bool (isBlank d)
@@ -85,12 +85,12 @@ none-started (d ∷ cs) at f = by-bool (isBlank d)
     ((λ p. rw (b, turnFrom) (m .0 p)), (λ report last. rw (b, itemsFrom) (m .1 report last))))
     (λ b. let q : At d at (at + width d) ≡ Nothing = rw b at f in let z : _≡_ {A = ℕ} 0 1 = cc in absurd (omega arith))
 
--- ---- a turn of a position
+-- ---- a turn of a spot
 
-pub turn-started : (s : List ℕ) (p : Position) (c a n : ℕ) → Started s (p .at) (chars (drop (p .at) s)) c a n → turn s p ≡ turnAt p a c (chars (drop n s))
+pub turn-started : (s : List ℕ) (p : Spot) (c a n : ℕ) → Started s (p .at) (chars (drop (p .at) s)) c a n → turn s p ≡ turnAt p a c (chars (drop n s))
 unfolding turn
 turn-started s p c a n S = S .turn p
 
-pub turn-nothing : (s : List ℕ) (p : Position) → startFrom (p .at) (chars (drop (p .at) s)) ≡ Nothing → turn s p ≡ ends
+pub turn-nothing : (s : List ℕ) (p : Spot) → startFrom (p .at) (chars (drop (p .at) s)) ≡ Nothing → turn s p ≡ ends
 unfolding turn
 turn-nothing s p f = none-started (chars (drop (p .at) s)) (p .at) f .0 p

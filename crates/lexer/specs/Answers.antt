@@ -5,9 +5,10 @@ use lib.ListN.{length}
 use lib.Dec.{leb, ltb}
 use Rattle.laws.specs.Choice.{if_then_else_}
 use Rattle.laws.specs.Lent.{written}
-use Rattle.items.specs.Items.{memoryOf, recordOf, wordsOf}
+use Rattle.items.specs.Items.{depthAfter, memoryOf, recordOf, wordsOf}
 use Rattle.items.specs.Whole.{Answer, served, refused, limit}
 use Rattle.lexer.specs.Reading.{Turn, gives, ends, nextAt}
+use Rattle.lexer.specs.declared.Spot.{Spot}
 use Rattle.lexer.specs.declared.Position.{Position}
 use Rattle.lexer.specs.declared.ReadAnswer.{ReadAnswer}
 use Rattle.lexer.specs.declared.ReadAnswer.the-variants as read
@@ -45,14 +46,19 @@ pub record Replied : Type 0 where
 abbrev pub replied : Reply → List ℕ → Replied
 replied r t = record { reply = r; text = t }
 
--- 01: "each call lends text memory, where decoded text starts at 0; an item whose text doesn't fit gives 22, with 1 and its text bytes"
-unfoldable pub giveOf : Turn → List ℕ → Replied
-giveOf (gives i p) text =
+-- at a spot, with so many brackets open
+abbrev pub positionAt : Spot → ℕ → Position
+positionAt p depth = record { spot = p; depth = depth }
+
+-- 01: "each call lends text memory, where decoded text starts at 0; an item whose text doesn't fit gives 22, with 1 and its text bytes".
+-- The record has the depth before the item, and the position after it the depth after it
+unfoldable pub giveOf : ℕ → Turn → List ℕ → Replied
+giveOf depth (gives i p) text =
     if leb (length (memoryOf (i .text))) (length text)
-    then replied (item (recordOf 0 i) p) (written (memoryOf (i .text)) text)
+    then replied (item (recordOf 0 depth i) (positionAt p (depthAfter (i .kind) depth))) (written (memoryOf (i .text)) text)
     else replied (refuses 22 1 (length (memoryOf (i .text)))) text
-giveOf ends text = replied finished text
+giveOf depth ends text = replied finished text
 
 -- the next item from a position on, whatever the source is
 unfoldable pub nextOf : List ℕ → Position → List ℕ → Replied
-nextOf source p text = if ltb limit (length source) then replied (refuses 20 limit 0) text else giveOf (nextAt source p) text
+nextOf source p text = if ltb limit (length source) then replied (refuses 20 limit 0) text else giveOf (p .depth) (nextAt source (p .spot)) text

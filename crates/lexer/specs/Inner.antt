@@ -14,6 +14,7 @@ use Rattle.items.specs.Kinds as kind
 use Rattle.items.specs.Meaning.{Meaning, meaningOf, unescape}
 use Rattle.items.specs.declared.Quotes.{Quotes}
 use Rattle.items.specs.declared.Quotes.the-variants.{Double, Lines}
+use Rattle.items.specs.declared.Nine.{Nine}
 use Rattle.items.specs.declared.Record.{Record}
 use Rattle.items.specs.Items.{Item, texts}
 use Rattle.lexer.specs.declared.Needed.{Needed}
@@ -41,19 +42,25 @@ pub record First (source : List ℕ) (at c next : ℕ) : Type 0 where
   pub on : next ≡ at + width c
   pub solid : isBlank c ≡ false
 
+-- ---- what is written into the records
+
+-- the record of an item by itself, at a depth
+abbrev pub deepAt : ℕ → Nine → Record
+deepAt depth nine = record { nine = nine; depth = depth }
+
 -- ---- what is written into the text memory
 
 -- the quotes that an item with a decoded text stood in: a string's, or an identifier's
 abbrev pub quotesOf : ℕ → Quotes
 quotesOf k = if eqb k kind.StringLiteral then Double else Lines
 
--- the bytes of an item's decoded text, by its record; none where its text is not in the text memory
-abbrev pub bytesFor : List ℕ → Record → List ℕ
+-- the bytes of an item's decoded text, by its nine words; none where its text is not in the text memory
+abbrev pub bytesFor : List ℕ → Nine → List ℕ
 bytesFor source r =
     if eqb (r .source) 2 then unescape (quotesOf (r .kind)) (drop 1 (take (r .end - r .start) (drop (r .start) source))) else []
 
 -- the first free byte of the text memory after it
-abbrev pub freeAfter : ℕ → Record → ℕ
+abbrev pub freeAfter : ℕ → Nine → ℕ
 freeAfter free r = if eqb (r .source) 2 then r .past else free
 
 -- ---- what items need

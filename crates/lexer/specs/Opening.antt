@@ -31,8 +31,12 @@ unfoldable pub startOf : List ℕ → ℕ
 startOf [] = 0
 startOf (c ∷ cs) = if eqb c (code "#") then afterHash cs else 0
 
+-- no bracket is open there
 abbrev pub opening : List ℕ → Bool → Bool → Position
-opening source report skip = record { at = startOf (chars source); last = rangeOf unset; second = false; report = report; skip = skip }
+opening source report skip = record {
+  spot = record { at = startOf (chars source); last = rangeOf unset; second = false; report = report; skip = skip };
+  depth = 0;
+}
 
 -- a position, or 01's number of a refusal and what it comes with
 pub data Opening : Type 0 where

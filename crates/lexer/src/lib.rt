@@ -2,6 +2,7 @@
 // `text_of`, `text_mark` and `text_and_mark` hand back an item's text; `open` and `next_at` give one item a call, and crate `reader` holds
 // the source beside its position. Which items a text has is document 01's "An item", defined in crate `items`; what each call answers is
 // defined in specs/ of this crate and in items/specs/Whole.
+use items::Nine;
 use items::Record;
 use meaning::Means;
 use meaning::Range;
@@ -20,8 +21,8 @@ pub use text::text_mark;
 pub use text::text_of;
 pub use whole::read;
 
-// Where reading stands in a source.
-pub struct Position {
+// Where in a source reading stands.
+pub struct Spot {
     // the place of the next character
     pub at: usize,
     // the last error range that was set; it is empty where none was
@@ -34,6 +35,12 @@ pub struct Position {
     pub skip: bool,
 }
 
+// Where reading stands: its spot, and how many brackets are open there.
+pub struct Position {
+    pub spot: Spot,
+    pub depth: u32,
+}
+
 // The first character of an item.
 pub enum Start {
     // the character, its place, and the place past it
@@ -44,8 +51,8 @@ pub enum Start {
 
 // What reading on gives.
 pub enum Found {
-    // an item, and the position after it
-    One(Record, Position),
+    // an item by itself, and the spot after it
+    One(Nine, Spot),
     End,
 }
 

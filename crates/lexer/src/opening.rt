@@ -1,6 +1,7 @@
 // Where reading starts.
 use crate::OpenAnswer;
 use crate::Position;
+use crate::Spot;
 use chars::Decoded;
 use chars::Utf8;
 use chars::decode_at;
@@ -26,6 +27,9 @@ const NEWLINE: u32 = b'\n' as u32;
 
 // No error range was set yet.
 const UNSET: u32 = 0;
+
+// The depth where no bracket is open.
+pub const OUTSIDE: u32 = 0;
 
 // The place of the first newline from a place on, or of the end.
 fn line_end(source: &[u8], from: usize) -> usize
@@ -93,14 +97,17 @@ pub fn start(source: &[u8], mode: u32, skip: bool) -> Position
     ensures { λ r. ⌜ r ≡ opening (now (source .entry)) (inReport mode) skip ⌝ }
 {
     Position {
-        at: start_of(source),
-        last: Range {
-            from: UNSET,
-            to: UNSET,
+        spot: Spot {
+            at: start_of(source),
+            last: Range {
+                from: UNSET,
+                to: UNSET,
+            },
+            second: false,
+            report: mode == REPORT,
+            skip: skip,
         },
-        second: false,
-        report: mode == REPORT,
-        skip: skip,
+        depth: OUTSIDE,
     }
 }
 

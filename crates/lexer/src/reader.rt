@@ -6,6 +6,8 @@ use crate::opening::LIMIT;
 use crate::reading::next_item;
 use crate::whole::free_after;
 use crate::whole::put_text;
+use items::Record;
+use meaning::records::depth_after;
 ghost use mathlib.Core.Path.{_≡_};
 ghost use Rattle.lexer.specs.Answers.{replyOf, replied, nextOf};
 
@@ -20,14 +22,24 @@ pub fn next_at(source: &[u8], position: Position, text: &mut [u8]) -> NextAnswer
     if LIMIT < source.len() {
         return NextAnswer::TooLong;
     }
-    match next_item(source, position, FRONT) {
-        Found::One(r, after) => {
-            let bytes = free_after(FRONT, r);
+    let depth = position.depth;
+    match next_item(source, position.spot, FRONT) {
+        Found::One(nine, after) => {
+            let bytes = free_after(FRONT, nine);
             if text.len() < bytes {
                 return NextAnswer::NoRoom(bytes);
             }
-            put_text(source, r, text);
-            NextAnswer::Item(r, after)
+            put_text(source, nine, text);
+            NextAnswer::Item(
+                Record {
+                    nine: nine,
+                    depth: depth,
+                },
+                Position {
+                    spot: after,
+                    depth: depth_after(nine.kind, depth),
+                },
+            )
         }
         Found::End => NextAnswer::Finished,
     }

@@ -1,6 +1,6 @@
-// One item a turn, from a position of the source on.
+// One item a turn, from a spot of the source on.
 use crate::Found;
-use crate::Position;
+use crate::Spot;
 use crate::Start;
 use chars::Decoded;
 use chars::decode_at;
@@ -14,7 +14,7 @@ use meaning::meaning;
 use meaning::places::place;
 use meaning::places::range_after;
 use meaning::places::range_shown;
-use meaning::records::record_of;
+use meaning::records::nine_of;
 use steps::first_phase;
 use steps::scan;
 use texts::blank_end;
@@ -31,7 +31,7 @@ ghost use Rattle.items.specs.Kinds as kinds;
 ghost use Rattle.items.specs.Items.{placeOf};
 ghost use Rattle.items.specs.Whole.{limit};
 ghost use Rattle.meaning.specs.Places.{placeIn, rangeOf};
-ghost use Rattle.meaning.specs.Records.{recordFor, TextFits};
+ghost use Rattle.meaning.specs.Records.{nineFor, TextFits};
 ghost use Rattle.lexer.specs.declared.Found.the-variants.{One};
 ghost use Rattle.lexer.specs.Reading.{moved, turnOf, turnAt, turn, nextAt, startFrom, foundOf};
 ghost use Rattle.lexer.specs.Inner.{ExtentFits, First};
@@ -133,10 +133,10 @@ pub fn consume_whitespace(source: &[u8], from: usize) -> Start
 }
 
 // Past an extent that ends here, with the last error range then.
-fn past(p: Position, at: usize, last: Range) -> Position
+fn past(p: Spot, at: usize, last: Range) -> Spot
     ensures { λ r. ⌜ r ≡ moved p at (placeIn last) false ⌝ }
 {
-    Position {
+    Spot {
         at: at,
         last: last,
         second: false,
@@ -146,11 +146,11 @@ fn past(p: Position, at: usize, last: Range) -> Position
 }
 
 // At another place, with the same last error range; `second` says that of the two items of the extent there the first was given.
-pub fn stand(p: Position, at: usize, second: bool) -> Position
+pub fn stand(p: Spot, at: usize, second: bool) -> Spot
     ensures { λ r. ⌜ r ≡ moved p at (placeIn (p .last)) second ⌝ }
 {
     let last = p.last;
-    Position {
+    Spot {
         at: at,
         last: last,
         second: second,
@@ -159,19 +159,19 @@ pub fn stand(p: Position, at: usize, second: bool) -> Position
     }
 }
 
-// The item of a meaning, and the position after it.
-fn one(report: bool, m: Means, extent: Range, last: Range, free: usize, after: Position) -> Found
+// The item of a meaning, and the spot after it.
+fn one(report: bool, m: Means, extent: Range, last: Range, free: usize, after: Spot) -> Found
     requires { ⌜ TextFits free (m .text) ⌝ }
-    ensures { λ r. ⌜ r ≡ One (recordFor free m extent (rangeOf (placeOf report (m .kind) (placeIn last) (placeIn extent)))) after ⌝ }
+    ensures { λ r. ⌜ r ≡ One (nineFor free m extent (rangeOf (placeOf report (m .kind) (placeIn last) (placeIn extent)))) after ⌝ }
 {
     Found::One(
-        record_of(m, extent, place(report, m.kind, last, extent), free),
+        nine_of(m, extent, place(report, m.kind, last, extent), free),
         after,
     )
 }
 
 // What an extent gives, by its outcome, its first place and its bytes.
-fn found(p: Position, free: usize, start: usize, what: Outcome, raw: &[u8]) -> Found
+fn found(p: Spot, free: usize, start: usize, what: Outcome, raw: &[u8]) -> Found
     requires { ⌜ ExtentFits (p .report) free start (now raw) what ⌝ }
     ensures { λ r. ⌜ r ≡ foundOf free (turnOf p start what (soFar (now (raw .entry)) (start + length (now (raw .entry))))) ⌝ }
 {
@@ -196,7 +196,7 @@ fn found(p: Position, free: usize, start: usize, what: Outcome, raw: &[u8]) -> F
 }
 
 // The item that starts with a character at a place.
-fn item_at(source: &[u8], p: Position, free: usize, code: u32, at: usize, next: usize) -> Found
+fn item_at(source: &[u8], p: Spot, free: usize, code: u32, at: usize, next: usize) -> Found
     requires { ⌜ (length (now source) ≤ limit) × (free ≤ at) × First (now source) at code next ⌝ }
     ensures { λ r. ⌜ r ≡ foundOf free (turnAt p at code (chars (drop next (now (source .entry))))) ⌝ }
 {
@@ -206,8 +206,8 @@ fn item_at(source: &[u8], p: Position, free: usize, code: u32, at: usize, next: 
     found(p, free, at, what, &source[at..end])
 }
 
-// The item at a position, comments too.
-fn turn_at(source: &[u8], p: Position, free: usize) -> Found
+// The item at a spot, comments too.
+fn turn_at(source: &[u8], p: Spot, free: usize) -> Found
     requires { ⌜ (length (now source) ≤ limit) × (free ≤ p .at) ⌝ }
     ensures { λ r. ⌜ r ≡ foundOf free (turn (now (source .entry)) p) ⌝ }
 {
@@ -227,19 +227,19 @@ fn skips(skip: bool, kind: u32) -> bool
     false
 }
 
-// The next item from a position on. Decoded text goes to the place `free` of the text memory.
-pub fn next_item(source: &[u8], position: Position, free: usize) -> Found
-    requires { ⌜ (length (now source) ≤ limit) × (free ≤ position .at) ⌝ }
-    ensures { λ r. ⌜ r ≡ foundOf free (nextAt (now (source .entry)) position) ⌝ }
+// The next item from a spot on. Decoded text goes to the place `free` of the text memory.
+pub fn next_item(source: &[u8], spot: Spot, free: usize) -> Found
+    requires { ⌜ (length (now source) ≤ limit) × (free ≤ spot .at) ⌝ }
+    ensures { λ r. ⌜ r ≡ foundOf free (nextAt (now (source .entry)) spot) ⌝ }
 {
-    let mut p = position;
+    let mut p = spot;
     loop {
         match turn_at(source, p, free) {
-            Found::One(record, q) => {
-                if skips(p.skip, record.kind) {
+            Found::One(nine, q) => {
+                if skips(p.skip, nine.kind) {
                     p = q;
                 } else {
-                    return Found::One(record, q);
+                    return Found::One(nine, q);
                 }
             }
             Found::End => {

@@ -34,7 +34,7 @@ fn part_mark(s: &[u8], from: usize, to: usize) -> u32
     MARK
 }
 
-// The text of a record, by its last three words (origin is its text source word, 1 the source and 2 the text memory): a part of one of
+// The text of a record, by its three words for it (origin is its text source word, 1 the source and 2 the text memory): a part of one of
 // the two slices, or an empty part where the mark is 27.
 pub fn text_of<'a>(source: &'a [u8], text: &'a [u8], origin: u32, start: u32, end: u32) -> &'a [u8]
     ensures { λ r. ⌜ now r ≡ textIn (now (source .entry)) (now (text .entry)) origin start end ⌝ }

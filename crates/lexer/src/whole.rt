@@ -2,15 +2,17 @@
 use crate::Found;
 use crate::Needed;
 use crate::OpenAnswer;
-use crate::Position;
 use crate::Quick;
 use crate::ReadAnswer;
+use crate::Spot;
 use crate::glance::quick_item;
 use crate::glance::skim_item;
+use crate::opening::OUTSIDE;
 use crate::opening::open;
 use crate::reading::next_item;
 use crate::reading::stand;
 use escapes::decode;
+use items::Nine;
 use items::Quotes;
 use items::Record;
 use items::kinds::STRING_LITERAL;
@@ -18,8 +20,9 @@ use meaning::Means;
 use meaning::Range;
 use meaning::records::IN_MEMORY;
 use meaning::records::WORDS;
+use meaning::records::depth_after;
+use meaning::records::nine_of;
 use meaning::records::put;
-use meaning::records::record_of;
 use steps::Ending;
 ghost use mathlib.Core.Path.{_≡_};
 ghost use Prim.Native.Nat.{_*_, _^_, _≤_, _<_};
@@ -28,10 +31,10 @@ ghost use Rattle.laws.specs.Lent.{written};
 ghost use Rattle.items.specs.Items.{range, records, recordWords, texts};
 ghost use Rattle.items.specs.Whole.{call, deliver, limit, readOf};
 ghost use Rattle.meaning.specs.Places.{rangeOf};
-ghost use Rattle.meaning.specs.Records.{recordFor, TextFits};
+ghost use Rattle.meaning.specs.Records.{nineFor, TextFits};
 ghost use Rattle.lexer.specs.Reading.{allItems};
 ghost use Rattle.lexer.specs.Answers.{answerOf};
-ghost use Rattle.lexer.specs.Inner.{neededOf, quotesOf, bytesFor, freeAfter, Few};
+ghost use Rattle.lexer.specs.Inner.{neededOf, quotesOf, bytesFor, freeAfter, deepAt, Few};
 
 // How many bytes a quote is.
 const QUOTE: usize = 1;
@@ -47,7 +50,7 @@ fn quotes(kind: u32) -> Quotes
 }
 
 // The first free byte of the text memory after an item.
-pub fn free_after(free: usize, r: Record) -> usize
+pub fn free_after(free: usize, r: Nine) -> usize
     ensures { λ n. ⌜ n ≡ freeAfter free r ⌝ }
 {
     if r.source == IN_MEMORY {
@@ -57,7 +60,7 @@ pub fn free_after(free: usize, r: Record) -> usize
 }
 
 // The decoded text of an item, if it has one, into the text memory that is still free.
-pub fn put_text(source: &[u8], r: Record, free: &mut [u8])
+pub fn put_text(source: &[u8], r: Nine, free: &mut [u8])
     requires { ⌜ (r .start < r .end) × (r .end ≤ length (now source)) × (length (bytesFor (now source) r) ≤ length (now free)) ⌝ }
     ensures { λ _. ⌜ now (free .exit) ≡ written (bytesFor (now (source .entry)) r) (now (free .entry)) ⌝ }
 {
@@ -68,14 +71,14 @@ pub fn put_text(source: &[u8], r: Record, free: &mut [u8])
     }
 }
 
-// The items from a position on, and the bytes of their decoded texts.
-fn count(source: &[u8], position: Position) -> Needed
+// The items from a spot on, and the bytes of their decoded texts.
+fn count(source: &[u8], spot: Spot) -> Needed
     requires { ⌜ length (now source) ≤ limit ⌝ }
-    ensures { λ r. ⌜ r ≡ neededOf (allItems (now (source .entry)) position) ⌝ }
+    ensures { λ r. ⌜ r ≡ neededOf (allItems (now (source .entry)) spot) ⌝ }
 {
-    let mut p = position;
-    let mut at = position.at;
-    let mut second = position.second;
+    let mut p = spot;
+    let mut at = spot.at;
+    let mut second = spot.second;
     let mut free: usize = 0;
     let mut n: usize = 0;
     loop {
@@ -105,43 +108,56 @@ fn count(source: &[u8], position: Position) -> Needed
 }
 
 // The record of an item that one look told: its place is its extent.
-fn record_at(m: Means, start: usize, end: usize, free: usize) -> Record
+fn record_at(m: Means, start: usize, end: usize, free: usize, depth: u32) -> Record
     requires { ⌜ (start < 2 ^ 32) × (end < 2 ^ 32) × TextFits free (m .text) ⌝ }
-    ensures { λ r. ⌜ r ≡ recordFor free m (rangeOf (range start end)) (rangeOf (range start end)) ⌝ }
+    ensures { λ r. ⌜ r ≡ deepAt depth (nineFor free m (rangeOf (range start end)) (rangeOf (range start end))) ⌝ }
 {
     let extent = Range {
         from: start as u32,
         to: end as u32,
     };
-    record_of(m, extent, extent, free)
+    Record {
+        nine: nine_of(m, extent, extent, free),
+        depth: depth,
+    }
 }
 
-// Writes the records of the items from a position on, and their decoded texts; answers how many records and bytes those are.
-fn write(source: &[u8], position: Position, recs: &mut [u32], text: &mut [u8]) -> Needed
+// Writes the records of the items from a spot on, and their decoded texts; answers how many records and bytes those are.
+fn write(source: &[u8], spot: Spot, recs: &mut [u32], text: &mut [u8]) -> Needed
     requires { ⌜ length (now source) ≤ limit ⌝ }
-    requires { ⌜ recordWords * length (allItems (now source) position) ≤ length (now recs) ⌝ }
-    requires { ⌜ length (texts (allItems (now source) position)) ≤ length (now text) ⌝ }
-    ensures { λ r. ⌜ r ≡ neededOf (allItems (now (source .entry)) position) ⌝ }
-    ensures { λ _. ⌜ now (recs .exit) ≡ written (records 0 (allItems (now (source .entry)) position)) (now (recs .entry)) ⌝ }
-    ensures { λ _. ⌜ now (text .exit) ≡ written (texts (allItems (now (source .entry)) position)) (now (text .entry)) ⌝ }
+    requires { ⌜ recordWords * length (allItems (now source) spot) ≤ length (now recs) ⌝ }
+    requires { ⌜ length (texts (allItems (now source) spot)) ≤ length (now text) ⌝ }
+    ensures { λ r. ⌜ r ≡ neededOf (allItems (now (source .entry)) spot) ⌝ }
+    ensures { λ _. ⌜ now (recs .exit) ≡ written (records 0 0 (allItems (now (source .entry)) spot)) (now (recs .entry)) ⌝ }
+    ensures { λ _. ⌜ now (text .exit) ≡ written (texts (allItems (now (source .entry)) spot)) (now (text .entry)) ⌝ }
 {
-    let mut p = position;
-    let mut at = position.at;
-    let mut second = position.second;
+    let mut p = spot;
+    let mut at = spot.at;
+    let mut second = spot.second;
     let mut free: usize = 0;
+    let mut depth: u32 = OUTSIDE;
     let mut w: usize = 0;
     loop {
         match quick_item(source, p.report, p.skip, at) {
             Quick::Item(m, start, end) => {
-                put(&mut recs[w..], record_at(m, start, end, free));
+                let after = depth_after(m.kind, depth);
+                put(&mut recs[w..], record_at(m, start, end, free, depth));
+                depth = after;
                 w += WORDS;
                 at = end;
                 second = false;
             }
             Quick::Other => match next_item(source, stand(p, at, second), free) {
                 Found::One(r, q) => {
-                    put(&mut recs[w..], r);
+                    put(
+                        &mut recs[w..],
+                        Record {
+                            nine: r,
+                            depth: depth,
+                        },
+                    );
                     put_text(source, r, &mut text[free..]);
+                    depth = depth_after(r.kind, depth);
                     w = w + WORDS;
                     free = free_after(free, r);
                     at = q.at;
@@ -159,17 +175,12 @@ fn write(source: &[u8], position: Position, recs: &mut [u32], text: &mut [u8]) -
     }
 }
 
-// The items from a position on into lent memory, if they fit: they are counted first.
-fn deliver_counted(
-    source: &[u8],
-    position: Position,
-    recs: &mut [u32],
-    text: &mut [u8],
-) -> ReadAnswer
+// The items from a spot on into lent memory, if they fit: they are counted first.
+fn deliver_counted(source: &[u8], spot: Spot, recs: &mut [u32], text: &mut [u8]) -> ReadAnswer
     requires { ⌜ length (now source) ≤ limit ⌝ }
-    ensures { λ r. ⌜ call (answerOf r) (now (recs .exit)) (now (text .exit)) ≡ deliver (allItems (now (source .entry)) position) (now (recs .entry)) (now (text .entry)) ⌝ }
+    ensures { λ r. ⌜ call (answerOf r) (now (recs .exit)) (now (text .exit)) ≡ deliver (allItems (now (source .entry)) spot) (now (recs .entry)) (now (text .entry)) ⌝ }
 {
-    let needed = count(source, position);
+    let needed = count(source, spot);
     let items = needed.items;
     let bytes = needed.text;
     if recs.len() / WORDS < items {
@@ -178,23 +189,23 @@ fn deliver_counted(
     if text.len() < bytes {
         return ReadAnswer::NoRoom(items, bytes);
     }
-    write(source, position, recs, text);
+    write(source, spot, recs, text);
     ReadAnswer::Served(items, bytes)
 }
 
-// The items from a position on into lent memory, if they fit. Where there is a record and a byte of text memory for each byte of the
+// The items from a spot on into lent memory, if they fit. Where there is a record and a byte of text memory for each byte of the
 // source they do, and nothing is counted.
-fn deliver(source: &[u8], position: Position, recs: &mut [u32], text: &mut [u8]) -> ReadAnswer
-    requires { ⌜ (length (now source) ≤ limit) × Few (now source) (allItems (now source) position) ⌝ }
-    ensures { λ r. ⌜ call (answerOf r) (now (recs .exit)) (now (text .exit)) ≡ deliver (allItems (now (source .entry)) position) (now (recs .entry)) (now (text .entry)) ⌝ }
+fn deliver(source: &[u8], spot: Spot, recs: &mut [u32], text: &mut [u8]) -> ReadAnswer
+    requires { ⌜ (length (now source) ≤ limit) × Few (now source) (allItems (now source) spot) ⌝ }
+    ensures { λ r. ⌜ call (answerOf r) (now (recs .exit)) (now (text .exit)) ≡ deliver (allItems (now (source .entry)) spot) (now (recs .entry)) (now (text .entry)) ⌝ }
 {
     if recs.len() / WORDS < source.len() {
-        return deliver_counted(source, position, recs, text);
+        return deliver_counted(source, spot, recs, text);
     }
     if text.len() < source.len() {
-        return deliver_counted(source, position, recs, text);
+        return deliver_counted(source, spot, recs, text);
     }
-    let done = write(source, position, recs, text);
+    let done = write(source, spot, recs, text);
     ReadAnswer::Served(done.items, done.text)
 }
 
@@ -204,7 +215,7 @@ pub fn read(source: &[u8], mode: u32, skip: bool, recs: &mut [u32], text: &mut [
     ensures { λ r. ⌜ call (answerOf r) (now (recs .exit)) (now (text .exit)) ≡ readOf (now (source .entry)) mode skip (now (recs .entry)) (now (text .entry)) ⌝ }
 {
     match open(source, mode, skip) {
-        OpenAnswer::Opened(position) => deliver(source, position, recs, text),
+        OpenAnswer::Opened(position) => deliver(source, position.spot, recs, text),
         OpenAnswer::NoMode(m) => ReadAnswer::NoMode(m),
         OpenAnswer::TooLong => ReadAnswer::TooLong,
         OpenAnswer::NotUtf8(at) => ReadAnswer::NotUtf8(at),

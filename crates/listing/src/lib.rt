@@ -1,7 +1,7 @@
 // Lists the items of what is read from a descriptor on standard output, a line each: kind, start and end, and for an error its place. The
 // text is read in pieces, in plain mode, comments kept. The last line is `end` and the count of items, or `refused` and the refusal's
 // number and place. Program `lexlist` lists standard input, and `lexlist_cases` some files.
-use items::Record;
+use items::Nine;
 use items::kinds;
 use pieces::Answer;
 use pieces::Got;
@@ -45,7 +45,7 @@ fn end_line() {
     io::write_all(OUT, b"\n");
 }
 
-fn list_item(r: Record) {
+fn list_item(r: Nine) {
     number(r.kind as u64);
     space();
     number(r.start as u64);
@@ -74,7 +74,7 @@ fn heed(items: u64, answer: Answer) -> Listing {
     let got = answer.got;
     match got {
         Got::Item(r) => {
-            list_item(r);
+            list_item(r.nine);
             Listing {
                 state,
                 items: std::num::wrapping_add_u64(items, 1),

@@ -1,18 +1,23 @@
-// Records: nine words to an item, by document 01's "An item".
+// Records: ten words to an item, nine by document 01's "An item" and its depth.
 use crate::Means;
 use crate::Range;
 use crate::Text;
+use items::Nine;
 use items::Record;
+use items::kinds;
 ghost use mathlib.Core.Path.{_≡_};
 ghost use mathlib.Core.List.{[], _∷_};
 ghost use Prim.Native.Nat.{_≤_};
 ghost use lib.ListN.{length};
 ghost use Rattle.laws.specs.Lent.{written};
-ghost use Rattle.items.specs.Items.{recordWords, wordsOf};
-ghost use Rattle.meaning.specs.Records.{recordWith, recordFor, TextFits};
+ghost use Rattle.items.specs.Items.{depthAfter, recordWords, wordsOf};
+ghost use Rattle.meaning.specs.Records.{nineWith, nineFor, TextFits};
 
 // How many words a record has.
-pub const WORDS: usize = 9;
+pub const WORDS: usize = 10;
+
+// The greatest depth that a word holds.
+const DEEPEST: u32 = 0xFFFF_FFFF;
 
 // Text sources.
 const NO_TEXT: u32 = 0;
@@ -21,10 +26,10 @@ pub const IN_SOURCE: u32 = 1;
 
 pub const IN_MEMORY: u32 = 2;
 
-fn with_text(m: Means, extent: Range, place: Range, source: u32, start: u32, end: u32) -> Record
-    ensures { λ r. ⌜ r ≡ recordWith (m .kind ∷ m .detail ∷ extent .from ∷ extent .to ∷ place .from ∷ place .to ∷ source ∷ start ∷ end ∷ []) ⌝ }
+fn with_text(m: Means, extent: Range, place: Range, source: u32, start: u32, end: u32) -> Nine
+    ensures { λ r. ⌜ r ≡ nineWith (m .kind ∷ m .detail ∷ extent .from ∷ extent .to ∷ place .from ∷ place .to ∷ source ∷ start ∷ end ∷ []) ⌝ }
 {
-    Record {
+    Nine {
         kind: m.kind,
         detail: m.detail,
         start: extent.from,
@@ -37,10 +42,10 @@ fn with_text(m: Means, extent: Range, place: Range, source: u32, start: u32, end
     }
 }
 
-// The record of an item. A decoded text starts at the first free byte of the text memory.
-pub fn record_of(m: Means, extent: Range, place: Range, free: usize) -> Record
+// An item by itself. A decoded text starts at the first free byte of the text memory.
+pub fn nine_of(m: Means, extent: Range, place: Range, free: usize) -> Nine
     requires { ⌜ TextFits free (m .text) ⌝ }
-    ensures { λ r. ⌜ r ≡ recordFor free m extent place ⌝ }
+    ensures { λ r. ⌜ r ≡ nineFor free m extent place ⌝ }
 {
     let text = m.text;
     match text {
@@ -66,13 +71,34 @@ pub fn put(records: &mut [u32], r: Record)
     requires { ⌜ recordWords ≤ length (now records) ⌝ }
     ensures { λ _. ⌜ now (records .exit) ≡ written (wordsOf r) (now (records .entry)) ⌝ }
 {
-    records[0] = r.kind;
-    records[1] = r.detail;
-    records[2] = r.start;
-    records[3] = r.end;
-    records[4] = r.from;
-    records[5] = r.to;
-    records[6] = r.source;
-    records[7] = r.first;
-    records[8] = r.past;
+    records[0] = r.nine.kind;
+    records[1] = r.nine.detail;
+    records[2] = r.nine.start;
+    records[3] = r.nine.end;
+    records[4] = r.nine.from;
+    records[5] = r.nine.to;
+    records[6] = r.nine.source;
+    records[7] = r.nine.first;
+    records[8] = r.nine.past;
+    records[9] = r.depth;
+}
+
+// The depth after an item of a kind, from the depth before it. A close with none open leaves 0. The brackets are the first two kinds, so
+// that one test tells most items, which are none.
+pub fn depth_after(kind: u32, depth: u32) -> u32
+    ensures { λ r. ⌜ r ≡ depthAfter kind depth ⌝ }
+{
+    if kinds::CLOSE_PAREN < kind {
+        return depth;
+    }
+    if kind == kinds::OPEN_PAREN {
+        if depth < DEEPEST {
+            return depth + 1;
+        }
+        return depth;
+    }
+    if depth == 0 {
+        return 0;
+    }
+    depth - 1
 }

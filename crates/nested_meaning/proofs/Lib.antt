@@ -1,5 +1,6 @@
 pub mod Balanced
 pub mod Placed
+pub mod Tenth
 pub mod Deep
 pub mod Siblings
 pub mod Built

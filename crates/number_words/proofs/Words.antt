@@ -18,7 +18,7 @@ use Rattle.chars.specs.Encode.{lay}
 use Rattle.numbers.specs.Call.{Answer}
 use Rattle.number_words.specs.declared.Flat.{Flat}
 use Rattle.number_words.specs.declared.Flattened.{Flattened}
-use Rattle.number_words.specs.Words.{minus, value, formed, joined, flattened, roomOr, numberOr, figure, real, answer}
+use Rattle.number_words.specs.Words.{minus, value, formed, joined, flattened, numberWords, roomOr, numberOr, figure, real, answer}
 
 -- -1 less a negative value is its magnitude less 1
 less : (n : ℕ) → negsuc 0 -ℤ negsuc n ≡ pos n
@@ -63,7 +63,7 @@ unfolding answer
 answer-is w a b e f = ap (λ (x : List ℕ). joined (w .first) x (real (w .two))) e ∙ ap (λ (x : List ℕ). joined (w .first) a x) f
 
 -- every answer that is no refusal has as many words
-pub length-answer : (w : Flattened) → length (answer w) ≡ 27
+pub length-answer : (w : Flattened) → length (answer w) ≡ numberWords
 unfolding answer joined real formed
 length-answer w = refl
 
@@ -79,12 +79,12 @@ module _ (w memory : List ℕ) where
 
 -- 22, or the number of an answer that there is room for
 module _ (w : Flattened) (memory : List ℕ) where
-  pub too-few : length memory < 27 → (22 ≡ roomOr memory (w .number)) × (memory ≡ lay (answer w) memory)
+  pub too-few : length memory < numberWords → (22 ≡ roomOr memory (w .number)) × (memory ≡ lay (answer w) memory)
   too-few h =
-      (simp (lt-ltb (length memory) 27 h), laid-none (answer w) memory (omega (arith, length-answer w)))
+      (simp (lt-ltb (length memory) numberWords h), laid-none (answer w) memory (omega (arith, length-answer w)))
 
-  pub served : {now : List ℕ} → 27 ≤ length memory → now ≡ written (answer w) memory → (w .number ≡ roomOr memory (w .number)) × (now ≡ lay (answer w) memory)
-  served h e = (simp (le-ltb (length memory) 27 h), laid-all (answer w) memory (omega (arith, length-answer w)) e)
+  pub served : {now : List ℕ} → numberWords ≤ length memory → now ≡ written (answer w) memory → (w .number ≡ roomOr memory (w .number)) × (now ≡ lay (answer w) memory)
+  served h e = (simp (le-ltb (length memory) numberWords h), laid-all (answer w) memory (omega (arith, length-answer w)) e)
 
 -- an answer told by the words and the number that it is known to have
 pub served-as : (memory : List ℕ) (w : Flattened) (l : List ℕ) (n : ℕ) {r : ℕ} {now : List ℕ} → w .number ≡ n → answer w ≡ l
@@ -115,7 +115,7 @@ told-of memory e t = (
 )
 
 -- the words put one part after the other: the first, then the reals
-module _ (old : List ℕ) (x : ℕ) (h : 27 ≤ length old) where
+module _ (old : List ℕ) (x : ℕ) (h : numberWords ≤ length old) where
   abbrev first : List ℕ
   first = set old 0 x
 

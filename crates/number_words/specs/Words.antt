@@ -83,9 +83,13 @@ flattened noNumber = joined 0 noReal noReal
 flattened (error n) = joined 0 noReal noReal
 flattened (refused n v) = refusalWords n v
 
+-- how many words an answer has
+abbrev pub numberWords : ℕ
+numberWords = 27
+
 -- "22: records or text memory are too few" (01): here fewer words than an answer has that is no refusal
 abbrev pub roomOr : List ℕ → ℕ → ℕ
-roomOr memory n = if ltb (length memory) 27 then 22 else n
+roomOr memory n = if ltb (length memory) numberWords then 22 else n
 
 -- The number that the call tells: 0 for a number, 1 for none, else document 01's. 22 goes last: a refused text is told as one, however
 -- few the words are.

@@ -24,7 +24,7 @@ ghost use Rattle.laws.specs.Lent.{written};
 ghost use mathlib.Core.List.{[], _∷_};
 ghost use Rattle.chars.specs.Encode.{lay};
 ghost use Rattle.numbers.specs.Call.{answered};
-ghost use Rattle.number_words.specs.Words.{bit, minus, sign, nothing, places, intWords, formed, noReal, realWords, joined, partsWords, flattened, roomOr, numberOr, figure, real, answer};
+ghost use Rattle.number_words.specs.Words.{bit, minus, sign, nothing, places, intWords, formed, noReal, realWords, joined, partsWords, flattened, numberWords, roomOr, numberOr, figure, real, answer};
 
 // What the call answers: a number, none, document 01's error 8, or its refusals 20, 21 and 22 (too few words).
 const A_NUMBER: u32 = 0;
@@ -303,7 +303,7 @@ fn put_real(words: &mut [u64], r: Flat)
 
 // Writes an answer's words at the front of `words`.
 fn put_answer(words: &mut [u64], w: Flattened)
-    requires { ⌜ 27 ≤ length (now words) ⌝ }
+    requires { ⌜ numberWords ≤ length (now words) ⌝ }
     ensures { λ _. ⌜ now (words .exit) ≡ written (answer w) (now (words .entry)) ⌝ }
 {
     words[0] = w.first;

@@ -31,7 +31,7 @@ use Rattle.flat.specs.Held.{Holds}
 use Rattle.flat.specs.Piece.{listed, isState, stateWords, openLeft, Memory, memory, Left, left, whatNumber, whatPlace, recordAfter, gives, isRoom, called, pieceLeft, endLeft}
 use Rattle.flat.proofs.Held.{open-held, call-held, next-held}
 use Rattle.flat.proofs.Left.{room-record}
-use Rattle.outer_meaning.specs.Flat.{itemIn, heardIn, takenIn, pieceCallsIn, endCallsIn, handOverIn, openedIn, driveIn}
+use Rattle.outer_meaning.specs.Flat.{pastWord, itemIn, heardIn, takenIn, pieceCallsIn, endCallsIn, handOverIn, openedIn, driveIn}
 use Rattle.outer_meaning.proofs.Told.{Tells, call-tells, end-call-tells}
 
 -- ---- memory read out
@@ -44,15 +44,15 @@ room-values : (i v : ℕ) → isRoom i v ≡ true → 2 ≤ v
 room-values i v h = leb-true 2 v (and-true (leb recordWords i) (leb 2 v) h .1)
 
 -- an item is read out of the memory that it was laid into
-item-read : (g : Given) (text i : List ℕ) → length (g .words) ≡ 9 → getD (g .words) 8 0 ≡ length (g .text)
-    → item (record { words = take recordWords (written (g .words) i); text = take (getD (written (g .words) i) 8 0) (written (g .text) text) }) ≡ item g
-item-read g text i nine last =
-    let a : take recordWords (written (g .words) i) ≡ g .words = take-at (g .words) (drop (length (g .words)) i) 9 nine in
-    let b : getD (written (g .words) i) 8 0 ≡ length (g .text) =
-    List·getD-append (g .words) (drop (length (g .words)) i) 0 8 (omega (arith, nine)) ∙ last in
-    let c : take (getD (written (g .words) i) 8 0) (written (g .text) text) ≡ g .text =
+item-read : (g : Given) (text i : List ℕ) → length (g .words) ≡ recordWords → getD (g .words) pastWord 0 ≡ length (g .text)
+    → item (record { words = take recordWords (written (g .words) i); text = take (getD (written (g .words) i) pastWord 0) (written (g .text) text) }) ≡ item g
+item-read g text i ten last =
+    let a : take recordWords (written (g .words) i) ≡ g .words = take-at (g .words) (drop (length (g .words)) i) recordWords ten in
+    let b : getD (written (g .words) i) pastWord 0 ≡ length (g .text) =
+    List·getD-append (g .words) (drop (length (g .words)) i) 0 pastWord (omega (arith, ten)) ∙ last in
+    let c : take (getD (written (g .words) i) pastWord 0) (written (g .text) text) ≡ g .text =
     ap (λ (k : ℕ). take k (written (g .text) text)) b ∙ take-at (g .text) (drop (length (g .text)) text) (length (g .text)) refl in
-    ap (λ (w : List ℕ). item (record { words = w; text = take (getD (written (g .words) i) 8 0) (written (g .text) text) })) a
+    ap (λ (w : List ℕ). item (record { words = w; text = take (getD (written (g .words) i) pastWord 0) (written (g .text) text) })) a
     ∙ ap (λ (t : List ℕ). item (record { words = g .words; text = t })) c
 
 -- what was given is heard

@@ -38,10 +38,10 @@ abbrev pub extentOf : List ℕ → Item → List ℕ
 extentOf bytes i = take (i .end - i .start) (drop (i .start) bytes)
 
 abbrev pub SameText : List ℕ → Item → Type 0
-SameText bytes i = HasText (i .text) → given (extentOf bytes i) i .text ≡ itemText bytes (i .text)
+SameText bytes i = HasText (i .text) → (depth : ℕ) → given depth (extentOf bytes i) i .text ≡ itemText bytes (i .text)
 
 same-text : (bytes : List ℕ) (i : Item) → Inside (i .start) (i .end) (i .text) → SameText bytes i
-same-text bytes i = go (i .text)
+same-text bytes i h has depth = go (i .text) h has
   where
     go : (t : Text) → Inside (i .start) (i .end) t → HasText t → copied (i .kind) (i .start) (extentOf bytes i) t ≡ itemText bytes t
     go none h has = absurd has

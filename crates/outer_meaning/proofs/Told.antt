@@ -1,9 +1,9 @@
--- What a call gives can be told by numbers: an item's record has nine words, of which the last is the length of its text, and a refusal's number is
+-- What a call gives can be told by numbers: an item's record has ten words, of which the last but one is the length of its text, and a refusal's number is
 -- none of those that stand for an item, "more" and "finished".
 use Prim.Native.Nat.{ℕ, _+_, _-_, _≤_}
 use mathlib.Core.Path.{_≡_, refl, subst}
 use mathlib.Core.Bool.{Bool, true, false, _&&_}
-use mathlib.Core.List.{List, [], _∷_}
+use mathlib.Core.List.{List, [], _∷_, _++_}
 use lib.ListN.{length, getD}
 use lib.Dec.{eqb, leb, ltb}
 use native.Mathlib.Omega.{arith}
@@ -19,7 +19,7 @@ use Rattle.items.specs.declared.Next.{Next}
 use Rattle.items.specs.declared.Next.the-variants.{Eat, Stop}
 use Rattle.items.specs.declared.Outcome.{Outcome}
 use Rattle.items.specs.declared.Phase.the-variants.{AfterHash}
-use Rattle.items.specs.Items.{Place, Item, rangeAfter, extentItems, itemOf}
+use Rattle.items.specs.Items.{Place, Item, rangeAfter, extentItems, itemOf, recordWords}
 use Rattle.items.specs.Kinds as kind
 use Rattle.items.specs.Machine.{stepOf, finishOf}
 use Rattle.items.specs.Meaning.{Text, none, source, decoded}
@@ -34,9 +34,10 @@ use Rattle.pieces.specs.Calls.{What, item, more, finished, refused, Reply, Turn
 use Rattle.pieces.specs.Calls.{replied, declared, endUnlessStopped, endOf, itemSoFar, lastOf, report}
 use Rattle.pieces.specs.Expected.{longest}
 use Rattle.pieces.specs.Given.{Given, copied, copiedWords, given}
+use Rattle.outer_meaning.specs.Flat.{pastWord}
 
 abbrev pub Tells : What → Type 0
-Tells (item g) = (length (g .words) ≡ 9) × (getD (g .words) 8 0 ≡ length (g .text))
+Tells (item g) = (length (g .words) ≡ recordWords) × (getD (g .words) pastWord 0 ≡ length (g .text))
 Tells more = Unit {0}
 Tells finished = Unit {0}
 Tells (refused n p) = 13 ≤ n
@@ -50,27 +51,28 @@ TellsReply r = Tells (r .what)
 
 -- ---- an item
 
-abbrev ToldBy : List ℕ → Item → Text → Type 0
-ToldBy raw i t =
+-- with six words before the text's
+abbrev ToldBy : ℕ → List ℕ → Item → Text → Type 0
+ToldBy depth raw i t =
     let text : List ℕ = copied (i .kind) (i .start) raw t in
-    let last : List ℕ = copiedWords (i .kind) t (length text) in
-    (length (0 ∷ 0 ∷ 0 ∷ 0 ∷ 0 ∷ 0 ∷ last) ≡ 9) × (getD last 2 0 ≡ length text)
+    let words : List ℕ = 0 ∷ 0 ∷ 0 ∷ 0 ∷ 0 ∷ 0 ∷ copiedWords (i .kind) t (length text) ++ (depth ∷ []) in
+    (length words ≡ recordWords) × (getD words pastWord 0 ≡ length text)
 
-text-told : (raw : List ℕ) (i : Item) (t : Text) → ToldBy raw i t
-text-told raw i none = by-bool (eqb (i .kind) kind.Number) (λ e. rw e (refl, refl)) (λ e. rw e (refl, refl))
-text-told raw i (source a b) = (refl, refl)
-text-told raw i (decoded bs) = (refl, refl)
+text-told : (depth : ℕ) (raw : List ℕ) (i : Item) (t : Text) → ToldBy depth raw i t
+text-told depth raw i none = by-bool (eqb (i .kind) kind.Number) (λ e. rw e (refl, refl)) (λ e. rw e (refl, refl))
+text-told depth raw i (source a b) = (refl, refl)
+text-told depth raw i (decoded bs) = (refl, refl)
 
-given-tells : (raw : List ℕ) (i : Item) → Tells (item (given raw i))
-given-tells raw i = text-told raw i (i .text)
+given-tells : (depth : ℕ) (raw : List ℕ) (i : Item) → Tells (item (given depth raw i))
+given-tells depth raw i = text-told depth raw i (i .text)
 
 -- ---- one character
 
 module _ (s : State) where
   gives-tells : (st : ℕ) (last : Place) (b : Beyond) (l : List Item) → TellsTurn (gives s st last b l)
   gives-tells st last b [] = tt
-  gives-tells st last b (i ∷ []) = if-all TellsTurn (s .marks .skip && eqb (i .kind) kind.Comment) tt (given-tells (itemSoFar s .bytes) i)
-  gives-tells st last b (i ∷ j ∷ is) = given-tells (itemSoFar s .bytes) i
+  gives-tells st last b (i ∷ []) = if-all TellsTurn (s .marks .skip && eqb (i .kind) kind.Comment) tt (given-tells (s .marks .depth) (itemSoFar s .bytes) i)
+  gives-tells st last b (i ∷ j ∷ is) = given-tells (s .marks .depth) (itemSoFar s .bytes) i
 
   ends-tells : (st : ℕ) (o : Outcome) (b : Beyond) → TellsTurn (ends s st o b)
   ends-tells st o b = gives-tells st (rangeAfter (report s) (lastOf s) st o (itemSoFar s)) b (extentItems (report s) (lastOf s) st o (itemSoFar s))

@@ -13,9 +13,13 @@ use Rattle.pieces.specs.Expected.{Expected}
 use Rattle.pieces.specs.Given.{Given}
 use Rattle.flat.specs.Piece.{Opened, openLeft, Memory, memory, Left, pieceLeft, endLeft}
 
--- the item that the memory holds: its record, and its text, from 0 to where the record's last word says
+-- which word of a record says where its text ends
+abbrev pub pastWord : ℕ
+pastWord = 8
+
+-- the item that the memory holds: its record, and its text, from 0 to where that word says
 abbrev pub itemIn : Memory → Given
-itemIn m = record { words = take recordWords (m .item); text = take (getD (m .item) 8 0) (m .text) }
+itemIn m = record { words = take recordWords (m .item); text = take (getD (m .item) pastWord 0) (m .text) }
 
 -- what a call left: an item, "more", "finished", or a refusal with its place
 abbrev pub heardIn : Left → What

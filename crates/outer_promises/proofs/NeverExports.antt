@@ -13,7 +13,7 @@ use Rattle.numbers.specs.Call.{number}
 use Rattle.items.specs.Whole.{readOf}
 use Rattle.lexer.specs.Text.{textMark}
 use Rattle.exports.specs.Read.{readNumber, readValues}
-use Rattle.number_words.specs.Words.{bit, flattened, numberOr}
+use Rattle.number_words.specs.Words.{bit, flattened, numberWords, numberOr}
 use Rattle.exports.specs.Utf8.{goodBytes, codeOr, nextOr}
 use Rattle.outer_promises.specs.Exports.{Rows, computed, unroomed, cutLambda, goodThenBad}
 
@@ -58,8 +58,8 @@ module _ (call : List ℕ → List ℕ → ℕ → ℕ → ℕ → ℕ)
 
 module _ (call : List ℕ → List ℕ → ℕ) (meets : (text words : List ℕ) → call text words ≡ numberOr words (number text)) where
   -- it refuses just as many words as an answer has
-  pub never-unroomed : (call (spelled "1@2") (replicate 27 7) ≡ 22) → ⊥
-  never-unroomed h = omega (arith, h, meets (spelled "1@2") (replicate 27 7) ∙ computed .number-roomed)
+  pub never-unroomed : (call (spelled "1@2") (replicate numberWords 7) ≡ 22) → ⊥
+  never-unroomed h = omega (arith, h, meets (spelled "1@2") (replicate numberWords 7) ∙ computed .number-roomed)
 
   -- it tells too few words before it looks at the text
   pub never-few-first : (call goodThenBad (7 ∷ 7 ∷ []) ≡ 22) → ⊥

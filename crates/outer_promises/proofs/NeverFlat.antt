@@ -21,7 +21,7 @@ module _ (call : Memory → List ℕ → Left) (meets : (m : Memory) (piece : Li
   pub never-nods : ((m : Memory) (piece : List ℕ) → call m piece .answer ≡ 11) → ⊥
   never-nods h = omega (arith, h (holding new) (spelled "(ab"), given (λ l. l .answer), ap (λ (l : Left). l .answer) (computed .piece))
 
-  -- it refuses everything, just nine words for a record and two values among it
+  -- it refuses everything, just the words of a record and two values among it
   pub never-refuses : ((m : Memory) (piece : List ℕ) → 20 ≤ call m piece .answer) → ⊥
   never-refuses h = omega (arith, h (holding new) (spelled "(ab"), given (λ l. l .answer), ap (λ (l : Left). l .answer) (computed .piece))
 

@@ -1,5 +1,5 @@
 -- Crate `piecewise`: two answers that a contract permits coincide, and so do the memories after them. The numbers and values that stand for
--- an answer can be read back: from a record's nine words its struct, from what is given the case of the enum.
+-- an answer can be read back: from a record's words its struct, from what is given the case of the enum.
 use Prim.Native.Nat.{ℕ}
 use mathlib.Core.Path.{_≡_, refl, sym, ap, _∙_}
 use mathlib.Core.Bool.{Bool, false}
@@ -7,6 +7,7 @@ use mathlib.Core.List.{List, []}
 use lib.ListN.{length, getD}
 use lib.Dec.{eqb}
 use Rattle.items.specs.declared.Record.{Record}
+use Rattle.items.specs.Items.{ownWords}
 use Rattle.pieces.specs.declared.Marks.{Marks}
 use Rattle.pieces.specs.declared.State.{State}
 use Rattle.pieces.specs.declared.Got.{Got}
@@ -25,15 +26,19 @@ use Rattle.piecewise.specs.Answers.{whatOf, startOf, answered, opened, pieced, 
 abbrev recordIn : List ℕ → Record
 recordIn l =
     record {
-      kind = getD l 0 0;
-      detail = getD l 1 0;
-      start = getD l 2 0;
-      end = getD l 3 0;
-      from = getD l 4 0;
-      to = getD l 5 0;
-      source = getD l 6 0;
-      first = getD l 7 0;
-      past = getD l 8 0;
+      nine =
+          record {
+            kind = getD l 0 0;
+            detail = getD l 1 0;
+            start = getD l 2 0;
+            end = getD l 3 0;
+            from = getD l 4 0;
+            to = getD l 5 0;
+            source = getD l 6 0;
+            first = getD l 7 0;
+            past = getD l 8 0;
+          };
+      depth = getD l ownWords 0;
     }
 
 abbrev pub gotOf : What → Got

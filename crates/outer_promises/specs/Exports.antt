@@ -1,6 +1,6 @@
 -- The calls from C, whose contracts equate plain numbers and memories. `mihadrena_read` ensures that its answer and values are `readNumber` and
 -- `readValues` of `readOf`'s answer, `mihadrena_number` that they are `numberOr` and `flattened` of `number`'s; the others as said at each row.
-use Prim.Native.Nat.{ℕ}
+use Prim.Native.Nat.{ℕ, _-_}
 use mathlib.Core.Path.{_≡_, refl}
 use mathlib.Core.Bool.{true, false}
 use mathlib.Core.List.{List, [], _∷_}
@@ -22,7 +22,7 @@ use Rattle.items.specs.Items.{extentItems, itemsFrom, pastLine, afterPound, ite
 use Rattle.items.specs.Whole.{Call, call, served, refused, deliver, readOf}
 use Rattle.lexer.specs.Text.{textMark}
 use Rattle.exports.specs.Read.{readNumber, readValues}
-use Rattle.number_words.specs.Words.{intWords, formed, realWords, joined, partsWords, refusalWords, flattened, numberOr}
+use Rattle.number_words.specs.Words.{intWords, formed, realWords, joined, partsWords, refusalWords, flattened, numberWords, numberOr}
 use Rattle.exports.specs.Utf8.{goodBytes, codeOr, nextOr}
 
 -- a call that has no memory for records and text
@@ -54,9 +54,9 @@ pub record Rows : Type 0 where
   pub unmarked : textMark [] [] 2 0 2 ≡ 27
   pub unmarked-source : textMark (spelled "ab") [] 2 0 2 ≡ 27
   pub marked-source : textMark (spelled "ab") [] 1 0 2 ≡ 0
-  -- 27 words are enough, and the first of them tells 1@2 apart from 1+2i
-  pub number-roomed : numberOr (replicate 27 7) (number (spelled "1@2")) ≡ 0
-  pub number-unroomed : numberOr (replicate 26 7) (number (spelled "1@2")) ≡ 22
+  -- as many words as an answer has are enough, and the first of them tells 1@2 apart from 1+2i
+  pub number-roomed : numberOr (replicate numberWords 7) (number (spelled "1@2")) ≡ 0
+  pub number-unroomed : numberOr (replicate (numberWords - 1) 7) (number (spelled "1@2")) ≡ 22
   pub polar : getD (flattened (number (spelled "1@2"))) 0 7 ≡ 2
   pub rectangular-form : getD (flattened (number (spelled "1+2i"))) 0 7 ≡ 1
   -- 21 goes before 22, and changes the first word alone, where there is one; 22 changes none

@@ -22,13 +22,13 @@ use Rattle.items.specs.Kinds as kind
 use Rattle.pieces.specs.Bounds.{inBounds}
 use Rattle.pieces.specs.Calls.{What, more, refused, turnOf, feedOf, pieceOf, endOf, openOf}
 use Rattle.pieces.specs.Expected.{longest}
-use Rattle.piece_promises.specs.Rows.{bare, error, texted, buffer}
+use Rattle.piece_promises.specs.Rows.{bare, error, texted, deep, buffer}
 use Rattle.lent.specs.declared.Words.{Words}
 use Rattle.lent.specs.declared.State.{State}
 use Rattle.lent.specs.Coding.{stageOf, standing, coded, narrow, sameRow, isCode}
 use Rattle.lent.specs.Calls.{Said, lent, pieceFor, endFor, openFor}
 
--- ---- states, plain, comments kept, between two characters
+-- ---- states, plain, comments kept, between two characters, outside all brackets
 
 -- the numbers of the stages that stand here (docs/STATE.md), and one that there is not
 abbrev pub opening : ℕ
@@ -71,6 +71,32 @@ wordsWith e stage start two at from to len =
       from = from;
       to = to;
       len = len;
+      depth = 0;
+    }
+
+-- the same words with n brackets open
+abbrev pub inBrackets : ℕ → Words → Words
+inBrackets n w =
+    record {
+      mode = w .mode;
+      skip = w .skip;
+      ended = w .ended;
+      stage = w .stage;
+      start = w .start;
+      which = w .which;
+      detail = w .detail;
+      one = w .one;
+      two = w .two;
+      at = w .at;
+      count = w .count;
+      need = w .need;
+      low = w .low;
+      high = w .high;
+      code = w .code;
+      from = w .from;
+      to = w .to;
+      len = w .len;
+      depth = n;
     }
 
 abbrev pub zeros : Words
@@ -81,7 +107,7 @@ new = lent zeros (buffer [])
 
 -- "(a" was taken, and the bracket given
 abbrev pub inWordA : State
-inWordA = lent (wordsWith 0 inWordStage 1 0 2 0 0 1) (buffer (spelled "a"))
+inWordA = lent (inBrackets 1 (wordsWith 0 inWordStage 1 0 2 0 0 1)) (buffer (spelled "a"))
 
 -- an error was given, and its range stands
 abbrev pub afterError : State
@@ -93,6 +119,13 @@ unused = lent (wordsWith 0 opening 0 1 0 0 0 0) (buffer [])
 
 abbrev pub unknown : State
 unknown = lent (wordsWith 0 noStage 0 0 0 0 0 0) (buffer [])
+
+-- one bracket open before any byte was read, and a depth of 2 to the power of 32
+abbrev pub tooDeep : State
+tooDeep = lent (inBrackets 1 zeros) (buffer [])
+
+abbrev pub noDepth : State
+noDepth = lent (inBrackets 4294967296 zeros) (buffer [])
 
 abbrev pub saying : ℕ → What → State → Said
 saying n w s = record { taken = n; what = w; state = s }
@@ -108,11 +141,14 @@ pub record Rows : Type 0 where
   -- the last error range is among the words
   pub ranged : pieceFor new (spelled "\"\\xD800;\"") longest ≡ saying 9 (error kind.InvalidHexCodePoint 0xD800 0 8 1 8) afterError
   -- the end is declared
-  pub end : endFor inWordA longest ≡ saying 0 (texted kind.Identifier 1 2 "a") (lent (wordsWith 1 idle 0 0 2 0 0 0) (buffer (spelled "a")))
+  pub end : endFor inWordA longest ≡ saying 0 (deep 1 (texted kind.Identifier 1 2 "a")) (lent (inBrackets 1 (wordsWith 1 idle 0 0 2 0 0 0)) (buffer (spelled "a")))
   pub end-no-room : endFor inWordA 4095 ≡ saying 0 (refused 24 0) inWordA
   -- words that are the code of no marks are 27, and stay
   pub unused-word : pieceFor unused (spelled "a") longest ≡ saying 0 (refused 27 0) unused
   pub unknown-stage : pieceFor unknown (spelled "a") longest ≡ saying 0 (refused 27 0) unknown
+  -- so are more brackets open than bytes were read, and a depth that no word of a record holds
+  pub too-deep : pieceFor tooDeep (spelled "a") longest ≡ saying 0 (refused 27 0) tooDeep
+  pub no-depth : pieceFor noDepth (spelled "a") longest ≡ saying 0 (refused 27 0) noDepth
   pub unknown-stage-end : endFor unknown longest ≡ saying 0 (refused 27 0) unknown
 
 pub computed : Rows
@@ -127,5 +163,7 @@ computed =
       end-no-room = refl;
       unused-word = refl;
       unknown-stage = refl;
+      too-deep = refl;
+      no-depth = refl;
       unknown-stage-end = refl;
     }

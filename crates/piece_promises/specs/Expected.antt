@@ -23,7 +23,7 @@ use Rattle.pieces.specs.Given.{Given, givenAll}
 
 -- an opening bracket as the first item
 abbrev bracket : Given
-bracket = record { words = kind.OpenParen ∷ kind.Round ∷ 0 ∷ 1 ∷ 0 ∷ 1 ∷ 0 ∷ 0 ∷ 0 ∷ []; text = [] }
+bracket = record { words = kind.OpenParen ∷ kind.Round ∷ 0 ∷ 1 ∷ 0 ∷ 1 ∷ 0 ∷ 0 ∷ 0 ∷ 0 ∷ []; text = [] }
 
 abbrev expecting : List Given → LastWord → Expected
 expecting is w = record { items = is; last = w }

@@ -6,7 +6,7 @@ use Prim.Native.String.{String}
 use mathlib.Core.Path.{_≡_, refl}
 use mathlib.Core.Bool.{Bool, true, false}
 use mathlib.Core.List.{List, [], _∷_, _++_}
-use lib.ListN.{length, replicate}
+use lib.ListN.{length, take, replicate}
 use Rattle.laws.specs.Lent.{written}
 use Rattle.laws.specs.Quoted.{code, within}
 use Rattle.laws.specs.Texts.{span, starts, begins, same}
@@ -24,7 +24,7 @@ use Rattle.items.specs.declared.Quotes.the-variants.{Double}
 use Rattle.items.specs.Classes.{startsRun, firstOf, inQuotes, afterBackslash, stopsHex, inHex, inTrim, inNest, breaksWord, inWord, staysRun, endsRun, inRun, afterHash, endsHash, inHash, inDelim}
 use Rattle.items.specs.Readers.{linedOf, scalarOf, boolKind, quoteKind, formKind, hashKind, unreturned, endsWith, hereEnds}
 use Rattle.items.specs.Meaning.{lookup, words, wordKind, wordMeans, runMeans, escaped, stringText, linedText, hereText, charNames, hexNamed, spelledOut, characterOf, unescape}
-use Rattle.items.specs.Items.{extentItems}
+use Rattle.items.specs.Items.{extentItems, ownWords}
 use Rattle.items.specs.Kinds as kind
 use Rattle.items.specs.Whole.{limit}
 use Rattle.pieces.specs.declared.Stage.{Stage}
@@ -32,22 +32,29 @@ use Rattle.pieces.specs.declared.Stage.the-variants.{Opening, Idle, Busy, Waiti
 use Rattle.pieces.specs.declared.Beyond.the-variants.{Char}
 use Rattle.pieces.specs.declared.State.{State}
 use Rattle.pieces.specs.Bounds.{inBounds}
-use Rattle.pieces.specs.Calls.{What, item, more, finished, refused, Reply, reply, fresh, whole, textAfter, turnOf, feedOf, pieceOf, endOf, openOf}
+use Rattle.pieces.specs.Calls.{What, item, more, finished, refused, Reply, reply, fresh, whole, atDepth, textAfter, turnOf, feedOf, pieceOf, endOf, openOf}
 use Rattle.pieces.specs.Due.{answer, answered}
 use Rattle.pieces.specs.Expected.{longest}
 use Rattle.pieces.specs.Given.{Given}
 
--- an item with no text, an error with its place, and an item with its text
+-- outside all brackets: an item with no text, an error with its place, and an item with its text
 abbrev pub bare : ℕ → ℕ → ℕ → ℕ → What
-bare k d s e = item (record { words = k ∷ d ∷ s ∷ e ∷ s ∷ e ∷ 0 ∷ 0 ∷ 0 ∷ []; text = [] })
+bare k d s e = item (record { words = k ∷ d ∷ s ∷ e ∷ s ∷ e ∷ 0 ∷ 0 ∷ 0 ∷ 0 ∷ []; text = [] })
 
 abbrev pub error : ℕ → ℕ → ℕ → ℕ → ℕ → ℕ → What
-error n d s e a b = item (record { words = (kind.firstError + n) ∷ d ∷ s ∷ e ∷ a ∷ b ∷ 0 ∷ 0 ∷ 0 ∷ []; text = [] })
+error n d s e a b = item (record { words = (kind.firstError + n) ∷ d ∷ s ∷ e ∷ a ∷ b ∷ 0 ∷ 0 ∷ 0 ∷ 0 ∷ []; text = [] })
 
 abbrev pub texted : ℕ → ℕ → ℕ → String → What
-texted k s e t = item (record { words = k ∷ 0 ∷ s ∷ e ∷ s ∷ e ∷ 2 ∷ 0 ∷ length (spelled t) ∷ []; text = spelled t })
+texted k s e t = item (record { words = k ∷ 0 ∷ s ∷ e ∷ s ∷ e ∷ 2 ∷ 0 ∷ length (spelled t) ∷ 0 ∷ []; text = spelled t })
 
--- ---- states, plain, comments kept
+-- the same with n brackets open
+abbrev pub deep : ℕ → What → What
+deep n (item g) = item (record { words = take ownWords (g .words) ++ (n ∷ []); text = g .text })
+deep n more = more
+deep n finished = finished
+deep n (refused m p) = refused m p
+
+-- ---- states, plain, comments kept, outside all brackets
 
 -- a buffer with some bytes at its start
 abbrev pub buffer : List ℕ → List ℕ
@@ -56,7 +63,7 @@ buffer held = written held (replicate longest 0)
 -- whether the end is declared, the stage, the place, the last error range, the count of bytes held, and the buffer
 abbrev pub state : Bool → Stage → ℕ → ℕ → ℕ → ℕ → List ℕ → State
 state e g at from to len buf =
-    record { buf = buf; marks = record { mode = 0; skip = false; ended = e; stage = g; at = at; part = whole; from = from; to = to; len = len } }
+    record { buf = buf; marks = record { mode = 0; skip = false; ended = e; stage = g; at = at; part = whole; from = from; to = to; len = len; depth = 0 } }
 
 -- opened
 abbrev pub new : State
@@ -64,7 +71,7 @@ new = fresh 0 false
 
 -- "(a" was taken, and the bracket given
 abbrev pub inWordA : State
-inWordA = state false (Busy 1 ph.InWord) 2 0 0 1 (buffer (spelled "a"))
+inWordA = atDepth 1 (state false (Busy 1 ph.InWord) 2 0 0 1 (buffer (spelled "a")))
 
 -- a string broke off in an escape that is no character: its error was given, and its quote begins another
 abbrev pub afterError : State
@@ -85,6 +92,14 @@ begun = pieceOf new (0xCE ∷ []) longest .state
 -- as many bytes as there may be were taken
 abbrev filled : State
 filled = state false Idle limit 0 0 0 (buffer [])
+
+-- "(;" was taken, comments skipped, and the bracket given
+abbrev inComment : State
+inComment = pieceOf (fresh 0 true) (spelled "(;") longest .state
+
+-- one bracket open, and no byte taken
+abbrev pub tooDeep : State
+tooDeep = atDepth 1 new
 
 -- a mode that there is not
 abbrev pub modeTwo : State
@@ -109,11 +124,19 @@ pub record Rows : Type 0 where
   pub first-call : pieceOf new (spelled "(ab") longest ≡ reply 2 (bare kind.OpenParen kind.Round 0 1) inWordA
   -- the next call reads on: the word is ready at the bracket
   pub later-call : pieceOf inWordA (spelled "b)") longest
-      ≡ reply 2 (texted kind.Identifier 1 3 "ab") (state false (Busy 3 (ph.Done (Token kind.CloseParen kind.Round))) 4 0 0 1 (buffer (spelled ")b")))
+      ≡ reply 2 (deep 1 (texted kind.Identifier 1 3 "ab"))
+      (atDepth 1 (state false (Busy 3 (ph.Done (Token kind.CloseParen kind.Round))) 4 0 0 1 (buffer (spelled ")b"))))
+  -- the depth is that before the item: a close has that of its list, and is counted after it
+  pub closing : pieceOf (pieceOf inWordA (spelled ")") longest .state) (spelled " ") longest
+      ≡ reply 1 (deep 1 (bare kind.CloseParen kind.Round 2 3)) (state false Idle 4 0 0 0 (buffer (spelled ")")))
+  -- a close with none open leaves it at 0
+  pub closing-none : pieceOf new (spelled ") ") longest ≡ reply 2 (bare kind.CloseParen kind.Round 0 1) (state false Idle 2 0 0 0 (buffer (spelled ")")))
+  -- a skipped comment leaves it
+  pub after-comment : pieceOf inComment (spelled "a\nb ") longest .what ≡ deep 1 (texted kind.Identifier 4 5 "b")
   -- its text stands at the start of the text memory
   pub later-text : lentAfter (pieceOf inWordA (spelled "b)") longest) ≡ written (spelled "ab") lent
   -- with nothing ready the piece is taken whole, and the text memory keeps every byte
-  pub unready : pieceOf inWordA (spelled "bc") longest ≡ reply 2 more (state false (Busy 1 ph.InWord) 4 0 0 3 (buffer (spelled "abc")))
+  pub unready : pieceOf inWordA (spelled "bc") longest ≡ reply 2 more (atDepth 1 (state false (Busy 1 ph.InWord) 4 0 0 3 (buffer (spelled "abc"))))
   pub unready-text : lentAfter (pieceOf inWordA (spelled "bc") longest) ≡ lent
   -- a comma is not given before it is known whether `@` follows
   pub comma : pieceOf new (spelled ",") longest ≡ reply 1 more (state false (Busy 0 ph.AfterComma) 1 0 0 1 (buffer (spelled ",")))
@@ -130,7 +153,7 @@ pub record Rows : Type 0 where
   pub ranged : pieceOf new (spelled "\"\\xD800;\"") longest ≡ reply 9 (error kind.InvalidHexCodePoint 0xD800 0 8 1 8) afterError
   pub ranged-end : endOf afterError longest ≡ reply 0 (error kind.IncompleteString 0 8 9 1 8) (state true Idle 9 1 8 0 (buffer (spelled "\"\\xD800;")))
   -- the end finishes the item that was being read, and stands declared
-  pub end-call : endOf inWordA longest ≡ reply 0 (texted kind.Identifier 1 2 "a") (state true Idle 2 0 0 0 (buffer (spelled "a")))
+  pub end-call : endOf inWordA longest ≡ reply 0 (deep 1 (texted kind.Identifier 1 2 "a")) (atDepth 1 (state true Idle 2 0 0 0 (buffer (spelled "a"))))
   -- the second item of a pair is given at the end too
   pub second : endOf waiting longest ≡ reply 0 (texted kind.Identifier 0 2 "a") (state true Idle 3 0 0 0 (buffer (spelled "+a")))
   -- a sequence that the end cuts is 21
@@ -138,6 +161,7 @@ pub record Rows : Type 0 where
   -- a state outside its bounds is 27, a text memory that is short 24, a piece after the declared end 26: nothing is taken, and the state stays
   pub out-of-bounds : pieceOf modeTwo (spelled "a") longest ≡ reply 0 (refused 27 0) modeTwo
   pub end-out-of-bounds : endOf modeTwo longest ≡ reply 0 (refused 27 0) modeTwo
+  pub too-deep : pieceOf tooDeep (spelled "a") longest ≡ reply 0 (refused 27 0) tooDeep
   pub no-room : pieceOf new (spelled "a") 4095 ≡ reply 0 (refused 24 0) new
   pub end-no-room : endOf inWordA 4095 ≡ reply 0 (refused 24 0) inWordA
   pub after-end : pieceOf (endOf new longest .state) (spelled "a") longest ≡ reply 0 (refused 26 0) (endOf new longest .state)
@@ -151,6 +175,9 @@ computed =
       opened = λ skip. refl;
       first-call = refl;
       later-call = refl;
+      closing = refl;
+      closing-none = refl;
+      after-comment = refl;
       later-text = refl;
       unready = refl;
       unready-text = refl;
@@ -168,6 +195,7 @@ computed =
       cut = refl;
       out-of-bounds = refl;
       end-out-of-bounds = refl;
+      too-deep = refl;
       no-room = refl;
       end-no-room = refl;
       after-end = refl;

@@ -7,7 +7,7 @@ use Rattle.items.specs.declared.Next.the-variants.{Eat, Stop}
 use Rattle.items.specs.declared.Phase.{Phase}
 use Rattle.items.specs.declared.Phase.the-variants.{AfterHash}
 use Rattle.items.specs.Classes.{firstOf}
-use Rattle.items.specs.Items.{Place, Item, itemOf, itemsOf, rangeAfter, standing, extentItems, kept}
+use Rattle.items.specs.Items.{Place, Item, itemOf, itemsOf, rangeAfter, standing, extentItems, kept, depthAfter, depthPast}
 use Rattle.items.specs.Kinds as kind
 use Rattle.items.specs.Machine.{stepOf, onFirst}
 use Rattle.items.specs.Meaning.{Meaning, means, source, meaningOf}
@@ -17,22 +17,22 @@ use Rattle.items.specs.Whole.{limit}
 use Rattle.items.proofs.Splits.{length-bytes}
 use Rattle.chars.proofs.Width.{width-utf8}
 use Rattle.laws.specs.Quoted.{code}
-use Rattle.laws.proofs.Choice.{by-bool, if-is}
+use Rattle.laws.proofs.Choice.{by-bool, if-all, if-is}
 use Rattle.pieces.specs.declared.Beyond.{Beyond}
 use Rattle.pieces.specs.declared.Beyond.the-variants.{End, Char}
 use Rattle.pieces.specs.declared.Stage.{Stage}
 use Rattle.pieces.specs.declared.Stage.the-variants.{Opening, Pound, FirstLine, Idle, Busy, Waiting, Stopped}
 use Rattle.pieces.specs.declared.State.{State}
-use Rattle.pieces.specs.Calls.{item, whole, becomes, lastOf, itemSoFar, laidAt, Turn, on, stopped, begin, beyond, gives, report, ends, onNext, onStage}
+use Rattle.pieces.specs.Calls.{item, whole, becomes, atDepth, deeper, lastOf, itemSoFar, laidAt, Turn, on, stopped, begin, beyond, gives, report, ends, onNext, onStage}
 use Rattle.pieces.specs.Drive.{heed, prepend}
 use Rattle.pieces.specs.Expected.{Expected, longest}
 use Rattle.pieces.specs.Given.{given, givenAll}
-use Rattle.pieces.proofs.Cuts.{settled, afterTurn, settled-going}
+use Rattle.pieces.proofs.Cuts.{settled, afterTurn, settled-calm}
 use Rattle.pieces.proofs.Kept.{Kept, Held, Staged, Calm, Within, laid-held, kept-pass, laid-in, kept-laid, first-in, kept-first}
-use Rattle.pieces.proofs.Kept.{bytes-fit, kept-range}
+use Rattle.pieces.proofs.Kept.{bytes-fit, kept-range, kept-depth}
 use Rattle.pieces.proofs.Pairs.{Shape, alone, pair, shape}
 use Rattle.pieces.proofs.Phases.{Goes, first-sized}
-use Rattle.pieces.proofs.Turns.{held-length, going-begin, step-goes, kept-pound}
+use Rattle.pieces.proofs.Turns.{held-length, step-goes, kept-pound}
 use Prim.Native.Nat.{ℕ, _+_, _-_, _≤_, _<_}
 use mathlib.Core.Path.{_≡_, refl, sym, ap, subst, _∙_}
 use mathlib.Core.Bool.{Bool, true, false, _&&_}
@@ -57,14 +57,18 @@ modeOf (Stopped n p) raw = M.idle
 abbrev pub view : State → M.State
 view s = M.state (modeOf (s .marks .stage) (take (s .marks .len) (s .buf))) (s .marks .at) (lastOf s)
 
--- the state t after s: the characters q were read, and the machine stands at m
-pub record Arrives (s : State) (q : List ℕ) (m : M.State) (t : State) : Type 0 where
+-- the state t after s: the characters q were read, the machine stands at m, and d brackets are open
+pub record Arrives (s : State) (q : List ℕ) (m : M.State) (d : ℕ) (t : State) : Type 0 where
   pub kept : Kept q [] t
   pub calm : Calm (t .marks .stage)
   pub same : view t ≡ m
   pub mode : report t ≡ report s
   pub skip : t .marks .skip ≡ s .marks .skip
   pub part : t .marks .part ≡ whole
+  pub depth : t .marks .depth ≡ d
+
+begin-calm : (s : State) (last : Place) (c : ℕ) → Calm (begin s last c .marks .stage)
+begin-calm s last c = if-all (λ (t : State). Calm (t .marks .stage)) (isBlank c) tt tt
 
 -- a word that is a pair is no comment
 pair-kept : (skip r : Bool) (set : Place) (s e : ℕ) → let i : Item = itemOf r set s e (means kind.Identifier 0 (source s (s + 1))) in
@@ -76,8 +80,8 @@ pair-kept false r set s e = refl
 module _ (bytes : List ℕ) where
   -- what a turn gives for the character c
   pub data Does (s : State) (q : List ℕ) (c : ℕ) (f : M.Fed) (t : Turn) : Type 0 where
-    goes : (u : State) → Arrives s (q ++ (c ∷ [])) (f .after) u
-        → ((go : State → Expected) → afterTurn t go ≡ prepend (givenAll bytes (kept (s .marks .skip) (f .out))) (go u)) → Does s q c f t
+    goes : (u : State) → Arrives s (q ++ (c ∷ [])) (f .after) (depthPast (s .marks .depth) (kept (s .marks .skip) (f .out))) u
+        → ((go : State → Expected) → afterTurn t go ≡ prepend (givenAll bytes (s .marks .depth) (kept (s .marks .skip) (f .out))) (go u)) → Does s q c f t
     tooLong : (st : ℕ) (p : Phase) (raw : List ℕ) → t ≡ stopped s 23 st → f .after ≡ M.state (M.busy st p raw) (s .marks .at + width c) (lastOf s)
         → longest < s .marks .at + width c - st → Does s q c f t
 
@@ -98,23 +102,26 @@ module _ (bytes : List ℕ) where
           ∙ take-at (take (s .marks .len) (s .buf)) after (s .marks .at - st) (omega (arith, held-length k, h .ends))
 
       pub gives-all : (b : Beyond) (last set : Place) (ms : List Meaning) → Shape st (s .marks .at) (take (s .marks .len) (s .buf)) ms → (go : State → Expected)
-          → settled (beyond s last b) go ≡ go (beyond s last b)
+          → ((d : ℕ) → settled (beyond (atDepth d s) last b) go ≡ go (beyond (atDepth d s) last b))
           → afterTurn (gives s st last b (itemsOf (report s) set st (s .marks .at) ms)) go
-          ≡ prepend (givenAll bytes (kept (s .marks .skip) (itemsOf (report s) set st (s .marks .at) ms))) (go (beyond s last b))
-      unfolding kept givenAll
+          ≡ prepend (givenAll bytes (s .marks .depth) (kept (s .marks .skip) (itemsOf (report s) set st (s .marks .at) ms)))
+          (go (beyond (atDepth (depthPast (s .marks .depth) (kept (s .marks .skip) (itemsOf (report s) set st (s .marks .at) ms))) s) last b))
+      unfolding kept givenAll depthPast
       gives-all b last set ms (alone m) go e =
           let i : Item = itemOf (report s) set st (s .marks .at) m in
           by-bool (s .marks .skip && eqb (m .kind) kind.Comment)
           (λ f. rw f)
           (λ f. rw f (
-          ap (heed (item (given (take (s .marks .len) (s .buf)) i))) e
-          ∙ ap (λ (l : List ℕ). heed (item (given l i)) (go (beyond s last b))) (sym raw-bytes)))
+          ap (heed (item (given (s .marks .depth) (take (s .marks .len) (s .buf)) i))) (e (depthAfter (m .kind) (s .marks .depth)))
+          ∙ ap (λ (l : List ℕ). heed (item (given (s .marks .depth) l i)) (go (beyond (deeper (m .kind) s) last b))) (sym raw-bytes)))
       gives-all b last set ms (pair two) go e =
           let i : Item = itemOf (report s) set st (s .marks .at) (means kind.Identifier 0 (source st (st + 1))) in
           let j : Item = itemOf (report s) set st (s .marks .at) (means kind.Identifier 0 (source (st + 1) (s .marks .at))) in
-          ap (λ (u : State). heed (item (given (take (s .marks .len) (s .buf)) i)) (heed (item (given (take (s .marks .len) (s .buf)) j)) (go u))) (waited st last b)
-          ∙ ap (λ (l : List ℕ). heed (item (given l i)) (heed (item (given l j)) (go (beyond s last b)))) (sym raw-bytes)
-          ∙ ap (λ (l : List Item). prepend (givenAll bytes l) (go (beyond s last b))) (sym (pair-kept (s .marks .skip) (report s) set st (s .marks .at)))
+          let d : ℕ = s .marks .depth in
+          ap (λ (u : State). heed (item (given d (take (s .marks .len) (s .buf)) i)) (heed (item (given d (take (s .marks .len) (s .buf)) j)) (go u))) (waited st last b)
+          ∙ ap (λ (l : List ℕ). heed (item (given d l i)) (heed (item (given d l j)) (go (beyond s last b)))) (sym raw-bytes)
+          ∙ ap (λ (l : List Item). prepend (givenAll bytes d l) (go (beyond (atDepth (depthPast d l) s) last b)))
+          (sym (pair-kept (s .marks .skip) (report s) set st (s .marks .at)))
 
     -- ---- a character
 
@@ -125,24 +132,25 @@ module _ (bytes : List ℕ) where
           e : width c ≡ 0 + length (utf8 c)
           e = omega (arith, width-utf8 c)
 
-      arrives-begin : (last : Place) → Within last → Arrives s (q ++ (c ∷ [])) (M.begin (s .marks .at) last c) (begin s last c)
-      arrives-begin last w =
+      arrives-begin : (d : ℕ) (last : Place) → Within last → Arrives s (q ++ (c ∷ [])) (M.begin (s .marks .at) last c) d (begin (atDepth d s) last c)
+      arrives-begin d last w =
           let b : Stage = Busy (s .marks .at) (onFirst (firstOf c)) in
           by-bool (isBlank c)
-          (λ e. rw e (record { kept = kept-pass k c scalar room Idle last w tt; calm = tt; same = refl; mode = refl; skip = refl; part = refl }))
+          (λ e. rw e (record { kept = kept-pass (kept-depth k d) c scalar room Idle last w tt; calm = tt; same = refl; mode = refl; skip = refl; part = refl; depth = refl }))
           (λ e. rw e (record {
-            kept = kept-first k c scalar room b last w (first-in k c scalar room b last, first-sized (width c) c);
+            kept = kept-first (kept-depth k d) c scalar room b last w (first-in (kept-depth k d) c scalar room b last, first-sized (width c) c);
             calm = tt;
             same = ap (λ (l : List ℕ). M.state (M.busy (s .marks .at) (onFirst (firstOf c)) l) (s .marks .at + width c) last) first-held;
             mode = refl;
             skip = refl;
             part = refl;
+            depth = refl;
           }))
 
       module _ (after : List ℕ) (text : bytesOf q ++ after ≡ bytes) where
         next-does : (st : ℕ) → Held q s st → (n : Next) → Goes (itemSoFar s) c n
             → Does s q c (M.onNext (report s) n (lastOf s) st (itemSoFar s) c) (onNext s st c n)
-        unfolding extentItems kept givenAll
+        unfolding extentItems kept givenAll depthPast
         next-does st h (Eat p) z =
             let n : ℕ = s .marks .len + width c in
             let f : M.Fed = M.onNext (report s) (Eat p) (lastOf s) st (itemSoFar s) c in
@@ -157,6 +165,7 @@ module _ (bytes : List ℕ) where
               mode = refl;
               skip = refl;
               part = refl;
+              depth = refl;
             })
             (λ go. refl))
           where
@@ -167,28 +176,29 @@ module _ (bytes : List ℕ) where
         next-does st h (Stop o) z =
             let last : Place = rangeAfter (report s) (lastOf s) st o (itemSoFar s) in
             let w : Within last = kept-range k st o (itemSoFar s) z (omega (arith, h .ends, k .far)) (omega (arith, k .far)) (omega (arith, h .ends, k .far, bytes-fit s)) in
-            goes (begin s last c) (arrives-begin last w)
+            let d : ℕ = depthPast (s .marks .depth) (kept (s .marks .skip) (extentItems (report s) (lastOf s) st o (itemSoFar s))) in
+            goes (begin (atDepth d s) last c) (arrives-begin d last w)
             (λ go. gives-all after text st h (Char c) last (rangeAfter (report s) (standing (report s) (lastOf s)) st o (itemSoFar s)) (meaningOf (report s) o st (s .marks .at) (take (s .marks .len) (s .buf)))
-            (shape st (s .marks .at) (take (s .marks .len) (s .buf)) (report s) o) go (settled-going (going-begin k c scalar room last w) go))
+            (shape st (s .marks .at) (take (s .marks .len) (s .buf)) (report s) o) go (λ e. settled-calm (begin (atDepth e s) last c) (begin-calm (atDepth e s) last c) go))
 
         staged : {b : Stage} → s .marks .stage ≡ b → Staged q s b
         staged e = subst (Staged q s) e (k .staged)
 
         quiet-begin : Does s q c (M.quietly (M.begin (s .marks .at) (lastOf s) c)) (on (begin s (lastOf s) c))
-        unfolding kept givenAll
-        quiet-begin = goes (begin s (lastOf s) c) (arrives-begin (lastOf s) (k .last)) (λ go. refl)
+        unfolding kept givenAll depthPast
+        quiet-begin = goes (begin s (lastOf s) c) (arrives-begin (s .marks .depth) (lastOf s) (k .last)) (λ go. refl)
 
         quiet-line : Does s q c (M.quietly (M.state M.skipping (s .marks .at + width c) (lastOf s)))
             (on (becomes s (s .buf) FirstLine (s .marks .at + width c) 0 (lastOf s)))
-        unfolding kept givenAll
+        unfolding kept givenAll depthPast
         quiet-line =
-            goes _ (record { kept = kept-pass k c scalar room FirstLine (lastOf s) (k .last) tt; calm = tt; same = refl; mode = refl; skip = refl; part = refl }) (λ go. refl)
+            goes _ (record { kept = kept-pass k c scalar room FirstLine (lastOf s) (k .last) tt; calm = tt; same = refl; mode = refl; skip = refl; part = refl; depth = refl }) (λ go. refl)
 
         quiet-pound : q ≡ [] → c ≡ code "#" → Does s q c (M.quietly (M.state M.pound (s .marks .at + width c) (lastOf s)))
             (on (becomes s (laidAt 0 (utf8 c) (s .buf)) Pound (s .marks .at + width c) (width c) (lastOf s)))
-        unfolding kept givenAll
+        unfolding kept givenAll depthPast
         quiet-pound e f =
-            goes _ (record { kept = kept-pound k c scalar room e f; calm = tt; same = refl; mode = refl; skip = refl; part = refl }) (λ go. refl)
+            goes _ (record { kept = kept-pound k c scalar room e f; calm = tt; same = refl; mode = refl; skip = refl; part = refl; depth = refl }) (λ go. refl)
 
         pub stage-does : (b : Stage) → s .marks .stage ≡ b → Calm b
             → Does s q c (M.feedMode (report s) (modeOf b (take (s .marks .len) (s .buf))) (s .marks .at) (lastOf s) c) (onStage s b c)

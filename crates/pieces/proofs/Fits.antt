@@ -136,7 +136,7 @@ FitsTurn (off s w) = Fits w
 held-short : (s : State) → Short s → length (itemSoFar s .bytes) ≤ longest
 held-short s h = omega (arith, length-take (s .marks .len) (s .buf), min-le-left (s .marks .len) (length (s .buf)))
 
-given-fits : (s : State) → Short s → (i : Item) → Little (itemSoFar s .bytes) (i .text) → length (given (itemSoFar s .bytes) i .text) ≤ longest
+given-fits : (s : State) → Short s → (i : Item) → Little (itemSoFar s .bytes) (i .text) → length (given (s .marks .depth) (itemSoFar s .bytes) i .text) ≤ longest
 given-fits s h i l = omega (arith, held-short s h, copied-short (i .kind) (i .start) (itemSoFar s .bytes) (i .text) l)
 
 begin-short : (s : State) (last : Place) (c : ℕ) → Short (begin s last c)
@@ -228,18 +228,18 @@ fits-end s h (Waiting st b) = second-fits s h st
 fits-end s h (Stopped n p) = tt
 
 -- a state in bounds holds no more
-third : (a b c d e f g : Bool) → (a && b && c && d && e && f && g) ≡ true → c ≡ true
-third a b true d e f g h = refl
-third true true false d e f g h = h
-third true false false d e f g h = h
-third false b false d e f g h = h
+third : (a b c d e f g h : Bool) → (a && b && c && d && e && f && g && h) ≡ true → c ≡ true
+third a b true d e f g h t = refl
+third true true false d e f g h t = t
+third true false false d e f g h t = t
+third false b false d e f g h t = t
 
 in-bounds-short : (s : State) → inBounds s ≡ true → Short s
 unfolding inBounds
 in-bounds-short s e =
     leb-true (s .marks .len) longest
     (third (isMode (s .marks .mode)) (isPlace (s .marks .at + s .marks .part .count)) (leb (s .marks .len) longest) (isPlace (s .marks .from))
-    (isPlace (s .marks .to)) (partBounds (s .marks .part)) (stageBounds (s .marks .stage) (s .marks)) e)
+    (isPlace (s .marks .to)) (leb (s .marks .depth + s .marks .len) (s .marks .at)) (partBounds (s .marks .part)) (stageBounds (s .marks .stage) (s .marks)) e)
 
 -- the text of what a piece call gives, and of what an end call gives, fits
 pub text-fits : (s : State) (bs : List ℕ) (room : ℕ) (g : Given) → pieceOf s bs room .what ≡ item g → length (g .text) ≤ longest

@@ -28,7 +28,7 @@ use Rattle.pieces.specs.declared.Stage.{Stage}
 use Rattle.pieces.specs.declared.Stage.the-variants.{Opening, Pound, FirstLine, Idle, Busy, Waiting, Stopped}
 use Rattle.pieces.specs.declared.State.{State}
 use Rattle.pieces.specs.Bounds.{doneBounds, phaseBounds, beyondBounds, stageBounds, inBounds}
-use Rattle.pieces.specs.Calls.{whole, becomes, report, lastOf, itemSoFar, laidAt, partly, declared}
+use Rattle.pieces.specs.Calls.{whole, becomes, atDepth, report, lastOf, itemSoFar, laidAt, partly, declared}
 use Rattle.pieces.specs.Expected.{longest}
 use Rattle.pieces.proofs.Parts.{Begun, part-bounded}
 use Rattle.pieces.proofs.Phases.{Ranges, Settled, Sized}
@@ -218,10 +218,14 @@ stage-bounded q s (Waiting st b) e h =
     both (both (both (eq-eqb _ _ (h .0 .ends)) (le-leb _ _ (h .1 .0))) (eq-eqb _ _ (h .1 .1 .0))) (beyond-bounded b (s .marks .at) (h .1 .1 .1))
 stage-bounded q s (Stopped n p) e h = both (stop-bounded n (h .0)) (le-leb _ _ (h .1))
 
-pub kept-bounded : {q g : List ℕ} {s : State} → Kept q g s → inBounds s ≡ true
+-- no more brackets are open than bytes lie before the item
+abbrev pub Deep : State → Type 0
+Deep s = s .marks .depth + s .marks .len ≤ s .marks .at
+
+pub kept-bounded : {q g : List ℕ} {s : State} → Kept q g s → Deep s → inBounds s ≡ true
 unfolding inBounds
-kept-bounded {q} {g} {s} k =
-    both (both (both (both (both (both (lt-ltb _ _ (k .mode)) (le-leb _ _ (k .far))) (le-leb _ _ (k .small))) (le-leb _ _ (k .last .0))) (le-leb _ _ (k .last .1)))
+kept-bounded {q} {g} {s} k deep =
+    both (both (both (both (both (both (both (lt-ltb _ _ (k .mode)) (le-leb _ _ (k .far))) (le-leb _ _ (k .small))) (le-leb _ _ (k .last .0))) (le-leb _ _ (k .last .1))) (le-leb _ _ deep))
     (part-bounded (s .marks .part) (k .begun .wants))) (stage-bounded q s (s .marks .stage) (k .place) (k .staged))
 
 -- ---- how a state becomes another
@@ -341,6 +345,29 @@ module _ {q g : List ℕ} {s : State} (k : Kept q g s) where
       on (Busy st p) c h = h
       on (Waiting st b) c h = absurd c
       on (Stopped n p) c h = absurd c
+
+  -- another depth
+  pub kept-depth : (d : ℕ) → Kept q g (atDepth d s)
+  kept-depth d = record {
+    mode = k .mode;
+    full = k .full;
+    small = k .small;
+    place = k .place;
+    far = k .far;
+    last = k .last;
+    scalars = k .scalars;
+    begun = k .begun;
+    staged = on (s .marks .stage) (k .staged);
+  }
+    where
+      on : (b : Stage) → Staged q s b → Staged q (atDepth d s) b
+      on Opening h = h
+      on Pound h = h
+      on FirstLine h = h
+      on Idle h = h
+      on (Busy st p) h = h
+      on (Waiting st b) h = h
+      on (Stopped n p) h = h
 
   -- the end is declared
   pub kept-declared : Kept q g (declared s)

@@ -16,6 +16,7 @@ use Rattle.items.specs.Kinds as kind
 use Rattle.items.specs.Machine.{stepOf, finishOf, onFirst}
 use Rattle.items.specs.Meaning.{Meaning, meaningOf}
 use Rattle.items.specs.Whole.{limit, isMode}
+use Rattle.items.proofs.Depth.{depth-slow}
 use Rattle.laws.specs.Choice.{if_then_else_}
 use Rattle.laws.specs.Quoted.{code}
 use Rattle.laws.proofs.Choice.{if-all, if-is}
@@ -25,13 +26,13 @@ use Rattle.pieces.specs.declared.Stage.{Stage}
 use Rattle.pieces.specs.declared.Stage.the-variants.{Opening, Pound, FirstLine, Idle, Busy, Waiting, Stopped}
 use Rattle.pieces.specs.declared.State.{State}
 use Rattle.pieces.specs.Bounds.{inBounds}
-use Rattle.pieces.specs.Calls.{What, item, more, finished, refused, Reply, reply, lastOf, itemSoFar, laidAt, becomes, Turn, on, off, begin, beyond}
+use Rattle.pieces.specs.Calls.{What, item, more, finished, refused, Reply, reply, lastOf, itemSoFar, laidAt, becomes, deeper, Turn, on, off, begin, beyond}
 use Rattle.pieces.specs.Calls.{gives, report, ends, onNext, onStage, partly, stopped, turnOf, after, feedOf, pieceStage, pieceOf, declared, replied, unlessCut}
 use Rattle.pieces.specs.Calls.{endStage, endUnlessStopped, endOf, fresh, openOf}
 use Rattle.pieces.specs.Expected.{longest}
 use Rattle.pieces.specs.Produced.{Produced, opened, pieced, ended}
-use Rattle.pieces.proofs.Kept.{Kept, HeldIn, Held, Staged, Beyonds, Calm, Within, kept-bounded, kept-pass, laid-in, kept-laid, first-in, kept-first}
-use Rattle.pieces.proofs.Kept.{kept-stopped, kept-end, kept-partly, kept-declared, kept-waiting, bytes-fit, kept-range, none-begun}
+use Rattle.pieces.proofs.Kept.{Kept, Deep, HeldIn, Held, Staged, Beyonds, Calm, Within, kept-bounded, kept-pass, laid-in, kept-laid, first-in, kept-first}
+use Rattle.pieces.proofs.Kept.{kept-stopped, kept-end, kept-partly, kept-depth, kept-declared, kept-waiting, bytes-fit, kept-range, none-begun}
 use Rattle.pieces.proofs.Pairs.{Shape, alone, pair, shape}
 use Rattle.pieces.proofs.Parts.{Stepped, stepped}
 use Rattle.pieces.proofs.Phases.{Ranges, Sized, Goes, goes-on, first-sized, finish-ranges}
@@ -53,6 +54,7 @@ pub record Going (e : Bool) (s : State) : Type 0 where
   pub begun : List ℕ
   pub kept : Kept read begun s
   pub calm : Calm (s .marks .stage)
+  pub deep : Deep s
   pub ended : s .marks .ended ≡ e
 
 pub record Waits (e : Bool) (s : State) : Type 0 where
@@ -61,12 +63,14 @@ pub record Waits (e : Bool) (s : State) : Type 0 where
   pub beyond : Beyond
   pub kept : Kept read [] s
   pub stage : s .marks .stage ≡ Waiting start beyond
+  pub deep : Deep s
   pub ended : s .marks .ended ≡ e
 
 pub record Halted (n p : ℕ) (s : State) : Type 0 where
   pub read : List ℕ
   pub kept : Kept read [] s
   pub stage : s .marks .stage ≡ Stopped n p
+  pub deep : Deep s
 
 -- after something was given
 abbrev pub Left : Bool → What → State → Type 0
@@ -84,34 +88,61 @@ pub held-length : {q g : List ℕ} {s : State} → Kept q g s → length (take (
 held-length {q} {g} {s} k = length-take-le (s .marks .len) (s .buf) (omega (arith, k .full, k .small))
 
 module _ {q g : List ℕ} {s : State} (k : Kept q g s) where
-  pub going-begin : (c : ℕ) → isScalar c ≡ true → s .marks .at + width c ≤ limit → (last : Place) → Within last → Going (s .marks .ended) (begin s last c)
-  going-begin c scalar room last w =
+  -- no more brackets are open than bytes were read
+  abbrev Low : Type 0
+  Low = s .marks .depth ≤ s .marks .at
+
+  pub going-begin : Low → (c : ℕ) → isScalar c ≡ true → s .marks .at + width c ≤ limit → (last : Place) → Within last → Going (s .marks .ended) (begin s last c)
+  going-begin low c scalar room last w =
       let b : Stage = Busy (s .marks .at) (onFirst (firstOf c)) in
       if-all (Going (s .marks .ended)) (isBlank c)
-      (record { read = q ++ (c ∷ []); begun = []; kept = kept-pass k c scalar room Idle last w tt; calm = tt; ended = refl })
+      (record { read = q ++ (c ∷ []); begun = []; kept = kept-pass k c scalar room Idle last w tt; calm = tt; deep = omega arith; ended = refl })
       (record {
         read = q ++ (c ∷ []);
         begun = [];
         calm = tt;
+        deep = omega arith;
         ended = refl;
         kept = kept-first k c scalar room b last w (first-in k c scalar room b last, first-sized (width c) c);
       })
 
-  going-beyond : (b : Beyond) → Beyonds b (s .marks .at) → (last : Place) → Within last → Going (s .marks .ended) (beyond s last b)
-  going-beyond (Char c) h last w = going-begin c (h .0) (h .1) last w
-  going-beyond End h last w = record { read = q; begun = []; kept = kept-end k last w; calm = tt; ended = refl }
+  pub going-beyond : Low → (b : Beyond) → Beyonds b (s .marks .at) → (last : Place) → Within last → Going (s .marks .ended) (beyond s last b)
+  going-beyond low (Char c) h last w = going-begin low c (h .0) (h .1) last w
+  going-beyond low End h last w = record { read = q; begun = []; kept = kept-end k last w; calm = tt; deep = omega arith; ended = refl }
 
-  halts : (n p : ℕ) → (n ≡ 20) ⊎ ((n ≡ 21) ⊎ (n ≡ 23)) → p ≤ limit → Halted n p (becomes s (s .buf) (Stopped n p) (s .marks .at) 0 (lastOf s))
-  halts n p h l = record { read = q; kept = kept-stopped k n p h l; stage = refl }
+  halts : Low → (n p : ℕ) → (n ≡ 20) ⊎ ((n ≡ 21) ⊎ (n ≡ 23)) → p ≤ limit → Halted n p (becomes s (s .buf) (Stopped n p) (s .marks .at) 0 (lastOf s))
+  halts low n p h l = record { read = q; kept = kept-stopped k n p h l; stage = refl; deep = omega arith }
 
+-- a character in an item, and a pound sign at the start of the text
+module _ {q g : List ℕ} {s : State} (k : Kept q g s) (c : ℕ) (scalar : isScalar c ≡ true) (room : s .marks .at + width c ≤ limit) where
+  pub step-goes : (st : ℕ) → Held q s st → (p : Phase) → Sized (s .marks .len) p → Goes (itemSoFar s) c (stepOf (report s) p (itemSoFar s) c)
+  step-goes st h p z =
+      goes-on (itemSoFar s) c (omega (arith, held-length k, h .some)) (omega (arith, held-length k, h .ends)) room (report s) p (rw (← held-length k) at z)
+
+  pub kept-pound : q ≡ [] → c ≡ code "#" → Kept (q ++ (c ∷ [])) [] (becomes s (laidAt 0 (utf8 c) (s .buf)) Pound (s .marks .at + width c) (width c) (lastOf s))
+  unfolding bytesOf utf8 width
+  kept-pound e f =
+      let none : s .marks .at ≡ 0 = k .place ∙ ap byteCount e in
+      let one : width c ≡ 1 = ap width f in
+      let h : HeldIn (q ++ (c ∷ [])) (laidAt 0 (utf8 c) (s .buf)) (width c) (s .marks .at + width c) 0
+      = subst (HeldIn (q ++ (c ∷ [])) (laidAt 0 (utf8 c) (s .buf)) (width c) (s .marks .at + width c)) none (first-in k c scalar room Pound (lastOf s)) in
+      let bytes : bytesOf (q ++ (c ∷ [])) ≡ code "#" ∷ [] = rw (e, f) in
+      kept-first k c scalar room Pound (lastOf s) (k .last) (h, (one, sym (h .bytes) ∙ bytes))
+
+-- an item of a kind was given
+pub counted-low : {q : List ℕ} (s : State) {st : ℕ} → Held q s st → Deep s → (n : ℕ) → deeper n s .marks .depth ≤ s .marks .at
+counted-low {q} s h deep n = omega (arith, depth-slow n (s .marks .depth), h .some)
+
+module _ {q g : List ℕ} {s : State} (k : Kept q g s) (deep : Deep s) where
   -- the items of an extent
   module _ (st : ℕ) (h : Held q s st) (b : Beyond) (ok : Beyonds b (s .marks .at)) where
     turned-gives : (last : Place) → Within last → (r : Bool) (set : Place) (ms : List Meaning) → Shape st (s .marks .at) (take (s .marks .len) (s .buf)) ms
         → Turned (s .marks .ended) (gives s st last b (itemsOf r set st (s .marks .at) ms))
     turned-gives last w r set ms (alone m) =
-        if-all (Turned (s .marks .ended)) (s .marks .skip && eqb (m .kind) kind.Comment) (going-beyond b ok last w) (inl (going-beyond b ok last w))
+        if-all (Turned (s .marks .ended)) (s .marks .skip && eqb (m .kind) kind.Comment) (going-beyond k (omega arith) b ok last w)
+        (inl (going-beyond (kept-depth k _) (counted-low s h deep (m .kind)) b ok last w))
     turned-gives last w r set ms (pair two) =
-        inr (record { read = q; start = st; beyond = b; kept = kept-waiting k st b last w h (omega (arith, held-length k)) ok; stage = refl; ended = refl })
+        inr (record { read = q; start = st; beyond = b; kept = kept-waiting k st b last w h (omega (arith, held-length k)) ok; stage = refl; deep = deep; ended = refl })
 
     turned-ends : (o : Outcome) → Ranges o → Turned (s .marks .ended) (ends s st o b)
     unfolding extentItems
@@ -125,11 +156,12 @@ module _ {q g : List ℕ} {s : State} (k : Kept q g s) where
     turned-next : (st : ℕ) → Held q s st → (n : Next) → Goes (itemSoFar s) c n → Turned (s .marks .ended) (onNext s st c n)
     turned-next st h (Eat p) z =
         if-is (Turned (s .marks .ended)) (ltb longest (s .marks .len + width c))
-        (λ _. halts 23 st (inr (inr refl)) (omega (arith, h .ends, k .far)))
+        (λ _. halts k (omega arith) 23 st (inr (inr refl)) (omega (arith, h .ends, k .far)))
         (λ e. record {
           read = q ++ (c ∷ []);
           begun = [];
           calm = tt;
+          deep = omega arith;
           ended = refl;
           kept = kept-laid k c scalar room (Busy st p) (s .marks .len) (s .marks .len + width c) (lastOf s) (k .last) refl (ltb-false _ _ e) (
             laid-in k c scalar room (Busy st p) st (s .marks .len) (s .marks .len + width c) (lastOf s) refl (ltb-false _ _ e) (h .ends) (h .bytes),
@@ -138,39 +170,24 @@ module _ {q g : List ℕ} {s : State} (k : Kept q g s) where
         })
     turned-next st h (Stop o) z = turned-ends st h (Char c) (scalar, room) o z
 
-    pub step-goes : (st : ℕ) → Held q s st → (p : Phase) → Sized (s .marks .len) p → Goes (itemSoFar s) c (stepOf (report s) p (itemSoFar s) c)
-    step-goes st h p z =
-        goes-on (itemSoFar s) c (omega (arith, held-length k, h .some)) (omega (arith, held-length k, h .ends)) room (report s) p (rw (← held-length k) at z)
-
     staged : {b : Stage} → s .marks .stage ≡ b → Staged q s b
     staged e = subst (Staged q s) e (k .staged)
-
-    -- a pound sign at the start of the text
-    pub kept-pound : q ≡ [] → c ≡ code "#" → Kept (q ++ (c ∷ [])) [] (becomes s (laidAt 0 (utf8 c) (s .buf)) Pound (s .marks .at + width c) (width c) (lastOf s))
-    unfolding bytesOf utf8 width
-    kept-pound e f =
-        let none : s .marks .at ≡ 0 = k .place ∙ ap byteCount e in
-        let one : width c ≡ 1 = ap width f in
-        let h : HeldIn (q ++ (c ∷ [])) (laidAt 0 (utf8 c) (s .buf)) (width c) (s .marks .at + width c) 0
-        = subst (HeldIn (q ++ (c ∷ [])) (laidAt 0 (utf8 c) (s .buf)) (width c) (s .marks .at + width c)) none (first-in k c scalar room Pound (lastOf s)) in
-        let bytes : bytesOf (q ++ (c ∷ [])) ≡ code "#" ∷ [] = rw (e, f) in
-        kept-first k c scalar room Pound (lastOf s) (k .last) (h, (one, sym (h .bytes) ∙ bytes))
 
     turned-stage : (b : Stage) → s .marks .stage ≡ b → Calm b → Turned (s .marks .ended) (onStage s b c)
     turned-stage Opening e z =
         if-is (Going (s .marks .ended)) (eqb c (code "#"))
-        (λ f. record { read = q ++ (c ∷ []); begun = []; kept = kept-pound (staged e) (eqb-true c (code "#") f); calm = tt; ended = refl })
-        (λ _. going-begin c scalar room (lastOf s) (k .last))
+        (λ f. record { read = q ++ (c ∷ []); begun = []; kept = kept-pound k c scalar room (staged e) (eqb-true c (code "#") f); calm = tt; deep = omega arith; ended = refl })
+        (λ _. going-begin k (omega arith) c scalar room (lastOf s) (k .last))
     turned-stage Pound e z =
         if-all (Turned (s .marks .ended)) (eqb c (code "!"))
-        (record { read = q ++ (c ∷ []); begun = []; kept = kept-pass k c scalar room FirstLine (lastOf s) (k .last) tt; calm = tt; ended = refl })
-        (turned-next 0 (staged e .0) (stepOf (report s) AfterHash (itemSoFar s) c) (step-goes 0 (staged e .0) AfterHash tt))
+        (record { read = q ++ (c ∷ []); begun = []; kept = kept-pass k c scalar room FirstLine (lastOf s) (k .last) tt; calm = tt; deep = omega arith; ended = refl })
+        (turned-next 0 (staged e .0) (stepOf (report s) AfterHash (itemSoFar s) c) (step-goes k c scalar room 0 (staged e .0) AfterHash tt))
     turned-stage FirstLine e z =
-        if-all (Going (s .marks .ended)) (eqb c (code "\n")) (going-begin c scalar room (lastOf s) (k .last))
-        (record { read = q ++ (c ∷ []); begun = []; kept = kept-pass k c scalar room FirstLine (lastOf s) (k .last) tt; calm = tt; ended = refl })
-    turned-stage Idle e z = going-begin c scalar room (lastOf s) (k .last)
+        if-all (Going (s .marks .ended)) (eqb c (code "\n")) (going-begin k (omega arith) c scalar room (lastOf s) (k .last))
+        (record { read = q ++ (c ∷ []); begun = []; kept = kept-pass k c scalar room FirstLine (lastOf s) (k .last) tt; calm = tt; deep = omega arith; ended = refl })
+    turned-stage Idle e z = going-begin k (omega arith) c scalar room (lastOf s) (k .last)
     turned-stage (Busy st p) e z =
-        turned-next st (staged e .0) (stepOf (report s) p (itemSoFar s) c) (step-goes st (staged e .0) p (staged e .1))
+        turned-next st (staged e .0) (stepOf (report s) p (itemSoFar s) c) (step-goes k c scalar room st (staged e .0) p (staged e .1))
     turned-stage (Waiting st b) e z = absurd z
     turned-stage (Stopped n p) e z = absurd z
 
@@ -180,7 +197,7 @@ pub turned : {e : Bool} {s : State} → Going e s → (b : ℕ) → Turned e (tu
 unfolding turnOf
 turned {e} {s} h b =
     if-is (Turned e) (leb limit (s .marks .at + s .marks .part .count))
-    (λ _. halts k 20 limit (inl refl) (omega arith))
+    (λ _. halts k (omega (arith, h .deep)) 20 limit (inl refl) (omega arith))
     (λ f. go (leb-false limit (s .marks .at + s .marks .part .count) f) (step (s .marks .part .state) b) (stepped (h .begun) (s .marks .part) b (k .begun)))
   where
     k : Kept (h .read) (h .begun) s
@@ -193,12 +210,13 @@ turned {e} {s} h b =
       begun = h .begun ++ (b ∷ []);
       kept = kept-partly k (h .begun ++ (b ∷ [])) _ z (omega arith) (h .calm);
       calm = h .calm;
+      deep = h .deep;
       ended = h .ended;
     }
     go far (steps.Char c) z =
         let room : s .marks .at + width c ≤ limit = omega (arith, z .count, length-append (h .begun) (b ∷ []), k .begun .count) in
-        rw (← h .ended) (turned-stage k c (z .scalar) room (s .marks .stage) refl (h .calm))
-    go far steps.Bad z = halts k 21 (s .marks .at) (inr (inl refl)) (omega arith)
+        rw (← h .ended) (turned-stage k (h .deep) c (z .scalar) room (s .marks .stage) refl (h .calm))
+    go far steps.Bad z = halts k (omega (arith, h .deep)) 21 (s .marks .at) (inr (inl refl)) (omega arith)
 
 -- ---- a call
 
@@ -206,7 +224,7 @@ turned {e} {s} h b =
 pub going-on : {e : Bool} {s : State} (w : Waits e s) → Going e (beyond s (lastOf s) (w .beyond))
 going-on {e} {s} w =
     let k : Kept (w .read) [] s = w .kept in
-    rw (← w .ended) (going-beyond k (w .beyond) (subst (Staged (w .read) s) (w .stage) (k .staged) .1 .1 .1) (lastOf s) (k .last))
+    rw (← w .ended) (going-beyond k (omega (arith, w .deep)) (w .beyond) (subst (Staged (w .read) s) (w .stage) (k .staged) .1 .1 .1) (lastOf s) (k .last))
 
 abbrev pub Leaves : Bool → Reply → Type 0
 Leaves e r = Left e (r .what) (r .state)
@@ -223,10 +241,10 @@ fed (b ∷ bs) {e} {s} n h = go (turnOf s b) (turned h b) (λ u z. fed bs (n + 1
 -- ---- an end call
 
 pub going-declared : {e : Bool} {s : State} → Going e s → Going true (declared s)
-going-declared h = record { read = h .read; begun = h .begun; kept = kept-declared (h .kept); calm = h .calm; ended = refl }
+going-declared h = record { read = h .read; begun = h .begun; kept = kept-declared (h .kept); calm = h .calm; deep = h .deep; ended = refl }
 
 abbrev pub waits-declared : {e : Bool} {s : State} → Waits e s → Waits true (declared s)
-waits-declared w = record { read = w .read; start = w .start; beyond = w .beyond; kept = kept-declared (w .kept); stage = w .stage; ended = refl }
+waits-declared w = record { read = w .read; start = w .start; beyond = w .beyond; kept = kept-declared (w .kept); stage = w .stage; deep = w .deep; ended = refl }
 
 replies : (e : Bool) (t : Turn) → Turned e t → Leaves e (replied t)
 replies e (on s) h = h
@@ -239,14 +257,14 @@ module _ {s : State} (h : Going true s) where
   uncut : (r : Reply) → Leaves true r → Leaves true (unlessCut s r)
   uncut r z =
       if-all (Leaves true) (eqb (s .marks .part .count) 0) z
-      (halts kept-now 21 (s .marks .at) (inr (inl refl)) (omega (arith, kept-now .far)))
+      (halts kept-now (omega (arith, h .deep)) 21 (s .marks .at) (inr (inl refl)) (omega (arith, kept-now .far)))
 
   ended-item : (st : ℕ) → Held (h .read) s st → (p : Phase) → Sized (s .marks .len) p
       → Leaves true (unlessCut s (replied (ends s st (finishOf p (itemSoFar s .bytes)) End)))
   ended-item st held p z =
       uncut (replied (ends s st (finishOf p (itemSoFar s .bytes)) End))
       (replies true (ends s st (finishOf p (itemSoFar s .bytes)) End)
-      (rw (← h .ended) (turned-ends kept-now st held End tt (finishOf p (itemSoFar s .bytes)) (finish-ranges (s .marks .len) p (itemSoFar s .bytes) z))))
+      (rw (← h .ended) (turned-ends kept-now (h .deep) st held End tt (finishOf p (itemSoFar s .bytes)) (finish-ranges (s .marks .len) p (itemSoFar s .bytes) z))))
 
   ended-stage : (b : Stage) → s .marks .stage ≡ b → Calm b → Leaves true (endStage s b)
   ended-stage Opening e z = uncut (reply 0 finished s) h
@@ -287,9 +305,9 @@ left-safe e finished s z = goes e z
 left-safe e (refused n p) s z = halted n p z
 
 safe-bounded : {s : State} → Safe s → inBounds s ≡ true
-safe-bounded (goes e h) = kept-bounded (h .kept)
-safe-bounded (waits e h) = kept-bounded (h .kept)
-safe-bounded (halted n p h) = kept-bounded (h .kept)
+safe-bounded (goes e h) = kept-bounded (h .kept) (h .deep)
+safe-bounded (waits e h) = kept-bounded (h .kept) (h .deep)
+safe-bounded (halted n p h) = kept-bounded (h .kept) (h .deep)
 
 abbrev SafeReply : Reply → Type 0
 SafeReply r = Safe (r .state)
@@ -331,7 +349,7 @@ fresh-kept mode skip h = record {
 }
 
 pub going-fresh : (mode : ℕ) (skip : Bool) → mode < 2 → Going false (fresh mode skip)
-going-fresh mode skip h = record { read = []; begun = []; kept = fresh-kept mode skip h; calm = tt; ended = refl }
+going-fresh mode skip h = record { read = []; begun = []; kept = fresh-kept mode skip h; calm = tt; deep = omega arith; ended = refl }
 
 pub safe : {s : State} → Produced s → Safe s
 unfolding openOf pieceOf endOf

@@ -95,9 +95,12 @@ stageBounds (Busy st p) m = heldBounds st m 1 && phaseBounds p (m .len)
 stageBounds (Waiting st b) m = heldBounds st m 2 && eqb (m .part .count) 0 && beyondBounds b (m .at)
 stageBounds (Stopped n p) m = stopBounds n p
 
--- the mode, the place with the character begun, the item and the last range
+-- the mode, the place with the character begun, the item, the last range, and the depth: no more brackets are open than bytes lie before
+-- the item
 abbrev pub numberBounds : Marks → Bool
-numberBounds m = isMode (m .mode) && isPlace (m .at + m .part .count) && leb (m .len) longest && isPlace (m .from) && isPlace (m .to)
+numberBounds m =
+    isMode (m .mode) && isPlace (m .at + m .part .count) && leb (m .len) longest && isPlace (m .from) && isPlace (m .to)
+    && leb (m .depth + m .len) (m .at)
 
 unfoldable pub inBounds : State → Bool
 inBounds s = numberBounds (s .marks) && partBounds (s .marks .part) && stageBounds (s .marks .stage) (s .marks)

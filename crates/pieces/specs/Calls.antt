@@ -19,7 +19,7 @@ use Rattle.items.specs.declared.Next.the-variants.{Eat, Stop}
 use Rattle.items.specs.Classes.{firstOf}
 use Rattle.items.specs.Readers.{SoFar, soFar}
 use Rattle.items.specs.Meaning.{source}
-use Rattle.items.specs.Items.{Place, range, rangeAfter, Item, extentItems, itemOf}
+use Rattle.items.specs.Items.{Place, range, rangeAfter, Item, extentItems, itemOf, depthAfter}
 use Rattle.items.specs.Machine.{stepOf, finishOf, onFirst}
 use Rattle.items.specs.Whole.{limit, inReport, isMode}
 use Rattle.pieces.specs.declared.Beyond.{Beyond}
@@ -62,11 +62,44 @@ whole = record { count = 0; state = start }
 
 abbrev pub marks : Marks → Stage → ℕ → ℕ → Place → Marks
 marks m g at n last =
-    record { mode = m .mode; skip = m .skip; ended = m .ended; stage = g; at = at; part = whole; from = last .from; to = last .to; len = n }
+    record {
+      mode = m .mode;
+      skip = m .skip;
+      ended = m .ended;
+      stage = g;
+      at = at;
+      part = whole;
+      from = last .from;
+      to = last .to;
+      len = n;
+      depth = m .depth;
+    }
+
+abbrev pub withDepth : ℕ → Marks → Marks
+withDepth d m =
+    record {
+      mode = m .mode;
+      skip = m .skip;
+      ended = m .ended;
+      stage = m .stage;
+      at = m .at;
+      part = m .part;
+      from = m .from;
+      to = m .to;
+      len = m .len;
+      depth = d;
+    }
 
 -- a state with another buffer, stage, place, count of the item's bytes and last range, between two characters
 abbrev pub becomes : State → List ℕ → Stage → ℕ → ℕ → Place → State
 becomes s b g at n last = record { buf = b; marks = marks (s .marks) g at n last }
+
+-- a state with so many brackets open, and one after an item of a kind
+abbrev pub atDepth : ℕ → State → State
+atDepth d s = record { buf = s .buf; marks = withDepth d (s .marks) }
+
+abbrev pub deeper : ℕ → State → State
+deeper k s = atDepth (depthAfter k (s .marks .depth)) s
 
 abbrev pub lastOf : State → Place
 lastOf s = range (s .marks .from) (s .marks .to)
@@ -101,15 +134,16 @@ abbrev pub beyond : State → Place → Beyond → State
 beyond s last (Char c) = begin s last c
 beyond s last End = becomes s (s .buf) Idle (s .marks .at) 0 last
 
--- the items of the extent that starts at st and ended: none, one, or a pair, whose second item waits. A comment may be skipped
+-- the items of the extent that starts at st and ended: none, one, or a pair, whose second item waits. A comment may be skipped. The
+-- brackets that are open are counted with each item; a pair is two identifiers
 abbrev pub gives : State → ℕ → Place → Beyond → List Item → Turn
 gives s st last b [] = on (beyond s last b)
 gives s st last b (i ∷ []) =
     if s .marks .skip && eqb (i .kind) kind.Comment
     then on (beyond s last b)
-    else off (beyond s last b) (item (given (itemSoFar s .bytes) i))
+    else off (beyond (deeper (i .kind) s) last b) (item (given (s .marks .depth) (itemSoFar s .bytes) i))
 gives s st last b (i ∷ j ∷ is) =
-    off (becomes s (s .buf) (Waiting st b) (s .marks .at) (s .marks .len) last) (item (given (itemSoFar s .bytes) i))
+    off (becomes s (s .buf) (Waiting st b) (s .marks .at) (s .marks .len) last) (item (given (s .marks .depth) (itemSoFar s .bytes) i))
 
 abbrev pub report : State → Bool
 report s = inReport (s .marks .mode)
@@ -156,6 +190,7 @@ partly s p =
             from = s .marks .from;
             to = s .marks .to;
             len = s .marks .len;
+            depth = s .marks .depth;
           };
     }
 
@@ -183,7 +218,7 @@ feedOf s (b ∷ bs) n = after (turnOf s b) (λ t. feedOf t bs (n + 1)) (n + 1)
 -- the second item of a pair: what is left of its word after the plus
 abbrev pub second : State → ℕ → Given
 second s st =
-    given (itemSoFar s .bytes)
+    given (s .marks .depth) (itemSoFar s .bytes)
     (itemOf (report s) (lastOf s) st (s .marks .at) (record { kind = kind.Identifier; detail = 0; text = source (st + 1) (s .marks .at) }))
 
 -- "With one waiting, a call takes 0 bytes and gives it"; "a stop .. stands from then on"; 26 after the declared end
@@ -221,6 +256,7 @@ declared s =
             from = s .marks .from;
             to = s .marks .to;
             len = s .marks .len;
+            depth = s .marks .depth;
           };
     }
 
@@ -263,7 +299,7 @@ abbrev pub fresh : ℕ → Bool → State
 fresh mode skip =
     record {
       buf = replicate longest 0;
-      marks = record { mode = mode; skip = skip; ended = false; stage = Opening; at = 0; part = whole; from = 0; to = 0; len = 0 };
+      marks = record { mode = mode; skip = skip; ended = false; stage = Opening; at = 0; part = whole; from = 0; to = 0; len = 0; depth = 0 };
     }
 
 unfoldable pub openOf : ℕ → Bool → Reply

@@ -5,7 +5,7 @@ use Prim.Native.String.{String}
 use mathlib.Core.Path.{_≡_, refl}
 use mathlib.Core.Bool.{Bool, true, false}
 use mathlib.Core.List.{List, [], _∷_, _++_, map}
-use lib.ListN.{length, replicate}
+use lib.ListN.{length, take, replicate}
 use Rattle.laws.specs.Quoted.{code, within}
 use Rattle.laws.specs.Texts.{span, starts, begins, same}
 use Rattle.chars.specs.Encode.{isScalar, utf8, width, encode, bytesOf, spelled}
@@ -19,7 +19,7 @@ use Rattle.numbers.specs.Grammar.{justOf, complexOf, polarOf, endsI, imaginary,
 use Rattle.items.specs.Classes.{startsRun, firstOf, inQuotes, afterBackslash, stopsHex, inHex, inTrim, inNest, breaksWord, inWord, staysRun, endsRun, inRun, afterHash, endsHash, inHash, inDelim}
 use Rattle.items.specs.Readers.{linedOf, scalarOf, pastFailing, boolKind, quoteKind, formKind, hashKind, unreturned, endsWith, hereEnds}
 use Rattle.items.specs.Meaning.{lookup, words, wordKind, wordMeans, runMeans, escaped, stringText, linedText, hereText, charNames, isDelimiter, nameless, hexNamed, spelledOut, characterOf, unescape}
-use Rattle.items.specs.Items.{extentItems}
+use Rattle.items.specs.Items.{extentItems, ownWords}
 use Rattle.items.specs.Kinds as kind
 use Rattle.pieces.specs.Bounds.{inBounds}
 use Rattle.pieces.specs.Calls as call
@@ -52,17 +52,21 @@ plain t gs = example 0 false (bothWays (spelled t)) gs finished
 abbrev reported : String → List Given → Example
 reported t gs = example 1 false (bothWays (spelled t)) gs finished
 
--- an item with no text, whose place is its extent
+-- outside all brackets: an item with no text, whose place is its extent
 abbrev bare : ℕ → ℕ → ℕ → ℕ → Given
-bare k d s e = record { words = k ∷ d ∷ s ∷ e ∷ s ∷ e ∷ 0 ∷ 0 ∷ 0 ∷ []; text = [] }
+bare k d s e = record { words = k ∷ d ∷ s ∷ e ∷ s ∷ e ∷ 0 ∷ 0 ∷ 0 ∷ 0 ∷ []; text = [] }
 
 -- an error: its number, its detail, its extent and its place
 abbrev error : ℕ → ℕ → ℕ → ℕ → ℕ → ℕ → Given
-error n d s e a b = record { words = (kind.firstError + n) ∷ d ∷ s ∷ e ∷ a ∷ b ∷ 0 ∷ 0 ∷ 0 ∷ []; text = [] }
+error n d s e a b = record { words = (kind.firstError + n) ∷ d ∷ s ∷ e ∷ a ∷ b ∷ 0 ∷ 0 ∷ 0 ∷ 0 ∷ []; text = [] }
 
 -- an item with its text, which is copied to the text memory
 abbrev texted : ℕ → ℕ → ℕ → String → Given
-texted k s e t = record { words = k ∷ 0 ∷ s ∷ e ∷ s ∷ e ∷ 2 ∷ 0 ∷ length (spelled t) ∷ []; text = spelled t }
+texted k s e t = record { words = k ∷ 0 ∷ s ∷ e ∷ s ∷ e ∷ 2 ∷ 0 ∷ length (spelled t) ∷ 0 ∷ []; text = spelled t }
+
+-- the same with n brackets open
+abbrev deep : ℕ → Given → Given
+deep n g = record { words = take ownWords (g .words) ++ (n ∷ []); text = g .text }
 
 table : List Example
 table =
@@ -101,7 +105,13 @@ table =
     ∷ plain "λ λx" (bare kind.Lambda 0 0 2 ∷ texted kind.Identifier 3 6 "λx" ∷ [])
     -- the text of `lexlist`
     ∷ plain "(a 14.7;gps\n"
-    (bare kind.OpenParen kind.Round 0 1 ∷ texted kind.Identifier 1 2 "a" ∷ texted kind.Identifier 3 7 "14.7" ∷ bare kind.Comment 0 7 12 ∷ [])
+    (bare kind.OpenParen kind.Round 0 1 ∷ deep 1 (texted kind.Identifier 1 2 "a") ∷ deep 1 (texted kind.Identifier 3 7 "14.7") ∷ deep 1 (bare kind.Comment 0 7 12) ∷ [])
+    -- 02 (vi): the depth is that before the item, and a close with none open leaves it at 0
+    ∷ plain "(a)" (bare kind.OpenParen kind.Round 0 1 ∷ deep 1 (texted kind.Identifier 1 2 "a") ∷ deep 1 (bare kind.CloseParen kind.Round 2 3) ∷ [])
+    ∷ plain ")([" (bare kind.CloseParen kind.Round 0 1 ∷ bare kind.OpenParen kind.Round 1 2 ∷ deep 1 (bare kind.OpenParen kind.Square 2 3) ∷ [])
+    ∷ plain "(+a)"
+    (bare kind.OpenParen kind.Round 0 1 ∷ deep 1 (texted kind.Identifier 1 3 "+") ∷ deep 1 (texted kind.Identifier 1 3 "a") ∷ deep 1 (bare kind.CloseParen kind.Round 3 4) ∷ [])
+    ∷ example 0 true (bothWays (spelled "(;a\nb")) (bare kind.OpenParen kind.Round 0 1 ∷ deep 1 (texted kind.Identifier 4 5 "b") ∷ []) finished
     -- a first line, which is not an item
     ∷ plain "#!x\nif" (bare kind.If 0 4 6 ∷ [])
     -- a comment is skipped, in the text and at its end

@@ -59,9 +59,9 @@ pub record Expected : Type 0 where
 -- "Before it come exactly these items: of the text made of the whole characters before that byte's character, those whose extents end
 -- before that text does."
 abbrev pub expectedBy : Bool → Bool → List ℕ → Ending → Expected
-expectedBy report skip bytes clean = record { items = givenAll bytes (kept skip (items report (chars bytes))); last = finished }
+expectedBy report skip bytes clean = record { items = givenAll bytes 0 (kept skip (items report (chars bytes))); last = finished }
 expectedBy report skip bytes (stop number place q) =
-    record { items = givenAll bytes (kept skip (endsBefore (byteCount q) (items report q))); last = refused number place }
+    record { items = givenAll bytes 0 (kept skip (endsBefore (byteCount q) (items report q))); last = refused number place }
 
 unfoldable pub expected : Bool → Bool → List ℕ → Expected
 expected report skip bytes = expectedBy report skip bytes (endingOf report (length bytes) [] (sequences 0 0 bytes))

@@ -56,6 +56,8 @@ pub struct Marks {
     pub to: usize,
     // how many bytes of the item are held
     pub len: usize,
+    // how many brackets are open before it
+    pub depth: u32,
 }
 
 pub struct State {

@@ -190,6 +190,7 @@ fn declare(m: Marks) -> Marks
         from: m.from,
         to: m.to,
         len: m.len,
+        depth: m.depth,
     }
 }
 

@@ -26,6 +26,7 @@ fn fresh_state(mode: u32, skip: bool) -> State
             from: 0,
             to: 0,
             len: 0,
+            depth: 0,
         },
     }
 }

@@ -5,6 +5,7 @@ use cuttings::Cutting;
 use cuttings::Reading;
 use cuttings::part;
 use cuttings::record_at;
+use items::Nine;
 use items::Record;
 use items::kinds::NUMBER;
 use meaning::records::IN_MEMORY;
@@ -50,7 +51,7 @@ fn ready_at(source: &[u8], end: usize) -> usize {
 }
 
 // Where the piece calls have the text of an item that is told: in the text memory, if there is one.
-fn text_source(told: Record) -> u32 {
+fn text_source(told: Nine) -> u32 {
     if told.kind == NUMBER {
         return IN_MEMORY;
     }
@@ -61,7 +62,7 @@ fn text_source(told: Record) -> u32 {
 }
 
 // Whether two records have the same kind, detail, extent and place.
-fn same_item(a: Record, b: Record) -> bool {
+fn same_item(a: Nine, b: Nine) -> bool {
     a.kind == b.kind
         && a.detail == b.detail
         && a.start == b.start
@@ -71,7 +72,7 @@ fn same_item(a: Record, b: Record) -> bool {
 }
 
 // Whether a text is that of an item that is told. A number's is its extent.
-fn same_text(told: Record, text: &[u8], source: &[u8], memory: &[u8]) -> bool {
+fn same_text(told: Nine, text: &[u8], source: &[u8], memory: &[u8]) -> bool {
     if told.kind == NUMBER {
         return texts::equal(text, part(source, told.start as usize, told.end as usize));
     }
@@ -90,11 +91,13 @@ fn met(
     source: &[u8],
     memory: &[u8],
 ) -> bool {
-    same_item(told, given)
-        && given.source == text_source(told)
-        && given.first == 0
-        && same_text(told, text, source, memory)
-        && count == ready_at(source, told.end as usize)
+    let nine = given.nine;
+    same_item(told.nine, nine)
+        && nine.source == text_source(told.nine)
+        && nine.first == 0
+        && given.depth == told.depth
+        && same_text(told.nine, text, source, memory)
+        && count == ready_at(source, told.nine.end as usize)
 }
 
 // Whether the items given are those told, of which there are so many words.
@@ -115,7 +118,7 @@ fn all_met(
         }
         let count = counts[n];
         let given = record_at(records, n);
-        let next = std::num::wrapping_add_usize(at, given.past as usize);
+        let next = std::num::wrapping_add_usize(at, given.nine.past as usize);
         if !met(
             record_at(told, n),
             given,

@@ -21,7 +21,7 @@ use Rattle.standard.specs.Characters.{lower, isSign}
 use Rattle.standard.specs.Reals.{infnan, ratio, ureal, real}
 use Rattle.standard.specs.Grammar.{endsI, imaginary, aloneOf, pairOf, joint, rectangular, complex, numberParts, parseStandard}
 use Rattle.standard.specs.Call.{bought, standard, byStandard, numberBy}
-use Rattle.number_words.specs.Words.{intWords, formed, realWords, joined, partsWords, refusalWords, flattened, numberOr}
+use Rattle.number_words.specs.Words.{intWords, formed, realWords, joined, partsWords, refusalWords, flattened, numberWords, numberOr}
 
 -- a byte that begins no sequence
 abbrev pub bad : List ℕ
@@ -49,8 +49,8 @@ pub record Rows : Type 0 where
   pub bad-bought : numberBy bought bad ≡ refused 21 0
   pub bad-standard : numberBy standard bad ≡ refused 21 0
   -- what C is told: the answer's number; 39 and 21 go before 22
-  pub told-standard : numberOr (replicate 27 7) (numberBy standard (spelled "#xe+1i")) ≡ 0
-  pub told-bought : numberOr (replicate 27 7) (numberBy bought (spelled "#xe+1i")) ≡ 1
+  pub told-standard : numberOr (replicate numberWords 7) (numberBy standard (spelled "#xe+1i")) ≡ 0
+  pub told-bought : numberOr (replicate numberWords 7) (numberBy bought (spelled "#xe+1i")) ≡ 1
   pub told-unknown : numberOr [] (numberBy unknown bad) ≡ 39
   pub told-bad : numberOr [] (numberBy standard bad) ≡ 21
   -- and the words: 39 changes none, 21 the first alone

@@ -193,10 +193,10 @@ length-laid n w buf h =
     )
 
 module _ (s : State) (full : length (s .buf) ≡ longest) (k : Sane s) where
-  become : (g : Stage) (at n : ℕ) (last : Place) → at ≤ limit → n ≤ longest → Within last → Stood (marks (s .marks) g at n last) g
+  become : (g : Stage) (at n : ℕ) (last : Place) → at ≤ limit → n ≤ longest → s .marks .depth + n ≤ at → Within last → Stood (marks (s .marks) g at n last) g
       → (b : List ℕ) → Sane (becomes s b g at n last)
-  become g at n last far small w h b = record {
-    numbers = record { mode = k .numbers .mode; far = omega arith; small = small; from = w .0; to = w .1 };
+  become g at n last far small deep w h b = record {
+    numbers = record { mode = k .numbers .mode; far = omega arith; small = small; from = w .0; to = w .1; deep = deep };
     wants = refl;
     stood = h;
   }
@@ -211,8 +211,8 @@ module _ (s : State) (full : length (s .buf) ≡ longest) (k : Sane s) where
     sane-begin : (last : Place) → Within last → OnSane (on (begin s last c))
     sane-begin last w =
         if-all (λ (t : State). OnSane (on t)) (isBlank c)
-        (become Idle (s .marks .at + width c) 0 last far (omega arith) w tt (s .buf), full) (
-          become (Busy (s .marks .at) (onFirst (firstOf c))) (s .marks .at + width c) (width c) last far (omega (arith, width-le c)) w
+        (become Idle (s .marks .at + width c) 0 last far (omega arith) (omega (arith, k .numbers .deep)) w tt (s .buf), full) (
+          become (Busy (s .marks .at) (onFirst (firstOf c))) (s .marks .at + width c) (width c) last far (omega (arith, width-le c)) (omega (arith, k .numbers .deep)) w
               ((refl, omega (arith, wide c)), first-sized (width c) c) (laidAt 0 (utf8 c) (s .buf)),
           laid 0 (omega (arith, width-le c)),
         )
@@ -228,7 +228,7 @@ module _ (s : State) (full : length (s .buf) ≡ longest) (k : Sane s) where
     sane-next st ends some (Eat q) z =
         if-is OnSane (ltb longest (s .marks .len + width c)) (λ _. tt)
         (λ e. let h : s .marks .len + width c ≤ longest = ltb-false _ _ e in (
-          become (Busy st q) (s .marks .at + width c) (s .marks .len + width c) (lastOf s) far h within-last
+          become (Busy st q) (s .marks .at + width c) (s .marks .len + width c) (lastOf s) far h (omega (arith, k .numbers .deep)) within-last
               ((omega arith, omega arith), rw (held-all s full (k .numbers .small)) at z) (laidAt (s .marks .len) (utf8 c) (s .buf)),
           laid (s .marks .len) h,
         ))
@@ -241,16 +241,16 @@ module _ (s : State) (full : length (s .buf) ≡ longest) (k : Sane s) where
     sane-stage Opening e h =
         if-is (λ (t : State). OnSane (on t)) (eqb c (quoted.code "#"))
         (λ f. let one : width c ≡ 1 = width-hash c (eqb-true c (quoted.code "#") f) in
-        (become Pound (s .marks .at + width c) (width c) (lastOf s) far (omega arith) within-last (one, omega arith) (laidAt 0 (utf8 c) (s .buf)), laid 0 (omega arith)))
+        (become Pound (s .marks .at + width c) (width c) (lastOf s) far (omega arith) (omega (arith, k .numbers .deep)) within-last (one, omega arith) (laidAt 0 (utf8 c) (s .buf)), laid 0 (omega arith)))
         (λ _. sane-begin (lastOf s) within-last)
     sane-stage Pound e h =
         if-all OnSane (eqb c (quoted.code "!"))
-        (become FirstLine (s .marks .at + width c) 0 (lastOf s) far (omega arith) within-last tt (s .buf), full)
+        (become FirstLine (s .marks .at + width c) 0 (lastOf s) far (omega arith) (omega (arith, k .numbers .deep)) within-last tt (s .buf), full)
         (sane-next 0 (omega arith) (omega arith) (stepOf (report s) ph.AfterHash (itemSoFar s) c)
         (goes s full (k .numbers .small) (omega arith) ph.AfterHash refl c (omega arith) far))
     sane-stage FirstLine e h =
         if-all (λ (t : State). OnSane (on t)) (eqb c (quoted.code "\n")) (sane-begin (lastOf s) within-last)
-        (become FirstLine (s .marks .at + width c) 0 (lastOf s) far (omega arith) within-last tt (s .buf), full)
+        (become FirstLine (s .marks .at + width c) 0 (lastOf s) far (omega arith) (omega (arith, k .numbers .deep)) within-last tt (s .buf), full)
     sane-stage Idle e h = sane-begin (lastOf s) within-last
     sane-stage (Busy st p) e h =
         sane-next st (h .0 .0) (h .0 .1) (stepOf (report s) p (itemSoFar s) c)
@@ -268,7 +268,7 @@ module _ (s : State) (full : length (s .buf) ≡ longest) (k : Sane s) where
       go : s .marks .at + s .marks .part .count < limit → (o : Step) → step (s .marks .part .state) b ≡ o → Wanted (s .marks .part .count) o
           → OnSane (told o (λ u. on (partly s (record { count = s .marks .part .count + 1; state = u }))) (λ c. onStage s (s .marks .stage) c) (stopped s 21 (s .marks .at)))
       go far (steps.More u) e w =
-          (record { numbers = record { mode = k .numbers .mode; far = omega arith; small = k .numbers .small; from = k .numbers .from; to = k .numbers .to }; wants = w .0; stood = still (s .marks .stage) (k .stood) }, full)
+          (record { numbers = record { mode = k .numbers .mode; far = omega arith; small = k .numbers .small; from = k .numbers .from; to = k .numbers .to; deep = k .numbers .deep }; wants = w .0; stood = still (s .marks .stage) (k .stood) }, full)
         where
           still : (g : Stage) → Stood (s .marks) g → Stood (partly s (record { count = s .marks .part .count + 1; state = u }) .marks) g
           still Opening h = h

@@ -191,7 +191,7 @@ unfolding inBounds
 sane-bounded s k =
     let f = stood-bounded (s .marks .stage) (s .marks) (k .stood) in
     let n = k .numbers in (
-      both (both (both (both (both (both (lt-ltb _ _ (n .mode)) (le-leb _ _ (n .far))) (le-leb _ _ (n .small))) (le-leb _ _ (n .from))) (le-leb _ _ (n .to)))
+      both (both (both (both (both (both (both (lt-ltb _ _ (n .mode)) (le-leb _ _ (n .far))) (le-leb _ _ (n .small))) (le-leb _ _ (n .from))) (le-leb _ _ (n .to))) (le-leb _ _ (n .deep)))
           (part-bounded (s .marks .part) (k .wants))) (f .1),
       f .0,
     )

@@ -54,6 +54,23 @@ pub struct Item<'a> {
     pub extent: Range<usize>,
     /// What an error points at; of any other item the extent. In report mode it is empty where the digits of a hex escape are missing.
     pub place: Range<usize>,
+    /// How many brackets are open before it, whatever their shapes; a close with none open leaves 0. An editor indents by it. A comment has
+    /// the depth that it stands at, and skipping comments changes no other.
+    ///
+    /// ```
+    /// use mihadrena::{Items, Options, Record};
+    ///
+    /// fn depths(text: &str) -> Result<Vec<usize>, mihadrena::Refusal> {
+    ///     let mut records = vec![Record::default(); text.len()];
+    ///     let items = Items::new(text, Options::default(), &mut records, &mut [])?;
+    ///     Ok(items.map(|item| item.depth).collect())
+    /// }
+    ///
+    /// assert_eq!(depths("(a)")?, [0, 1, 1]);
+    /// assert_eq!(depths(")(")?, [0, 0]);
+    /// # Ok::<(), mihadrena::Refusal>(())
+    /// ```
+    pub depth: usize,
 }
 
 impl<'a> Item<'a> {
@@ -63,6 +80,7 @@ impl<'a> Item<'a> {
             what: Error::of(record).map_or_else(|| Ok(Kind::of(record, text)), Err),
             extent: record.start as usize..record.end as usize,
             place: record.place_start as usize..record.place_end as usize,
+            depth: record.depth as usize,
         }
     }
 }

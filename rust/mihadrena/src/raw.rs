@@ -5,9 +5,9 @@
 //! writes to overlaps with no other memory of that call.
 
 /// How many words a record has.
-pub const RECORD_WORDS: usize = 9;
+pub const RECORD_WORDS: usize = 10;
 
-/// One item, as document 01 writes it down.
+/// One item, as document 01 writes it down, and its depth.
 #[repr(C)]
 #[derive(Clone, Copy, Debug, Default, PartialEq, Eq, Hash)]
 pub struct Record {
@@ -26,6 +26,8 @@ pub struct Record {
     /// Where the text lies there, in bytes.
     pub text_start: u32,
     pub text_end: u32,
+    /// How many brackets are open before the item; a close with none open leaves 0.
+    pub depth: u32,
 }
 
 // Where a record's text lies.
@@ -129,8 +131,8 @@ pub const PIECE_VALUES: usize = 2;
 
 // What a state has.
 pub const STATE_BYTES: usize = 4096;
-pub const STATE_WORDS: usize = 18;
-pub const STATE_SIZE: usize = 4240;
+pub const STATE_WORDS: usize = 19;
+pub const STATE_SIZE: usize = 4248;
 pub const STATE_ALIGN: usize = 8;
 
 /// The state of a reading in pieces, which the caller keeps from call to call; docs/STATE.md says what its words mean.

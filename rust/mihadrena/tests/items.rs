@@ -48,6 +48,93 @@ fn modes_and_comments() {
     assert_eq!(read("a ;b\n#|c|# #;d", skip).len(), 3);
 }
 
+/// The depths of a text's items.
+fn depths(text: &str, options: Options) -> Vec<usize> {
+    let mut records = vec![Record::default(); text.len()];
+    let items = Items::new(text, options, &mut records, &mut []).expect("a record for each byte is enough");
+    items.map(|item| item.depth).collect()
+}
+
+#[test]
+fn open_brackets_before_an_item() {
+    let texts: [(&str, &[usize]); 9] = [
+        ("(a)", &[0, 1, 1]),
+        (")(", &[0, 0]),
+        (")))a", &[0, 0, 0, 0]),
+        ("([{#(#u8(a", &[0, 1, 2, 3, 4, 5]),
+        ("(a]b}c", &[0, 1, 1, 0, 0, 0]),
+        ("(+foo)", &[0, 1, 1, 1]),
+        ("(;c\n#|(|#)a", &[0, 1, 1, 1, 0]),
+        ("(\"(\" #\\( |(| 'a", &[0, 1, 1, 1, 1, 1]),
+        ("(1/0 ##", &[0, 1, 1]),
+    ];
+    for (text, expected) in texts {
+        assert_eq!(depths(text, PLAIN), expected, "{text}");
+        assert_eq!(depths(text, REPORT), expected, "{text}");
+    }
+    let skip = Options { mode: Mode::Plain, skip_comments: true };
+    assert_eq!(depths("(;c\n#|(|#)a", skip), [0, 1, 0]);
+}
+
+#[test]
+fn just_enough_words_and_one_too_few() {
+    const OLD: u32 = 77;
+    let source = b"(a)";
+    let read = |words: &mut [u32]| {
+        let mut values = [0; raw::READ_VALUES];
+        // SAFETY: each pointer and length is those of a slice, and the mutable ones are borrowed as such.
+        let answer = unsafe {
+            raw::mihadrena_read(
+                source.as_ptr(),
+                source.len(),
+                raw::PLAIN,
+                false,
+                words.as_mut_ptr(),
+                words.len(),
+                [].as_mut_ptr(),
+                0,
+                values.as_mut_ptr(),
+                values.len(),
+            )
+        };
+        (answer, values)
+    };
+    let mut words = [OLD; 3 * raw::RECORD_WORDS + 1];
+    assert_eq!(read(&mut words[..3 * raw::RECORD_WORDS - 1]), (raw::TOO_FEW, [3, 0]));
+    assert_eq!(words, [OLD; 3 * raw::RECORD_WORDS + 1]);
+    assert_eq!(read(&mut words[..3 * raw::RECORD_WORDS]), (raw::SERVED, [3, 0]));
+    assert_eq!(words[2 * raw::RECORD_WORDS..], [raw::CLOSE_PAREN, 0, 2, 3, 2, 3, raw::NO_TEXT, 0, 0, 1, OLD]);
+}
+
+#[test]
+fn nodes_are_the_same_whatever_the_depths() {
+    let mut records = [Record::default(); 8];
+    let items = Items::new("(a #(b) 'c)", PLAIN, &mut records, &mut []).expect("eight records are enough").len();
+    assert_eq!(items, records.len());
+    let built = |records: &[Record]| {
+        let mut nodes = [raw::Node::default(); 8];
+        let mut values = [0; raw::NEST_VALUES];
+        // SAFETY: each pointer and length is those of an array or a slice, and the mutable ones are borrowed as such.
+        let answer = unsafe {
+            raw::mihadrena_nest(
+                records.as_ptr().cast(),
+                records.len() * raw::RECORD_WORDS,
+                nodes.as_mut_ptr().cast(),
+                nodes.len() * raw::NODE_WORDS,
+                values.as_mut_ptr(),
+                values.len(),
+            )
+        };
+        (answer, values, nodes)
+    };
+    let first = built(&records);
+    assert_eq!((first.0, first.1), (raw::SERVED, [6]));
+    for depth in [0, 77, u32::MAX] {
+        records.iter_mut().for_each(|record| record.depth = depth);
+        assert_eq!(built(&records), first, "every depth {depth}");
+    }
+}
+
 #[test]
 fn an_errors_place_is_its_own() {
     let mut records = [Record::default(); 2];

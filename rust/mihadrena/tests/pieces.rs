@@ -6,12 +6,14 @@ use std::ops::Range;
 const PLAIN: Options = Options { mode: Mode::Plain, skip_comments: false };
 
 /// Texts with every reader's forms in them, errors at their ends, characters of one to four bytes, and a first line `#!`.
-const TEXTS: [&str; 13] = [
+const TEXTS: [&str; 15] = [
     "",
     "(stand 101 (volume 412.5)) ; solid cubic metres\n",
     "+foo -bar 1/0 1@1/-2 14.7;gps",
     "\"beech\\n\\x41; bj\\u00F8;rk\" |a b| |a\\x41;b|",
     "#!/usr/bin/env plan\n(a)",
+    ")([{#(#u8( ;a\n +foo #|b|# 1/0)]}))) x (",
+    "(\"(\" #\\( |(| ;(\n #|(|# '() \"\\x28;\" {])",
     "#t #false #\\a #\\newline #u8(1) #(2) #:key #;x #|a #|b|# c|# ,@x ,y",
     "#<<end\nsome text\nend x",
     "\"\\xD800;\"",
@@ -25,10 +27,10 @@ const TEXTS: [&str; 13] = [
 const PLAN: &str = include_str!("../../../examples/plan.scm");
 
 /// An item that outlives the reader's memory.
-type Owned = (Result<String, Error>, Range<usize>, Range<usize>);
+type Owned = (Result<String, Error>, Range<usize>, Range<usize>, usize);
 
 fn owned(item: &Item<'_>) -> Owned {
-    (item.what.map(|kind| format!("{kind:?}")), item.extent.clone(), item.place.clone())
+    (item.what.map(|kind| format!("{kind:?}")), item.extent.clone(), item.place.clone(), item.depth)
 }
 
 fn whole(text: &str, options: Options) -> Vec<Owned> {
@@ -82,6 +84,19 @@ fn the_items_of_the_whole_text_however_it_is_cut() {
 }
 
 #[test]
+fn skipped_comments_change_no_other_item() {
+    for mode in [Mode::Plain, Mode::Report] {
+        for text in TEXTS.into_iter().chain([PLAN]) {
+            let [kept, skipped] = [false, true].map(|skip_comments| Options { mode, skip_comments });
+            let mut others = whole(text, kept);
+            others.retain(|(what, ..)| what.as_deref() != Ok("Comment"));
+            assert_eq!(whole(text, skipped), others, "{text}");
+            assert_eq!(pieces(text.as_bytes().chunks(1), skipped), (others, None), "{text}, byte by byte");
+        }
+    }
+}
+
+#[test]
 fn a_plan_in_pieces_of_several_sizes() {
     let expected = (whole(PLAN, PLAIN), None);
     for size in [1, 7, 64, 512, PLAN.len()] {
@@ -94,11 +109,13 @@ fn the_fewest_bytes_are_taken() {
     let mut reader = PieceReader::new(PLAIN);
     let mut left: &[u8] = b"+foo 14.7)";
     let mut given = |left: &mut &[u8]| reader.push(left).expect("no refusal").map(|item| owned(&item));
-    let pair =
-        [(Ok(r#"Identifier("+")"#.to_string()), 0..4, 0..4), (Ok(r#"Identifier("foo")"#.to_string()), 0..4, 0..4)];
+    let pair = [
+        (Ok(r#"Identifier("+")"#.to_string()), 0..4, 0..4, 0),
+        (Ok(r#"Identifier("foo")"#.to_string()), 0..4, 0..4, 0),
+    ];
     assert_eq!((given(&mut left), left), (Some(pair[0].clone()), &b"14.7)"[..]));
     assert_eq!((given(&mut left), left), (Some(pair[1].clone()), &b"14.7)"[..]));
-    assert_eq!((given(&mut left), left), (Some((Ok(r#"Number("14.7")"#.to_string()), 5..9, 5..9)), &b""[..]));
+    assert_eq!((given(&mut left), left), (Some((Ok(r#"Number("14.7")"#.to_string()), 5..9, 5..9, 0)), &b""[..]));
     assert_eq!((given(&mut left), left), (None, &b""[..]));
 }
 
@@ -258,8 +275,38 @@ fn slices_of_another_length_are_no_state() {
     assert_eq!(lent, old);
 }
 
-/// The word of a state that is the place past the last whole character.
+/// The words of a state that are the place past the last whole character, and the depth.
 const AT: usize = 9;
+const DEPTH: usize = 18;
+
+/// The word of a record that is its depth.
+const ITS_DEPTH: usize = 9;
+
+#[test]
+fn no_item_is_deeper_than_its_start() {
+    let mut lent = Lent::opened();
+    assert_eq!((lent.piece(b"(("), lent.piece(b"ab")), (raw::ITEM, raw::ITEM));
+    assert_eq!((lent.piece(b"b"), lent.state.words[DEPTH]), (raw::MORE, 2));
+    let mut forged = lent.clone();
+    forged.state.words[DEPTH] = 3;
+    forged.refuses(raw::BAD_STATE, &[0, 0]);
+    for depth in 0..=2 {
+        let mut lent = lent.clone();
+        lent.state.words[DEPTH] = depth;
+        assert_eq!((lent.end(), u64::from(lent.record[ITS_DEPTH])), (raw::ITEM, depth));
+    }
+}
+
+#[test]
+fn the_greatest_depths() {
+    let mut lent = Lent::opened();
+    assert_eq!(lent.piece(b" "), raw::MORE);
+    lent.state.words[AT] = raw::LONGEST - 2;
+    lent.state.words[DEPTH] = raw::LONGEST - 2;
+    assert_eq!((lent.piece(b"(("), u64::from(lent.record[ITS_DEPTH])), (raw::ITEM, raw::LONGEST - 2));
+    assert_eq!((lent.end(), u64::from(lent.record[ITS_DEPTH])), (raw::ITEM, raw::LONGEST - 1));
+    assert_eq!((lent.end(), lent.state.words[DEPTH]), (raw::FINISHED, raw::LONGEST));
+}
 
 #[test]
 fn the_longest_text() {
@@ -284,7 +331,7 @@ fn only_an_item_writes_its_record_and_text() {
         (&[OLD_WORD; raw::RECORD_WORDS][..], &[OLD_BYTE; raw::PIECE_TEXT][..])
     );
     assert_eq!((lent.piece(b"c d"), &lent.values[..]), (raw::ITEM, &[2, 0][..]));
-    assert_eq!(lent.record, [raw::IDENTIFIER, 0, 0, 3, 0, 3, raw::IN_MEMORY, 0, 3]);
+    assert_eq!(lent.record, [raw::IDENTIFIER, 0, 0, 3, 0, 3, raw::IN_MEMORY, 0, 3, 0]);
     assert_eq!((&lent.text[..3], &lent.text[3..]), (&b"abc"[..], &[OLD_BYTE; raw::PIECE_TEXT - 3][..]));
     let told = Told { taken: lent.values[0], place: lent.values[1] };
     assert_eq!(told, Told { taken: 2, place: 0 });

@@ -145,14 +145,14 @@ fn givens(text: &str, reading: &Reading, skip: bool, stops: bool) -> Vec<Given> 
 
 /// "Text is always copied here (text source 2, starting at 0), a number's whole extent included".
 fn given(text: &str, reading: &Reading, item: &Item) -> Given {
-    let [kind, detail, start, end, from, to, ..] = item.record;
+    let [kind, detail, start, end, from, to, .., depth] = item.record;
     let extent = start as usize..end as usize;
     let copied = match kind {
         NUMBER => Some(&text.as_bytes()[extent.clone()]),
         _ => reading.text(text.as_bytes(), item),
     };
     let [source, length] = copied.map_or([NO_TEXT, 0], |text| [IN_MEMORY, text.len() as u32]);
-    let record = [kind, detail, start, end, from, to, source, 0, length];
+    let record = [kind, detail, start, end, from, to, source, 0, length, depth];
     let beyond = text[extent.end..].chars().next();
     Given { record, text: copied.unwrap_or_default().to_vec(), ready: beyond.map(|c| extent.end + c.len_utf8()) }
 }

@@ -1,7 +1,7 @@
 //! Calls that are refused for what they are lent, and rows of comments longer than the Rust's stack holds calls (A4).
 use super::lent::{Lent, State};
 use super::{Answer, Reads, What, BAD_STATE};
-use crate::tally::{Count, Tally};
+use crate::tally::{shown, Count, Tally};
 use crate::Options;
 use item::WORDS;
 use proved::{NO_MODE, SERVED, STATE_BYTES, STATE_WORDS, TOO_FEW};
@@ -16,6 +16,8 @@ pub fn judge(_: &Options) -> Count {
     too_few(&mut tally);
     wrong_slices(&mut tally);
     outside_bounds(&mut tally);
+    forged_depths(&mut tally);
+    greatest_depths(&mut tally);
     comments(&mut tally);
     tally.close()
 }
@@ -38,7 +40,8 @@ fn opening(tally: &mut Tally) {
     }
 }
 
-/// 22 with 1 and 0, before anything else, for a record or values that are too short; nothing else changes.
+/// 22 with 0, the bytes taken, and 1, the records needed, before anything else, for a record or values that are too short; nothing else
+/// changes.
 fn too_few(tally: &mut Tally) {
     for (words, count) in [(WORDS - 1, 2), (0, 2), (WORDS, 1), (WORDS, 0)] {
         let (_, state) = State::opened(PLAIN, false);
@@ -51,7 +54,7 @@ fn too_few(tally: &mut Tally) {
             } else {
                 proved::piece(bytes, state_words, b"(a)", &mut text, &mut record, &mut values)
             };
-            let told = if count < 2 { vec![7; count] } else { vec![1, 0] };
+            let told = if count < 2 { vec![7; count] } else { vec![0, 1] };
             let kept = lent == state && text == vec![1; STATE_BYTES] && record == vec![1; words];
             let input = || format!("{words} words, {count} values, end {ends}");
             tally.same((TOO_FEW, told, true), (number, values, kept), input);
@@ -88,13 +91,53 @@ fn outside_bounds(tally: &mut Tally) {
     }
 }
 
-const COMMENTS: usize = 200_000;
+/// The words of a state that are the place past the last whole character, and the depth.
+const AT: usize = 9;
+const DEPTH: usize = 18;
+
+const OPEN: u32 = 0;
 const IDENTIFIER: u32 = 27;
+
+/// A bracket as a piece call gives it.
+fn open(start: u32, depth: u32) -> What {
+    What::Item([OPEN, 0, start, start + 1, start, start + 1, item::NO_TEXT, 0, 0, depth], Vec::new())
+}
+
+/// An item can have no more brackets before it than bytes: a greater depth is 27, any other is served, though no call left it there.
+fn forged_depths(tally: &mut Tally) {
+    let mut read = Lent::open(PLAIN, false);
+    for (piece, what) in [(&b"(("[..], open(0, 0)), (b"a", open(1, 1)), (b"b", What::More)] {
+        tally.same(Answer { taken: piece.len(), what }, read.piece(piece), || shown(piece));
+    }
+    for depth in 0..5 {
+        let mut state = read.state().clone();
+        state.words[DEPTH] = depth;
+        let word = What::Item([IDENTIFIER, 0, 2, 4, 2, 4, item::IN_MEMORY, 0, 2, depth as u32], b"ab".to_vec());
+        let due = if depth <= 2 { word } else { What::Refused(BAD_STATE, 0) };
+        tally.same(Answer { taken: 0, what: due }, Lent::with(state).end(), || format!("((ab, depth {depth} forged"));
+    }
+}
+
+/// As many brackets before an item as a text has room for.
+fn greatest_depths(tally: &mut Tally) {
+    let mut read = Lent::open(PLAIN, false);
+    tally.same(Answer { taken: 1, what: What::More }, read.piece(b" "), || "a blank".into());
+    let mut state = read.state().clone();
+    let start = u32::MAX - 2;
+    state.words[AT] = start.into();
+    state.words[DEPTH] = start.into();
+    let mut deep = Lent::with(state);
+    tally.same(Answer { taken: 2, what: open(start, start) }, deep.piece(b"(("), || "the last bracket but one".into());
+    tally.same(Answer { taken: 0, what: open(start + 1, start + 1) }, deep.end(), || "the last bracket".into());
+    tally.same(Answer { taken: 0, what: What::Finished }, deep.end(), || "the end behind it".into());
+}
+
+const COMMENTS: usize = 200_000;
 
 fn comments(tally: &mut Tally) {
     let text = ";\n".repeat(COMMENTS) + "a";
     let (start, end) = (text.len() as u32 - 1, text.len() as u32);
-    let word = What::Item([IDENTIFIER, 0, start, end, start, end, item::IN_MEMORY, 0, 1], b"a".to_vec());
+    let word = What::Item([IDENTIFIER, 0, start, end, start, end, item::IN_MEMORY, 0, 1, 0], b"a".to_vec());
     let mut lent = Lent::open(PLAIN, true);
     let due = Answer { taken: text.len(), what: What::More };
     tally.same(due, lent.piece(text.as_bytes()), || "comments in a row, skipped".into());

@@ -52,6 +52,11 @@ impl Lent {
         Lent { state, stopped: false, text, text_due: text, record, record_due: record }
     }
 
+    /// The state as the last call left it.
+    pub fn state(&self) -> &State {
+        &self.state
+    }
+
     /// A piece, or the end, with so much text memory.
     fn call(&mut self, piece: Option<&[u8]>, room: usize) -> Answer {
         let before = self.state.clone();
@@ -75,7 +80,7 @@ impl Lent {
         match number {
             proved::ITEM => {
                 self.record_due[..WORDS].copy_from_slice(&self.record[..WORDS]);
-                let record: item::Record = self.record[..WORDS].try_into().expect("nine words");
+                let record: item::Record = self.record[..WORDS].try_into().expect("a record");
                 let length = (record[8] as usize).min(ENOUGH);
                 self.text_due[..length].copy_from_slice(&self.text[..length]);
                 What::Item(record, self.text[..length].to_vec())

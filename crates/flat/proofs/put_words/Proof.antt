@@ -1,4 +1,4 @@
--- Eighteen stores in a row are one run of stores, from the front on.
+-- Nineteen stores in a row are one run of stores, from the front on.
 use native.Mathlib.Omega.{arith}
 use lib.ListN.{length-set}
 use lib.Seq.{sets-eq}
@@ -14,6 +14,7 @@ put-words-spec =
     tie.close
     (tie.spec
     (λ c. omega arith)
+    (λ c. simp length-set (omega arith))
     (λ c. simp length-set (omega arith))
     (λ c. simp length-set (omega arith))
     (λ c. simp length-set (omega arith))

@@ -36,8 +36,12 @@ slice-aggregate-give c = sym (length-take-le (c .before .before .before .before 
 give-requires : tie.Need-give-requires
 give-requires c κs = let l = length-take-le (c .before .before .before .before .before .before .before .before .args .m .len) (now (c .before .before .before .before .before .before .before .before .args .buf)) (omega arith) in (omega (arith, l), omega (arith, l), omega arith)
 
+counted-requires : tie.Need-counted-requires
+counted-requires c κs = search needs
+
 beyond-requires-2 : tie.Need-beyond-requires-2
-beyond-requires-2 c κs = (c .before .before .before .before .before .before .before .before .before .before .before .before .pre .0 .full, c .before .before .before .before .before .before .before .before .before .before .before .before .pre .1)
+beyond-requires-2 c κs =
+    (c .before .before .before .before .before .before .before .before .before .before .before .before .before .pre .0 .full, rw (c .before .counted .ensures) (c .before .before .before .before .before .before .before .before .before .before .before .before .before .pre .1))
 
 same-length-2 : tie.Need-same-length-2
 same-length-2 c = search needs
@@ -46,7 +50,10 @@ same-length-3 : tie.Need-same-length-3
 same-length-3 c = search needs
 
 returns-2 : tie.Need-returns-2
-returns-2 c = let g = (rw (c .before .before .before .before .before .before .before .before .before .extent .ensures) at (c .before .before .before .before .before .before .give .ensures)) in rw (sym (c .before .before .before .before .before .before .before .before .before .before .before .before .skips .ensures) ∙ c .before .before .before .before .before .before .before .before .before .before .before .if1 .left) (off-both (c .before .before .beyond2 .ensures) (g .0), g .1)
+returns-2 c =
+    let g = (rw (c .before .before .before .before .before .before .before .before .before .before .extent .ensures) at (c .before .before .before .before .before .before .before .give .ensures)) in
+    rw (sym (c .before .before .before .before .before .before .before .before .before .before .before .before .before .skips .ensures) ∙ c .before .before .before .before .before .before .before .before .before .before .before .before .if1 .left)
+    (off-both (rw (c .before .before .before .before .counted .ensures) at (c .before .before .beyond2 .ensures)) (g .0), g .1)
 
 pub give-one-spec : {M : Type 1} → statement M
 give-one-spec =
@@ -61,6 +68,7 @@ give-one-spec =
     slice-reshare-prefix-give
     slice-aggregate-give
     give-requires
+    counted-requires
     beyond-requires-2
     same-length-2
     same-length-3

@@ -30,7 +30,7 @@ same-length : tie.Need-same-length
 same-length c = search needs
 
 returns : tie.Need-returns
-returns c = (given-with (c .before .before .before .before .before .before .before .before .before .before .before .args .report) (c .before .before .before .before .before .before .before .before .before .before .before .args .m) (placeIn (c .before .before .before .before .before .before .before .before .before .before .before .args .last)) (c .before .before .before .before .before .before .before .before .before .before .before .args .extent .from) (c .before .before .before .before .before .before .before .before .before .before .before .args .extent .to) (now (c .before .before .before .before .before .before .before .before .before .before .before .args .raw)) (now (c .before .before .before .before .before .before .before .before .before .before .before .args .text)) _ _ _ (c .before .before .before .place .ensures) (c .before .before .before .before .before .before .copy-text .ensures .1) _ (sym (c .before .before .has-text .ensures) ∙ c .before .if1 .taken) (c .before .before .before .before .before .before .copy-text .ensures .0) (c .record-with .ensures), c .before .before .before .before .before .before .copy-text .ensures .1)
+returns c = (given-with (c .before .before .before .before .before .before .before .before .before .before .before .args .depth) (c .before .before .before .before .before .before .before .before .before .before .before .args .report) (c .before .before .before .before .before .before .before .before .before .before .before .args .m) (placeIn (c .before .before .before .before .before .before .before .before .before .before .before .args .last)) (c .before .before .before .before .before .before .before .before .before .before .before .args .extent .from) (c .before .before .before .before .before .before .before .before .before .before .before .args .extent .to) (now (c .before .before .before .before .before .before .before .before .before .before .before .args .raw)) (now (c .before .before .before .before .before .before .before .before .before .before .before .args .text)) _ _ _ (c .before .before .before .place .ensures) (c .before .before .before .before .before .before .copy-text .ensures .1) _ (sym (c .before .before .has-text .ensures) ∙ c .before .if1 .taken) (c .before .before .before .before .before .before .copy-text .ensures .0) (c .record-with .ensures), c .before .before .before .before .before .before .copy-text .ensures .1)
 
 record-with-requires-2 : tie.Need-record-with-requires-2
 record-with-requires-2 c κs = search needs
@@ -39,7 +39,7 @@ same-length-2 : tie.Need-same-length-2
 same-length-2 c = search needs
 
 returns-2 : tie.Need-returns-2
-returns-2 c = (given-without (c .before .before .before .before .before .before .before .before .before .before .before .args .report) (c .before .before .before .before .before .before .before .before .before .before .before .args .m) (placeIn (c .before .before .before .before .before .before .before .before .before .before .before .args .last)) (c .before .before .before .before .before .before .before .before .before .before .before .args .extent .from) (c .before .before .before .before .before .before .before .before .before .before .before .args .extent .to) (now (c .before .before .before .before .before .before .before .before .before .before .before .args .raw)) (now (c .before .before .before .before .before .before .before .before .before .before .before .args .text)) _ _ _ (c .before .before .before .place .ensures) (c .before .before .before .before .before .before .copy-text .ensures .1) (sym (c .before .before .has-text .ensures) ∙ c .before .if1 .left) (c .record-with2 .ensures), c .before .before .before .before .before .before .copy-text .ensures .1)
+returns-2 c = (given-without (c .before .before .before .before .before .before .before .before .before .before .before .args .depth) (c .before .before .before .before .before .before .before .before .before .before .before .args .report) (c .before .before .before .before .before .before .before .before .before .before .before .args .m) (placeIn (c .before .before .before .before .before .before .before .before .before .before .before .args .last)) (c .before .before .before .before .before .before .before .before .before .before .before .args .extent .from) (c .before .before .before .before .before .before .before .before .before .before .before .args .extent .to) (now (c .before .before .before .before .before .before .before .before .before .before .before .args .raw)) (now (c .before .before .before .before .before .before .before .before .before .before .before .args .text)) _ _ _ (c .before .before .before .place .ensures) (c .before .before .before .before .before .before .copy-text .ensures .1) (sym (c .before .before .has-text .ensures) ∙ c .before .if1 .left) (c .record-with2 .ensures), c .before .before .before .before .before .before .copy-text .ensures .1)
 
 pub give-spec : {M : Type 1} → statement M
 give-spec =

@@ -32,8 +32,11 @@ returns-6 c = simp (lt-ltb _ _ (c .before .before .before .before .before .befor
 
 returns-7 : tie.Need-returns-7
 unfolding narrow
-returns-7 c = last-test (both (both (both (both (both (lt-ltb _ _ (c .before .before .before .before .before .before .before .before .before .before .before .if1 .left)) (lt-ltb _ _ (c .before .before .before .before .before .before .before .before .before .if2 .left))) (lt-ltb _ _ (c .before .before .before .before .before .before .before .if3 .left))) (lt-ltb _ _ (c .before .before .before .before .before .if4 .left))) (lt-ltb _ _ (c .before .before .before .if5 .left))) (lt-ltb _ _ (c .before .if6 .left)))
+returns-7 c = simp (lt-ltb _ _ (c .before .before .before .before .before .before .before .before .before .before .before .before .if1 .left), lt-ltb _ _ (c .before .before .before .before .before .before .before .before .before .before .if2 .left), lt-ltb _ _ (c .before .before .before .before .before .before .before .before .if3 .left), lt-ltb _ _ (c .before .before .before .before .before .before .if4 .left), lt-ltb _ _ (c .before .before .before .before .if5 .left), lt-ltb _ _ (c .before .before .if6 .left), le-ltb _ _ (c .if7 .taken))
+
+returns-8 : tie.Need-returns-8
+unfolding narrow
+returns-8 c = last-test (both (both (both (both (both (both (lt-ltb _ _ (c .before .before .before .before .before .before .before .before .before .before .before .before .before .if1 .left)) (lt-ltb _ _ (c .before .before .before .before .before .before .before .before .before .before .before .if2 .left))) (lt-ltb _ _ (c .before .before .before .before .before .before .before .before .before .if3 .left))) (lt-ltb _ _ (c .before .before .before .before .before .before .before .if4 .left))) (lt-ltb _ _ (c .before .before .before .before .before .if5 .left))) (lt-ltb _ _ (c .before .before .before .if6 .left))) (lt-ltb _ _ (c .before .if7 .left)))
 
 pub narrow-spec : {M : Type 1} → statement M
-narrow-spec =
-    tie.close (tie.spec returns returns-2 returns-3 returns-4 returns-5 returns-6 returns-7)
+narrow-spec = tie.close (tie.spec returns returns-2 returns-3 returns-4 returns-5 returns-6 returns-7 returns-8)

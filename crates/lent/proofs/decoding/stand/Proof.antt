@@ -25,11 +25,15 @@ cast-t11 c = search needs
 cast-t12 : tie.Need-cast-t12
 cast-t12 c = search needs
 
+cast-t18 : tie.Need-cast-t18
+cast-t18 c = search needs
+
 returns : tie.Need-returns
 unfolding standing
-returns c = simp (c .before .before .before .before .stage-of .ensures, c .before .before .before .before .before .row-of .ensures)
+returns c =
+    simp (c .before .before .before .before .before .stage-of .ensures, c .before .before .before .before .before .before .row-of .ensures)
 
 pub stand-spec : {M : Type 1} → statement M
 stand-spec =
     tie.close
-    (tie.spec cast-t2 row-of-requires stage-of-requires cast-t9 cast-t10 cast-t11 cast-t12 returns)
+    (tie.spec cast-t2 row-of-requires stage-of-requires cast-t9 cast-t10 cast-t11 cast-t12 cast-t18 returns)

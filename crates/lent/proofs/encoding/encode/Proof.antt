@@ -28,9 +28,17 @@ cast-t12 c = search needs
 cast-t13 : tie.Need-cast-t13
 cast-t13 c = search needs
 
+cast-t17 : tie.Need-cast-t17
+cast-t17 c = search needs
+
 returns : tie.Need-returns
 unfolding coded
-returns c = simp (c .before .before .before .before .before .before .before .before .stage-row .ensures, c .before .before .before .before .before .bit .ensures, c .before .before .before .before .bit2 .ensures)
+returns c =
+    simp (
+      c .before .before .before .before .before .before .before .before .before .stage-row .ensures,
+      c .before .before .before .before .before .before .bit .ensures,
+      c .before .before .before .before .before .bit2 .ensures,
+    )
 
 pub encode-spec : {M : Type 1} → statement M
 encode-spec =
@@ -44,4 +52,5 @@ encode-spec =
     cast-t11
     cast-t12
     cast-t13
+    cast-t17
     returns)

@@ -13,17 +13,20 @@ returns c = reply-long (now (c .before .before .before .args .source)) (c .befor
 next-item-requires : tie.Need-next-item-requires
 next-item-requires c κs = (c .if1 .left, omega arith)
 
-enum-known-r : tie.Need-enum-known-r
-enum-known-r c = search needs
+enum-known-nine : tie.Need-enum-known-nine
+enum-known-nine c = search needs
 
 free-after-requires : tie.Need-free-after-requires
 free-after-requires c κs = search needs
 
 returns-2 : tie.Need-returns-2
-returns-2 c = reply-room (now (c .before .before .before .before .before .before .before .before .before .args .source)) (c .before .before .before .before .before .before .before .before .before .args .position) (now (c .before .before .before .before .before .before .before .before .before .args .text)) (c .before .before .before .before .before .before .if1 .left) (c .before .before .before .r .given .0 .0) (c .before .before .before .r .given .0 .1 .0) (sym (c .before .before .before .r .given .1) ∙ c .before .before .before .before .before .next-item .ensures) (c .before .free-after .result) (c .before .free-after .ensures) (c .if2 .taken)
+returns-2 c = reply-room (now (c .before .before .before .before .before .before .before .before .before .args .source)) (c .before .before .before .before .before .before .before .before .before .args .position) (now (c .before .before .before .before .before .before .before .before .before .args .text)) (c .before .before .before .before .before .before .if1 .left) (c .before .before .before .nine .given .0 .0) (c .before .before .before .nine .given .0 .1 .0) (sym (c .before .before .before .nine .given .1) ∙ c .before .before .before .before .before .next-item .ensures) (c .before .free-after .result) (c .before .free-after .ensures) (c .if2 .taken)
 
 put-text-requires : tie.Need-put-text-requires
-put-text-requires c κs = reply-fits (now (c .before .before .before .before .before .before .before .before .before .before .args .source)) (c .before .before .before .before .before .before .before .before .before .before .args .position) (now (c .before .before .before .before .before .before .before .before .before .before .args .text)) (c .before .before .before .before .before .before .before .if1 .left) (c .before .before .before .before .r .given .0 .0) (c .before .before .before .before .r .given .0 .1 .0) (sym (c .before .before .before .before .r .given .1) ∙ c .before .before .before .before .before .before .next-item .ensures) (c .before .before .free-after .result) (c .before .before .free-after .ensures) (c .before .if2 .left)
+put-text-requires c κs = reply-fits (now (c .before .before .before .before .before .before .before .before .before .before .args .source)) (c .before .before .before .before .before .before .before .before .before .before .args .position) (now (c .before .before .before .before .before .before .before .before .before .before .args .text)) (c .before .before .before .before .before .before .before .if1 .left) (c .before .before .before .before .nine .given .0 .0) (c .before .before .before .before .nine .given .0 .1 .0) (sym (c .before .before .before .before .nine .given .1) ∙ c .before .before .before .before .before .before .next-item .ensures) (c .before .before .free-after .result) (c .before .before .free-after .ensures) (c .before .if2 .left)
+
+depth-after-requires : tie.Need-depth-after-requires
+depth-after-requires c κs = search needs
 
 enum-told : tie.Need-enum-told
 enum-told c = search needs
@@ -32,7 +35,7 @@ same-length : tie.Need-same-length
 same-length c = search needs
 
 returns-3 : tie.Need-returns-3
-returns-3 c = reply-item (now (c .before .before .before .before .before .before .before .before .before .before .before .before .before .args .source)) (c .before .before .before .before .before .before .before .before .before .before .before .before .before .args .position) (now (c .before .before .before .before .before .before .before .before .before .before .before .before .before .args .text)) (c .before .before .before .before .before .before .before .before .before .before .if1 .left) (c .before .before .before .before .before .before .before .r .given .0 .0) (c .before .before .before .before .before .before .before .r .given .0 .1 .0) (sym (c .before .before .before .before .before .before .before .r .given .1) ∙ c .before .before .before .before .before .before .before .before .before .next-item .ensures) (c .before .before .before .before .before .free-after .result) (c .before .before .before .before .before .free-after .ensures) (c .before .before .before .before .if2 .left) (c .before .before .put-text .ensures)
+returns-3 c = reply-item (now (c .before .before .before .before .before .before .before .before .before .before .before .before .before .before .args .source)) (c .before .before .before .before .before .before .before .before .before .before .before .before .before .before .args .position) (now (c .before .before .before .before .before .before .before .before .before .before .before .before .before .before .args .text)) (c .before .before .before .before .before .before .before .before .before .before .before .if1 .left) (c .before .before .before .before .before .before .before .before .nine .given .0 .0) (c .before .before .before .before .before .before .before .before .nine .given .0 .1 .0) (sym (c .before .before .before .before .before .before .before .before .nine .given .1) ∙ c .before .before .before .before .before .before .before .before .before .before .next-item .ensures) (c .before .before .before .before .before .before .free-after .result) (c .before .before .before .before .before .before .free-after .ensures) (c .before .before .before .before .before .if2 .left) (c .depth-after .result) (c .depth-after .ensures) (c .before .before .before .put-text .ensures)
 
 returns-4 : tie.Need-returns-4
 returns-4 c = reply-end (now (c .before .before .before .before .before .before .args .source)) (c .before .before .before .before .before .before .args .position) (now (c .before .before .before .before .before .before .args .text)) (c .before .before .before .if1 .left) (sym (c .enum-told .given .1) ∙ c .before .before .next-item .ensures)
@@ -43,10 +46,11 @@ next-at-spec =
     (tie.spec
     returns
     next-item-requires
-    enum-known-r
+    enum-known-nine
     free-after-requires
     returns-2
     put-text-requires
+    depth-after-requires
     enum-told
     same-length
     returns-3

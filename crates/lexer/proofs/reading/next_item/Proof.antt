@@ -1,4 +1,4 @@
--- What is left to find from each position on is what was to find from the first: a skipped comment is passed over, any other item is the answer.
+-- What is left to find from each spot on is what was to find from the first: a skipped comment is passed over, any other item is the answer.
 use mathlib.Core.Path.{sym, _∙_}
 use denote.Ref.{now}
 use Rattle.lexer.specs.Reading.{sizeOf, turn}
@@ -14,31 +14,31 @@ abbrev μ-loop : tie.MeasureT-loop
 μ-loop source free p₀ p = sizeOf source p
 
 loop-holds : tie.Need-loop-holds Inv-loop μ-loop
-loop-holds c = seeking (now (c .before .args .source)) (c .before .args .free) (c .before .args .position) (c .before .pre .1)
+loop-holds c = seeking (now (c .before .args .source)) (c .before .args .free) (c .before .args .spot) (c .before .pre .1)
 
 turn-at-requires : tie.Need-turn-at-requires Inv-loop μ-loop
 turn-at-requires c κs = (c .before .before .pre .0, c .loop .inv .behind)
 
-enum-known-record : tie.Need-enum-known-record Inv-loop μ-loop
-enum-known-record c = search needs
+enum-known-nine : tie.Need-enum-known-nine Inv-loop μ-loop
+enum-known-nine c = search needs
 
 skips-requires : tie.Need-skips-requires Inv-loop μ-loop
 skips-requires c κs = search needs
 
 loop-less : tie.Need-loop-less Inv-loop μ-loop
-loop-less c = seeks-moved (now (c .before .before .before .before .before .before .before .before .args .source)) (c .before .before .before .before .before .before .before .before .args .free) (c .before .before .before .before .before .before .before .before .args .position) (c .before .before .before .before .before .before .loop .p) (c .before .before .before .before .before .before .loop .inv) (c .before .before .before .«record» .given .0 .0) (c .before .before .before .«record» .given .0 .1 .0) (sym (c .before .before .before .«record» .given .1) ∙ c .before .before .before .before .before .turn-at .ensures) .smaller
+loop-less c = seeks-moved (now (c .before .before .before .before .before .before .before .before .args .source)) (c .before .before .before .before .before .before .before .before .args .free) (c .before .before .before .before .before .before .before .before .args .spot) (c .before .before .before .before .before .before .loop .p) (c .before .before .before .before .before .before .loop .inv) (c .before .before .before .nine .given .0 .0) (c .before .before .before .nine .given .0 .1 .0) (sym (c .before .before .before .nine .given .1) ∙ c .before .before .before .before .before .turn-at .ensures) .smaller
 
 loop-again : tie.Need-loop-again Inv-loop μ-loop
-loop-again c = seeks-on (now (c .before .before .before .before .before .before .before .before .args .source)) (c .before .before .before .before .before .before .before .before .args .free) (c .before .before .before .before .before .before .before .before .args .position) (c .before .before .before .before .before .before .loop .p) (c .before .before .before .before .before .before .loop .inv) (c .before .before .before .«record» .given .0 .0) (c .before .before .before .«record» .given .0 .1 .0) (sym (c .before .before .before .«record» .given .1) ∙ c .before .before .before .before .before .turn-at .ensures) (sym (c .before .skips .ensures) ∙ c .if1 .taken)
+loop-again c = seeks-on (now (c .before .before .before .before .before .before .before .before .args .source)) (c .before .before .before .before .before .before .before .before .args .free) (c .before .before .before .before .before .before .before .before .args .spot) (c .before .before .before .before .before .before .loop .p) (c .before .before .before .before .before .before .loop .inv) (c .before .before .before .nine .given .0 .0) (c .before .before .before .nine .given .0 .1 .0) (sym (c .before .before .before .nine .given .1) ∙ c .before .before .before .before .before .turn-at .ensures) (sym (c .before .skips .ensures) ∙ c .if1 .taken)
 
 returns : tie.Need-returns Inv-loop μ-loop
-returns c = seeks-given (now (c .before .before .before .before .before .before .before .before .args .source)) (c .before .before .before .before .before .before .before .before .args .free) (c .before .before .before .before .before .before .before .before .args .position) (c .before .before .before .before .before .before .loop .p) (c .before .before .before .before .before .before .loop .inv) (c .before .before .before .«record» .given .0 .0) (c .before .before .before .«record» .given .0 .1 .0) (sym (c .before .before .before .«record» .given .1) ∙ c .before .before .before .before .before .turn-at .ensures) (sym (c .before .skips .ensures) ∙ c .if1 .left)
+returns c = seeks-given (now (c .before .before .before .before .before .before .before .before .args .source)) (c .before .before .before .before .before .before .before .before .args .free) (c .before .before .before .before .before .before .before .before .args .spot) (c .before .before .before .before .before .before .loop .p) (c .before .before .before .before .before .before .loop .inv) (c .before .before .before .nine .given .0 .0) (c .before .before .before .nine .given .0 .1 .0) (sym (c .before .before .before .nine .given .1) ∙ c .before .before .before .before .before .turn-at .ensures) (sym (c .before .skips .ensures) ∙ c .if1 .left)
 
 enum-told : tie.Need-enum-told Inv-loop μ-loop
 enum-told c = search needs
 
 returns-2 : tie.Need-returns-2 Inv-loop μ-loop
-returns-2 c = seeks-end (now (c .before .before .before .before .before .args .source)) (c .before .before .before .before .before .args .free) (c .before .before .before .before .before .args .position) (c .before .before .before .loop .p) (c .before .before .before .loop .inv) (found-ends (c .before .before .before .before .before .args .free) (turn (now (c .before .before .before .before .before .args .source)) (c .before .before .before .loop .p)) (sym (c .enum-told .given .1) ∙ c .before .before .turn-at .ensures))
+returns-2 c = seeks-end (now (c .before .before .before .before .before .args .source)) (c .before .before .before .before .before .args .free) (c .before .before .before .before .before .args .spot) (c .before .before .before .loop .p) (c .before .before .before .loop .inv) (found-ends (c .before .before .before .before .before .args .free) (turn (now (c .before .before .before .before .before .args .source)) (c .before .before .before .loop .p)) (sym (c .enum-told .given .1) ∙ c .before .before .turn-at .ensures))
 
 pub next-item-spec : {M : Type 1} → statement M
 next-item-spec =
@@ -48,7 +48,7 @@ next-item-spec =
     μ-loop
     loop-holds
     turn-at-requires
-    enum-known-record
+    enum-known-nine
     skips-requires
     loop-less
     loop-again

@@ -6,16 +6,16 @@ use Rattle.lexer.proofs.reading.one.Tie as tie
 place-requires : tie.Need-place-requires
 place-requires c κs = search needs
 
-record-of-requires : tie.Need-record-of-requires
-record-of-requires c κs = search needs
+nine-of-requires : tie.Need-nine-of-requires
+nine-of-requires c κs = search needs
 
 returns : tie.Need-returns
-returns c = rw (c .record-of .ensures, c .before .place .ensures)
+returns c = rw (c .nine-of .ensures, c .before .place .ensures)
 
 pub one-spec : {M : Type 1} → statement M
 one-spec =
     tie.close
     (tie.spec
     place-requires
-    record-of-requires
+    nine-of-requires
     returns)

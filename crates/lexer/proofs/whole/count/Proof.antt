@@ -1,4 +1,4 @@
--- The items done and those from the position on are all items; at the end all are done. An item that is skimmed is the next item (Skims).
+-- The items done and those from the spot on are all items; at the end all are done. An item that is skimmed is the next item (Skims).
 use mathlib.Core.Path.{_≡_, refl, sym, ap, _∙_, subst}
 use mathlib.Core.List.{List, [], _∷_, _++_}
 use Prim.Native.Nat.{ℕ, _+_, _≤_}
@@ -7,7 +7,7 @@ use lib.ListN.{length, length-append}
 use denote.Ref.{now}
 use Rattle.items.specs.Items.{Item}
 use Rattle.lexer.specs.Reading.{nextAt, foundOf, sizeOf}
-use Rattle.lexer.specs.declared.Position.{Position}
+use Rattle.lexer.specs.declared.Spot.{Spot}
 use Rattle.lexer.specs.declared.Found.the-variants.{One}
 use Rattle.lexer.proofs.Going.{Going, going, going-on, counted, it, it-moved, size-le}
 use Rattle.lexer.proofs.Quickly.{here}
@@ -23,10 +23,10 @@ abbrev μ-loop : tie.MeasureT-loop
 μ-loop source p₀ at₀ second₀ free₀ n₀ p at second free n = sizeOf source (here p at second)
 
 one : (c : tie.After-known-told2 Inv-loop μ-loop) → One (c .before .r .given .0 .0) (c .before .r .given .0 .1 .0) ≡ foundOf (c .before .before .before .before .before .before .before .before .loop .free) (nextAt (now (c .before .before .before .before .before .before .before .before .before .before .args .source)) (here (c .before .before .before .before .before .before .before .before .loop .p) (c .before .before .before .before .before .before .before .before .loop .at) (c .before .before .before .before .before .before .before .before .loop .second)))
-one c = sym (c .before .r .given .1) ∙ c .before .before .before .next-item .ensures ∙ ap (λ (x : Position). foundOf (c .before .before .before .before .before .before .before .before .loop .free) (nextAt (now (c .before .before .before .before .before .before .before .before .before .before .args .source)) x)) (c .before .before .before .before .stand .ensures)
+one c = sym (c .before .r .given .1) ∙ c .before .before .before .next-item .ensures ∙ ap (λ (x : Spot). foundOf (c .before .before .before .before .before .before .before .before .loop .free) (nextAt (now (c .before .before .before .before .before .before .before .before .before .before .args .source)) x)) (c .before .before .before .before .stand .ensures)
 
 loop-holds : tie.Need-loop-holds Inv-loop μ-loop
-loop-holds c = ([], (going (now (c .before .args .source)) (c .before .args .position), refl))
+loop-holds c = ([], (going (now (c .before .args .source)) (c .before .args .spot), refl))
 
 skim-item-requires : tie.Need-skim-item-requires Inv-loop μ-loop
 skim-item-requires c κs = c .before .before .pre
@@ -35,16 +35,16 @@ enum-known-end : tie.Need-enum-known-end Inv-loop μ-loop
 enum-known-end c = search needs
 
 add-n : tie.Need-add-n Inv-loop μ-loop
-add-n c = omega (arith, c .before .before .before .before .loop .inv .1 .0 .few, c .before .before .before .before .loop .inv .1 .1, size-le (now (c .before .before .before .before .before .before .args .source)) (c .before .before .before .before .before .before .args .position), c .before .before .before .before .before .before .pre)
+add-n c = omega (arith, c .before .before .before .before .loop .inv .1 .0 .few, c .before .before .before .before .loop .inv .1 .1, size-le (now (c .before .before .before .before .before .before .args .source)) (c .before .before .before .before .before .before .args .spot), c .before .before .before .before .before .before .pre)
 
 loop-less : tie.Need-loop-less Inv-loop μ-loop
-loop-less c = skim-smaller (now (c .before .before .before .before .before .before .args .source)) (c .before .before .before .before .before .before .args .position) (c .before .before .before .before .loop .p) (c .before .before .before .before .loop .at) (c .before .before .before .before .loop .second) (c .before .before .before .before .loop .free) (c .before .before .before .before .loop .inv .0) (c .before .before .before .before .loop .inv .1 .0) (c .before .before .before .skim-item .result) (c .before .end .given .0 .0) (c .before .end .given .1) (c .before .before .before .skim-item .ensures)
+loop-less c = skim-smaller (now (c .before .before .before .before .before .before .args .source)) (c .before .before .before .before .before .before .args .spot) (c .before .before .before .before .loop .p) (c .before .before .before .before .loop .at) (c .before .before .before .before .loop .second) (c .before .before .before .before .loop .free) (c .before .before .before .before .loop .inv .0) (c .before .before .before .before .loop .inv .1 .0) (c .before .before .before .skim-item .result) (c .before .end .given .0 .0) (c .before .end .given .1) (c .before .before .before .skim-item .ensures)
 
 loop-again : tie.Need-loop-again Inv-loop μ-loop
 loop-again c =
     let v = c .before .before .before .before .loop .inv in
-    let i = skimmed (now (c .before .before .before .before .before .before .args .source)) (c .before .before .before .before .before .before .args .position) (c .before .before .before .before .loop .p) (c .before .before .before .before .loop .at) (c .before .before .before .before .loop .second) (c .before .before .before .before .loop .free) (c .before .before .before .before .loop .inv .0) (c .before .before .before .before .loop .inv .1 .0) (c .before .before .before .skim-item .result) (c .before .end .given .0 .0) (c .before .end .given .1) (c .before .before .before .skim-item .ensures) in
-    (v .0 ++ (i ∷ []), (skim-on (now (c .before .before .before .before .before .before .args .source)) (c .before .before .before .before .before .before .args .position) (c .before .before .before .before .loop .p) (c .before .before .before .before .loop .at) (c .before .before .before .before .loop .second) (c .before .before .before .before .loop .free) (c .before .before .before .before .loop .inv .0) (c .before .before .before .before .loop .inv .1 .0) (c .before .before .before .skim-item .result) (c .before .end .given .0 .0) (c .before .end .given .1) (c .before .before .before .skim-item .ensures), length-append (v .0) (i ∷ []) ∙ omega (arith, v .1 .1)))
+    let i = skimmed (now (c .before .before .before .before .before .before .args .source)) (c .before .before .before .before .before .before .args .spot) (c .before .before .before .before .loop .p) (c .before .before .before .before .loop .at) (c .before .before .before .before .loop .second) (c .before .before .before .before .loop .free) (c .before .before .before .before .loop .inv .0) (c .before .before .before .before .loop .inv .1 .0) (c .before .before .before .skim-item .result) (c .before .end .given .0 .0) (c .before .end .given .1) (c .before .before .before .skim-item .ensures) in
+    (v .0 ++ (i ∷ []), (skim-on (now (c .before .before .before .before .before .before .args .source)) (c .before .before .before .before .before .before .args .spot) (c .before .before .before .before .loop .p) (c .before .before .before .before .loop .at) (c .before .before .before .before .loop .second) (c .before .before .before .before .loop .free) (c .before .before .before .before .loop .inv .0) (c .before .before .before .before .loop .inv .1 .0) (c .before .before .before .skim-item .result) (c .before .end .given .0 .0) (c .before .end .given .1) (c .before .before .before .skim-item .ensures), length-append (v .0) (i ∷ []) ∙ omega (arith, v .1 .1)))
 
 enum-told : tie.Need-enum-told Inv-loop μ-loop
 enum-told c = search needs
@@ -53,28 +53,28 @@ stand-requires : tie.Need-stand-requires Inv-loop μ-loop
 stand-requires c κs = search needs
 
 next-item-requires : tie.Need-next-item-requires Inv-loop μ-loop
-next-item-requires c κs = (c .before .before .before .before .before .before .pre, subst (λ (x : Position). c .before .before .before .before .loop .free ≤ x .at) (sym (c .stand .ensures)) (c .before .before .before .before .loop .inv .1 .0 .behind))
+next-item-requires c κs = (c .before .before .before .before .before .before .pre, subst (λ (x : Spot). c .before .before .before .before .loop .free ≤ x .at) (sym (c .stand .ensures)) (c .before .before .before .before .loop .inv .1 .0 .behind))
 
 enum-known-r : tie.Need-enum-known-r Inv-loop μ-loop
 enum-known-r c = search needs
 
 add-n-2 : tie.Need-add-n-2 Inv-loop μ-loop
-add-n-2 c = omega (arith, c .before .before .before .before .before .before .before .before .loop .inv .1 .0 .few, c .before .before .before .before .before .before .before .before .loop .inv .1 .1, size-le (now (c .before .before .before .before .before .before .before .before .before .before .args .source)) (c .before .before .before .before .before .before .before .before .before .before .args .position), c .before .before .before .before .before .before .before .before .before .before .pre)
+add-n-2 c = omega (arith, c .before .before .before .before .before .before .before .before .loop .inv .1 .0 .few, c .before .before .before .before .before .before .before .before .loop .inv .1 .1, size-le (now (c .before .before .before .before .before .before .before .before .before .before .args .source)) (c .before .before .before .before .before .before .before .before .before .before .args .spot), c .before .before .before .before .before .before .before .before .before .before .pre)
 
 free-after-requires : tie.Need-free-after-requires Inv-loop μ-loop
 free-after-requires c κs = search needs
 
 loop-less-2 : tie.Need-loop-less-2 Inv-loop μ-loop
-loop-less-2 c = it-moved (now (c .before .before .before .before .before .before .before .before .before .before .before .args .source)) (c .before .before .before .before .before .before .before .before .before .before .before .args .position) (here (c .before .before .before .before .before .before .before .before .before .loop .p) (c .before .before .before .before .before .before .before .before .before .loop .at) (c .before .before .before .before .before .before .before .before .before .loop .second)) (c .before .before .before .before .before .before .before .before .before .loop .free) (c .before .before .before .before .before .before .before .before .before .loop .inv .0) (c .before .before .before .before .before .before .before .before .before .loop .inv .1 .0) (c .before .before .r .given .0 .0) (c .before .before .r .given .0 .1 .0) (one (c .before)) .smaller
+loop-less-2 c = it-moved (now (c .before .before .before .before .before .before .before .before .before .before .before .args .source)) (c .before .before .before .before .before .before .before .before .before .before .before .args .spot) (here (c .before .before .before .before .before .before .before .before .before .loop .p) (c .before .before .before .before .before .before .before .before .before .loop .at) (c .before .before .before .before .before .before .before .before .before .loop .second)) (c .before .before .before .before .before .before .before .before .before .loop .free) (c .before .before .before .before .before .before .before .before .before .loop .inv .0) (c .before .before .before .before .before .before .before .before .before .loop .inv .1 .0) (c .before .before .r .given .0 .0) (c .before .before .r .given .0 .1 .0) (one (c .before)) .smaller
 
 loop-again-2 : tie.Need-loop-again-2 Inv-loop μ-loop
 loop-again-2 c =
     let v = c .before .before .before .before .before .before .before .before .before .loop .inv in
-    let i = it (now (c .before .before .before .before .before .before .before .before .before .before .before .args .source)) (c .before .before .before .before .before .before .before .before .before .before .before .args .position) (here (c .before .before .before .before .before .before .before .before .before .loop .p) (c .before .before .before .before .before .before .before .before .before .loop .at) (c .before .before .before .before .before .before .before .before .before .loop .second)) (c .before .before .before .before .before .before .before .before .before .loop .free) (c .before .before .before .before .before .before .before .before .before .loop .inv .0) (c .before .before .before .before .before .before .before .before .before .loop .inv .1 .0) (c .before .before .r .given .0 .0) (c .before .before .r .given .0 .1 .0) (one (c .before)) in (
+    let i = it (now (c .before .before .before .before .before .before .before .before .before .before .before .args .source)) (c .before .before .before .before .before .before .before .before .before .before .before .args .spot) (here (c .before .before .before .before .before .before .before .before .before .loop .p) (c .before .before .before .before .before .before .before .before .before .loop .at) (c .before .before .before .before .before .before .before .before .before .loop .second)) (c .before .before .before .before .before .before .before .before .before .loop .free) (c .before .before .before .before .before .before .before .before .before .loop .inv .0) (c .before .before .before .before .before .before .before .before .before .loop .inv .1 .0) (c .before .before .r .given .0 .0) (c .before .before .r .given .0 .1 .0) (one (c .before)) in (
       v .0 ++ (i ∷ []),
       (
-        subst (λ (x : ℕ). Going (now (c .before .before .before .before .before .before .before .before .before .before .before .args .source)) (c .before .before .before .before .before .before .before .before .before .before .before .args .position) (c .before .before .r .given .0 .1 .0) x (v .0 ++ (i ∷ []))) (sym (c .free-after .ensures))
-            (going-on (now (c .before .before .before .before .before .before .before .before .before .before .before .args .source)) (c .before .before .before .before .before .before .before .before .before .before .before .args .position) (here (c .before .before .before .before .before .before .before .before .before .loop .p) (c .before .before .before .before .before .before .before .before .before .loop .at) (c .before .before .before .before .before .before .before .before .before .loop .second)) (c .before .before .before .before .before .before .before .before .before .loop .free) (c .before .before .before .before .before .before .before .before .before .loop .inv .0) (c .before .before .before .before .before .before .before .before .before .loop .inv .1 .0) (c .before .before .r .given .0 .0) (c .before .before .r .given .0 .1 .0) (one (c .before))),
+        subst (λ (x : ℕ). Going (now (c .before .before .before .before .before .before .before .before .before .before .before .args .source)) (c .before .before .before .before .before .before .before .before .before .before .before .args .spot) (c .before .before .r .given .0 .1 .0) x (v .0 ++ (i ∷ []))) (sym (c .free-after .ensures))
+            (going-on (now (c .before .before .before .before .before .before .before .before .before .before .before .args .source)) (c .before .before .before .before .before .before .before .before .before .before .before .args .spot) (here (c .before .before .before .before .before .before .before .before .before .loop .p) (c .before .before .before .before .before .before .before .before .before .loop .at) (c .before .before .before .before .before .before .before .before .before .loop .second)) (c .before .before .before .before .before .before .before .before .before .loop .free) (c .before .before .before .before .before .before .before .before .before .loop .inv .0) (c .before .before .before .before .before .before .before .before .before .loop .inv .1 .0) (c .before .before .r .given .0 .0) (c .before .before .r .given .0 .1 .0) (one (c .before))),
         length-append (v .0) (i ∷ []) ∙ omega (arith, v .1 .1),
       ),
     )
@@ -84,8 +84,8 @@ enum-told-2 c = search needs
 
 returns : tie.Need-returns Inv-loop μ-loop
 returns c =
-    let e = sym (c .enum-told2 .given .1) ∙ c .before .before .next-item .ensures ∙ ap (λ (x : Position). foundOf (c .before .before .before .before .before .before .before .loop .free) (nextAt (now (c .before .before .before .before .before .before .before .before .before .args .source)) x)) (c .before .before .before .stand .ensures) in
-    counted (now (c .before .before .before .before .before .before .before .before .before .args .source)) (c .before .before .before .before .before .before .before .before .before .args .position) (here (c .before .before .before .before .before .before .before .loop .p) (c .before .before .before .before .before .before .before .loop .at) (c .before .before .before .before .before .before .before .loop .second)) (c .before .before .before .before .before .before .before .loop .free) (c .before .before .before .before .before .before .before .loop .inv .0) (c .before .before .before .before .before .before .before .loop .inv .1 .0) (c .before .before .before .before .before .before .before .loop .n) (c .before .before .before .before .before .before .before .loop .inv .1 .1) e
+    let e = sym (c .enum-told2 .given .1) ∙ c .before .before .next-item .ensures ∙ ap (λ (x : Spot). foundOf (c .before .before .before .before .before .before .before .loop .free) (nextAt (now (c .before .before .before .before .before .before .before .before .before .args .source)) x)) (c .before .before .before .stand .ensures) in
+    counted (now (c .before .before .before .before .before .before .before .before .before .args .source)) (c .before .before .before .before .before .before .before .before .before .args .spot) (here (c .before .before .before .before .before .before .before .loop .p) (c .before .before .before .before .before .before .before .loop .at) (c .before .before .before .before .before .before .before .loop .second)) (c .before .before .before .before .before .before .before .loop .free) (c .before .before .before .before .before .before .before .loop .inv .0) (c .before .before .before .before .before .before .before .loop .inv .1 .0) (c .before .before .before .before .before .before .before .loop .n) (c .before .before .before .before .before .before .before .loop .inv .1 .1) e
 
 pub count-spec : {M : Type 1} → statement M
 count-spec =

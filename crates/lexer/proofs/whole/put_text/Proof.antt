@@ -1,4 +1,4 @@
--- Where the record says text memory, the decoder writes what stands between the quotes; else nothing is written.
+-- Where the nine words say text memory, the decoder writes what stands between the quotes; else nothing is written.
 use mathlib.Core.Path.{sym, ap, _∙_}
 use mathlib.Core.List.{List}
 use Prim.Native.Nat.{ℕ, _-_}

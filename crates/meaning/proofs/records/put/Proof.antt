@@ -1,4 +1,4 @@
--- Nine stores in a row are one run of stores, from 0 on.
+-- Ten stores in a row are one run of stores, from 0 on.
 use native.Mathlib.Omega.{arith}
 use lib.ListN.{length-set}
 use lib.Seq.{sets-eq}
@@ -33,6 +33,9 @@ slice-write-records-8 c = simp length-set (omega arith)
 slice-write-records-9 : tie.Need-slice-write-records-9
 slice-write-records-9 c = simp length-set (omega arith)
 
+slice-write-records-10 : tie.Need-slice-write-records-10
+slice-write-records-10 c = simp length-set (omega arith)
+
 same-length : tie.Need-same-length
 same-length c = simp length-set
 
@@ -52,5 +55,6 @@ put-spec =
     slice-write-records-7
     slice-write-records-8
     slice-write-records-9
+    slice-write-records-10
     same-length
     returns)

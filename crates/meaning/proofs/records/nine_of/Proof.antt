@@ -3,8 +3,8 @@ use Rattle.meaning.specs.Records.{TextFits}
 use native.Mathlib.Omega.{arith}
 use mathlib.Core.Path.{subst}
 use borrow.Author.Needs.{needs}
-use Rattle.meaning.proofs.records.record_of.Statement.{statement}
-use Rattle.meaning.proofs.records.record_of.Tie as tie
+use Rattle.meaning.proofs.records.nine_of.Statement.{statement}
+use Rattle.meaning.proofs.records.nine_of.Tie as tie
 
 enum-told : tie.Need-enum-told
 enum-told c = search needs
@@ -48,8 +48,8 @@ returns-2 c = rw (c .before .before .text .given .1) (c .with-text2 .ensures)
 returns-3 : tie.Need-returns-3
 returns-3 c = rw (c .before .before .text2 .given .1) (c .with-text3 .ensures)
 
-pub record-of-spec : {M : Type 1} → statement M
-record-of-spec =
+pub nine-of-spec : {M : Type 1} → statement M
+nine-of-spec =
     tie.close
     (tie.spec
     enum-told
