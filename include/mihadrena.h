@@ -206,7 +206,7 @@ typedef struct mihadrena_told {
 MIHADRENA_ASSERT(sizeof(mihadrena_told) == 8 * MIHADRENA_PIECE_VALUES, "these are two values");
 
 /* Opens a state, in a mode, with comments kept or skipped, and writes it whole: MIHADRENA_SERVED, or MIHADRENA_NO_MODE for another mode,
- * with a plain state. MIHADRENA_BAD_STATE, and nothing is written, if the two slices have not the lengths of a state's.
+ * with a plain state; what that comes with is the `mode` that was passed. MIHADRENA_BAD_STATE, and nothing is written, if the two slices have not the lengths of a state's.
  *
  *     mihadrena_state state;
  *     mihadrena_open(MIHADRENA_PLAIN, false, state.bytes, MIHADRENA_STATE_BYTES,
@@ -285,7 +285,7 @@ static inline uint32_t mihadrena_state_end(mihadrena_state *state, uint8_t *text
 /* Whether a record's text lies where its three text words say: MIHADRENA_SERVED if it is the part from `start` to `end` of the source
  * (text source MIHADRENA_IN_SOURCE) or of the text memory (MIHADRENA_IN_MEMORY), else MIHADRENA_BAD_STATE. Records that mihadrena_read
  * wrote and that have text always get MIHADRENA_SERVED with the same source and text memory, and those that a piece or end call wrote
- * with the same text memory, until the next call.
+ * with the same text memory, until the next call: their text is always in it, so that `source` may be any pointer but NULL, with length 0.
  *
  *     // of the second record above, the identifier `corner` at 1..7
  *     mihadrena_text_mark(source, sizeof source - 1, text, sizeof text, MIHADRENA_IN_SOURCE, 1, 7);   // MIHADRENA_SERVED
