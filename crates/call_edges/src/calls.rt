@@ -7,7 +7,7 @@
 //     s         prints the state                  -          from here on the text memory is a byte too short
 //
 // and a letter that makes the state one outside the bounds of docs/STATE.md: m its mode, a its place, t its range, b its character begun,
-// l its item's length, k the start of its item, x its stop.
+// l its item's length, k the start of its item, x its stop, d its depth.
 use crate::standing;
 use chars::State as Begun;
 use cuttings::part;
@@ -44,7 +44,7 @@ const SHORT: usize = 4095;
 
 const PLAIN: u32 = 0;
 
-// What no bound allows: a mode, a place, a length of an item, and a stop.
+// What no bound allows: a mode, a place, a length of an item, a stop, and of a short text a depth.
 const NO_MODE: u32 = 2;
 
 const PAST_LIMIT: usize = 4_294_967_296;
@@ -52,6 +52,8 @@ const PAST_LIMIT: usize = 4_294_967_296;
 const PAST_LONGEST: usize = 4097;
 
 const NO_STOP: u32 = 22;
+
+const TOO_DEEP: u32 = 5;
 
 // Where the calls stand: the state, and whether the text memory is a byte too short.
 struct Stand {
@@ -173,6 +175,7 @@ fn no_stop(m: Marks) -> Marks {
         from: m.from,
         to: m.to,
         len: m.len,
+        depth: m.depth,
     }
 }
 
@@ -186,6 +189,7 @@ fn forged(m: Marks, letter: u8) -> Marks {
         b'b' => next.part = full_part(),
         b'l' => next.len = PAST_LONGEST,
         b'k' => next.len = 1,
+        b'd' => next.depth = TOO_DEEP,
         b'x' => return no_stop(next),
         _ => (),
     }

@@ -88,6 +88,8 @@ fn marks(m: Marks) {
     number(m.to as u64);
     print(b"len ");
     number(m.len as u64);
+    print(b"depth ");
+    number(m.depth as u64);
 }
 
 // A state, on a line of its own.

@@ -3,8 +3,10 @@
 // from document 01. Refusal 20 wants a text of 4 GiB and is not run.
 use lexer::ReadAnswer;
 use lexer::read;
-ghost use Prim.Native.Nat.{_≤_};
+use meaning::records::WORDS;
+ghost use Prim.Native.Nat.{_*_, _≤_};
 ghost use lib.ListN.{length};
+ghost use Rattle.items.specs.Items.{recordWords};
 
 const OUT: i32 = 1;
 
@@ -13,8 +15,8 @@ const MARK_WORD: u32 = 7;
 
 const MARK_BYTE: u8 = 7;
 
-// How many words and bytes each memory has; a call is lent a first part of them.
-const WORDS: usize = 18;
+// How many words and bytes each memory has: two records, and the bytes of one long text. A call is lent a first part of them.
+const ROOM: usize = 2 * WORDS;
 
 const BYTES: usize = 6;
 
@@ -93,9 +95,9 @@ fn call(
 
 // The same on fresh memories.
 fn case(source: &[u8], mode: u32, skip: bool, words: usize, bytes: usize)
-    requires { ⌜ (words ≤ 18) × (bytes ≤ 6) ⌝ }
+    requires { ⌜ (words ≤ 2 * recordWords) × (bytes ≤ 6) ⌝ }
 {
-    let mut records = [MARK_WORD; WORDS];
+    let mut records = [MARK_WORD; ROOM];
     let mut text = [MARK_BYTE; BYTES];
     call(source, mode, skip, &mut records, &mut text, words, bytes);
 }
@@ -103,21 +105,24 @@ fn case(source: &[u8], mode: u32, skip: bool, words: usize, bytes: usize)
 fn main() {
     // an empty text, and one blank
     case(b"", PLAIN, false, 0, 0);
-    case(b" ", PLAIN, false, 18, 6);
+    case(b" ", PLAIN, false, ROOM, 6);
     // the last character, and past it
-    case(b"\"\\x10FFFF;\"", PLAIN, false, 18, 6);
-    case(b"\"\\x110000;\"", PLAIN, false, 18, 6);
+    case(b"\"\\x10FFFF;\"", PLAIN, false, ROOM, 6);
+    case(b"\"\\x110000;\"", PLAIN, false, ROOM, 6);
     // records: one word short, and exactly enough
-    case(b"(a", PLAIN, false, 17, 6);
-    case(b"(a", PLAIN, false, 18, 6);
+    case(b"(a", PLAIN, false, ROOM - 1, 6);
+    case(b"(a", PLAIN, false, ROOM, 6);
     // text memory: one byte short, and exactly enough
-    case(b"\"\\n\"\"\\t\"", PLAIN, false, 18, 1);
-    case(b"\"\\n\"\"\\t\"", PLAIN, false, 18, 2);
+    case(b"\"\\n\"\"\\t\"", PLAIN, false, ROOM, 1);
+    case(b"\"\\n\"\"\\t\"", PLAIN, false, ROOM, 2);
     // no such mode, before anything else; no UTF-8
     case(b"\xFF", 2, false, 0, 0);
     case(b"a\xFF", PLAIN, false, 0, 0);
     // E8 in both modes, and with comments skipped
-    case(b"14.7;gps", PLAIN, false, 18, 0);
-    case(b"14.7;gps", REPORT, false, 18, 0);
-    case(b"14.7;gps", PLAIN, true, 18, 0);
+    case(b"14.7;gps", PLAIN, false, ROOM, 0);
+    case(b"14.7;gps", REPORT, false, ROOM, 0);
+    case(b"14.7;gps", PLAIN, true, ROOM, 0);
+    // the depth: a close with none open, and a skipped comment
+    case(b")(", PLAIN, false, ROOM, 0);
+    case(b"(;a\nb", PLAIN, true, ROOM, 0);
 }

@@ -140,8 +140,9 @@ fn write(source: &[u8], spot: Spot, recs: &mut [u32], text: &mut [u8]) -> Needed
     loop {
         match quick_item(source, p.report, p.skip, at) {
             Quick::Item(m, start, end) => {
+                let after = depth_after(m.kind, depth);
                 put(&mut recs[w..], record_at(m, start, end, free, depth));
-                depth = depth_after(m.kind, depth);
+                depth = after;
                 w += WORDS;
                 at = end;
                 second = false;

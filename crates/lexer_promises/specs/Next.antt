@@ -15,36 +15,44 @@ use Rattle.digits.specs.Digits.{digitOf, sign, uinteger, value, signed, wholeOf
 use Rattle.numbers.specs.Reals.{exponentMarker, exponent, suffix, pointOf, dotted, undotted, decimal, infnan, integralOf, rationalOf, denominator, exact, orElse, ureal, real}
 use Rattle.numbers.specs.Grammar.{justOf, complexOf, polarOf, endsI, imaginary, aloneOf, pairOf, toSign, startsE, rectangular, complex, zeroInt, zeroReal, zeroParts, judged, radixMark, prefix, parseNumber}
 use Rattle.items.specs.Kinds as kind
-use Rattle.promises.specs.Shapes.{room, bare, texted}
+use Rattle.promises.specs.Shapes.{room, bare, texted, deep}
 use Rattle.items.specs.Classes.{startsRun, firstOf, inQuotes, afterBackslash, stopsHex, inHex, inTrim, breaksWord, inWord, staysRun, endsRun, inRun, afterHash, endsHash, inHash}
 use Rattle.items.specs.Readers.{readLine, linedOf, readWord, readRun, boolKind, quoteKind, formKind, hashKind, hashBracket, hashAt, hashComma, readHash, readItem, readQuoted, wordOn, hashOn}
 use Rattle.items.specs.Meaning.{lookup, words, wordKind, wordMeans, runMeans, escaped, stringText, linedText, charNames, isDelimiter, nameless, spelledOut, characterOf, unescape}
-use Rattle.items.specs.Items.{range, unset, extentItems}
+use Rattle.items.specs.Items.{Place, range, unset, extentItems, deepest}
 use Rattle.items.specs.Whole.{limit}
 use Rattle.meaning.specs.Places.{rangeOf}
-use Rattle.lexer.specs.Answers.{Reply, item, finished, refuses, Replied, replied, giveOf, nextOf}
+use Rattle.lexer.specs.Answers.{Reply, item, finished, refuses, Replied, replied, positionAt, giveOf, nextOf}
 use Rattle.lexer.specs.Reading.{turnFrom, turn, nextFrom, nextAt}
 use Rattle.lexer.specs.declared.Position.{Position}
 
--- a position in plain mode with no error range, comments kept
+-- a position in plain mode outside all brackets
+abbrev plain : ℕ → Place → Bool → Bool → Position
+plain n last second skip = positionAt (record { at = n; last = rangeOf last; second = second; report = false; skip = skip }) 0
+
+-- with no error range, comments kept
 abbrev at : ℕ → Position
-at n = record { at = n; last = rangeOf unset; second = false; report = false; skip = false }
+at n = plain n unset false false
 
 -- the same where of an extent's two items one was given, and where comments are skipped
 abbrev half : ℕ → Position
-half n = record { at = n; last = rangeOf unset; second = true; report = false; skip = false }
+half n = plain n unset true false
 
 abbrev skipping : ℕ → Position
-skipping n = record { at = n; last = rangeOf unset; second = false; report = false; skip = true }
+skipping n = plain n unset false true
 
 -- the same after an error that set a range
 abbrev after : ℕ → ℕ → ℕ → Position
-after a b n = record { at = n; last = rangeOf (range a b); second = false; report = false; skip = false }
+after a b n = plain n (range a b) false false
+
+-- a position with so many brackets open
+abbrev inside : ℕ → Position → Position
+inside depth p = positionAt (p .spot) depth
 
 pub record Rows : Type 0 where
   -- the item at the position and the position after it; the end
   pub first-item : nextOf (spelled "a [") (at 0) [] ≡ replied (item (texted kind.Identifier 0 1 1 0 1) (at 1)) []
-  pub next-item : nextOf (spelled "a [") (at 1) [] ≡ replied (item (bare kind.OpenParen kind.Square 2 3) (at 3)) []
+  pub next-item : nextOf (spelled "a [") (at 1) [] ≡ replied (item (bare kind.OpenParen kind.Square 2 3) (inside 1 (at 3))) []
   pub end : nextOf (spelled "a [") (at 3) (room 1) ≡ replied finished (room 1)
   -- a decoded text from 0 on; just room enough; too little, and nothing is written
   pub decoded : nextOf (spelled "\"\\n\"") (at 0) (room 2) ≡ replied (item (texted kind.StringLiteral 0 4 2 0 1) (at 4)) (spelled "\n" ++ room 1)
@@ -54,10 +62,15 @@ pub record Rows : Type 0 where
   pub plus : nextOf (spelled "+a") (at 0) [] ≡ replied (item (texted kind.Identifier 0 2 1 0 1) (half 0)) []
   pub after-plus : nextOf (spelled "+a") (half 0) [] ≡ replied (item (texted kind.Identifier 0 2 1 1 2) (at 2)) []
   -- a skipped comment is passed over
-  pub skipped : nextOf (spelled ";\n[") (skipping 0) [] ≡ replied (item (bare kind.OpenParen kind.Square 2 3) (skipping 3)) []
+  pub skipped : nextOf (spelled ";\n[") (skipping 0) [] ≡ replied (item (bare kind.OpenParen kind.Square 2 3) (inside 1 (skipping 3))) []
   -- an error's range goes with the position
   pub ranged : nextOf (spelled "#\\ab") (at 0) [] ≡ replied (item (bare (kind.firstError + kind.InvalidCharName) 0 0 4) (after 0 4 4)) []
-  -- a position that no call gave, past the end
+  -- the record has the depth of the position, and the position after it the depth after it
+  pub closing : nextOf (spelled ")") (inside 2 (at 0)) [] ≡ replied (item (deep 2 (bare kind.CloseParen kind.Round 0 1)) (inside 1 (at 1))) []
+  -- a position that no call gave, as deep as a word holds: an open bracket leaves it there
+  pub as-deep : nextOf (spelled "(") (inside deepest (at 0)) []
+      ≡ replied (item (deep deepest (bare kind.OpenParen kind.Round 0 1)) (inside deepest (at 1))) []
+  -- another, past the end
   pub past-end : nextOf (spelled "a") (at 9) [] ≡ replied finished []
 
 rows : Rows
@@ -73,6 +86,8 @@ rows = record {
   after-plus = refl;
   skipped = refl;
   ranged = refl;
+  closing = refl;
+  as-deep = refl;
   past-end = refl;
 }
 
@@ -115,14 +130,14 @@ startIn finished = 0
 startIn (refuses n a b) = 0
 
 abbrev reachIn : Reply → ℕ
-reachIn (item w p) = p .last .to
+reachIn (item w p) = p .spot .last .to
 reachIn finished = 0
 reachIn (refuses n a b) = 0
 
 -- nor one that does not look at the position: the first item of the source at every call
 never-first : (r : Replied) → ((p : Position) → r ≡ nextOf (spelled "a [") p []) → ⊥
 never-first r h =
-    let e : replied (item (texted kind.Identifier 0 1 1 0 1) (at 1)) [] ≡ replied (item (bare kind.OpenParen kind.Square 2 3) (at 3)) []
+    let e : replied (item (texted kind.Identifier 0 1 1 0 1) (at 1)) [] ≡ replied (item (bare kind.OpenParen kind.Square 2 3) (inside 1 (at 3))) []
     = sym (h (at 0) ∙ rows .first-item) ∙ (h (at 1) ∙ rows .next-item) in
     let z : kind.Identifier ≡ kind.OpenParen = ap (λ (c : Replied). kindIn (c .reply)) e in omega (arith, z)
 
@@ -135,7 +150,7 @@ never-plus-twice w p q t u first second =
     omega (arith, one, two)
 
 -- nor one that forgets an error's range
-never-rangeless : (w : List ℕ) (p : Position) (t : List ℕ) → p .last .to ≡ 0 → replied (item w p) t ≡ nextOf (spelled "#\\ab") (at 0) [] → ⊥
+never-rangeless : (w : List ℕ) (p : Position) (t : List ℕ) → p .spot .last .to ≡ 0 → replied (item w p) t ≡ nextOf (spelled "#\\ab") (at 0) [] → ⊥
 never-rangeless w p t none h = omega (arith, none, ap (λ (c : Replied). reachIn (c .reply)) (h ∙ rows .ranged))
 
 -- a source over the limit is 20 at every position

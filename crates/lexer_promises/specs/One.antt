@@ -5,15 +5,18 @@ use Prim.Native.Nat.{ℕ}
 use mathlib.Core.Path.{_≡_, refl, sym, ap, _∙_}
 use mathlib.Core.Bool.{Bool}
 use mathlib.Core.List.{List, [], _∷_}
+use lib.ListN.{getD}
 use lib.Dec.{eqb}
 use Rattle.laws.specs.Choice.{if_then_else_}
+use Rattle.items.specs.Items.{ownWords}
 use Rattle.items.specs.Whole.{Answer, served, refused, Call, call, readOf}
 use Rattle.meaning.specs.Meant.{meant}
-use Rattle.meaning.specs.Records.{recordWith}
+use Rattle.meaning.specs.Records.{nineWith}
 use Rattle.meaning.specs.declared.Means.{Means}
 use Rattle.meaning.specs.declared.Meant.{Meant}
 use Rattle.meaning.specs.declared.Meant.the-variants.{One, Two}
 use Rattle.lexer.specs.Answers.{answerOf, Reply, item, finished, refuses, replyOf, Replied, replied, nextOf}
+use Rattle.lexer.specs.Inner.{deepAt}
 use Rattle.lexer.specs.Opening.{Opening, opened, openingOf, openOf}
 use Rattle.lexer.specs.Opening as opening
 use Rattle.lexer.specs.declared.Position.{Position}
@@ -67,7 +70,7 @@ open-one-answer source mode skip a b ea eb = sym (open-back a) ∙ ap openBack (
 -- ---- one item
 
 nextBack : Reply → NextAnswer
-nextBack (item w p) = next.Item (recordWith w) p
+nextBack (item w p) = next.Item (deepAt (getD w ownWords 0) (nineWith w)) p
 nextBack finished = next.Finished
 nextBack (refuses n a b) = if eqb n 20 then next.TooLong else next.NoRoom b
 

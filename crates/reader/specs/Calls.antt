@@ -5,7 +5,7 @@ use lib.ListN.{length}
 use lib.Dec.{leb}
 use Rattle.laws.specs.Choice.{if_then_else_}
 use Rattle.laws.specs.Lent.{written}
-use Rattle.items.specs.Items.{Item, memoryOf, recordOf}
+use Rattle.items.specs.Items.{Item, depthAfter, memoryOf, recordOf}
 use Rattle.reader.specs.Reading.{What, gives, ends, stops, Stand, stands, refuses-with, nextFor}
 use Rattle.reader.specs.declared.Reader.{Reader}
 
@@ -23,15 +23,16 @@ callAfterCall [] r = []
 callAfterCall (m ∷ ms) r = told (nextFor r m .what) (nextFor r m .text) ∷ callAfterCall ms (nextFor r m .reader)
 
 -- The same by the items alone: each comes once its text fits, from 0 on, and what is past it stays. Else 22 with 1 and its text bytes, the
--- memory as it was, and it is still to come. After the last item comes the end, again and again.
-unfoldable pub dueTo : List (List ℕ) → List Item → List Told
-dueTo [] is = []
-dueTo (m ∷ ms) [] = told ends m ∷ dueTo ms []
-dueTo (m ∷ ms) (i ∷ is) =
-    let more = dueTo ms is in
-    let again = dueTo ms (i ∷ is) in
+-- memory as it was, and it is still to come. After the last item comes the end, again and again. `depth` is the depth before the first
+-- item.
+unfoldable pub dueTo : List (List ℕ) → ℕ → List Item → List Told
+dueTo [] depth is = []
+dueTo (m ∷ ms) depth [] = told ends m ∷ dueTo ms depth []
+dueTo (m ∷ ms) depth (i ∷ is) =
+    let more = dueTo ms (depthAfter (i .kind) depth) is in
+    let again = dueTo ms depth (i ∷ is) in
     if leb (length (memoryOf (i .text))) (length m)
-    then told (gives (recordOf 0 i)) (written (memoryOf (i .text)) m) ∷ more
+    then told (gives (recordOf 0 depth i)) (written (memoryOf (i .text)) m) ∷ more
     else told (stops 22 1 (length (memoryOf (i .text)))) m ∷ again
 
 -- a refused reader has no items

@@ -96,7 +96,7 @@ started s p = record { stand = s; position = p }
 
 -- the start of an empty text
 abbrev pub nowhere : Position
-nowhere = record { at = 0; last = rangeOf unset; second = false; report = false; skip = false }
+nowhere = record { spot = record { at = 0; last = rangeOf unset; second = false; report = false; skip = false }; depth = 0 }
 
 abbrev pub startBy : Opening → Started
 startBy (opened p) = started stands p

@@ -7,7 +7,7 @@ use lib.ListN.{length, getD}
 use native.Mathlib.Omega.{arith}
 use borrow.Author.Tests.{lt-ltb}
 use denote.Ref.{RefT, now}
-use Rattle.promises.specs.Shapes.{room, bare, texted}
+use Rattle.promises.specs.Shapes.{room, bare, texted, deep}
 use Rattle.laws.specs.Texts.{span, starts, begins, same}
 use Rattle.laws.specs.Quoted.{code, within}
 use Rattle.chars.specs.Encode.{isScalar, utf8, width, encode, bytesOf, spelled}
@@ -23,29 +23,36 @@ use Rattle.items.specs.Meaning.{lookup, words, wordKind, wordMeans, runMeans, e
 use Rattle.items.specs.Items.{unset, extentItems}
 use Rattle.items.specs.Whole.{limit}
 use Rattle.meaning.specs.Places.{rangeOf}
-use Rattle.lexer.specs.Answers.{giveOf, nextOf}
+use Rattle.lexer.specs.Answers.{positionAt, giveOf, nextOf}
 use Rattle.lexer.specs.Reading.{turnFrom, turn, nextFrom, nextAt}
 use Rattle.lexer.specs.declared.Position.{Position}
 use Rattle.reader.specs.Reading.{What, gives, ends, stops, stepOf, Moved, moved, reading, nextFor}
 use Rattle.reader.specs.Calls.{told, callAfterCall}
 use Rattle.reader.specs.declared.Reader.{Reader}
 
--- a position in plain mode with no error range, comments kept
-abbrev at : ℕ → Position
-at n = record { at = n; last = rangeOf unset; second = false; report = false; skip = false }
+-- a position in plain mode with no error range, comments kept, and so many brackets open
+abbrev at : ℕ → ℕ → Position
+at n depth = positionAt (record { at = n; last = rangeOf unset; second = false; report = false; skip = false }) depth
 
--- a reader of a text at a place, wherever the text lies
+-- a reader of a text at a place and a depth, wherever the text lies
+abbrev readsIn : RefT (List ℕ) → List ℕ → ℕ → ℕ → Reader
+readsIn r text n depth = reading (record { ptr = r .ptr; name = r .name; now = text }) (at n depth)
+
+-- outside all brackets
 abbrev reads : RefT (List ℕ) → List ℕ → ℕ → Reader
-reads r text n = reading (record { ptr = r .ptr; name = r .name; now = text }) (at n)
+reads r text n = readsIn r text n 0
 
 pub record Rows (r : RefT (List ℕ)) : Type 0 where
   -- the item, and the reader after it; the end, and the reader that stays
   pub first-item : nextFor (reads r (spelled "a [") 0) [] ≡ moved (gives (texted kind.Identifier 0 1 1 0 1)) (reads r (spelled "a [") 1) []
-  pub next-item : nextFor (reads r (spelled "a [") 1) [] ≡ moved (gives (bare kind.OpenParen kind.Square 2 3)) (reads r (spelled "a [") 3) []
+  pub next-item : nextFor (reads r (spelled "a [") 1) [] ≡ moved (gives (bare kind.OpenParen kind.Square 2 3)) (readsIn r (spelled "a [") 3 1) []
   pub end : nextFor (reads r (spelled "a [") 3) (room 1) ≡ moved ends (reads r (spelled "a [") 3) (room 1)
   -- a decoded text from 0 on; too little room: nothing is written, and the reader stays
   pub decoded : nextFor (reads r (spelled "\"\\n\"") 0) (room 2) ≡ moved (gives (texted kind.StringLiteral 0 4 2 0 1)) (reads r (spelled "\"\\n\"") 4) (spelled "\n" ++ room 1)
   pub no-room : nextFor (reads r (spelled "\"\\n\\n\"") 0) (room 1) ≡ moved (stops 22 1 2) (reads r (spelled "\"\\n\\n\"") 0) (room 1)
+  -- the depth goes with the reader: into the record, past the item, and it stays on 22
+  pub closing : nextFor (readsIn r (spelled ")") 0 2) [] ≡ moved (gives (deep 2 (bare kind.CloseParen kind.Round 0 1))) (readsIn r (spelled ")") 1 1) []
+  pub stays-deep : nextFor (readsIn r (spelled "\"\\n\"") 0 2) [] ≡ moved (stops 22 1 1) (readsIn r (spelled "\"\\n\"") 0 2) []
   -- after 22 the same item comes by the first memory that holds it, and then the end
   pub again : callAfterCall ([] ∷ room 1 ∷ room 1 ∷ []) (reads r (spelled "\"\\n\"") 0)
       ≡ told (stops 22 1 1) [] ∷ told (gives (texted kind.StringLiteral 0 4 2 0 1)) (spelled "\n") ∷ told ends (room 1) ∷ []
@@ -58,16 +65,18 @@ rows r = record {
   end = refl;
   decoded = refl;
   no-room = refl;
+  closing = refl;
+  stays-deep = refl;
   again = refl;
 }
 
 -- no program that leaves every reader where it stands meets the promise
 never-stays : (r : RefT (List ℕ)) (w : What) (text : List ℕ) → moved w (reads r (spelled "a [") 0) text ≡ nextFor (reads r (spelled "a [") 0) [] → ⊥
-never-stays r w text h = let e : _≡_ {A = ℕ} 0 1 = ap (λ (m : Moved). m .reader .position .at) (h ∙ rows r .first-item) in omega (arith, e)
+never-stays r w text h = let e : _≡_ {A = ℕ} 0 1 = ap (λ (m : Moved). m .reader .position .spot .at) (h ∙ rows r .first-item) in omega (arith, e)
 
 -- nor one that moves every reader
 never-goes : (r : RefT (List ℕ)) (w : What) (n : ℕ) (text : List ℕ) → 0 < n → moved w (reads r (spelled "\"\\n\\n\"") n) text ≡ nextFor (reads r (spelled "\"\\n\\n\"") 0) (room 1) → ⊥
-never-goes r w n text l h = let e : n ≡ 0 = ap (λ (m : Moved). m .reader .position .at) (h ∙ rows r .no-room) in omega (arith, e, l)
+never-goes r w n text l h = let e : n ≡ 0 = ap (λ (m : Moved). m .reader .position .spot .at) (h ∙ rows r .no-room) in omega (arith, e, l)
 
 -- nor one that leaves the text memory as it was
 never-unwritten : (r : RefT (List ℕ)) (w : What) (to : Reader) → moved w to (room 2) ≡ nextFor (reads r (spelled "\"\\n\"") 0) (room 2) → ⊥

@@ -4,9 +4,12 @@ use Prim.Native.Nat.{ℕ}
 use mathlib.Core.Path.{_≡_, refl, sym, ap, _∙_}
 use mathlib.Core.Bool.{Bool}
 use mathlib.Core.List.{List}
+use lib.ListN.{getD}
 use lib.Dec.{eqb}
 use Rattle.laws.specs.Choice.{if_then_else_}
-use Rattle.meaning.specs.Records.{recordWith}
+use Rattle.items.specs.Items.{ownWords}
+use Rattle.meaning.specs.Records.{nineWith}
+use Rattle.lexer.specs.Inner.{deepAt}
 use Rattle.lexer.specs.declared.Position.{Position}
 use Rattle.reader.specs.Reading.{What, gives, ends, stops, givenOf, Moved, moved, nextFor, Stand, stands, refuses-with, standingOf, OpenedAs, openedAs, openFor}
 use Rattle.reader.specs.declared.Reader.{Reader}
@@ -18,7 +21,7 @@ use Rattle.reader.specs.declared.Standing.the-variants as standing
 -- ---- one item
 
 givenBack : What → Given
-givenBack (gives w) = given.Item (recordWith w)
+givenBack (gives w) = given.Item (deepAt (getD w ownWords 0) (nineWith w))
 givenBack ends = given.Finished
 givenBack (stops n a b) = if eqb n 20 then given.TooLong else given.NoRoom b
 

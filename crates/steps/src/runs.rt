@@ -81,11 +81,11 @@ fn of_run(c: u8) -> bool
     if between(b'0', b'9', c) {
         return true;
     }
-    if c == b'.' {
-        return true;
-    }
     if c < b'+' {
         return false;
+    }
+    if c == b'.' {
+        return true;
     }
     if ASCII_END <= c {
         return false;

@@ -52,26 +52,26 @@ quick-item-requires c κs = c .before .before .before .before .pre .0
 enum-known-m : tie.Need-enum-known-m Inv-loop μ-loop
 enum-known-m c = search needs
 
+depth-after-requires : tie.Need-depth-after-requires Inv-loop μ-loop
+depth-after-requires c κs = search needs
+
 mul-put : tie.Need-mul-put Inv-loop μ-loop
-mul-put c = omega (arith, quick-in c, quick-same c)
+mul-put c = omega (arith, quick-in (c .before), quick-same (c .before))
 
 sub-put : tie.Need-sub-put Inv-loop μ-loop
-sub-put c = omega (arith, quick-in c)
+sub-put c = omega (arith, quick-in (c .before))
 
 part-put-start : tie.Need-part-put-start Inv-loop μ-loop
-part-put-start c = omega (arith, quick-in c)
+part-put-start c = omega (arith, quick-in (c .before))
 
 part-put-end : tie.Need-part-put-end Inv-loop μ-loop
 part-put-end c = omega arith
 
 record-at-requires : tie.Need-record-at-requires Inv-loop μ-loop
-record-at-requires c κs = quick-fits (now (c .before .before .before .before .before .before .before .before .before .args .source)) (c .before .before .before .before .before .before .before .before .before .args .spot) (now (c .before .before .before .before .before .before .before .before .before .args .recs)) (now (c .before .before .before .before .before .before .before .before .before .args .text)) (c .before .before .before .before .before .before .before .before .before .pre .1 .0) (c .before .before .before .before .before .before .before .before .before .pre .1 .1) (c .before .before .before .before .before .loop .p) (c .before .before .before .before .before .loop .at) (c .before .before .before .before .before .loop .second) (c .before .before .before .before .before .loop .inv) (c .before .before .before .before .quick-item .result) (c .before .before .m .given .0 .0) (c .before .before .m .given .0 .1 .0) (c .before .before .m .given .0 .1 .1 .0) (c .before .before .m .given .1) (c .before .before .before .before .quick-item .ensures) (c .before .before .before .before .before .before .before .before .before .pre .0)
+record-at-requires c κs = quick-fits (now (c .before .before .before .before .before .before .before .before .before .before .args .source)) (c .before .before .before .before .before .before .before .before .before .before .args .spot) (now (c .before .before .before .before .before .before .before .before .before .before .args .recs)) (now (c .before .before .before .before .before .before .before .before .before .before .args .text)) (c .before .before .before .before .before .before .before .before .before .before .pre .1 .0) (c .before .before .before .before .before .before .before .before .before .before .pre .1 .1) (c .before .before .before .before .before .before .loop .p) (c .before .before .before .before .before .before .loop .at) (c .before .before .before .before .before .before .loop .second) (c .before .before .before .before .before .before .loop .inv) (c .before .before .before .before .before .quick-item .result) (c .before .before .before .m .given .0 .0) (c .before .before .before .m .given .0 .1 .0) (c .before .before .before .m .given .0 .1 .1 .0) (c .before .before .before .m .given .1) (c .before .before .before .before .before .quick-item .ensures) (c .before .before .before .before .before .before .before .before .before .before .pre .0)
 
 put-requires : tie.Need-put-requires Inv-loop μ-loop
-put-requires c κs = let l = c .before .before .before .before .before .before .loop in omega (arith, quick-in (c .before .before), length-part (l .recs) (l .w))
-
-depth-after-requires : tie.Need-depth-after-requires Inv-loop μ-loop
-depth-after-requires c κs = search needs
+put-requires c κs = let l = c .before .before .before .before .before .before .before .loop in omega (arith, quick-in (c .before .before .before), length-part (l .recs) (l .w))
 
 add-w : tie.Need-add-w Inv-loop μ-loop
 add-w c = let good = c .before .before .before .before .before .before .before .before .before .before .before .before .before .before .good in omega (arith, quick-in (c .before .before .before .before .before .before), quick-same (c .before .before .before .before .before .before))
@@ -81,8 +81,8 @@ loop-less c = quick-smaller (now (c .before .before .before .before .before .bef
 
 loop-again : tie.Need-loop-again Inv-loop μ-loop
 loop-again c =
-    quick-writes (now (c .before .before .before .before .before .before .before .before .before .before .before .before .before .before .args .source)) (c .before .before .before .before .before .before .before .before .before .before .before .before .before .before .args .spot) (now (c .before .before .before .before .before .before .before .before .before .before .before .before .before .before .args .recs)) (now (c .before .before .before .before .before .before .before .before .before .before .before .before .before .before .args .text)) (c .before .before .before .before .before .before .before .before .before .before .before .before .before .before .pre .1 .0) (c .before .before .before .before .before .before .before .before .before .before .before .before .before .before .pre .1 .1) (c .before .before .before .before .before .before .before .before .before .before .loop .p) (c .before .before .before .before .before .before .before .before .before .before .loop .at) (c .before .before .before .before .before .before .before .before .before .before .loop .second) (c .before .before .before .before .before .before .before .before .before .before .loop .inv) (c .before .before .before .before .before .before .before .before .before .quick-item .result) (c .before .before .before .before .before .before .before .m .given .0 .0) (c .before .before .before .before .before .before .before .m .given .0 .1 .0) (c .before .before .before .before .before .before .before .m .given .0 .1 .1 .0) (c .before .before .before .before .before .before .before .m .given .1) (c .before .before .before .before .before .before .before .before .before .quick-item .ensures) (c .depth-after .result) (c .depth-after .ensures)
-    (c .before .before .before .put .ensures ∙ ap (λ (x : Record). written (wordsOf x) (take (length (c .before .before .before .before .before .before .before .before .before .before .loop .recs) - c .before .before .before .before .before .before .before .before .before .before .loop .w) (drop (c .before .before .before .before .before .before .before .before .before .before .loop .w) (c .before .before .before .before .before .before .before .before .before .before .loop .recs)))) (c .before .before .before .before .record-at .ensures))
+    quick-writes (now (c .before .before .before .before .before .before .before .before .before .before .before .before .before .before .args .source)) (c .before .before .before .before .before .before .before .before .before .before .before .before .before .before .args .spot) (now (c .before .before .before .before .before .before .before .before .before .before .before .before .before .before .args .recs)) (now (c .before .before .before .before .before .before .before .before .before .before .before .before .before .before .args .text)) (c .before .before .before .before .before .before .before .before .before .before .before .before .before .before .pre .1 .0) (c .before .before .before .before .before .before .before .before .before .before .before .before .before .before .pre .1 .1) (c .before .before .before .before .before .before .before .before .before .before .loop .p) (c .before .before .before .before .before .before .before .before .before .before .loop .at) (c .before .before .before .before .before .before .before .before .before .before .loop .second) (c .before .before .before .before .before .before .before .before .before .before .loop .inv) (c .before .before .before .before .before .before .before .before .before .quick-item .result) (c .before .before .before .before .before .before .before .m .given .0 .0) (c .before .before .before .before .before .before .before .m .given .0 .1 .0) (c .before .before .before .before .before .before .before .m .given .0 .1 .1 .0) (c .before .before .before .before .before .before .before .m .given .1) (c .before .before .before .before .before .before .before .before .before .quick-item .ensures) (c .before .before .before .before .before .depth-after .result) (c .before .before .before .before .before .depth-after .ensures)
+    (c .before .before .put .ensures ∙ ap (λ (x : Record). written (wordsOf x) (take (length (c .before .before .before .before .before .before .before .before .before .before .loop .recs) - c .before .before .before .before .before .before .before .before .before .before .loop .w) (drop (c .before .before .before .before .before .before .before .before .before .before .loop .w) (c .before .before .before .before .before .before .before .before .before .before .loop .recs)))) (c .before .before .before .record-at .ensures))
 
 enum-told : tie.Need-enum-told Inv-loop μ-loop
 enum-told c = search needs
@@ -161,13 +161,13 @@ write-spec =
     loop-holds
     quick-item-requires
     enum-known-m
+    depth-after-requires
     mul-put
     sub-put
     part-put-start
     part-put-end
     record-at-requires
     put-requires
-    depth-after-requires
     add-w
     loop-less
     loop-again

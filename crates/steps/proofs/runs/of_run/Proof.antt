@@ -1,4 +1,4 @@
--- A digit or a dot belongs to a number run, what comes before the plus to none (Kept); else the tests are those of the definition.
+-- A digit belongs to a number run, what comes before the plus to none (Kept), a dot does; else the tests are those of the definition.
 use borrow.Author.Needs.{needs}
 use borrow.Author.Tests.{lt-ltb, le-ltb}
 use native.Mathlib.Omega.{arith}
@@ -15,13 +15,13 @@ returns : tie.Need-returns
 returns c = sym (digit-runs (c .before .before .args .c) (sym (c .before .between .ensures) ∙ c .if1 .taken))
 
 returns-2 : tie.Need-returns-2
-unfolding staysRun
-returns-2 c = rw (c .if2 .taken)
+returns-2 c =
+    let b = c .before .before .before .args .c in
+    rw (lt-ltb b 0x80 (omega (arith, c .if2 .taken)), early-stops b (c .if2 .taken))
 
 returns-3 : tie.Need-returns-3
-returns-3 c =
-    let b = c .before .before .before .before .args .c in
-    rw (lt-ltb b 0x80 (omega (arith, c .if3 .taken)), early-stops b (c .if3 .taken))
+unfolding staysRun
+returns-3 c = rw (c .if3 .taken)
 
 returns-4 : tie.Need-returns-4
 returns-4 c = rw (le-ltb (c .before .before .before .before .before .args .c) 0x80 (c .if4 .taken))
