@@ -23,7 +23,6 @@ pub mod Written
 pub mod NoNumber
 pub mod Token
 pub mod Whole
-pub mod OnlyBooleans
 pub mod Converse
 pub mod Example
 pub mod Witness

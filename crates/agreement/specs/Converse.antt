@@ -14,6 +14,10 @@ use Rattle.agreement.specs.Boolean.{Boolean, truth}
 abbrev pub BooleanBytes : List ℕ → ℕ → Type 0
 BooleanBytes raw d = (t : List ℕ) × (b : Bool) × (raw ≡ bytesOf t) × Boolean t b × (d ≡ truth b)
 
+-- the bytes of an item's extent, in a text with the bytes `whole`
+abbrev pub extent : List ℕ → Item → List ℕ
+extent whole i = take (i .end - i .start) (drop (i .start) whole)
+
 -- in a text with these bytes, an item of kind BooleanLiteral: its extent is a <boolean>, and its detail the truth value
 abbrev pub BooleanIn : List ℕ → Item → Type 0
-BooleanIn whole i = eqb (i .kind) kind.BooleanLiteral ≡ true → BooleanBytes (take (i .end - i .start) (drop (i .start) whole)) (i .detail)
+BooleanIn whole i = eqb (i .kind) kind.BooleanLiteral ≡ true → BooleanBytes (extent whole i) (i .detail)
