@@ -10,11 +10,11 @@ use Rattle.laws.specs.Quoted.{codes, oneOf}
 use Rattle.chars.specs.Encode.{bytesOf}
 use Rattle.items.specs.Items.{Item, items}
 use Rattle.items.specs.Kinds as kind
-use Rattle.items.specs.Meaning.{Meaning, means}
+use Rattle.items.specs.Meaning.{Meaning}
 use Rattle.items.proofs.Every.{Every, every-then, every-any}
 use Rattle.itemparts.proofs.Spelled.{Spelled}
 use Rattle.itemparts.proofs.Spelled as spelled
-use Rattle.itemparts.proofs.Stands.{Meant, token, string, here-string, character, number, word, error, wordKinds, other, none-of, no-error, Stands, items-stand}
+use Rattle.itemparts.proofs.Stands.{Meant, token, string, here-string, character, number, word, error, wordKinds, other, none-of, Stands, items-stand}
 use Rattle.agreement.specs.Boolean as boolean
 use Rattle.agreement.specs.Converse.{BooleanBytes, BooleanIn, brackets, marks, Bracket, standard, BracketIn, MarkIn}
 use Rattle.agreement.specs.Converse as bracket

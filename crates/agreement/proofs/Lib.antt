@@ -23,7 +23,10 @@ pub mod Written
 pub mod NoNumber
 pub mod Token
 pub mod Whole
+pub mod Back
+pub mod Inside
 pub mod Converse
+pub mod OnlyStrings
 pub mod Example
 pub mod Witness
 pub mod Texts

@@ -3,15 +3,17 @@
 use Prim.Native.Nat.{ℕ, _-_}
 use mathlib.Core.Path.{_≡_}
 use mathlib.Core.Bool.{Bool, true}
-use mathlib.Core.List.{List, [], _∷_}
+use mathlib.Core.List.{List, [], _∷_, _++_}
 use lib.ListN.{take, drop}
 use lib.Dec.{eqb}
-use Rattle.laws.specs.Quoted.{codes, oneOf}
+use Rattle.laws.specs.Quoted.{codes, code, oneOf}
 use Rattle.chars.specs.Encode.{bytesOf}
 use Rattle.items.specs.Items.{Item}
 use Rattle.items.specs.Kinds as kind
 use Rattle.agreement.specs.Boolean.{Boolean, truth}
 use Rattle.agreement.specs.Punctuation.{Punctuation}
+use Rattle.agreement.specs.Reading.{Spelling, bytes, spelling}
+use Rattle.agreement.specs.String.{StringElements, StringText}
 
 -- the bytes of an item's extent, in a text with the bytes `whole`
 abbrev pub extent : List ℕ → Item → List ℕ
@@ -50,3 +52,27 @@ BracketIn whole i = oneOf brackets (i .kind) ≡ true → (t : List ℕ) × (ext
 -- an item of the kind of a mark: its extent is that mark. No row departs here
 abbrev pub MarkIn : List ℕ → Item → Type 0
 MarkIn whole i = oneOf marks (i .kind) ≡ true → (t : List ℕ) × (extent whole i ≡ bytesOf t) × Punctuation t (i .kind) (i .detail)
+
+-- ---- strings
+
+-- what stands in quotes where the standard has no <string element>: a <return>, which there is a newline (B39), or an escape that it has not (B36)
+pub data ForeignElement : List ℕ → Type 0 where
+  return : {t : List ℕ} → ForeignElement (code "\r" ∷ t)
+  null : {t : List ℕ} → ForeignElement (code "\\" ∷ code "0" ∷ t)
+  unicode : {t : List ℕ} → ForeignElement (code "\\" ∷ code "u" ∷ t)
+  plus : {t : List ℕ} → ForeignElement (code "\\" ∷ code "x" ∷ code "+" ∷ t)
+
+-- a here-string (B7), or quotes whose elements are the standard's up to a foreign one
+pub data ForeignString : List ℕ → Type 0 where
+  here-string : {t : List ℕ} → ForeignString (code "#" ∷ code "<" ∷ code "<" ∷ t)
+  quoted : (u : List ℕ) {v t : List ℕ} → StringElements u v → ForeignElement t → ForeignString (code "\"" ∷ u ++ t)
+
+-- a string, and what its item's text spells: a <string>, spelled as what it denotes, or a foreign one
+pub data StringRead : List ℕ → Spelling → Type 0 where
+  standard : {t v : List ℕ} → StringText t v → StringRead t (bytes (bytesOf v))
+  foreign : {t : List ℕ} {w : Spelling} → ForeignString t → StringRead t w
+
+-- an item of kind StringLiteral
+abbrev pub StringIn : List ℕ → Item → Type 0
+StringIn whole i = eqb (i .kind) kind.StringLiteral ≡ true
+    → (t : List ℕ) × (extent whole i ≡ bytesOf t) × StringRead t (spelling (i .start) (bytesOf t) (i .text))
