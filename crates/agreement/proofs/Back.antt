@@ -23,7 +23,7 @@ use Rattle.items.specs.declared.CharValue.the-variants.{Scalar, Wrong, WrongAt}
 use Rattle.items.specs.Readers.{scalarOf}
 use Rattle.itemparts.proofs.Stands.{other}
 use Rattle.agreement.specs.Escape.{HexDigit, decimal, lower, upper, HexDigits, no-more, and-more, HexScalar, scalar}
-use Rattle.agreement.specs.Repeated.{Many, more}
+use Rattle.agreement.specs.Repeated.{Many, done, more}
 use Rattle.agreement.proofs.Bytes.{utf8-low, utf8-high, Beyond, all-high}
 use Rattle.agreement.proofs.Hex.{Hexadecimal, a-digit, at-digit, scalar-digits}
 
@@ -93,25 +93,34 @@ digits-back p n (c ∷ s) h =
     (λ f. other refl (rw (e, f) at h)))
     (λ e. other refl (rw e at h))
 
+-- ---- bytes of ASCII alone
+
+abbrev pub Low : ℕ → Type 0
+Low b = ltb b 0x80 ≡ true
+
 -- they are their characters
-digits-chars : (h : List ℕ) → Many Hexadecimal (bytesOf h) → h ≡ bytesOf h
+pub low-chars : (h : List ℕ) → Many Low (bytesOf h) → h ≡ bytesOf h
 unfolding bytesOf
-digits-chars [] m = refl
-digits-chars (c ∷ h) m = by-bool (ltb c 0x80) (λ e. rw (utf8-low c e) (low (digits-chars h) (rw (utf8-low c e) at m))) (λ e. high (utf8-high c e) m)
+low-chars [] m = refl
+low-chars (c ∷ h) m = by-bool (ltb c 0x80) (λ e. rw (utf8-low c e) (low (low-chars h) (rw (utf8-low c e) at m))) (λ e. high (utf8-high c e) m)
   where
-    low : (Many Hexadecimal (bytesOf h) → h ≡ bytesOf h) → Many Hexadecimal (c ∷ bytesOf h) → c ∷ h ≡ c ∷ bytesOf h
+    low : (Many Low (bytesOf h) → h ≡ bytesOf h) → Many Low (c ∷ bytesOf h) → c ∷ h ≡ c ∷ bytesOf h
     low rest (more d m) = ap (λ (l : List ℕ). c ∷ l) (rest m)
 
-    high : {A : Type 0} {u : List ℕ} → Beyond u → Many Hexadecimal (u ++ bytesOf h) → A
-    high (all-high {b = b} l k) (more (a-digit d) m) = absurd (omega (arith, ltb-true b 0x80 (at-digit (λ k. ltb k 0x80) true refl refl refl b d)))
+    high : {A : Type 0} {u : List ℕ} → Beyond u → Many Low (u ++ bytesOf h) → A
+    high (all-high {b = b} l k) (more d m) = absurd (omega (arith, ltb-true b 0x80 d))
+
+digits-low : {t : List ℕ} → Many Hexadecimal t → Many Low t
+digits-low done = done
+digits-low (more {c = c} (a-digit d) m) = more (at-digit (λ k. ltb k 0x80) true refl refl refl c d) (digits-low m)
 
 -- a character that some digits stand for
-abbrev isValue : CharValue → Bool
+abbrev pub isValue : CharValue → Bool
 isValue (Scalar c) = true
 isValue (Wrong n d) = false
 isValue (WrongAt n d p) = false
 
-abbrev charOr : CharValue → ℕ
+abbrev pub charOr : CharValue → ℕ
 charOr (Scalar c) = c
 charOr (Wrong n d) = 0
 charOr (WrongAt n d p) = 0
@@ -137,5 +146,5 @@ hex-back h x e = go (value-back (bytesOf h) (ap isValue e))
     go : HexScalar (bytesOf h) (charOr (scalarOf (hexValue (bytesOf h)))) ⊎ (begins (codes "+") (bytesOf h) ≡ true)
         → HexScalar h x ⊎ ((r : List ℕ) × (h ≡ code "+" ∷ r))
     go (inl s) =
-        inl (subst (λ (l : List ℕ). HexScalar l x) (sym (digits-chars h (scalar-digits s))) (subst (HexScalar (bytesOf h)) (ap charOr e) s))
+        inl (subst (λ (l : List ℕ). HexScalar l x) (sym (low-chars h (digits-low (scalar-digits s)))) (subst (HexScalar (bytesOf h)) (ap charOr e) s))
     go (inr f) = inr (begins-chars (codes "+") h refl f)

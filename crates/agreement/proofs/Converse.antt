@@ -3,6 +3,7 @@ use Prim.Native.Nat.{ℕ, _+_}
 use mathlib.Core.Path.{_≡_, refl, sym, subst}
 use mathlib.Core.Bool.{Bool, true, false}
 use mathlib.Core.List.{List, [], _∷_, map}
+use mathlib.Core.Logic.{_⊎_}
 use lib.Dec.{eqb, ltb}
 use native.Mathlib.Omega.{arith}
 use borrow.Author.Tests.{ne-eqb, ltb-true}
@@ -12,14 +13,17 @@ use Rattle.items.specs.Items.{Item, items}
 use Rattle.items.specs.Kinds as kind
 use Rattle.items.specs.Meaning.{Meaning}
 use Rattle.items.proofs.Every.{Every, every-then, every-any}
+use Rattle.difference.specs.Conditions.{NumberText, SignBelowSlash}
+use Rattle.itemparts.proofs.Numbers.{number-meant}
 use Rattle.itemparts.proofs.Spelled.{Spelled}
 use Rattle.itemparts.proofs.Spelled as spelled
 use Rattle.itemparts.proofs.Stands.{Meant, token, string, here-string, character, number, word, error, wordKinds, other, none-of, Stands, items-stand}
 use Rattle.agreement.specs.Boolean as boolean
-use Rattle.agreement.specs.Converse.{BooleanBytes, BooleanIn, brackets, marks, Bracket, standard, BracketIn, MarkIn}
+use Rattle.agreement.specs.Converse.{BooleanBytes, BooleanIn, brackets, marks, Bracket, standard, BracketIn, MarkIn, NumberTextIn}
 use Rattle.agreement.specs.Converse as bracket
 use Rattle.agreement.specs.Punctuation.{Punctuation, open-list, close, open-vector, open-bytes, quote, quasiquote, unquote, unquote-splicing}
 use Rattle.agreement.proofs.Classes.{at-one-of}
+use Rattle.agreement.proofs.NoNumber.{number-back}
 
 -- ---- every item
 
@@ -147,3 +151,13 @@ mark-items report cs = of-items report MarkIn so cs
     so whole i z k =
         let h : Spelled (bytesOf (z .chars)) (i .kind) (i .detail) = spelled-meant marks refl refl (z .meant) k in
         subst (λ (l : List ℕ). MarkBytes l (i .kind) (i .detail)) (sym (z .bytes)) (mark-known (known h) k)
+
+-- ---- numbers
+
+pub number-text-items : (report : Bool) (cs : List ℕ) → Every (NumberTextIn (bytesOf cs)) (items report cs)
+number-text-items report cs = of-items report NumberTextIn so cs
+  where
+    so : (whole : List ℕ) (i : Item) → AnItem report whole i → NumberTextIn whole i
+    so whole i z k =
+        let p = number-meant (z .meant) k .1 in
+        subst (λ (l : List ℕ). NumberText l ⊎ SignBelowSlash l) (sym (z .bytes)) (number-back (bytesOf (z .chars)) (p .0) (p .1))

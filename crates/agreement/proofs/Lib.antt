@@ -27,6 +27,7 @@ pub mod Back
 pub mod Inside
 pub mod Converse
 pub mod OnlyStrings
+pub mod OnlyCharacters
 pub mod Example
 pub mod Witness
 pub mod Texts

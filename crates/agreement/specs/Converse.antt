@@ -3,14 +3,18 @@
 use Prim.Native.Nat.{ℕ, _-_}
 use mathlib.Core.Path.{_≡_}
 use mathlib.Core.Bool.{Bool, true}
-use mathlib.Core.List.{List, [], _∷_, _++_}
+use mathlib.Core.List.{List, [], _∷_, _++_, map}
+use mathlib.Core.Logic.{_⊎_}
 use lib.ListN.{take, drop}
 use lib.Dec.{eqb}
 use Rattle.laws.specs.Quoted.{codes, code, oneOf}
 use Rattle.chars.specs.Encode.{bytesOf}
 use Rattle.items.specs.Items.{Item}
 use Rattle.items.specs.Kinds as kind
+use Rattle.standard.specs.Characters.{lower}
+use Rattle.difference.specs.Conditions.{NumberText, SignBelowSlash}
 use Rattle.agreement.specs.Boolean.{Boolean, truth}
+use Rattle.agreement.specs.Character.{CharacterName, CharacterText}
 use Rattle.agreement.specs.Punctuation.{Punctuation}
 use Rattle.agreement.specs.Reading.{Spelling, bytes, spelling}
 use Rattle.agreement.specs.String.{StringElements, StringText}
@@ -76,3 +80,22 @@ pub data StringRead : List ℕ → Spelling → Type 0 where
 abbrev pub StringIn : List ℕ → Item → Type 0
 StringIn whole i = eqb (i .kind) kind.StringLiteral ≡ true
     → (t : List ℕ) × (extent whole i ≡ bytesOf t) × StringRead t (spelling (i .start) (bytesOf t) (i .text))
+
+-- ---- characters
+
+-- a text, and the character of its item: a name in other letter case (B41), or a form that the standard has not (B36)
+pub data ForeignCharacter : List ℕ → ℕ → Type 0 where
+  other-case : {t n : List ℕ} {c : ℕ} → CharacterName n c → map lower t ≡ n → ForeignCharacter (code "#" ∷ code "\\" ∷ t) c
+  unicode : {x c : ℕ} {t : List ℕ} → ForeignCharacter (code "#" ∷ code "\\" ∷ code "u" ∷ x ∷ t) c
+  plus : {c : ℕ} {t : List ℕ} → ForeignCharacter (code "#" ∷ code "\\" ∷ code "x" ∷ code "+" ∷ t) c
+
+-- an item of kind CharacterLiteral: its extent is a <character> or a foreign one, and its detail that character
+abbrev pub CharacterIn : List ℕ → Item → Type 0
+CharacterIn whole i = eqb (i .kind) kind.CharacterLiteral ≡ true
+    → (t : List ℕ) × (extent whole i ≡ bytesOf t) × (CharacterText t (i .detail) ⊎ ForeignCharacter t (i .detail))
+
+-- ---- numbers
+
+-- an item of kind Number: its extent is a <number>, or one with a sign below the slash (B17, B18). The characters of both are their bytes
+abbrev pub NumberTextIn : List ℕ → Item → Type 0
+NumberTextIn whole i = eqb (i .kind) kind.Number ≡ true → NumberText (extent whole i) ⊎ SignBelowSlash (extent whole i)

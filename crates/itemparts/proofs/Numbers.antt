@@ -17,10 +17,10 @@ use Rattle.itemparts.proofs.Spelled.{spelledKinds, spelled-kind}
 use Rattle.itemparts.proofs.Stands.{Meant, token, string, here-string, character, word, error, wordKinds, other, none-of, no-error, Stands, items-stand}
 use Rattle.itemparts.proofs.Stands as meant
 use Prim.Native.Nat.{ℕ, _-_, _≤_}
-use mathlib.Core.Path.{_≡_, refl, sym, ap, _∙_}
-use mathlib.Core.Bool.{Bool, true, false}
+use mathlib.Core.Path.{_≡_, refl, ap, _∙_}
+use mathlib.Core.Bool.{Bool, true}
 use mathlib.Core.List.{List, [], _∷_}
-use lib.ListN.{length, take, drop, length-take, length-drop}
+use lib.ListN.{length, drop, length-take, length-drop}
 use lib.Dec.{eqb}
 use native.Mathlib.Omega.{arith}
 use borrow.Author.Tests.{le-ltb}
