@@ -37,7 +37,7 @@ span-fails f (c ∷ t) h = by-bool (f c)
     (λ e. rw e e)
 
 module _ (s : List ℕ) (report : Bool) (from : ℕ) (p : Phase) (e : ℕ) (ends : e ≡ from + span (keeps p) (drop from s)) where
-  pub not-kept : e < length s → keeps p (getD s e 0) ≡ false
+  not-kept : e < length s → keeps p (getD s e 0) ≡ false
   not-kept h =
       let n : span (keeps p) (drop from s) < length (drop from s) = omega (arith, length-drop from s) in
       rw ends (rw (← (getD-drop from s (span (keeps p) (drop from s)) 0)) (span-fails (keeps p) (drop from s) n))
@@ -46,16 +46,16 @@ module _ (s : List ℕ) (report : Bool) (from : ℕ) (p : Phase) (e : ℕ) (ends
     past-run : answer s report a p from ≡ answer s report a p e
     past-run = run-on s report a p from before ∙ ap (answer s report a p) (sym ends)
 
-    pub ended-out : length s ≤ e → answer s report a p from ≡ record { what = finishOf p (part s a e); end = e }
+    ended-out : length s ≤ e → answer s report a p from ≡ record { what = finishOf p (part s a e); end = e }
     ended-out h = past-run ∙ turn-out s report a p e h
 
-    pub ended-stop : (o : Outcome) → e < length s → getD s e 0 < 0x80 → ((i : SoFar) → stepOf report p i (getD s e 0) ≡ Stop o)
+    ended-stop : (o : Outcome) → e < length s → getD s e 0 < 0x80 → ((i : SoFar) → stepOf report p i (getD s e 0) ≡ Stop o)
         → answer s report a p from ≡ record { what = o; end = e }
     ended-stop o h k st =
         past-run ∙ turn-stop s report a p e (getD s e 0) (e + 1) (char-at s e (getD s e 0) (e + 1) (ascii-found s e h k) (omega arith)) o (st _)
 
     -- before a character that is eaten into a phase from which the item is whole, whatever follows
-    pub ended-eat : (o : Outcome) (q : Phase) → e < length s → getD s e 0 < 0x80 → ((i : SoFar) → stepOf report p i (getD s e 0) ≡ Eat q)
+    ended-eat : (o : Outcome) (q : Phase) → e < length s → getD s e 0 < 0x80 → ((i : SoFar) → stepOf report p i (getD s e 0) ≡ Eat q)
         → ((i : SoFar) (cs : List ℕ) → scanned (scanOf report q i cs) ≡ record { what = o; end = i .at })
         → answer s report a p from ≡ record { what = o; end = e + 1 }
     ended-eat o q h k st fin =
@@ -65,28 +65,28 @@ module _ (s : List ℕ) (report : Bool) (from : ℕ) (p : Phase) (e : ℕ) (ends
 
 -- ---- what closes a string and a comment
 
-pub quote-closes : (report : Bool) (c : ℕ) → c ≡ code "\"" → (i : SoFar) → stepOf report (ph.Quoted Double) i c ≡ Eat (ph.Closed Double)
+quote-closes : (report : Bool) (c : ℕ) → c ≡ code "\"" → (i : SoFar) → stepOf report (ph.Quoted Double) i c ≡ Eat (ph.Closed Double)
 unfolding inQuotes
 quote-closes report c e i = rw e
 
-pub string-whole : (report : Bool) (i : SoFar) (cs : List ℕ) → scanned (scanOf report (ph.Closed Double) i cs) ≡ record { what = Str; end = i .at }
+string-whole : (report : Bool) (i : SoFar) (cs : List ℕ) → scanned (scanOf report (ph.Closed Double) i cs) ≡ record { what = Str; end = i .at }
 unfolding scanOf
 string-whole report i [] = refl
 string-whole report i (c ∷ cs) = refl
 
-pub newline-closes : (report : Bool) (c : ℕ) → c ≡ code "\n" → (i : SoFar) → stepOf report ph.InLine i c ≡ Eat (ph.Done comment)
+newline-closes : (report : Bool) (c : ℕ) → c ≡ code "\n" → (i : SoFar) → stepOf report ph.InLine i c ≡ Eat (ph.Done comment)
 newline-closes report c e i = rw e
 
 -- ---- what stops a word, and a number run
 
 -- a character of ASCII with which a word does not go on, and which is no backslash
-pub word-stops : (report : Bool) (c : ℕ) → c < 0x80 → (c ≡ code "\\" → ⊥) → ofWord c ≡ false → (i : SoFar) → stepOf report ph.InWord i c ≡ Stop Word
+word-stops : (report : Bool) (c : ℕ) → c < 0x80 → (c ≡ code "\\" → ⊥) → ofWord c ≡ false → (i : SoFar) → stepOf report ph.InWord i c ≡ Stop Word
 unfolding inWord
 word-stops report c h n e i = by-bool (breaksWord c)
     (λ b. rw b)
     (λ b. let z : true ≡ false = sym (rw (lt-ltb c 0x80 h, b, ne-eqb c (code "\\") n)) ∙ e in let y : _≡_ {A = ℕ} 0 1 = cc in absurd (omega arith))
 
-pub run-stops : (report : Bool) (c : ℕ) → c < 0x80 → endsRun report c ≡ true → ofRun c ≡ false → (i : SoFar) → stepOf report ph.InRun i c ≡ Stop Run
+run-stops : (report : Bool) (c : ℕ) → c < 0x80 → endsRun report c ≡ true → ofRun c ≡ false → (i : SoFar) → stepOf report ph.InRun i c ≡ Stop Run
 unfolding inRun
 run-stops report c h f e i = let z : staysRun c ≡ false = rw (lt-ltb c 0x80 h) at e in rw (z, f)
 
