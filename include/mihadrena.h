@@ -131,7 +131,7 @@ MIHADRENA_ASSERT(sizeof(mihadrena_record) == 4 * MIHADRENA_RECORD_WORDS, "a reco
 #define MIHADRENA_LITTLE_TEXT 24  /* in pieces, there are under MIHADRENA_PIECE_TEXT bytes of text memory: 0 */
 #define MIHADRENA_NO_MODE 25      /* the mode is neither of the two: the mode */
 #define MIHADRENA_AFTER_END 26    /* a piece after the declared end: 0 */
-#define MIHADRENA_BAD_STATE 27    /* the state is outside its bounds: 0; of mihadrena_text_mark: there is no such text */
+#define MIHADRENA_BAD_STATE 27    /* a state or a position is outside its bounds: 0; of mihadrena_text_mark: there is no such text */
 
 #define MIHADRENA_LONGEST 4294967295
 
@@ -206,7 +206,7 @@ typedef struct mihadrena_told {
 MIHADRENA_ASSERT(sizeof(mihadrena_told) == 8 * MIHADRENA_PIECE_VALUES, "these are two values");
 
 /* Opens a state, in a mode, with comments kept or skipped, and writes it whole: MIHADRENA_SERVED, or MIHADRENA_NO_MODE for another mode,
- * with a plain state. MIHADRENA_BAD_STATE, and nothing is written, if the two slices have not the lengths of a state's.
+ * with a plain state; what that comes with is the `mode` that was passed. MIHADRENA_BAD_STATE, and nothing is written, if the two slices have not the lengths of a state's.
  *
  *     mihadrena_state state;
  *     mihadrena_open(MIHADRENA_PLAIN, false, state.bytes, MIHADRENA_STATE_BYTES,
@@ -280,12 +280,59 @@ static inline uint32_t mihadrena_state_end(mihadrena_state *state, uint8_t *text
                          (uint32_t *)record, MIHADRENA_RECORD_WORDS, (uint64_t *)told, MIHADRENA_PIECE_VALUES);
 }
 
+/* -- Reading one item a call -------------------------------------------------------------------------------------------------- */
+
+/* A whole text, one item a call: memory for one record and one text is enough. The caller keeps a position from call to call, as
+ * MIHADRENA_READER_WORDS words; docs/STATE.md says what they mean, and outside which bounds words are no position: none that the calls
+ * wrote are. The source must be the same at every call. */
+#define MIHADRENA_READER_WORDS 7
+
+/* How many values these calls write. */
+#define MIHADRENA_READER_VALUES 2
+
+/* Opens a source, in a mode, with comments kept or skipped: MIHADRENA_SERVED, and `position` gets the words of its start. Refusals, in
+ * this order: MIHADRENA_BAD_STATE if `position` has not MIHADRENA_READER_WORDS words, MIHADRENA_NO_MODE, MIHADRENA_TOO_LONG,
+ * MIHADRENA_NOT_UTF8; `position` keeps every word. values[0] is what a refusal comes with, else 0, and values[1] is 0; with fewer than
+ * MIHADRENA_READER_VALUES values none is written.
+ *
+ *     const uint8_t source[] = "(a \"b\\n\")";
+ *     uint64_t position[MIHADRENA_READER_WORDS];
+ *     uint64_t values[MIHADRENA_READER_VALUES];
+ *     uint32_t answer = mihadrena_reader_open(source, sizeof source - 1, MIHADRENA_PLAIN, false,
+ *                                             position, MIHADRENA_READER_WORDS, values, MIHADRENA_READER_VALUES);
+ *     // answer == MIHADRENA_SERVED
+ */
+uint32_t mihadrena_reader_open(const uint8_t *source, size_t source_length, uint32_t mode, bool skip_comments,
+                               uint64_t *position, size_t position_length, uint64_t *values, size_t values_length);
+
+/* Gives the next item: MIHADRENA_ITEM, its record goes to `record`, its decoded text, if it has one, to the front of `text`, and `position`
+ * moves on. The records are those of mihadrena_read, but that every decoded text starts at 0. MIHADRENA_FINISHED once all items were given.
+ *
+ * Refusals; `position`, `text` and `record` stay as they were:
+ *   MIHADRENA_TOO_FEW  `record` has under MIHADRENA_RECORD_WORDS words or `values` under MIHADRENA_READER_VALUES: before anything else;
+ *       where there are two values they are 1, the records needed, and 0
+ *   MIHADRENA_BAD_STATE  the words of `position` are no position's: 0 and 0
+ *   MIHADRENA_TOO_LONG  MIHADRENA_LONGEST and 0: a source that was not opened
+ *   MIHADRENA_TOO_FEW  the item's text does not fit: 1 and the bytes that it needs. The next call is for the same item
+ * Any other answer writes 0 and 0.
+ *
+ *     uint8_t text[1];
+ *     mihadrena_record record;
+ *     uint32_t answer = mihadrena_reader_next(source, sizeof source - 1, position, MIHADRENA_READER_WORDS, text, 0,
+ *                                             (uint32_t *)&record, MIHADRENA_RECORD_WORDS, values, MIHADRENA_READER_VALUES);
+ *     // answer == MIHADRENA_ITEM, record.kind == MIHADRENA_OPEN_PAREN; after it `a` at depth 1, then
+ *     // answer == MIHADRENA_TOO_FEW, values[0] == 1, values[1] == 2: the string's text is two bytes, a letter and a newline
+ */
+uint32_t mihadrena_reader_next(const uint8_t *source, size_t source_length, uint64_t *position, size_t position_length,
+                               uint8_t *text, size_t text_length, uint32_t *record, size_t record_length,
+                               uint64_t *values, size_t values_length);
+
 /* -- The text of an item ------------------------------------------------------------------------------------------------------ */
 
 /* Whether a record's text lies where its three text words say: MIHADRENA_SERVED if it is the part from `start` to `end` of the source
  * (text source MIHADRENA_IN_SOURCE) or of the text memory (MIHADRENA_IN_MEMORY), else MIHADRENA_BAD_STATE. Records that mihadrena_read
  * wrote and that have text always get MIHADRENA_SERVED with the same source and text memory, and those that a piece or end call wrote
- * with the same text memory, until the next call.
+ * with the same text memory, until the next call: their text is always in it, so that `source` may be any pointer but NULL, with length 0.
  *
  *     // of the second record above, the identifier `corner` at 1..7
  *     mihadrena_text_mark(source, sizeof source - 1, text, sizeof text, MIHADRENA_IN_SOURCE, 1, 7);   // MIHADRENA_SERVED

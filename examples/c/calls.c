@@ -170,10 +170,46 @@ static void depths(void)
         expect(records[i].depth == DEPTHS[i], "a depth");
 }
 
+/* Reading one item a call: the reader stays where a text does not fit. */
+static void reader(void)
+{
+    const uint8_t source[] = "(a \"b\\n\")";
+    const size_t length = sizeof source - 1;
+    uint64_t position[MIHADRENA_READER_WORDS];
+    uint64_t values[MIHADRENA_READER_VALUES];
+    mihadrena_record record;
+    uint32_t *words = (uint32_t *)&record;
+    uint8_t text[2];
+    uint32_t answer = mihadrena_reader_open(source, length, 2, false, position, MIHADRENA_READER_WORDS, values, MIHADRENA_READER_VALUES);
+    expect(answer == MIHADRENA_NO_MODE && values[0] == 2 && values[1] == 0, "mihadrena_reader_open, no mode");
+    answer = mihadrena_reader_open(source, length, MIHADRENA_PLAIN, false, position, MIHADRENA_READER_WORDS, values,
+                                   MIHADRENA_READER_VALUES);
+    expect(answer == MIHADRENA_SERVED && values[0] == 0 && values[1] == 0, "mihadrena_reader_open");
+    answer = mihadrena_reader_next(source, length, position, MIHADRENA_READER_WORDS, text, 0, words, 9, values, MIHADRENA_READER_VALUES);
+    expect(answer == MIHADRENA_TOO_FEW && values[0] == 1 && values[1] == 0, "mihadrena_reader_next, a short record");
+    static const uint32_t kinds[] = {MIHADRENA_OPEN_PAREN, MIHADRENA_IDENTIFIER};
+    for (uint32_t i = 0; i < 2; i++) {
+        answer = mihadrena_reader_next(source, length, position, MIHADRENA_READER_WORDS, text, 0, words, MIHADRENA_RECORD_WORDS, values,
+                                       MIHADRENA_READER_VALUES);
+        expect(answer == MIHADRENA_ITEM && record.kind == kinds[i] && record.depth == i, "mihadrena_reader_next");
+    }
+    answer = mihadrena_reader_next(source, length, position, MIHADRENA_READER_WORDS, text, 0, words, MIHADRENA_RECORD_WORDS, values,
+                                   MIHADRENA_READER_VALUES);
+    expect(answer == MIHADRENA_TOO_FEW && values[0] == 1 && values[1] == 2, "mihadrena_reader_next, too few");
+    answer = mihadrena_reader_next(source, length, position, MIHADRENA_READER_WORDS, text, 2, words, MIHADRENA_RECORD_WORDS, values,
+                                   MIHADRENA_READER_VALUES);
+    expect(answer == MIHADRENA_ITEM && record.kind == MIHADRENA_STRING_LITERAL && text[0] == 'b' && text[1] == '\n', "the string");
+    position[3] = 2;
+    answer = mihadrena_reader_next(source, length, position, MIHADRENA_READER_WORDS, text, 2, words, MIHADRENA_RECORD_WORDS, values,
+                                   MIHADRENA_READER_VALUES);
+    expect(answer == MIHADRENA_BAD_STATE && values[0] == 0 && values[1] == 0, "mihadrena_reader_next, no position");
+}
+
 int main(void)
 {
     read_and_text();
     depths();
+    reader();
     pieces();
     states();
     number();

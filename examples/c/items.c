@@ -209,6 +209,9 @@ static void print_pieces(const char *path, uint32_t mode, size_t size)
         print_piece(&now, piece, got);
         got = fread(piece, 1, size, file);
     }
+    /* a read that fails is not the end of the text */
+    if (ferror(file))
+        fail("cannot read the file");
     fclose(file);
     free(piece);
     while (print_given(&now, mihadrena_state_end(&now.state, now.text, sizeof now.text, &now.record, &now.told)))

@@ -90,6 +90,7 @@ int main(int count, char **arguments)
     FILE *file = fopen(arguments[1], "rb");
     expect(file != NULL, "cannot open the file");
     size_t length = fread(source, 1, sizeof source, file);
+    expect(!ferror(file), "cannot read the file");
     expect(length < sizeof source, "the file is too long");
     fclose(file);
     uint32_t mark = mihadrena_read(source, length, MIHADRENA_PLAIN, true, (uint32_t *)records,

@@ -23,8 +23,11 @@ pub mod Written
 pub mod NoNumber
 pub mod Token
 pub mod Whole
-pub mod OnlyBooleans
+pub mod Back
+pub mod Inside
 pub mod Converse
+pub mod OnlyStrings
+pub mod OnlyCharacters
 pub mod Example
 pub mod Witness
 pub mod Texts

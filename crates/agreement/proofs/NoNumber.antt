@@ -1,12 +1,13 @@
--- What is neither a <number> of the standard nor a polar number with a sign below the slash is no number here: crate difference's theorem
--- that the two readers differ on its three conditions alone.
+-- What is neither a <number> of the standard nor a polar number with a sign below the slash is no number here, and what is one here is one of the two:
+-- crate difference's theorem that the two readers differ on its three conditions alone.
 use Prim.Native.Nat.{ℕ}
 use mathlib.Core.Path.{_≡_, refl, sym, ap, _∙_}
 use mathlib.Core.List.{List}
-use mathlib.Core.Logic.{inl, inr}
+use mathlib.Core.Logic.{_⊎_, inl, inr}
 use native.Mathlib.Omega.{arith}
 use Rattle.numbers.specs.declared.Parsed.{Parsed}
 use Rattle.numbers.specs.declared.Parsed.the-variants.{Is, NoNumber, ZeroDenominator}
+use Rattle.numbers.specs.declared.Parts.{Parts}
 use Rattle.numbers.specs.declared.MaybeParts.{MaybeParts}
 use Rattle.numbers.specs.declared.MaybeParts.the-variants.{SomeParts, NoParts}
 use Rattle.numbers.specs.Grammar.{judged, parseNumber}
@@ -14,6 +15,9 @@ use Rattle.standard.specs.Grammar.{numberParts, parseStandard}
 use Rattle.difference.specs.Conditions.{NumberText, SignBelowSlash, OddE, Differs}
 use Rattle.difference.proofs.Whole.{no-parts, parts-is, parts-inv}
 use Rattle.difference.proofs.Differs.{number-text, number-at, differs, bought-alone}
+
+odd-number : {t : List ℕ} → OddE t → NumberText t
+odd-number (OddE.odd m x o) = x
 
 module _ (s : List ℕ) (n : NumberText s → ⊥) (b : SignBelowSlash s → ⊥) where
   standard-none : parseStandard s ≡ NoNumber
@@ -23,9 +27,6 @@ module _ (s : List ℕ) (n : NumberText s → ⊥) (b : SignBelowSlash s → ⊥
       go : (x : MaybeParts) → numberParts s ≡ x → judged (numberParts s) ≡ NoNumber
       go NoParts e = ap judged e
       go (SomeParts a) e = absurd (n (number-text (parts-inv s a e)))
-
-  odd-number : {t : List ℕ} → OddE t → NumberText t
-  odd-number (OddE.odd m x o) = x
 
   alike : Differs s → ⊥
   alike (inl c) = b c
@@ -39,6 +40,20 @@ module _ (s : List ℕ) (n : NumberText s → ⊥) (b : SignBelowSlash s → ⊥
       go NoNumber e = e
       go (Is p) e = absurd (alike (differs s .0 (λ q. let z : Is p ≡ NoNumber = sym e ∙ (q ∙ standard-none) in let y : _≡_ {A = ℕ} 0 1 = cc in omega arith)))
       go ZeroDenominator e = absurd (alike (differs s .0 (λ q. let z : ZeroDenominator ≡ NoNumber = sym e ∙ (q ∙ standard-none) in let y : _≡_ {A = ℕ} 0 1 = cc in omega arith)))
+
+-- what is a number here is one of the two
+pub number-back : (s : List ℕ) (p : Parts) → parseNumber s ≡ Is p → NumberText s ⊎ SignBelowSlash s
+unfolding parseStandard judged
+number-back s p e = go (numberParts s) refl
+  where
+    from : Differs s → NumberText s ⊎ SignBelowSlash s
+    from (inl c) = inr c
+    from (inr (inl c)) = inl (c .number)
+    from (inr (inr c)) = inl (odd-number c)
+
+    go : (x : MaybeParts) → numberParts s ≡ x → NumberText s ⊎ SignBelowSlash s
+    go (SomeParts a) f = inl (number-text (parts-inv s a f))
+    go NoParts f = from (differs s .0 (λ q. let z : Is p ≡ NoNumber = sym e ∙ (q ∙ ap judged f) in let y : _≡_ {A = ℕ} 0 1 = cc in omega arith))
 
 -- how a text is seen to be neither: both readers find no number
 pub unnumbered : (s : List ℕ) → numberParts s ≡ NoParts → NumberText s → ⊥

@@ -46,7 +46,7 @@ itself-plain : (c : ℕ) → oneOf (codes "\"\\\r") c ≡ false → inQuotes Dou
 unfolding inQuotes
 itself-plain c h = rw (not-first (code "\"") (codes "\\\r") c h, not-first (code "\\") (codes "\r") c (not-others (code "\"") (codes "\\\r") c h))
 
-elements : {t v : List ℕ} → StringElements t v → Quoted Double t v
+pub elements : {t v : List ℕ} → StringElements t v → Quoted Double t v
 unfolding afterBackslash
 elements no-more = empty
 elements (itself {c = c} h s) = character (itself-plain c h) (elements s)
@@ -58,11 +58,11 @@ elements (goes-on u w m n h s) = continued u w m n h (elements s)
 elements (hex h x s) = hexadecimal h x (elements s)
 
 module _ (t : List ℕ) where
-  string-text : ℕ → Text
+  abbrev pub string-text : ℕ → Text
   string-text at = stringText at (at + byteCount (between Double t)) (bytesOf (between Double t))
 
-  string-spells : {v : List ℕ} → Quoted Double t v → (at : ℕ) → spelling at (bytesOf (between Double t)) (string-text at) ≡ bytes (bytesOf v)
-  unfolding string-text stringText
+  pub string-spells : {v : List ℕ} → Quoted Double t v → (at : ℕ) → spelling at (bytesOf (between Double t)) (string-text at) ≡ bytes (bytesOf v)
+  unfolding stringText
   string-spells q at =
       by-bool (escaped (bytesOf (between Double t)))
       (λ e. rw e (ap bytes (between-unescaped Double q)))
@@ -77,7 +77,7 @@ module _ (t : List ℕ) where
 
 -- whatever follows it: it ends where its quotes close
 pub string : (report : Bool) {text v : List ℕ} (cs : List ℕ) → StringText text v → ReadAs report text cs kind.StringLiteral 0 (bytes (bytesOf v))
-unfolding isBlank string-text
+unfolding isBlank
 string report cs (quoted {t = t} s) = record {
   text = string-text t;
   one = read-one report (code "\"") (t ++ codes "\"") cs Str kind.StringLiteral 0 (string-text t) refl refl (string-read t report cs (elements s)) (λ last at. refl) (λ at. refl);

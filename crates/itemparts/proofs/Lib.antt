@@ -1,3 +1,5 @@
-pub mod Tokens
+pub mod Spelled
+pub mod Comes
+pub mod Stands
 pub mod Numbers
 pub mod Calls

@@ -39,4 +39,6 @@ fn main() {
     case(b"longest");
     // five times what is read at once, with characters of two and four bytes, a pair and a string over the edges
     case(b"larger");
+    // a folder, which opens and cannot be read
+    case(b"folder");
 }

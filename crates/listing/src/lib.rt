@@ -1,6 +1,6 @@
 // Lists the items of what is read from a descriptor on standard output, a line each: kind, start and end, and for an error its place. The
-// text is read in pieces, in plain mode, comments kept. The last line is `end` and the count of items, or `refused` and the refusal's
-// number and place. Program `lexlist` lists standard input, and `lexlist_cases` some files.
+// text is read in pieces, in plain mode, comments kept. The last line is `end` and the count of items, `refused` and the refusal's
+// number and place, or `unread` where the input cannot be read. Program `lexlist` lists standard input, and `lexlist_cases` some files.
 use items::Nine;
 use items::kinds;
 use pieces::Answer;
@@ -26,11 +26,11 @@ const CALLS: usize = 2 * PIECE + 2;
 // After the end is declared at most this many calls give an item: the pair that waits, the last extent.
 const LAST_CALLS: usize = 4;
 
-// Where the listing stands: the state, how many items were listed, and whether a refusal ended it.
+// Where the listing stands: the state, how many items were listed, and whether a refusal or a read that failed ended it.
 struct Listing {
     state: State,
     items: u64,
-    refused: bool,
+    stopped: bool,
 }
 
 fn number(n: u64) {
@@ -78,25 +78,25 @@ fn heed(items: u64, answer: Answer) -> Listing {
             Listing {
                 state,
                 items: std::num::wrapping_add_u64(items, 1),
-                refused: false,
+                stopped: false,
             }
         }
         Got::More => Listing {
             state,
             items,
-            refused: false,
+            stopped: false,
         },
         Got::Finished => Listing {
             state,
             items,
-            refused: false,
+            stopped: false,
         },
         Got::Refused(refusal, place) => {
             list_refusal(refusal, place);
             Listing {
                 state,
                 items,
-                refused: true,
+                stopped: true,
             }
         }
     }
@@ -154,17 +154,34 @@ fn list_end(listing: Listing, text: &mut [u8]) -> Listing {
     now
 }
 
-// The listing after a read, and whether it is the last: the input is at its end, or a refusal ended the listing.
+// The listing after a read, and whether it is the last: the input is at its end, or the listing is stopped.
 struct Step {
     listing: Listing,
     last: bool,
+}
+
+// The input cannot be read, which is not its end.
+fn unread(listing: Listing) -> Listing {
+    io::write_all(OUT, b"unread\n");
+    let state = listing.state;
+    Listing {
+        state,
+        items: listing.items,
+        stopped: true,
+    }
 }
 
 // Reads a piece and lists it.
 fn list_some(fd: i32, listing: Listing, text: &mut [u8]) -> Step {
     let mut bytes = [0u8; PIECE];
     let got = libc::read(fd, &mut bytes);
-    if got <= 0 {
+    if got < 0 {
+        return Step {
+            listing: unread(listing),
+            last: true,
+        };
+    }
+    if got == 0 {
         return Step {
             listing,
             last: true,
@@ -172,7 +189,7 @@ fn list_some(fd: i32, listing: Listing, text: &mut [u8]) -> Step {
     }
     let n = io::count(got, &bytes);
     let after = list_piece(listing, &bytes[..n], text);
-    let last = after.refused;
+    let last = after.stopped;
     Step {
         listing: after,
         last,
@@ -196,7 +213,7 @@ fn list_all(fd: i32, listing: Listing, text: &mut [u8]) -> Listing {
     now
 }
 
-// Lists the items of what is read from a descriptor, to its end or to a refusal.
+// Lists the items of what is read from a descriptor, to its end, to a refusal, or to a read that fails.
 pub fn list(fd: i32) {
     let opened = open(PLAIN, false);
     let state = opened.state;
@@ -206,15 +223,15 @@ pub fn list(fd: i32) {
         Listing {
             state,
             items: 0,
-            refused: false,
+            stopped: false,
         },
         &mut text,
     );
-    if listed.refused {
+    if listed.stopped {
         return;
     }
     let ended = list_end(listed, &mut text);
-    if ended.refused {
+    if ended.stopped {
         return;
     }
     io::write_all(OUT, b"end ");

@@ -7,19 +7,14 @@ use crate::runs::word_end;
 use crate::words::ends_run;
 use texts::plain_end;
 ghost use mathlib.Core.Path.{_≡_};
-ghost use mathlib.Core.Bool.{Bool};
 ghost use Prim.Native.Nat.{_≤_};
 ghost use lib.ListN.{length};
-ghost use Rattle.items.specs.declared.Quotes.the-variants.{Double};
-ghost use Rattle.items.specs.Readers.{comment};
-ghost use Rattle.items.specs.declared.Outcome.the-variants.{Word, Run, Str};
-ghost use Rattle.items.specs.declared.Phase.the-variants.{InWord, InRun, InLine, Quoted};
-ghost use Rattle.steps.specs.Ended.{EndsAs};
+ghost use Rattle.steps.specs.Ended.{wordEnding, runEnding, stringEnding, lineEnding};
 
 // The end of a word that stands at a place.
 pub fn word_ending(s: &[u8], from: usize) -> Ending
     requires { ⌜ from ≤ length (now s) ⌝ }
-    ensures { λ r. ⌜ ((report : Bool) → EndsAs (now (s .entry)) report InWord Word from r) ⌝ }
+    ensures { λ r. ⌜ r ≡ wordEnding (now (s .entry)) from ⌝ }
 {
     let end = word_end(s, from);
     if s.len() <= end {
@@ -38,7 +33,7 @@ pub fn word_ending(s: &[u8], from: usize) -> Ending
 // The end of a number run that stands at a place.
 pub fn run_ending(s: &[u8], report: bool, from: usize) -> Ending
     requires { ⌜ from ≤ length (now s) ⌝ }
-    ensures { λ r. ⌜ EndsAs (now (s .entry)) report InRun Run from r ⌝ }
+    ensures { λ r. ⌜ r ≡ runEnding (now (s .entry)) report from ⌝ }
 {
     let end = number_end(s, from);
     if s.len() <= end {
@@ -57,7 +52,7 @@ pub fn run_ending(s: &[u8], report: bool, from: usize) -> Ending
 // The end of a string that stands at a place.
 pub fn string_ending(s: &[u8], from: usize) -> Ending
     requires { ⌜ from ≤ length (now s) ⌝ }
-    ensures { λ r. ⌜ ((report : Bool) → EndsAs (now (s .entry)) report (Quoted Double) Str from r) ⌝ }
+    ensures { λ r. ⌜ r ≡ stringEnding (now (s .entry)) from ⌝ }
 {
     let end = plain_end(s, from, b'"', b'\\');
     if s.len() <= end {
@@ -72,7 +67,7 @@ pub fn string_ending(s: &[u8], from: usize) -> Ending
 // The end of a comment that goes to the end of its line, from a place in it.
 pub fn line_ending(s: &[u8], from: usize) -> Ending
     requires { ⌜ from ≤ length (now s) ⌝ }
-    ensures { λ r. ⌜ ((report : Bool) → EndsAs (now (s .entry)) report InLine comment from r) ⌝ }
+    ensures { λ r. ⌜ r ≡ lineEnding (now (s .entry)) from ⌝ }
 {
     let end = plain_end(s, from, b'\n', b'\n');
     if s.len() <= end {

@@ -110,7 +110,7 @@ pub(crate) fn number_end(s: &[u8], at: usize) -> usize
 
 // Past a run of characters of ASCII that leave an item in its phase.
 pub fn ascii_run(s: &[u8], at: usize, phase: Phase) -> usize
-    ensures { λ r. ⌜ (at ≤ r) × (r ≤ at + span (keeps phase) (drop at (now (s .entry)))) ⌝ }
+    ensures { λ r. ⌜ r ≡ at + span (keeps phase) (drop at (now (s .entry))) ⌝ }
 {
     match phase {
         Phase::InLine => plain_end(s, at, b'\n', b'\n'),

@@ -83,6 +83,17 @@ impl<'a> Item<'a> {
             depth: record.depth as usize,
         }
     }
+
+    /// The item of a record that the library wrote of a source and a text memory.
+    pub(crate) fn read(record: &Record, source: &'a [u8], text: &'a [u8]) -> Self {
+        let part = match record.text_source {
+            raw::IN_MEMORY => &text[record.text_start as usize..record.text_end as usize],
+            raw::IN_SOURCE => &source[record.text_start as usize..record.text_end as usize],
+            _ if record.kind == raw::NUMBER => &source[record.start as usize..record.end as usize],
+            _ => &[],
+        };
+        Self::of(record, str::from_utf8(part).expect("the library writes UTF-8"))
+    }
 }
 
 /// The memory that the items of a text need.
@@ -202,13 +213,7 @@ impl<'a> Items<'a> {
 
     /// The item of one of the records.
     pub(crate) fn item(&self, record: &Record) -> Item<'a> {
-        let text = match record.text_source {
-            raw::IN_MEMORY => &self.text[record.text_start as usize..record.text_end as usize],
-            raw::IN_SOURCE => &self.source[record.text_start as usize..record.text_end as usize],
-            _ if record.kind == raw::NUMBER => &self.source[record.start as usize..record.end as usize],
-            _ => &[],
-        };
-        Item::of(record, str::from_utf8(text).expect("the library writes UTF-8"))
+        Item::read(record, self.source, self.text)
     }
 }
 

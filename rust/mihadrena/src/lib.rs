@@ -1,10 +1,10 @@
 //! A proved reader of felling plans: the items of a Scheme text as Steel's lexer reads them, in lent memory.
 //!
 //! The functions behind this crate are proved (crates/ of the repository): every call ends, touches only the memory that it is lent, and
-//! answers what the definitions say. This crate makes a safe interface of them: [`Items`] reads a whole text, [`PieceReader`] one that
-//! comes in pieces, [`number`] takes a number apart, and [`coordinate`] makes a float of a decimal. It allocates nothing and depends on
-//! nothing but the archive that `.ci/archive` writes; `build.rs` looks for it in the repository's target/staticlib, or in the folder
-//! that the environment variable `MIHADRENA_ARCHIVE` names.
+//! answers what the definitions say. This crate makes a safe interface of them: [`Items`] reads a whole text, [`Reader`] one item of it a
+//! call, [`PieceReader`] a text that comes in pieces, [`number`] takes a number apart, and [`coordinate`] makes a float of a decimal. It
+//! allocates nothing and depends on nothing but the archive that `.ci/archive` writes; `build.rs` looks for it in the repository's
+//! target/staticlib, or in the folder that the environment variable `MIHADRENA_ARCHIVE` names.
 //!
 //! ```
 //! use mihadrena::{number, Int, Items, Kind, Number, Options, Real, Record};
@@ -42,6 +42,7 @@ mod number_by;
 mod pieces;
 #[allow(missing_docs, clippy::unreadable_literal)]
 pub mod raw;
+mod reader;
 
 pub use coordinate::{coordinate, record_coordinate, NoCoordinate};
 pub use error::{Error, HexError, Refusal};
@@ -54,3 +55,4 @@ pub use number::{number, Decimal, Int, NotNumber, Number, Real, Sign};
 pub use number_by::{number_by, NumberReader};
 pub use pieces::PieceReader;
 pub use raw::Record;
+pub use reader::Reader;

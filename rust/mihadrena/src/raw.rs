@@ -154,6 +154,12 @@ pub struct Told {
     pub place: u64,
 }
 
+/// How many words a position of the reader has; docs/STATE.md says what they mean.
+pub const READER_WORDS: usize = 7;
+
+/// How many values `mihadrena_reader_open` and `mihadrena_reader_next` write.
+pub const READER_VALUES: usize = 2;
+
 // What `mihadrena_number` answers beside refusals.
 pub const A_NUMBER: u32 = 0;
 pub const NO_NUMBER: u32 = 1;
@@ -285,6 +291,8 @@ extern "C" {
     pub fn mihadrena_open(mode: u32, skip_comments: bool, bytes: *mut u8, bytes_length: usize, words: *mut u64, words_length: usize) -> u32;
     pub fn mihadrena_piece(bytes: *mut u8, bytes_length: usize, words: *mut u64, words_length: usize, piece: *const u8, piece_length: usize, text: *mut u8, text_length: usize, record: *mut u32, record_length: usize, values: *mut u64, values_length: usize) -> u32;
     pub fn mihadrena_end(bytes: *mut u8, bytes_length: usize, words: *mut u64, words_length: usize, text: *mut u8, text_length: usize, record: *mut u32, record_length: usize, values: *mut u64, values_length: usize) -> u32;
+    pub fn mihadrena_reader_open(source: *const u8, source_length: usize, mode: u32, skip_comments: bool, position: *mut u64, position_length: usize, values: *mut u64, values_length: usize) -> u32;
+    pub fn mihadrena_reader_next(source: *const u8, source_length: usize, position: *mut u64, position_length: usize, text: *mut u8, text_length: usize, record: *mut u32, record_length: usize, values: *mut u64, values_length: usize) -> u32;
     pub fn mihadrena_text_mark(source: *const u8, source_length: usize, text: *const u8, text_length: usize, text_source: u32, start: u32, end: u32) -> u32;
     pub fn mihadrena_number(text: *const u8, text_length: usize, words: *mut u64, words_length: usize) -> u32;
     pub fn mihadrena_good_bytes(text: *const u8, text_length: usize) -> usize;

@@ -1,7 +1,7 @@
 -- The run ends the item (Tells), and its bytes tell the rest.
 use borrow.Author.Needs.{needs}
 use native.Mathlib.Omega.{arith}
-use mathlib.Core.Path.{_≡_, refl, sym, subst}
+use mathlib.Core.Path.{_≡_, refl, sym, subst, _∙_}
 use mathlib.Core.Bool.{Bool, false}
 use Prim.Native.Nat.{_+_}
 use denote.Ref.{now}
@@ -10,6 +10,7 @@ use Rattle.items.specs.declared.Outcome.the-variants.{Word, Run, Str}
 use Rattle.items.specs.declared.Phase.the-variants as ph
 use Rattle.steps.specs.Ended.{EndsAs}
 use Rattle.steps.specs.declared.Ending.{Ending}
+use Rattle.steps.proofs.Ended.{run-ends}
 use Rattle.lexer.proofs.Tells.{Spans, begins-inside, ends-here, spans, ended-told}
 use Rattle.lexer.proofs.glance.quick_run.Statement.{statement}
 use Rattle.lexer.proofs.glance.quick_run.Tie as tie
@@ -18,7 +19,7 @@ within : (c : tie.After-known-told) → Spans (now (c .before .before .before .b
 within c =
     let a = c .before .before .before .before .before in
     spans (now (a .args .source)) (a .args .report) (a .args .at) (c .before .end .given .0 .0) Run ph.InRun (a .pre .1)
-    (ends-here (now (a .args .source)) (a .args .report) (a .args .at) ph.InRun Run (c .before .end .given .0 .0) (subst (λ (y : Ending). EndsAs (now (a .args .source)) (a .args .report) ph.InRun Run (a .args .at + 1) y) (c .before .end .given .1) (c .before .before .before .run-ending .ensures))) (a .pre .0)
+    (ends-here (now (a .args .source)) (a .args .report) (a .args .at) ph.InRun Run (c .before .end .given .0 .0) (subst (λ (y : Ending). EndsAs (now (a .args .source)) (a .args .report) ph.InRun Run (a .args .at + 1) y) (sym (c .before .before .before .run-ending .ensures) ∙ c .before .end .given .1) (run-ends (now (a .args .source)) (a .args .report) (a .args .at + 1)))) (a .pre .0)
 
 add-run-ending : tie.Need-add-run-ending
 add-run-ending c = let a = c .before in omega (arith, a .pre .0, begins-inside (now (a .args .source)) (a .args .at) ph.InRun (a .pre .1))
@@ -48,7 +49,7 @@ returns : tie.Need-returns
 returns c skip =
     let a = c .before .before .before .before .before .before .before in
     ended-told (now (a .args .source)) (a .args .report) (a .args .at) (c .before .before .before .end .given .0 .0) Run ph.InRun (a .pre .1)
-    (ends-here (now (a .args .source)) (a .args .report) (a .args .at) ph.InRun Run (c .before .before .before .end .given .0 .0) (subst (λ (y : Ending). EndsAs (now (a .args .source)) (a .args .report) ph.InRun Run (a .args .at + 1) y) (c .before .before .before .end .given .1) (c .before .before .before .before .before .run-ending .ensures))) (a .pre .0) (λ last i. refl) (c .tell-run .result) (c .tell-run .ensures) skip
+    (ends-here (now (a .args .source)) (a .args .report) (a .args .at) ph.InRun Run (c .before .before .before .end .given .0 .0) (subst (λ (y : Ending). EndsAs (now (a .args .source)) (a .args .report) ph.InRun Run (a .args .at + 1) y) (sym (c .before .before .before .before .before .run-ending .ensures) ∙ c .before .before .before .end .given .1) (run-ends (now (a .args .source)) (a .args .report) (a .args .at + 1)))) (a .pre .0) (λ last i. refl) (c .tell-run .result) (c .tell-run .ensures) skip
 
 returns-2 : tie.Need-returns-2
 returns-2 c skip = tt

@@ -1,12 +1,13 @@
--- The run of the string's characters ends before the quote that closes it (Ended).
+-- Past the run of the string's bytes the quote is the definition's test.
 use borrow.Author.Needs.{needs}
-use native.Mathlib.Omega.{arith}
+use borrow.Author.Tests.{eq-eqb, ne-eqb}
 use denote.Ref.{now}
 use lib.ListN.{getD}
+use Rattle.laws.specs.Quoted.{code}
 use Rattle.items.specs.declared.Quotes.the-variants.{Double}
-use Rattle.items.specs.declared.Outcome.the-variants.{Str}
 use Rattle.items.specs.declared.Phase.the-variants as ph
-use Rattle.steps.proofs.Ended.{ended-eat, quote-closes, string-whole}
+use Rattle.steps.specs.Ended.{stringTold}
+use Rattle.steps.proofs.Ended.{told-out, told-byte}
 use Rattle.steps.proofs.endings.string_ending.Statement.{statement}
 use Rattle.steps.proofs.endings.string_ending.Tie as tie
 
@@ -14,7 +15,9 @@ plain-end-requires : tie.Need-plain-end-requires
 plain-end-requires c κs = search needs
 
 returns : tie.Need-returns
-returns c report = tt
+returns c =
+    let f = c .before .before .before .args in
+    told-out (now (f .s)) (f .from) (ph.Quoted Double) stringTold (c .before .plain-end .result) (c .before .plain-end .ensures) (c .if1 .taken)
 
 shared-slice-read-if2 : tie.Need-shared-slice-read-if2
 shared-slice-read-if2 c = search needs
@@ -23,15 +26,20 @@ add-t8 : tie.Need-add-t8
 add-t8 c = search needs
 
 returns-2 : tie.Need-returns-2
-returns-2 c report a k =
+returns-2 c =
     let w = c .before .before .before in
     let f = w .before .before .args in
     let e = w .plain-end in
-    ended-eat (now (f .s)) report (f .from) (ph.Quoted Double) (e .result) (e .ensures) a k Str (ph.Closed Double) (c .before .before .if1 .left) (omega (arith, c .if2 .taken))
-    (quote-closes report (getD (now (f .s)) (e .result) 0) (c .if2 .taken)) (string-whole report)
+    told-byte (now (f .s)) (f .from) (ph.Quoted Double) stringTold (e .result) (e .ensures) (c .before .before .if1 .left)
+    (rw (eq-eqb (getD (now (f .s)) (e .result) 0) (code "\"") (c .if2 .taken)))
 
 returns-3 : tie.Need-returns-3
-returns-3 c report = tt
+returns-3 c =
+    let w = c .before .before .before in
+    let f = w .before .before .args in
+    let e = w .plain-end in
+    told-byte (now (f .s)) (f .from) (ph.Quoted Double) stringTold (e .result) (e .ensures) (c .before .before .if1 .left)
+    (rw (ne-eqb (getD (now (f .s)) (e .result) 0) (code "\"") (c .if2 .left)))
 
 pub string-ending-spec : {M : Type 1} → statement M
 string-ending-spec = tie.close (tie.spec plain-end-requires returns shared-slice-read-if2 add-t8 returns-2 returns-3)

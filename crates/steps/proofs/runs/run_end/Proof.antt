@@ -22,7 +22,7 @@ ascii-run-requires c κs = search needs
 returns-3 : tie.Need-returns-3
 returns-3 c =
     let a = c .before .before .before .before .before in
-    passes (now (a .args .s)) (a .args .at) (a .args .phase) (c .ascii-run .result) (a .pre) (c .ascii-run .ensures .0) (c .ascii-run .ensures .1)
+    passes (now (a .args .s)) (a .args .at) (a .args .phase) (c .ascii-run .result) (a .pre) (omega (arith, c .ascii-run .ensures)) (omega (arith, c .ascii-run .ensures))
 
 pub run-end-spec : {M : Type 1} → statement M
 run-end-spec = tie.close (tie.spec returns shared-slice-read-if2 returns-2 ascii-run-requires returns-3)

@@ -1,0 +1,53 @@
+-- 22 and 27 leave all but the values; else the lexer's call fixes the reply and the text memory, and `tell_next` the rest.
+use mathlib.Core.Path.{sym, _∙_}
+use borrow.Author.Tests.{not-true, not-false}
+use borrow.Author.Needs.{needs}
+use lib.ListN.{length}
+use denote.Ref.{now}
+use Rattle.reader_exports.proofs.Words.{position-length}
+use Rattle.reader_exports.proofs.Left.{room-record, too-few, no-position, told-on}
+use Rattle.reader_exports.proofs.mihadrena_reader_next.Statement.{statement}
+use Rattle.reader_exports.proofs.mihadrena_reader_next.Tie as tie
+
+returns : tie.Need-returns
+returns c = too-few _ _ (sym (c .before .before .before .before .before .is-room .ensures) ∙ not-true _ (c .before .before .before .before .if1 .taken)) (c .before .before .put-values .ensures)
+
+returns-2 : tie.Need-returns-2
+returns-2 c =
+    no-position _ _ (sym (c .before .before .before .before .before .before .before .before .is-room .ensures) ∙ not-false _ (c .before .before .before .before .before .before .before .if1 .left)) (sym (c .before .before .before .before .before .is-position .ensures) ∙ not-true _ (c .before .before .before .before .if2 .taken)) (c .before .before .put-values2 .ensures)
+
+position-in-requires : tie.Need-position-in-requires
+position-in-requires c κs = sym (c .before .before .is-position .ensures) ∙ not-false _ (c .before .if2 .left)
+
+tell-next-requires : tie.Need-tell-next-requires
+tell-next-requires c κs = (
+  position-length _ (sym (c .before .before .before .before .before .before .before .before .before .before .is-position .ensures) ∙ not-false _ (c .before .before .before .before .before .before .before .before .before .if2 .left)),
+  room-record _ (length (now (c .before .before .before .before .before .before .before .before .before .before .before .before .before .before .before .before .before .before .before .args .values))) (sym (c .before .before .before .before .before .before .before .before .before .before .before .before .before .is-room .ensures) ∙ not-false _ (c .before .before .before .before .before .before .before .before .before .before .before .before .if1 .left)),
+)
+
+returns-3 : tie.Need-returns-3
+returns-3 c =
+    told-on _ _ (sym (c .before .before .before .before .before .before .before .before .before .before .before .before .before .before .before .before .before .before .before .before .is-room .ensures) ∙ not-false _ (c .before .before .before .before .before .before .before .before .before .before .before .before .before .before .before .before .before .before .before .if1 .left)) (sym (c .before .before .before .before .before .before .before .before .before .before .before .before .before .before .before .before .before .is-position .ensures) ∙ not-false _ (c .before .before .before .before .before .before .before .before .before .before .before .before .before .before .before .before .if2 .left))
+    (c .before .before .before .before .before .before .before .before .before .before .before .before .before .before .position-in .ensures) (c .before .before .before .before .before .before .before .before .before .before .before .before .next-at .ensures) (c .before .before .before .before .before .before .tell-next .ensures _ _)
+
+pub mihadrena-reader-next-spec : {M : Type 1} → statement M
+mihadrena-reader-next-spec =
+    tie.close
+    (tie.spec
+    (λ c κs. search needs)
+    (λ c κs. search needs)
+    (λ c. search needs)
+    returns
+    (λ c κs. search needs)
+    (λ c κs. search needs)
+    (λ c. search needs)
+    (λ c. search needs)
+    returns-2
+    position-in-requires
+    (λ c κs. search needs)
+    tell-next-requires
+    (λ c. search needs)
+    (λ c. search needs)
+    (λ c. search needs)
+    (λ c. search needs)
+    returns-3)

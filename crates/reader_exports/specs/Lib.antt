@@ -1,0 +1,3 @@
+-- What the reader's two calls leave, over slices and numbers alone.
+pub mod Words
+pub mod Reader

@@ -1,0 +1,83 @@
+/* Lists the items of a plan one by one, with memory for one item: its kind, its extent and its text, indented by its depth. Text memory
+ * grows where an item needs more: the reader stays at that item until its text fits.
+ *
+ *     reader FILE
+ */
+#include <inttypes.h>
+#include <stdio.h>
+#include <stdlib.h>
+
+#include "mihadrena.h"
+
+static void fail(const char *what)
+{
+    fprintf(stderr, "reader: %s\n", what);
+    exit(EXIT_FAILURE);
+}
+
+/* The bytes of a file and how many, with one byte more: a slice's pointer must not be NULL. */
+static uint8_t *file_bytes(const char *path, size_t *length)
+{
+    FILE *file = fopen(path, "rb");
+    if (file == NULL || fseek(file, 0, SEEK_END) != 0)
+        fail("cannot open the file");
+    long size = ftell(file);
+    if (size < 0)
+        fail("cannot tell the file's size");
+    rewind(file);
+    *length = (size_t)size;
+    uint8_t *bytes = malloc(*length + 1);
+    if (bytes == NULL || fread(bytes, 1, *length, file) != *length)
+        fail("cannot read the file");
+    fclose(file);
+    return bytes;
+}
+
+static void print_item(const mihadrena_record *record, const uint8_t *source, size_t source_length, const uint8_t *text,
+                       size_t text_length)
+{
+    printf("%*s%" PRIu32 " %" PRIu32 "..%" PRIu32, (int)(2 * record->depth), "", record->kind, record->start, record->end);
+    const uint8_t *part = mihadrena_text(record, source, source_length, text, text_length);
+    if (part != NULL) {
+        putchar(' ');
+        fwrite(part, 1, record->text_end - record->text_start, stdout);
+    }
+    putchar('\n');
+}
+
+int main(int count, char **words)
+{
+    if (count != 2)
+        fail("usage: reader FILE");
+    size_t length;
+    uint8_t *source = file_bytes(words[1], &length);
+    uint64_t position[MIHADRENA_READER_WORDS];
+    uint64_t values[MIHADRENA_READER_VALUES];
+    uint32_t answer = mihadrena_reader_open(source, length, MIHADRENA_PLAIN, false, position, MIHADRENA_READER_WORDS, values,
+                                            MIHADRENA_READER_VALUES);
+    mihadrena_record record;
+    size_t text_length = 0;
+    size_t items = 0;
+    uint8_t *text = malloc(1);
+    while (answer == MIHADRENA_SERVED || answer == MIHADRENA_ITEM || answer == MIHADRENA_TOO_FEW) {
+        if (answer == MIHADRENA_TOO_FEW) {
+            text_length = (size_t)values[1];
+            text = realloc(text, text_length);
+        }
+        if (text == NULL)
+            fail("no memory");
+        answer = mihadrena_reader_next(source, length, position, MIHADRENA_READER_WORDS, text, text_length, (uint32_t *)&record,
+                                       MIHADRENA_RECORD_WORDS, values, MIHADRENA_READER_VALUES);
+        if (answer == MIHADRENA_ITEM) {
+            print_item(&record, source, length, text, text_length);
+            items++;
+        }
+    }
+    if (answer != MIHADRENA_FINISHED)
+        printf("refused %" PRIu32 " %" PRIu64 "\n", answer, values[0]);
+    else
+        printf("end %zu, text memory of %zu bytes\n", items, text_length);
+    free(text);
+    free(source);
+    return EXIT_SUCCESS;
+}
