@@ -3,12 +3,11 @@
 use Rattle.laws.specs.Choice.{if_then_else_}
 use Rattle.items.specs.Whole.{inReport}
 use Rattle.pieces.specs.declared.State.{State as Held}
-use Rattle.pieces.specs.Calls.{finished, refused, Reply, openOf, pieceOf, endOf}
+use Rattle.pieces.specs.Calls.{finished, refused}
 use Rattle.pieces.specs.Expected.{expected, longest}
 use Rattle.pieces.specs.Expected as word
 use Rattle.pieces.specs.Produced.{Produced, opened, pieced, ended, givenBy}
-use Rattle.lent.specs.declared.State.{State}
-use Rattle.lent.specs.Calls.{Said, lend, worded, openFor, pieceFor, endFor}
+use Rattle.lent.specs.Calls.{Said, lend, worded}
 use Rattle.lent.proofs.Same.{same-open, same-piece, same-end}
 use Rattle.any_calls.specs.After.{Call, piece, end, memory, Begins, Stop, replyTo}
 use Rattle.any_calls.specs.After as value

@@ -1,6 +1,6 @@
 -- Decoding goes by the same elements: before whatever elements it gives what they stand for, and goes on behind them as it would begin there.
 -- So the decoded text of an item that was read without an error is what its elements stand for.
-use Prim.Native.Nat.{ℕ, _+_, _-_, _≤_}
+use Prim.Native.Nat.{ℕ, _+_, _-_}
 use mathlib.Core.Path.{_≡_, refl, sym, ap, subst, _∙_}
 use mathlib.Core.Bool.{Bool, true, false, _&&_, true≢false}
 use mathlib.Core.List.{List, [], _∷_, _++_, append-assoc, append-nil}
@@ -15,12 +15,9 @@ use Rattle.chars.specs.Encode.{utf8, encode, bytesOf}
 use Rattle.digits.specs.Hex.{hexValue}
 use Rattle.items.specs.declared.Quotes.{Quotes}
 use Rattle.items.specs.declared.Quotes.the-variants.{Double, Lines}
-use Rattle.items.specs.declared.Outcome.{Outcome}
-use Rattle.items.specs.declared.Outcome.the-variants as outcome
-use Rattle.items.specs.declared.CharValue.the-variants.{Scalar}
 use Rattle.items.specs.Classes.{startsRun, firstOf, delimOf, inQuotes, plain, afterBackslash, simple, inHex, closes, digit, inTrim}
-use Rattle.items.specs.Meaning.{Text, source, decoded, escaped, stringText, linedText, unescape, unescapeNext, unescapeBrace, unescapeHex, unescapeTrim}
-use Rattle.items.specs.Readers.{SoFar, soFar, eat, Read, got, closed, unclosed, scalarOf, readQuoted, readItem}
+use Rattle.items.specs.Meaning.{source, decoded, escaped, stringText, linedText, unescape, unescapeNext, unescapeBrace, unescapeHex, unescapeTrim}
+use Rattle.items.specs.Readers.{SoFar, soFar, eat, Read, scalarOf, readQuoted, readItem}
 use Rattle.agreement.specs.Repeated.{Many, done}
 use Rattle.agreement.specs.Repeated as many
 use Rattle.agreement.specs.String.{intraline, Intraline}

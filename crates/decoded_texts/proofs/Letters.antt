@@ -1,9 +1,8 @@
 -- Which characters a class has: what a class says of a character, and that no character past ASCII has one of them.
 use Prim.Native.Nat.{ℕ, _≤_}
 use mathlib.Core.Path.{_≡_, refl, sym, _∙_}
-use mathlib.Core.Bool.{Bool, true, false}
-use mathlib.Core.List.{List, [], _∷_}
-use mathlib.Core.Logic.{_⊎_, inl, inr}
+use mathlib.Core.Bool.{true, false}
+use mathlib.Core.List.{[]}
 use lib.Dec.{eqb, ltb}
 use native.Mathlib.Omega.{arith}
 use borrow.Author.Tests.{eqb-true, ltb-false}
@@ -12,13 +11,12 @@ use Rattle.laws.specs.Quoted.{code, codes, oneOf}
 use Rattle.laws.proofs.Choice.{by-bool, if-all, if-is}
 use Rattle.items.specs.declared.Quotes.{Quotes}
 use Rattle.items.specs.declared.Quotes.the-variants.{Double, Lines}
-use Rattle.items.specs.declared.CharValue.{CharValue}
-use Rattle.items.specs.declared.CharValue.the-variants.{Scalar, Wrong, WrongAt}
+use Rattle.items.specs.declared.CharValue.the-variants.{Scalar}
 use Rattle.chars.specs.Encode.{isScalar}
 use Rattle.digits.specs.declared.Hex.{Hex}
 use Rattle.digits.specs.declared.Hex.the-variants as digits
 use Rattle.items.specs.Classes.{delimOf, InQuotes, inQuotes, ends, escapes, plain, AfterBackslash, afterBackslash, simple, hexX, hexU, blank, newline, invalid}
-use Rattle.items.specs.Classes.{stopsHex, InHex, inHex, closes, stops, digit, InTrim, inTrim, space, line, solid}
+use Rattle.items.specs.Classes.{stopsHex, InHex, inHex, closes, digit, InTrim, inTrim, space, line, solid}
 use Rattle.items.specs.Readers.{scalarOf}
 use Rattle.agreement.specs.String.{intraline, Intraline}
 use Rattle.agreement.proofs.Classes.{beyond-differs, beyond-none}

@@ -2,7 +2,7 @@
 -- bytes that it stands for.
 use Prim.Native.Nat.{ℕ}
 use mathlib.Core.Path.{_≡_}
-use mathlib.Core.Bool.{Bool, true, false}
+use mathlib.Core.Bool.{false}
 use mathlib.Core.List.{List, [], _∷_, _++_}
 use lib.ListN.{drop}
 use Rattle.laws.specs.Quoted.{code, codes, oneOf}

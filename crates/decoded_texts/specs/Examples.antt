@@ -6,7 +6,7 @@ use mathlib.Core.Path.{_≡_, refl}
 use mathlib.Core.Bool.{false}
 use mathlib.Core.List.{List, [], _∷_, _++_, map}
 use lib.ListN.{length, drop}
-use Rattle.laws.specs.Quoted.{code, codes, within}
+use Rattle.laws.specs.Quoted.{codes, within}
 use Rattle.chars.specs.Encode.{isScalar, utf8, width, encode, bytesOf, spelled}
 use Rattle.digits.specs.Digits.{digitOf}
 use Rattle.digits.specs.Hex.{hexDigits, hexAfterPlus, hexValue}
