@@ -6,7 +6,7 @@ use Rattle.pieces.specs.declared.State.{State}
 use Rattle.pieces.specs.Bounds.{inBounds}
 use Rattle.pieces.specs.Calls.{What, item, more, finished, refused, Reply, reply, pieceOf, feedOf, endUnlessStopped, endOf}
 use Rattle.pieces.specs.Drive.{heed, prepend, unlessTaken, pieceCalls, endCalls, handOver, joined}
-use Rattle.pieces.specs.Due.{answered, lastOf, endAnswer}
+use Rattle.pieces.specs.Due.{lastOf, endAnswer}
 use Rattle.pieces.specs.Due as due
 use Rattle.pieces.specs.Expected.{LastWord, Expected, expected, longest}
 use Rattle.pieces.specs.Expected as word
