@@ -123,7 +123,7 @@ MIHADRENA_ASSERT(sizeof(mihadrena_record) == 4 * MIHADRENA_RECORD_WORDS, "a reco
 
 /* A refused call changes nothing that it was lent but its values, of mihadrena_number and mihadrena_number_by the first word. Reading in
  * pieces, a stop (20, 21 and 23) changes the state too, and mihadrena_open makes a plain state of a mode that is none. With each stands
- * what it comes with. */
+ * what it comes with: a call that is lent values puts that into values[0], a second number into values[1]. */
 #define MIHADRENA_TOO_LONG 20     /* the text exceeds MIHADRENA_LONGEST bytes: MIHADRENA_LONGEST */
 #define MIHADRENA_NOT_UTF8 21     /* bytes aren't UTF-8: the start of the first bad sequence */
 #define MIHADRENA_TOO_FEW 22      /* records or text memory are too few: items and text bytes needed */
@@ -200,13 +200,14 @@ MIHADRENA_ASSERT(MIHADRENA_ALIGN_OF(mihadrena_state) == MIHADRENA_STATE_ALIGN, "
 
 /* The values of a piece or end call. */
 typedef struct mihadrena_told {
-    uint64_t taken; /* how many bytes of the piece were taken */
     uint64_t place; /* what a refusal comes with; else 0 */
+    uint64_t taken; /* how many bytes of the piece were taken */
 } mihadrena_told;
 MIHADRENA_ASSERT(sizeof(mihadrena_told) == 8 * MIHADRENA_PIECE_VALUES, "these are two values");
 
 /* Opens a state, in a mode, with comments kept or skipped, and writes it whole: MIHADRENA_SERVED, or MIHADRENA_NO_MODE for another mode,
- * with a plain state; what that comes with is the `mode` that was passed. MIHADRENA_BAD_STATE, and nothing is written, if the two slices have not the lengths of a state's.
+ * with a plain state; what that comes with is the `mode` that was passed. MIHADRENA_BAD_STATE, and nothing is written, if the two slices
+ * have not the lengths of a state's.
  *
  *     mihadrena_state state;
  *     mihadrena_open(MIHADRENA_PLAIN, false, state.bytes, MIHADRENA_STATE_BYTES,
@@ -219,11 +220,11 @@ uint32_t mihadrena_open(uint32_t mode, bool skip_comments, uint8_t *bytes, size_
  * bytes that it takes cost, however long the piece is: a text may be lent whole.
  *
  * MIHADRENA_ITEM: the item's record goes to `record`, its text, a number's digits too, to the front of `text` (MIHADRENA_IN_MEMORY); no
- * other byte of `text` changes. MIHADRENA_MORE changes neither. values[0] is how many bytes were taken, values[1] is 0.
+ * other byte of `text` changes. MIHADRENA_MORE changes neither. values[0] is 0, values[1] is how many bytes were taken.
  *
- * Refusals: values[0] is how many bytes were taken here too, values[1] is what they come with.
+ * Refusals: values[0] is what they come with, as in all calls, values[1] is how many bytes were taken here too.
  *   MIHADRENA_TOO_FEW  `record` has under MIHADRENA_RECORD_WORDS words or `values` under MIHADRENA_PIECE_VALUES: before anything else, and
- *       nothing changes; where there are two values they are 0, the bytes taken, and 1, the records needed
+ *       nothing changes; where there are two values they are 1, the records needed, and 0, the bytes taken
  *   MIHADRENA_BAD_STATE (slices of other lengths too), MIHADRENA_LITTLE_TEXT, MIHADRENA_AFTER_END  nothing is taken, nothing changes
  *   MIHADRENA_TOO_LONG, MIHADRENA_NOT_UTF8, MIHADRENA_LONG_ITEM  the reading stops, at the byte that shows it, which is taken; every
  *       later call takes nothing and answers the same
@@ -234,7 +235,7 @@ uint32_t mihadrena_open(uint32_t mode, bool skip_comments, uint8_t *bytes, size_
  *     uint32_t answer = mihadrena_piece(state.bytes, MIHADRENA_STATE_BYTES, state.words, MIHADRENA_STATE_WORDS,
  *                                       (const uint8_t *)"(cor", 4, text, sizeof text,
  *                                       (uint32_t *)&record, MIHADRENA_RECORD_WORDS, values, MIHADRENA_PIECE_VALUES);
- *     // answer == MIHADRENA_ITEM, values[0] == 2, record.kind == MIHADRENA_OPEN_PAREN, record.depth == 0
+ *     // answer == MIHADRENA_ITEM, values[1] == 2, record.kind == MIHADRENA_OPEN_PAREN, record.depth == 0
  */
 uint32_t mihadrena_piece(uint8_t *bytes, size_t bytes_length, uint64_t *words, size_t words_length,
                          const uint8_t *piece, size_t piece_length, uint8_t *text, size_t text_length,

@@ -135,7 +135,7 @@ fn pieces(text: &str, length: usize) -> Run<'_> {
                     proved::MORE => (),
                     _ => return None,
                 }
-                rest = &rest[values[0] as usize..];
+                rest = &rest[values[1] as usize..];
             }
         }
         while proved::end(bytes, words, memory, record, values) == proved::ITEM {

@@ -56,10 +56,10 @@ static void pieces(void)
     expect(answer == MIHADRENA_NO_MODE, "mihadrena_open, no mode");
     answer = mihadrena_piece(state.bytes, MIHADRENA_STATE_BYTES, state.words, MIHADRENA_STATE_WORDS, (const uint8_t *)"(cor", 4, text,
                              sizeof text, (uint32_t *)&record, MIHADRENA_RECORD_WORDS, values, MIHADRENA_PIECE_VALUES);
-    expect(answer == MIHADRENA_ITEM && values[0] == 2 && record.kind == MIHADRENA_OPEN_PAREN && record.depth == 0, "mihadrena_piece");
+    expect(answer == MIHADRENA_ITEM && values[1] == 2 && record.kind == MIHADRENA_OPEN_PAREN && record.depth == 0, "mihadrena_piece");
     answer = mihadrena_piece(state.bytes, MIHADRENA_STATE_BYTES, state.words, MIHADRENA_STATE_WORDS, (const uint8_t *)"or", 2, text,
                              sizeof text, (uint32_t *)&record, MIHADRENA_RECORD_WORDS - 1, values, MIHADRENA_PIECE_VALUES);
-    expect(answer == MIHADRENA_TOO_FEW && values[0] == 0 && values[1] == 1, "mihadrena_piece, too few");
+    expect(answer == MIHADRENA_TOO_FEW && values[0] == 1 && values[1] == 0, "mihadrena_piece, too few");
     answer = mihadrena_piece(state.bytes, MIHADRENA_STATE_BYTES - 1, state.words, MIHADRENA_STATE_WORDS, (const uint8_t *)"or", 2, text,
                              sizeof text, (uint32_t *)&record, MIHADRENA_RECORD_WORDS, values, MIHADRENA_PIECE_VALUES);
     expect(answer == MIHADRENA_BAD_STATE && values[0] == 0 && values[1] == 0, "mihadrena_piece, no state");

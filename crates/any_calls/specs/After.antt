@@ -8,6 +8,7 @@ use mathlib.Core.Logic.{_⊎_}
 use lib.ListN.{take}
 use lib.Dec.{leb}
 use Rattle.laws.specs.Choice.{if_then_else_}
+use Rattle.refusal.specs.Refusals as refusal
 use Rattle.pieces.specs.declared.State.{State}
 use Rattle.pieces.specs.Calls.{Reply, pieceOf, endOf, openOf}
 use Rattle.pieces.specs.Expected.{longest}
@@ -69,10 +70,10 @@ Begins gs all = (later : List Given) × (gs ++ later ≡ all)
 
 -- 20, 21 and 23
 abbrev pub Stop : ℕ → Type 0
-Stop n = (n ≡ 20) ⊎ ((n ≡ 21) ⊎ (n ≡ 23))
+Stop n = (n ≡ refusal.tooLong) ⊎ ((n ≡ refusal.notUtf8) ⊎ (n ≡ refusal.longItem))
 
 -- Why a call was refused. 24 and 26 leave everything as it was, and there is no 27
 pub data Refusal (h : Sum) (c : Call) (n : ℕ) : Type 0 where
-  short : memory c < longest → n ≡ 24 → with h c ≡ h → Refusal h c n
-  late : h .ended ≡ true → n ≡ 26 → with h c ≡ h → Refusal h c n
+  short : memory c < longest → n ≡ refusal.littleText → with h c ≡ h → Refusal h c n
+  late : h .ended ≡ true → n ≡ refusal.afterEnd → with h c ≡ h → Refusal h c n
   stops : Stop n → Refusal h c n

@@ -6,6 +6,7 @@ use mathlib.Core.List.{List, [], _∷_}
 use lib.ListN.{length, drop}
 use lib.Dec.{eqb, leb}
 use Rattle.laws.specs.Choice.{if_then_else_}
+use Rattle.refusal.specs.Refusals as refusal
 use Rattle.pieces.specs.declared.State.{State}
 use Rattle.pieces.specs.Calls.{What, item, more, finished, refused, Reply, pieceOf, endOf, openOf}
 use Rattle.pieces.specs.Drive.{heed, unlessTaken, tooFew}
@@ -16,7 +17,7 @@ abbrev pub tooShort : What → Bool
 tooShort (item g) = false
 tooShort more = false
 tooShort finished = false
-tooShort (refused n p) = eqb n 24
+tooShort (refused n p) = eqb n refusal.littleText
 
 -- the calls with one piece; `next` is what follows it, with the memories that are left
 unfoldable pub pieceCalls : List ℕ → State → List ℕ → (List ℕ → State → Expected) → Expected

@@ -7,6 +7,7 @@ use mathlib.Core.List.{List, [], _∷_, _++_}
 use lib.ListN.{take}
 use lib.Dec.{leb}
 use Rattle.laws.specs.Choice.{if_then_else_}
+use Rattle.refusal.specs.Refusals as refusal
 use Rattle.pieces.specs.Expected.{longest}
 use Rattle.pieces.specs.Given.{Given}
 use Rattle.pieces.specs.Produced.{givenBy}
@@ -48,6 +49,6 @@ sumOf mode skip buf calls = after (record { taken = []; items = []; ended = fals
 
 -- Why a call was refused. 24 and 26 leave everything as it was, each byte and word, and there is no 27
 pub data Refusal (h : Sum) (c : Call) (n : ℕ) : Type 0 where
-  short : memory c < longest → n ≡ 24 → with h c ≡ h → Refusal h c n
-  late : h .ended ≡ true → n ≡ 26 → with h c ≡ h → Refusal h c n
+  short : memory c < longest → n ≡ refusal.littleText → with h c ≡ h → Refusal h c n
+  late : h .ended ≡ true → n ≡ refusal.afterEnd → with h c ≡ h → Refusal h c n
   stops : Stop n → Refusal h c n

@@ -10,6 +10,10 @@ use pieces::Beyond;
 use pieces::Marks;
 use pieces::Part;
 use pieces::Stage;
+use refusal::LIMIT;
+use refusal::LONG_ITEM;
+use refusal::NOT_UTF8;
+use refusal::TOO_LONG;
 ghost use mathlib.Core.Path.{_≡_};
 ghost use mathlib.Core.Bool.{_&&_};
 ghost use mathlib.Core.List.{List};
@@ -188,7 +192,7 @@ fn stop_bounds(number: u32, place: usize) -> bool
     match number {
         TOO_LONG => place <= LIMIT,
         NOT_UTF8 => place <= LIMIT,
-        TOO_LONG_ITEM => place <= LIMIT,
+        LONG_ITEM => place <= LIMIT,
         _ => false,
     }
 }

@@ -33,6 +33,8 @@ use pieces::State;
 use piecewise::calls::end;
 use piecewise::calls::piece;
 use piecewise::opening::open;
+use refusal::LIMIT;
+use refusal::TOO_FEW;
 
 // What the text memory holds before a call.
 const MARK: u8 = 7;
@@ -47,11 +49,11 @@ const PLAIN: u32 = 0;
 // What no bound allows: a mode, a place, a length of an item, a stop, and of a short text a depth.
 const NO_MODE: u32 = 2;
 
-const PAST_LIMIT: usize = 4_294_967_296;
+const PAST_LIMIT: usize = LIMIT + 1;
 
 const PAST_LONGEST: usize = 4097;
 
-const NO_STOP: u32 = 22;
+const NO_STOP: u32 = TOO_FEW;
 
 const TOO_DEEP: u32 = 5;
 

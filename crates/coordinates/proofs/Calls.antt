@@ -4,25 +4,25 @@ use mathlib.Core.List.{List}
 use Prim.Native.Nat.{ℕ, _-_, _≤_, _<_}
 use lib.ListN.{length, take, drop}
 use borrow.Author.Tests.{le-leb, lt-leb, lt-ltb, le-ltb, eq-eqb, ne-eqb}
+use Rattle.refusal.specs.Refusals.{tooLong, notUtf8, outOfBounds, limit}
 use Rattle.chars.specs.declared.Utf8.the-variants as utf8
 use Rattle.chars.specs.Utf8.{firstBad}
 use Rattle.numbers.specs.declared.Point.{Point}
 use Rattle.numbers.specs.declared.MaybePoint.the-variants.{APoint, NoPoint}
-use Rattle.numbers.specs.Call.{tooLong, notUtf8, longest}
 use Rattle.numbers.specs.Inside.{InPoint}
 use Rattle.numbers.specs.Reals.{oneDecimal}
 use Rattle.numbers.proofs.Inside.{one-decimal-inside}
 use Rattle.items.specs.Kinds as kind
-use Rattle.coordinates.specs.Answers.{Answer, refused, noExtent}
+use Rattle.coordinates.specs.Answers.{Answer, refused}
 use Rattle.coordinates.specs.Coordinate.{outside, ofPoint, ofDecimal, coordinate, recordCoordinate}
 use Rattle.coordinates.proofs.Ascii.{decimal-good}
 
 module _ (s : List ℕ) where
-  pub call-long : longest < length s → refused tooLong longest ≡ coordinate s
+  pub call-long : limit < length s → refused tooLong limit ≡ coordinate s
   unfolding coordinate
   call-long h = simp (lt-ltb _ _ h)
 
-  module _ (h : length s ≤ longest) where
+  module _ (h : length s ≤ limit) where
     pub call-point : (p : Point) (r : Answer) → APoint p ≡ oneDecimal s → r ≡ ofPoint s p → r ≡ coordinate s
     unfolding coordinate ofDecimal
     call-point p r d e = simp (le-ltb _ _ h, decimal-good s p (sym d), ← d) e
@@ -40,12 +40,12 @@ pub point-places : (s : List ℕ) (p : Point) → APoint p ≡ oneDecimal s → 
 point-places s p e = one-decimal-inside s p (sym e)
 
 module _ (s : List ℕ) (k from to : ℕ) where
-  pub record-back : to < from → refused noExtent 0 ≡ recordCoordinate s k from to
+  pub record-back : to < from → refused outOfBounds 0 ≡ recordCoordinate s k from to
   unfolding recordCoordinate
   record-back h = simp (lt-leb _ _ h)
 
   module _ (h : from ≤ to) where
-    pub record-past : length s < to → refused noExtent 0 ≡ recordCoordinate s k from to
+    pub record-past : length s < to → refused outOfBounds 0 ≡ recordCoordinate s k from to
     unfolding recordCoordinate
     record-past l = simp (le-leb _ _ h, lt-leb _ _ l)
 

@@ -11,13 +11,13 @@ use lib.Ieee.{Float, binary64, round, fits}
 use lib.Ieee.Fits.{round-fits}
 use borrow.Author.Tests.{le-leb, le-ltb, leb-true}
 use Rattle.laws.proofs.Choice.{if-is}
+use Rattle.refusal.specs.Refusals.{limit}
 use Rattle.chars.specs.declared.Utf8.{Utf8}
 use Rattle.chars.specs.declared.Utf8.the-variants as utf8
 use Rattle.chars.specs.Utf8.{firstBad}
 use Rattle.numbers.specs.declared.Point.{Point}
 use Rattle.numbers.specs.declared.MaybePoint.{MaybePoint}
 use Rattle.numbers.specs.declared.MaybePoint.the-variants.{APoint, NoPoint}
-use Rattle.numbers.specs.Call.{longest}
 use Rattle.numbers.specs.Reals.{oneDecimal}
 use Rattle.coordinates.specs.Answers.{Answer, float, refused}
 use Rattle.coordinates.specs.Coordinate.{allDigits, scale, mostDigits, mostScale, numerator, denominator, inRange, scaled, outside, ofPoint, ofDecimal, checked, coordinate}
@@ -59,7 +59,7 @@ text-means s = go (oneDecimal s) refl
 
 call-means : (s : List ℕ) → MeansIf s (coordinate s)
 unfolding coordinate
-call-means s = if-is (MeansIf s) (ltb longest (length s)) (λ _. tt) (λ _. go (firstBad s))
+call-means s = if-is (MeansIf s) (ltb limit (length s)) (λ _. tt) (λ _. go (firstBad s))
   where
     go : (u : Utf8) → MeansIf s (checked u (ofDecimal s (oneDecimal s)))
     go utf8.Good = text-means s
@@ -74,7 +74,7 @@ den-pos (pos k) = lit< tt
 den-pos (negsuc k) = ten-pos (suc k)
 
 -- and a text's value is given: no other f64 is
-pub means-value : (s : List ℕ) (x : Float) → length s ≤ longest → firstBad s ≡ utf8.Good → T (fits binary64 x) → Means s x → coordinate s ≡ float x
+pub means-value : (s : List ℕ) (x : Float) → length s ≤ limit → firstBad s ≡ utf8.Good → T (fits binary64 x) → Means s x → coordinate s ≡ float x
 unfolding coordinate ofDecimal ofPoint scaled
 means-value s x l u f a =
     let m = allDigits s (a .point) in
@@ -101,13 +101,13 @@ else-outside (float x) g n = absurd (n x refl)
 else-outside (refused k p) g n = g
 
 -- 28 exactly where no float is the text's value
-pub outside-exactly : (s : List ℕ) → length s ≤ longest → firstBad s ≡ utf8.Good → ((x : Float) → Means s x → ⊥) → coordinate s ≡ outside
+pub outside-exactly : (s : List ℕ) → length s ≤ limit → firstBad s ≡ utf8.Good → ((x : Float) → Means s x → ⊥) → coordinate s ≡ outside
 outside-exactly s l u n = else-outside (coordinate s) whole (λ x e. n x (value-means s x e))
   where
     whole : GivenOrOutside (coordinate s)
     whole = unfold coordinate in (simp (le-ltb _ _ l, u) (decimal-given s (oneDecimal s)))
 
-pub means-not-outside : (s : List ℕ) (x : Float) → length s ≤ longest → firstBad s ≡ utf8.Good → T (fits binary64 x) → Means s x
+pub means-not-outside : (s : List ℕ) (x : Float) → length s ≤ limit → firstBad s ≡ utf8.Good → T (fits binary64 x) → Means s x
     → coordinate s ≡ outside → ⊥
 means-not-outside s x l u f a e =
     let g = means-value s x l u f a in let z : _≡_ {A = ℕ} 0 1 = cc in omega arith

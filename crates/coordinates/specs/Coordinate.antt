@@ -7,6 +7,7 @@ use lib.Dec.{ltb, leb, eqb}
 use lib.IntN.{ℤ, pos, negsuc, _-ℤ_}
 use lib.Ieee.{binary64, round}
 use Rattle.laws.specs.Choice.{if_then_else_}
+use Rattle.refusal.specs.Refusals.{tooLong, notUtf8, outOfBounds, limit, noCoordinate}
 use Rattle.chars.specs.declared.Utf8.{Utf8}
 use Rattle.chars.specs.declared.Utf8.the-variants as utf8
 use Rattle.chars.specs.Utf8.{firstBad}
@@ -15,10 +16,9 @@ use Rattle.digits.specs.Digits.{value, signed}
 use Rattle.numbers.specs.declared.Point.{Point}
 use Rattle.numbers.specs.declared.MaybePoint.{MaybePoint}
 use Rattle.numbers.specs.declared.MaybePoint.the-variants.{APoint, NoPoint}
-use Rattle.numbers.specs.Call.{tooLong, notUtf8, longest}
 use Rattle.numbers.specs.Reals.{oneDecimal}
 use Rattle.items.specs.Kinds as kind
-use Rattle.coordinates.specs.Answers.{Answer, float, refused, noExtent, noCoordinate}
+use Rattle.coordinates.specs.Answers.{Answer, float, refused}
 
 -- the bytes at the places d of a text
 abbrev pub slice : Span → List ℕ → List ℕ
@@ -76,12 +76,12 @@ checked (utf8.Bad at) a = refused notUtf8 at
 
 -- "20 and 21 first"
 unfoldable pub coordinate : List ℕ → Answer
-coordinate s = if ltb longest (length s) then refused tooLong longest else checked (firstBad s) (ofDecimal s (oneDecimal s))
+coordinate s = if ltb limit (length s) then refused tooLong limit else checked (firstBad s) (ofDecimal s (oneDecimal s))
 
 -- The coordinate of a record's extent, by the record's kind and its extent's two places: 27 where they go back or pass the source, as in
 -- the text call; 28 where the record is no Number; else what the extent's text gives.
 unfoldable pub recordCoordinate : List ℕ → ℕ → ℕ → ℕ → Answer
 recordCoordinate source k from to =
     if leb from to
-    then (if leb to (length source) then (if eqb k kind.Number then coordinate (take (to - from) (drop from source)) else outside) else refused noExtent 0)
-    else refused noExtent 0
+    then (if leb to (length source) then (if eqb k kind.Number then coordinate (take (to - from) (drop from source)) else outside) else refused outOfBounds 0)
+    else refused outOfBounds 0

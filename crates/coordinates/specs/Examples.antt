@@ -7,9 +7,9 @@ use lib.IntN.{pos, negsuc}
 use lib.Ieee.{fin, binary64, ofBits, round}
 use Rattle.laws.specs.Quoted.{codes, within}
 use Rattle.laws.specs.Texts.{span, starts}
+use Rattle.refusal.specs.Refusals.{notUtf8}
 use Rattle.chars.specs.Utf8.{firstBad, sequences, front, rest, first}
 use Rattle.digits.specs.Digits.{digitOf, sign, uinteger, value, signed}
-use Rattle.numbers.specs.Call.{notUtf8}
 use Rattle.numbers.specs.Reals.{exponentMarker, exponent, suffix, pointOf, dotted, undotted, decimal, pointIn, oneDecimal}
 use Rattle.coordinates.specs.Answers.{Answer, float, refused}
 use Rattle.coordinates.specs.Coordinate.{allDigits, scale, scaled, outside, ofPoint, ofDecimal, coordinate}

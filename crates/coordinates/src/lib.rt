@@ -4,6 +4,7 @@
 use chars::Utf8;
 use items::kinds;
 use numbers::MaybePoint;
+use refusal::LIMIT;
 ghost use mathlib.Core.Path.{_≡_};
 ghost use Rattle.coordinates.specs.Answers.{answered};
 ghost use Rattle.coordinates.specs.Coordinate.{coordinate, recordCoordinate};
@@ -31,14 +32,11 @@ enum Amount {
     Beyond,
 }
 
-// The longest text that is read, in bytes.
-const LONGEST: usize = 4_294_967_295;
-
 // The coordinate of a text. A decimal is ASCII, so its text need not be asked whether it is UTF-8.
 pub fn coordinate(t: &[u8]) -> CoordinateAnswer
     ensures { λ r. ⌜ answered r ≡ coordinate (now (t .entry)) ⌝ }
 {
-    if LONGEST < t.len() {
+    if LIMIT < t.len() {
         return CoordinateAnswer::TooLong;
     }
     match numbers::one_decimal(t) {

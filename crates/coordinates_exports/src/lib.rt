@@ -1,23 +1,20 @@
 // What C and Rust call of the crate `coordinates`: the answer is a number, its value and what a refusal comes with go to lent memory.
 use coordinates::CoordinateAnswer;
+use refusal::LIMIT;
+use refusal::NO_COORDINATE;
+use refusal::NOT_UTF8;
+use refusal::OUT_OF_BOUNDS;
+use refusal::TOO_LONG;
 ghost use mathlib.Core.Path.{_≡_};
 ghost use Rattle.coordinates.specs.Answers.{answered};
 ghost use Rattle.coordinates.specs.Coordinate.{coordinate, recordCoordinate};
 ghost use Rattle.coordinates_exports.specs.Told.{numberOf, valueOr, placeOr};
 
-// The numbers of the answers.
+// What the calls answer beside refusals.
 const SERVED: u32 = 0;
 
-const TOO_LONG: u32 = 20;
-
-const NOT_UTF8: u32 = 21;
-
-const NO_EXTENT: u32 = 27;
-
-const NO_COORDINATE: u32 = 28;
-
 // What refusal 20 comes with.
-const LONGEST: u64 = 4_294_967_295;
+const LONGEST: u64 = LIMIT as u64;
 
 // A value goes to `value`, what a refusal comes with to `place`; the other keeps what it has. The result is the answer's number.
 fn tell(a: CoordinateAnswer, value: &mut f64, place: &mut u64) -> u32
@@ -38,7 +35,7 @@ fn tell(a: CoordinateAnswer, value: &mut f64, place: &mut u64) -> u32
         }
         CoordinateAnswer::NoExtent => {
             *place = 0;
-            NO_EXTENT
+            OUT_OF_BOUNDS
         }
         CoordinateAnswer::NoCoordinate => {
             *place = 0;

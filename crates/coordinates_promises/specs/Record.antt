@@ -8,12 +8,13 @@ use lib.Ieee.{fin, binary64, round}
 use native.Mathlib.Omega.{arith}
 use Rattle.laws.specs.Quoted.{codes, within}
 use Rattle.laws.specs.Texts.{span, starts}
+use Rattle.refusal.specs.Refusals.{outOfBounds}
 use Rattle.chars.specs.Utf8.{firstBad, sequences, front, rest, first}
 use Rattle.digits.specs.Digits.{digitOf, sign, uinteger, value, signed}
 use Rattle.numbers.specs.Reals.{exponentMarker, exponent, suffix, pointOf, dotted, undotted, decimal, pointIn, oneDecimal}
 use Rattle.items.specs.Kinds as kind
 use Rattle.coordinates.specs.declared.CoordinateAnswer.{CoordinateAnswer}
-use Rattle.coordinates.specs.Answers.{Answer, float, refused, noExtent, answered}
+use Rattle.coordinates.specs.Answers.{Answer, float, refused, answered}
 use Rattle.coordinates.specs.Coordinate.{allDigits, scale, scaled, outside, ofPoint, ofDecimal, coordinate, recordCoordinate}
 use Rattle.coordinates_promises.specs.Text.{answered-one}
 
@@ -32,11 +33,11 @@ unfolding recordCoordinate
 no-number = refl
 
 -- an extent that passes its source, and one that goes back, whatever the kind
-passes : recordCoordinate (codes "1.5") kind.Number 0 4 ≡ refused noExtent 0
+passes : recordCoordinate (codes "1.5") kind.Number 0 4 ≡ refused outOfBounds 0
 unfolding recordCoordinate
 passes = refl
 
-goes-back : recordCoordinate (codes "1.5") kind.Identifier 3 2 ≡ refused noExtent 0
+goes-back : recordCoordinate (codes "1.5") kind.Identifier 3 2 ≡ refused outOfBounds 0
 unfolding recordCoordinate
 goes-back = refl
 

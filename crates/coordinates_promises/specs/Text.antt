@@ -10,13 +10,13 @@ use native.Mathlib.Omega.{arith}
 use Rattle.laws.specs.Choice.{if_then_else_}
 use Rattle.laws.specs.Quoted.{codes, within}
 use Rattle.laws.specs.Texts.{span, starts}
+use Rattle.refusal.specs.Refusals.{tooLong, notUtf8, outOfBounds}
 use Rattle.chars.specs.Utf8.{firstBad, sequences, front, rest, first}
 use Rattle.digits.specs.Digits.{digitOf, sign, uinteger, value, signed}
-use Rattle.numbers.specs.Call.{tooLong, notUtf8}
 use Rattle.numbers.specs.Reals.{exponentMarker, exponent, suffix, pointOf, dotted, undotted, decimal, pointIn, oneDecimal}
 use Rattle.coordinates.specs.declared.CoordinateAnswer.{CoordinateAnswer}
 use Rattle.coordinates.specs.declared.CoordinateAnswer.the-variants as answer
-use Rattle.coordinates.specs.Answers.{Answer, float, refused, noExtent, answered}
+use Rattle.coordinates.specs.Answers.{Answer, float, refused, answered}
 use Rattle.coordinates.specs.Coordinate.{allDigits, scale, scaled, outside, ofPoint, ofDecimal, coordinate}
 
 -- two answers that a contract permits coincide
@@ -28,7 +28,7 @@ answered-one a b e = sym (back-answered a) ∙ ap back e ∙ back-answered b
     back (refused n p) =
         if eqb n tooLong then answer.TooLong
         else if eqb n notUtf8 then answer.NotUtf8 p
-        else if eqb n noExtent then answer.NoExtent
+        else if eqb n outOfBounds then answer.NoExtent
         else answer.NoCoordinate
 
     back-answered : (a : CoordinateAnswer) → back (answered a) ≡ a

@@ -8,13 +8,14 @@ use lib.ListN.{length}
 use lib.Dec.{ltb}
 use borrow.Author.Tests.{ltb-true, ltb-false}
 use Rattle.laws.proofs.Choice.{by-bool}
+use Rattle.refusal.specs.Refusals.{limit}
 use Rattle.chars.specs.declared.Utf8.{Utf8}
 use Rattle.chars.specs.declared.Utf8.the-variants as utf8
 use Rattle.chars.specs.Utf8.{firstBad}
 use Rattle.numbers.specs.declared.Parsed.{Parsed}
 use Rattle.numbers.specs.declared.Parsed.the-variants as parsed
 use Rattle.numbers.specs.Grammar.{parseNumber}
-use Rattle.numbers.specs.Call.{Answer, parts, noNumber, error, refused, longest, given, number}
+use Rattle.numbers.specs.Call.{Answer, parts, noNumber, error, refused, given, number}
 use Rattle.numbers.proofs.Call as bought-call
 use Rattle.standard.specs.Grammar.{parseStandard}
 use Rattle.standard.specs.Call.{bought, standard, byStandard, numberBy}
@@ -39,7 +40,7 @@ given-one p q e = sym (back-given p) ∙ ap back e ∙ back-given q
 
 -- a text that is not refused
 abbrev pub Readable : List ℕ → Type 0
-Readable t = (length t ≤ longest) × (firstBad t ≡ utf8.Good)
+Readable t = (length t ≤ limit) × (firstBad t ≡ utf8.Good)
 
 module _ (t : List ℕ) where
   -- the two calls
@@ -56,11 +57,11 @@ module _ (t : List ℕ) where
   -- a refused text is refused alike
   met : (number t ≡ byStandard t → ⊥) → Readable t × Differs t
   met n =
-      by-bool (ltb longest (length t))
-      (λ e. absurd (n (bought-call.too-long t (ltb-true longest (length t) e) ∙ sym (standard-call.too-long t (ltb-true longest (length t) e)))))
-      (λ e. go (ltb-false longest (length t) e) (firstBad t) refl)
+      by-bool (ltb limit (length t))
+      (λ e. absurd (n (bought-call.too-long t (ltb-true limit (length t) e) ∙ sym (standard-call.too-long t (ltb-true limit (length t) e)))))
+      (λ e. go (ltb-false limit (length t) e) (firstBad t) refl)
     where
-      go : length t ≤ longest → (u : Utf8) → firstBad t ≡ u → Readable t × Differs t
+      go : length t ≤ limit → (u : Utf8) → firstBad t ≡ u → Readable t × Differs t
       go h utf8.Good e = ((h, e), differs t .0 (λ q. n (readable-same (h, e) q)))
       go h (utf8.Bad at) e = absurd (n (bought-call.not-utf8 t h at e ∙ sym (standard-call.not-utf8 t h at e)))
 

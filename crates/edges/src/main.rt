@@ -4,6 +4,11 @@
 use lexer::ReadAnswer;
 use lexer::read;
 use meaning::records::WORDS;
+use refusal::LIMIT;
+use refusal::NO_MODE;
+use refusal::NOT_UTF8;
+use refusal::TOO_FEW;
+use refusal::TOO_LONG;
 ghost use Prim.Native.Nat.{_*_, _≤_};
 ghost use lib.ListN.{length};
 ghost use Rattle.items.specs.Items.{recordWords};
@@ -23,6 +28,9 @@ const BYTES: usize = 6;
 const PLAIN: u32 = 0;
 
 const REPORT: u32 = 1;
+
+// What is printed of a call that was served.
+const SERVED: u32 = 0;
 
 fn number(n: u64) {
     io::print_decimal(OUT, n);
@@ -51,20 +59,20 @@ fn show_bytes(bytes: &[u8]) {
     end_line();
 }
 
-// 01's number of an answer, 0 where the call was served, and its two values.
+// 01's number of an answer, SERVED where there is none, and its two values.
 fn show_answer(answer: ReadAnswer) {
     match answer {
-        ReadAnswer::Served(items, text) => show_numbers(0, items as u64, text as u64),
-        ReadAnswer::NoMode(mode) => show_numbers(25, mode as u64, 0),
-        ReadAnswer::TooLong => show_numbers(20, 0, 0),
-        ReadAnswer::NotUtf8(at) => show_numbers(21, at as u64, 0),
-        ReadAnswer::NoRoom(items, text) => show_numbers(22, items as u64, text as u64),
+        ReadAnswer::Served(items, text) => show_numbers(SERVED, items as u64, text as u64),
+        ReadAnswer::NoMode(mode) => show_numbers(NO_MODE, mode as u64, 0),
+        ReadAnswer::TooLong => show_numbers(TOO_LONG, LIMIT as u64, 0),
+        ReadAnswer::NotUtf8(at) => show_numbers(NOT_UTF8, at as u64, 0),
+        ReadAnswer::NoRoom(items, text) => show_numbers(TOO_FEW, items as u64, text as u64),
     }
     end_line();
 }
 
-fn show_numbers(a: u64, b: u64, c: u64) {
-    number(a);
+fn show_numbers(a: u32, b: u64, c: u64) {
+    number(a as u64);
     number(b);
     number(c);
 }

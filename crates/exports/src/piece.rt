@@ -12,7 +12,7 @@ pub extern "C" fn mihadrena_open(mode: u32, skip: bool, buf: &mut [u8], words: &
 }
 
 // Reads on in a piece: 10 with an item, whose record goes to `item` and whose text to the front of `text`; 11 for "more"; or document 01's
-// refusals 20 to 24, 26 and 27. `values` gets how many bytes were taken, and the refusal's place.
+// refusals 20 to 24, 26 and 27. `values` gets what the refusal comes with, or 0, and how many bytes were taken.
 #[no_mangle]
 pub extern "C" fn mihadrena_piece(
     buf: &mut [u8],

@@ -1,6 +1,11 @@
 // The whole-text call of the crate `lexer`: its answer as a number and two values.
 use flat::put_values;
 use lexer::ReadAnswer;
+use refusal::LIMIT;
+use refusal::NO_MODE;
+use refusal::NOT_UTF8;
+use refusal::TOO_FEW;
+use refusal::TOO_LONG;
 ghost use mathlib.Core.Path.{_≡_};
 ghost use mathlib.Core.List.{[], _∷_};
 ghost use Rattle.chars.specs.Encode.{lay};
@@ -8,19 +13,11 @@ ghost use Rattle.items.specs.Whole.{readOf};
 ghost use Rattle.lexer.specs.Answers.{answerOf};
 ghost use Rattle.exports.specs.Read.{readNumber, readValues};
 
-// What the call answers: the items were written, or document 01's refusals 20, 21, 22 and 25.
+// What the call answers beside refusals: the items were written.
 const SERVED: u32 = 0;
 
-const TOO_LONG: u32 = 20;
-
-const NOT_UTF8: u32 = 21;
-
-const TOO_FEW: u32 = 22;
-
-const NO_MODE: u32 = 25;
-
 // What refusal 20 comes with.
-const LONGEST: u64 = 4_294_967_295;
+const LONGEST: u64 = LIMIT as u64;
 
 // An answer: its number and its two values.
 struct Told {

@@ -32,9 +32,9 @@ module _ {n m : ℕ} {buf words text i values words′ i′ values′ : List ℕ
   pub left-is : n ≡ m → words ≡ words′ → i ≡ i′ → values ≡ values′ → left n (memory buf words text i values) ≡ left m (memory buf words′ text i′ values′)
   left-is e f g h = rw (e, f, g, h)
 
--- the second value is told by another call
-pub values-are : (a : ℕ) (old : List ℕ) {now : List ℕ} {p q : ℕ} → now ≡ lay (a ∷ p ∷ []) old → p ≡ q → now ≡ lay (a ∷ q ∷ []) old
-values-are a old e f = e ∙ ap (λ (x : ℕ). lay (a ∷ x ∷ []) old) f
+-- the first value is told by another call
+pub values-are : (a : ℕ) (old : List ℕ) {now : List ℕ} {p q : ℕ} → now ≡ lay (p ∷ a ∷ []) old → p ≡ q → now ≡ lay (q ∷ a ∷ []) old
+values-are a old e f = e ∙ ap (λ (x : ℕ). lay (x ∷ a ∷ []) old) f
 
 -- what a call wrote is what the next one reads
 pub read-back : (w : Words) (old : List ℕ) → wordsIn (written (listed w) old) ≡ w
@@ -76,7 +76,7 @@ module _ (m : Memory) (call : State → Said) where
   abbrev state : Bool
   state = isState (length (m .buf)) (length (m .words))
 
-  pub too-few : {v : List ℕ} → room ≡ false → v ≡ lay (0 ∷ 1 ∷ []) (m .values) → left 22 (memory (m .buf) (m .words) (m .text) (m .item) v) ≡ called m call
+  pub too-few : {v : List ℕ} → room ≡ false → v ≡ lay (1 ∷ 0 ∷ []) (m .values) → left 22 (memory (m .buf) (m .words) (m .text) (m .item) v) ≡ called m call
   unfolding called
   too-few h e = if-no room _ _ h (ap (λ (x : List ℕ). left 22 (memory (m .buf) (m .words) (m .text) (m .item) x)) e)
 

@@ -6,6 +6,7 @@ use lib.ListN.{length, getD}
 use lib.Dec.{eqb, leb}
 use Rattle.laws.specs.Choice.{if_then_else_}
 use Rattle.laws.specs.Lent.{written}
+use Rattle.refusal.specs.Refusals as refusal
 use Rattle.chars.specs.Encode.{lay}
 use Rattle.items.specs.Items.{recordWords}
 use Rattle.pieces.specs.Expected.{longest}
@@ -71,7 +72,7 @@ abbrev pub opens : Said → List ℕ → Opened
 opens s words = opened (startNumber (s .what)) (s .state .buf) (written (listed (s .state .words)) words)
 
 unfoldable pub openLeft : ℕ → Bool → List ℕ → List ℕ → Opened
-openLeft mode skip buf words = if isState (length buf) (length words) then opens (openFor mode skip buf) words else opened 27 buf words
+openLeft mode skip buf words = if isState (length buf) (length words) then opens (openFor mode skip buf) words else opened refusal.outOfBounds buf words
 
 -- ---- a piece, and the end
 
@@ -119,7 +120,7 @@ abbrev pub gives : Memory → Said → Left
 gives m s =
     left (whatNumber (s .what))
     (memory (s .state .buf) (written (listed (s .state .words)) (m .words)) (textAfter (s .what) (m .text)) (recordAfter (s .what) (m .item))
-    (lay (s .taken ∷ whatPlace (s .what) ∷ []) (m .values)))
+    (lay (whatPlace (s .what) ∷ s .taken ∷ []) (m .values)))
 
 -- everything as it was but the two values, where there is room for both
 abbrev pub refuses : Memory → ℕ → ℕ → ℕ → Left
@@ -129,13 +130,13 @@ refuses m n a b = left n (memory (m .buf) (m .words) (m .text) (m .item) (lay (a
 abbrev pub isRoom : ℕ → ℕ → Bool
 isRoom i values = leb recordWords i && leb 2 values
 
--- 22, with no byte taken and one record needed, where there is no room for what is given; 27 where there are not the bytes and words of a state; then
--- the call
+-- 22, with one record needed and no byte taken, where there is no room for what is given; 27 where there are not the bytes and words of a
+-- state; then the call
 unfoldable pub called : Memory → (State → Said) → Left
 called m call =
     if isRoom (length (m .item)) (length (m .values))
-    then (if isState (length (m .buf)) (length (m .words)) then gives m (call (lent (wordsIn (m .words)) (m .buf))) else refuses m 27 0 0)
-    else refuses m 22 0 1
+    then (if isState (length (m .buf)) (length (m .words)) then gives m (call (lent (wordsIn (m .words)) (m .buf))) else refuses m refusal.outOfBounds 0 0)
+    else refuses m refusal.tooFew 1 0
 
 abbrev pub pieceLeft : Memory → List ℕ → Left
 pieceLeft m piece = called m (λ s. pieceFor s piece (length (m .text)))

@@ -1,6 +1,6 @@
 // The piece calls of the crate `lent`, over slices and numbers alone, which is all that C and Rust pass. A state is what a caller lends as
 // STATE_BYTES bytes and STATE_WORDS words (docs/STATE.md); what a call gives is a number, an item's record goes to lent words, and so do
-// the count of bytes taken and a refusal's place.
+// what a refusal comes with and the count of bytes taken.
 use lent::Told;
 use lent::Words;
 use lent::calls::end_words;
@@ -9,6 +9,8 @@ use lent::calls::piece_words;
 use meaning::records::WORDS;
 use meaning::records::put;
 use pieces::Got;
+use refusal::OUT_OF_BOUNDS;
+use refusal::TOO_FEW;
 ghost use mathlib.Core.Path.{_≡_};
 ghost use mathlib.Core.List.{List, [], _∷_};
 ghost use Prim.Native.Nat.{ℕ, _≤_};
@@ -30,11 +32,6 @@ const FINISHED: u32 = 12;
 
 // What opening answers beside refusals.
 const OPENED: u32 = 0;
-
-// Document 01's refusals 22 and 27.
-const TOO_FEW: u32 = 22;
-
-const BAD_STATE: u32 = 27;
 
 // What a state has.
 const STATE_BYTES: usize = 4096;
@@ -191,17 +188,17 @@ fn tell(told: Told, words: &mut [u64], item: &mut [u32], values: &mut [u64]) -> 
     let got = told.got;
     put_words(words, after);
     put_item(item, got);
-    put_values(values, told.taken as u64, place(got));
+    put_values(values, place(got), told.taken as u64);
     number(got)
 }
 
 // Opens a state, written to `buf` and `words`: `mode` is 0 for plain and 1 for report; `skip` leaves comments out. A mode that is none is
-// refused with 25, and the state is a plain one. BAD_STATE if these are not the bytes and words of a state; then nothing is written.
+// refused with 25, and the state is a plain one. OUT_OF_BOUNDS if these are not the bytes and words of a state; then nothing is written.
 pub fn open(mode: u32, skip: bool, buf: &mut [u8], words: &mut [u64]) -> u32
     ensures { λ r. ⌜ opened r (now (buf .exit)) (now (words .exit)) ≡ openLeft mode skip (now (buf .entry)) (now (words .entry)) ⌝ }
 {
     if !is_state(buf.len(), words.len()) {
-        return BAD_STATE;
+        return OUT_OF_BOUNDS;
     }
     let told = open_words(mode, skip, buf);
     let after = told.words;
@@ -210,10 +207,10 @@ pub fn open(mode: u32, skip: bool, buf: &mut [u8], words: &mut [u64]) -> u32
     start_number(got)
 }
 
-// Reads on in a piece: takes the fewest bytes of it that make an item ready, or all of them. `values` gets how many were taken, and a
-// refusal's place or 0. An item's record goes to `item`, its text to the front of `text`; nothing else is written there. TOO_FEW with
-// 0 and ONE_RECORD if `item` or `values` are too few, and BAD_STATE if these are not the bytes and words of a state: then nothing else
-// is written.
+// Reads on in a piece: takes the fewest bytes of it that make an item ready, or all of them. `values` gets what a refusal comes with, or
+// 0, and how many bytes were taken. An item's record goes to `item`, its text to the front of `text`; nothing else is written there.
+// TOO_FEW with ONE_RECORD and 0 if `item` or `values` are too few, and OUT_OF_BOUNDS if these are not the bytes and words of a state: then
+// nothing else is written.
 pub fn piece(
     buf: &mut [u8],
     words: &mut [u64],
@@ -226,12 +223,12 @@ pub fn piece(
         ≡ pieceLeft (memory (now (buf .entry)) (now (words .entry)) (now (text .entry)) (now (item .entry)) (now (values .entry))) (now (piece .entry)) ⌝ }
 {
     if !is_room(item.len(), values.len()) {
-        put_values(values, 0, ONE_RECORD);
+        put_values(values, ONE_RECORD, 0);
         return TOO_FEW;
     }
     if !is_state(buf.len(), words.len()) {
         put_values(values, 0, 0);
-        return BAD_STATE;
+        return OUT_OF_BOUNDS;
     }
     let told = piece_words(words_in(words), buf, piece, text);
     tell(told, words, item, values)
@@ -249,12 +246,12 @@ pub fn end(
         ≡ endLeft (memory (now (buf .entry)) (now (words .entry)) (now (text .entry)) (now (item .entry)) (now (values .entry))) ⌝ }
 {
     if !is_room(item.len(), values.len()) {
-        put_values(values, 0, ONE_RECORD);
+        put_values(values, ONE_RECORD, 0);
         return TOO_FEW;
     }
     if !is_state(buf.len(), words.len()) {
         put_values(values, 0, 0);
-        return BAD_STATE;
+        return OUT_OF_BOUNDS;
     }
     let told = end_words(words_in(words), buf, text);
     tell(told, words, item, values)

@@ -1,12 +1,13 @@
 -- An item of kind Number has its extent's bytes read as a number: no other item has that kind, and those bytes have parts. They are whole characters
 -- and no more than the text has, so that the call refuses nothing.
+use Rattle.refusal.specs.Refusals.{limit}
 use Rattle.items.specs.Items.{Item, items}
 use Rattle.items.specs.Kinds as kind
 use Rattle.items.specs.Meaning.{none, Meaning}
 use Rattle.items.proofs.Every.{Every, every-then}
 use Rattle.numbers.specs.declared.Parsed.the-variants as parsed
 use Rattle.numbers.specs.declared.Parts.{Parts}
-use Rattle.numbers.specs.Call.{longest, parts, number}
+use Rattle.numbers.specs.Call.{parts, number}
 use Rattle.numbers.specs.Grammar.{parseNumber}
 use Rattle.chars.specs.declared.Utf8.the-variants as verdicts
 use Rattle.chars.specs.Encode.{isScalar, bytesOf}
@@ -40,9 +41,9 @@ number-meant (error n d) k = no-error n kind.Number (omega arith) k
 abbrev pub NumberIn : List ℕ → Item → Type 0
 NumberIn whole i = eqb (i .kind) kind.Number ≡ true → (i .text ≡ none) × HasParts (between (i .start) (i .end) whole)
 
-number-is : (raw : List ℕ) (p : Parts) → length raw ≤ longest → firstBad raw ≡ verdicts.Good → parseNumber raw ≡ parsed.Is p → number raw ≡ parts p
+number-is : (raw : List ℕ) (p : Parts) → length raw ≤ limit → firstBad raw ≡ verdicts.Good → parseNumber raw ≡ parsed.Is p → number raw ≡ parts p
 unfolding number
-number-is raw p short good is = rw (le-ltb longest (length raw) short, good, is)
+number-is raw p short good is = rw (le-ltb limit (length raw) short, good, is)
 
 abbrev AScalar : ℕ → Type 0
 AScalar c = isScalar c ≡ true
@@ -55,16 +56,16 @@ every-scalar : (cs : List ℕ) → Scalars cs → Every AScalar cs
 every-scalar [] h = tt
 every-scalar (c ∷ cs) h = (h .0, every-scalar cs (h .1))
 
-number-stands : (report : Bool) (whole : List ℕ) → length whole ≤ longest → (i : Item) → Stands report AScalar whole i → NumberIn whole i
+number-stands : (report : Bool) (whole : List ℕ) → length whole ≤ limit → (i : Item) → Stands report AScalar whole i → NumberIn whole i
 number-stands report whole short i z k =
     let f = number-meant (z .meant) k in
     let raw : List ℕ = bytesOf (z .chars) in
-    let room : length raw ≤ longest
+    let room : length raw ≤ limit
     = omega (arith, ap length (z .bytes), length-take (i .end - i .start) (drop (i .start) whole), length-drop (i .start) whole) in
     (f .0, (f .1 .0, ap number (z .bytes) ∙ number-is raw (f .1 .0) room (encoded-good (z .chars) (scalars-of (z .chars) (z .known))) (f .1 .1)))
 
 -- of the items of a text
-pub number-items : (report : Bool) (cs : List ℕ) → Scalars cs → length (bytesOf cs) ≤ longest → Every (NumberIn (bytesOf cs)) (items report cs)
+pub number-items : (report : Bool) (cs : List ℕ) → Scalars cs → length (bytesOf cs) ≤ limit → Every (NumberIn (bytesOf cs)) (items report cs)
 number-items report cs z short =
     every-then (Stands report AScalar (bytesOf cs)) (NumberIn (bytesOf cs)) (number-stands report (bytesOf cs) short) (items report cs)
     (items-stand report AScalar cs (every-scalar cs z))

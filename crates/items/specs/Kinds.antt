@@ -1,6 +1,7 @@
 -- The numbers of document 01: kinds in the order of `TokenType` in tokens.rs, errors by their table, refusals by theirs.
 -- Import as `use .. Kinds as kind`, so that a rule reads `kind.Number`.
 use Prim.Native.Nat.{ℕ}
+use Rattle.numbers.specs.Call.{zeroDenominator}
 
 abbrev pub OpenParen : ℕ
 OpenParen = 0
@@ -126,7 +127,7 @@ abbrev pub InvalidCharacter : ℕ
 InvalidCharacter = 7
 
 abbrev pub ZeroDenominator : ℕ
-ZeroDenominator = 8
+ZeroDenominator = zeroDenominator
 
 abbrev pub UnclosedHexEscape : ℕ
 UnclosedHexEscape = 9

@@ -6,6 +6,7 @@ use lib.ListN.{length}
 use lib.Dec.{eqb, leb, ltb}
 use Rattle.laws.specs.Choice.{if_then_else_}
 use Rattle.laws.specs.Lent.{written}
+use Rattle.refusal.specs.Refusals as refusal
 use Rattle.chars.specs.Utf8.{chars, firstBad}
 use Rattle.chars.specs.declared.Utf8.{Utf8}
 use Rattle.chars.specs.declared.Utf8.the-variants.{Good, Bad}
@@ -28,7 +29,7 @@ call a r t = record { answer = a; records = r; text = t }
 
 -- the longest text
 abbrev pub limit : ℕ
-limit = 4294967295
+limit = refusal.limit
 
 abbrev pub isMode : ℕ → Bool
 isMode mode = ltb mode 2
@@ -47,13 +48,13 @@ deliver is recs text =
     then
     (if leb (length (texts is)) (length text)
     then call (served (length is) (length (texts is))) (written (records 0 0 is) recs) (written (texts is) text)
-    else call (refused 22 (length is) (length (texts is))) recs text)
-    else call (refused 22 (length is) (length (texts is))) recs text
+    else call (refused refusal.tooFew (length is) (length (texts is))) recs text)
+    else call (refused refusal.tooFew (length is) (length (texts is))) recs text
 
 -- 21 where the source is not UTF-8
 abbrev pub ifGood : Utf8 → Call → List ℕ → List ℕ → Call
 ifGood Good good recs text = good
-ifGood (Bad p) good recs text = call (refused 21 p 0) recs text
+ifGood (Bad p) good recs text = call (refused refusal.notUtf8 p 0) recs text
 
 -- 25, 20, 21, 22 in that order
 unfoldable pub readOf : List ℕ → ℕ → Bool → List ℕ → List ℕ → Call
@@ -61,6 +62,6 @@ readOf source mode skip recs text =
     if isMode mode
     then
     (if ltb limit (length source)
-    then call (refused 20 limit 0) recs text
+    then call (refused refusal.tooLong limit 0) recs text
     else ifGood (firstBad source) (deliver (itemsIn source mode skip) recs text) recs text)
-    else call (refused 25 mode 0) recs text
+    else call (refused refusal.noMode mode 0) recs text

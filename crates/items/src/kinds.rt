@@ -124,7 +124,7 @@ pub const INVALID_STRING_ESCAPE: u32 = 6;
 pub const INVALID_CHARACTER: u32 = 7;
 
 // 1/0
-pub const ZERO_DENOMINATOR: u32 = 8;
+pub const ZERO_DENOMINATOR: u32 = numbers::ZERO_DENOMINATOR;
 
 // "\x(
 pub const UNCLOSED_HEX_ESCAPE: u32 = 9;

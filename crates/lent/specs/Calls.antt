@@ -6,6 +6,7 @@ use mathlib.Core.List.{List}
 use lib.ListN.{length}
 use lib.Dec.{eqb}
 use Rattle.laws.specs.Choice.{if_then_else_}
+use Rattle.refusal.specs.Refusals as refusal
 use Rattle.pieces.specs.declared.Marks.{Marks}
 use Rattle.pieces.specs.declared.State.{State as Held}
 use Rattle.pieces.specs.declared.Pieced.{Pieced}
@@ -38,7 +39,7 @@ worded r = record { taken = r .taken; what = r .what; state = lend (r .state) }
 
 -- 27 takes nothing and leaves the state as it was
 abbrev pub outside : State → Said
-outside s = record { taken = 0; what = refused 27 0; state = s }
+outside s = record { taken = 0; what = refused refusal.outOfBounds 0; state = s }
 
 -- what a call f does with the marks that the words stand for
 abbrev pub forCode : State → (Marks → Reply) → Said

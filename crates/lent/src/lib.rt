@@ -11,7 +11,6 @@ mod codes;
 mod decoding;
 mod encoding;
 pub mod lending;
-mod limits;
 pub mod opening;
 
 // The marks of a state as numbers. A word that a stage does not use is 0.

@@ -2,8 +2,11 @@
 use crate::Fresh;
 use crate::State;
 use crate::encoding::fresh_words;
-use crate::limits::*;
+use bounds::limits::LONGEST;
+use bounds::limits::PLAIN;
+use bounds::limits::REPORT;
 use pieces::Start;
+use refusal::NO_MODE;
 ghost use mathlib.Core.Path.{_≡_};
 ghost use Rattle.pieces.specs.Calls.{fresh, openOf};
 ghost use Rattle.lent.specs.Calls.{lend, worded, freshly};

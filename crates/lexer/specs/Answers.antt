@@ -5,6 +5,7 @@ use lib.ListN.{length}
 use lib.Dec.{leb, ltb}
 use Rattle.laws.specs.Choice.{if_then_else_}
 use Rattle.laws.specs.Lent.{written}
+use Rattle.refusal.specs.Refusals as refusal
 use Rattle.items.specs.Items.{depthAfter, memoryOf, recordOf, wordsOf}
 use Rattle.items.specs.Whole.{Answer, served, refused, limit}
 use Rattle.lexer.specs.Reading.{Turn, gives, ends, nextAt}
@@ -19,10 +20,10 @@ use Rattle.lexer.specs.declared.NextAnswer.the-variants as next
 
 abbrev pub answerOf : ReadAnswer → Answer
 answerOf (read.Served items text) = served items text
-answerOf (read.NoMode mode) = refused 25 mode 0
-answerOf read.TooLong = refused 20 limit 0
-answerOf (read.NotUtf8 at) = refused 21 at 0
-answerOf (read.NoRoom items text) = refused 22 items text
+answerOf (read.NoMode mode) = refused refusal.noMode mode 0
+answerOf read.TooLong = refused refusal.tooLong limit 0
+answerOf (read.NotUtf8 at) = refused refusal.notUtf8 at 0
+answerOf (read.NoRoom items text) = refused refusal.tooFew items text
 
 -- ---- one item of the reader
 
@@ -35,8 +36,8 @@ pub data Reply : Type 0 where
 abbrev pub replyOf : NextAnswer → Reply
 replyOf (next.Item r p) = item (wordsOf r) p
 replyOf next.Finished = finished
-replyOf next.TooLong = refuses 20 limit 0
-replyOf (next.NoRoom text) = refuses 22 1 text
+replyOf next.TooLong = refuses refusal.tooLong limit 0
+replyOf (next.NoRoom text) = refuses refusal.tooFew 1 text
 
 -- a reply, and what the text memory then holds
 pub record Replied : Type 0 where
@@ -56,9 +57,9 @@ unfoldable pub giveOf : ℕ → Turn → List ℕ → Replied
 giveOf depth (gives i p) text =
     if leb (length (memoryOf (i .text))) (length text)
     then replied (item (recordOf 0 depth i) (positionAt p (depthAfter (i .kind) depth))) (written (memoryOf (i .text)) text)
-    else replied (refuses 22 1 (length (memoryOf (i .text)))) text
+    else replied (refuses refusal.tooFew 1 (length (memoryOf (i .text)))) text
 giveOf depth ends text = replied finished text
 
 -- the next item from a position on, whatever the source is
 unfoldable pub nextOf : List ℕ → Position → List ℕ → Replied
-nextOf source p text = if ltb limit (length source) then replied (refuses 20 limit 0) text else giveOf (p .depth) (nextAt source (p .spot)) text
+nextOf source p text = if ltb limit (length source) then replied (refuses refusal.tooLong limit 0) text else giveOf (p .depth) (nextAt source (p .spot)) text

@@ -6,6 +6,7 @@ use lib.ListN.{length}
 use lib.Dec.{eqb, ltb}
 use Rattle.laws.specs.Choice.{if_then_else_}
 use Rattle.laws.specs.Quoted.{code}
+use Rattle.refusal.specs.Refusals as refusal
 use Rattle.chars.specs.Utf8.{chars, firstBad}
 use Rattle.chars.specs.Encode.{width}
 use Rattle.chars.specs.declared.Utf8.{Utf8}
@@ -46,17 +47,17 @@ pub data Opening : Type 0 where
 -- what each answer means
 abbrev pub openingOf : OpenAnswer → Opening
 openingOf (Opened p) = opened p
-openingOf (NoMode m) = refused 25 m
-openingOf TooLong = refused 20 limit
-openingOf (NotUtf8 p) = refused 21 p
+openingOf (NoMode m) = refused refusal.noMode m
+openingOf TooLong = refused refusal.tooLong limit
+openingOf (NotUtf8 p) = refused refusal.notUtf8 p
 
 abbrev pub ifUtf8 : Utf8 → Position → Opening
 ifUtf8 Good p = opened p
-ifUtf8 (Bad at) p = refused 21 at
+ifUtf8 (Bad at) p = refused refusal.notUtf8 at
 
 -- 25, 20, 21 in that order
 unfoldable pub openOf : List ℕ → ℕ → Bool → Opening
 openOf source mode skip =
     if isMode mode
-    then (if ltb limit (length source) then refused 20 limit else ifUtf8 (firstBad source) (opening source (inReport mode) skip))
-    else refused 25 mode
+    then (if ltb limit (length source) then refused refusal.tooLong limit else ifUtf8 (firstBad source) (opening source (inReport mode) skip))
+    else refused refusal.noMode mode

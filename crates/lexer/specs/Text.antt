@@ -5,6 +5,7 @@ use mathlib.Core.List.{List, []}
 use lib.Dec.{eqb, leb}
 use lib.ListN.{length, take, drop}
 use Rattle.laws.specs.Choice.{if_then_else_}
+use Rattle.refusal.specs.Refusals as refusal
 
 -- a where the places neither go back nor pass the slice l, else b
 abbrev pub within : {A : Type 0} → List ℕ → ℕ → ℕ → A → A → A
@@ -23,4 +24,4 @@ textIn source text k from to = bySource k (partOf source from to) (partOf text f
 
 -- 27: "a text source not 1 or 2, or text places that go back or pass that slice"; else 0
 unfoldable pub textMark : List ℕ → List ℕ → ℕ → ℕ → ℕ → ℕ
-textMark source text k from to = bySource k (within source from to 0 27) (within text from to 0 27) 27
+textMark source text k from to = bySource k (within source from to 0 refusal.outOfBounds) (within text from to 0 refusal.outOfBounds) refusal.outOfBounds

@@ -7,14 +7,12 @@ use chars::Utf8;
 use chars::decode_at;
 use chars::first_bad;
 use meaning::Range;
+use refusal::LIMIT;
 ghost use mathlib.Core.Path.{_≡_};
 ghost use lib.ListN.{drop};
 ghost use Rattle.chars.specs.Utf8.{chars};
 ghost use Rattle.items.specs.Whole.{inReport};
 ghost use Rattle.lexer.specs.Opening.{lineEnd, afterHash, startOf, opening, openingOf, openOf};
-
-// The longest text.
-pub const LIMIT: usize = 4294967295;
 
 // Report mode; plain is the one below.
 const REPORT: u32 = 1;

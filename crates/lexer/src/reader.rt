@@ -2,12 +2,12 @@
 use crate::Found;
 use crate::NextAnswer;
 use crate::Position;
-use crate::opening::LIMIT;
 use crate::reading::next_item;
 use crate::whole::free_after;
 use crate::whole::put_text;
 use items::Record;
 use meaning::records::depth_after;
+use refusal::LIMIT;
 ghost use mathlib.Core.Path.{_≡_};
 ghost use Rattle.lexer.specs.Answers.{replyOf, replied, nextOf};
 

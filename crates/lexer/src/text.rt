@@ -1,13 +1,13 @@
 // The text call: the text of a record, handed back as a part of the source or of the text memory.
 use meaning::records::IN_MEMORY;
 use meaning::records::IN_SOURCE;
+use refusal::OUT_OF_BOUNDS;
 ghost use mathlib.Core.Path.{_≡_};
+ghost use Rattle.refusal.specs.Refusals as refusal;
 ghost use Rattle.lexer.specs.Text.{partOf, within, textIn, textMark};
 
-// The mark of a text that is there, and of one that is not.
+// The mark of a text that is there.
 const MARK: u32 = 0;
-
-const NO_TEXT: u32 = 27;
 
 // The part of a slice between two places, or an empty part.
 fn part(s: &[u8], from: usize, to: usize) -> &[u8]
@@ -23,13 +23,13 @@ fn part(s: &[u8], from: usize, to: usize) -> &[u8]
 }
 
 fn part_mark(s: &[u8], from: usize, to: usize) -> u32
-    ensures { λ r. ⌜ r ≡ within (now (s .entry)) from to 0 27 ⌝ }
+    ensures { λ r. ⌜ r ≡ within (now (s .entry)) from to 0 refusal.outOfBounds ⌝ }
 {
     if to < from {
-        return NO_TEXT;
+        return OUT_OF_BOUNDS;
     }
     if s.len() < to {
-        return NO_TEXT;
+        return OUT_OF_BOUNDS;
     }
     MARK
 }
@@ -62,7 +62,7 @@ pub fn text_mark(source: &[u8], text: &[u8], origin: u32, start: u32, end: u32) 
     if origin == IN_MEMORY {
         return part_mark(text, from, to);
     }
-    NO_TEXT
+    OUT_OF_BOUNDS
 }
 
 // Both in one call: the text is the result, the mark is written where the caller lends a number.

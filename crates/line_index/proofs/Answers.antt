@@ -11,10 +11,10 @@ use Rattle.laws.specs.Choice.{if_then_else_}
 use Rattle.laws.specs.Lent.{written}
 use Rattle.laws.specs.Texts.{same}
 use Rattle.laws.proofs.Places.{past, here}
+use Rattle.refusal.specs.Refusals.{tooLong, notUtf8, linesNoRoom, noPlace, alien}
 use Rattle.chars.specs.Utf8.{firstBad, sequences}
 use Rattle.chars.specs.declared.Utf8.the-variants.{Good, Bad}
 use Rattle.items.specs.Whole.{limit}
-use Rattle.lines.specs.Refusals.{tooLong, notUtf8, noRoom, noPlace, notItsIndex}
 use Rattle.lines.specs.Starts.{starts, outcome, buildOf}
 use Rattle.lines.specs.Place.{isIndex, lineOf, column, since, answered, placeOf, locateOf, Search}
 use Rattle.lines.specs.Many.{lineWord, columnWord, answers, locateAllOf}
@@ -40,7 +40,7 @@ module _ (s memory : List ℕ) where
     unfolding buildOf
     builds-bad e = rw (le-ltb limit (length s) h, e)
 
-    pub builds-short : {n : ℕ} → firstBad s ≡ Good → n ≡ length (starts s) → length memory < n → outcome (answer.Refused noRoom n) memory ≡ buildOf s memory
+    pub builds-short : {n : ℕ} → firstBad s ≡ Good → n ≡ length (starts s) → length memory < n → outcome (answer.Refused linesNoRoom n) memory ≡ buildOf s memory
     unfolding buildOf
     builds-short {n} e c l = rw (le-ltb limit (length s) h, e, ← c, lt-ltb (length memory) n l)
 
@@ -70,7 +70,7 @@ module _ (s index : List ℕ) where
   -- ---- one place
 
   module _ (p : ℕ) where
-    pub locates-other : isIndex s index ≡ false → Refused notItsIndex 0 ≡ locateOf s index p
+    pub locates-other : isIndex s index ≡ false → Refused alien 0 ≡ locateOf s index p
     unfolding locateOf
     locates-other e = rw e
 
@@ -120,12 +120,12 @@ module _ (s index : List ℕ) where
       sym done ∙ stored-written (answers s index places) [] old (omega (arith, length-answers places))
 
   module _ (places memory : List ℕ) where
-    pub all-other : isIndex s index ≡ false → outcome (answer.Refused notItsIndex 0) memory ≡ locateAllOf s index places memory
+    pub all-other : isIndex s index ≡ false → outcome (answer.Refused alien 0) memory ≡ locateAllOf s index places memory
     unfolding locateAllOf
     all-other e = rw e
 
     module _ (e : isIndex s index ≡ true) where
-      pub all-short : length memory < 2 * length places → outcome (answer.Refused noRoom (2 * length places)) memory ≡ locateAllOf s index places memory
+      pub all-short : length memory < 2 * length places → outcome (answer.Refused linesNoRoom (2 * length places)) memory ≡ locateAllOf s index places memory
       unfolding locateAllOf
       all-short h = rw (e, lt-ltb (length memory) (2 * length places) h)
 

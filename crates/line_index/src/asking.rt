@@ -1,10 +1,14 @@
 // Answers line and column of a byte place by the index of the text, of one place or of many.
-use crate::refusals::*;
+use crate::NEWLINE;
 use chars::Decoded;
 use chars::Utf8;
 use lines::Answer;
 use lines::Column;
 use lines::Located;
+use refusal::ALIEN;
+use refusal::LIMIT;
+use refusal::LINES_NO_ROOM;
+use refusal::NO_PLACE;
 use texts::find;
 ghost use mathlib.Core.Path.{_≡_};
 ghost use mathlib.Core.Bool.{true};
@@ -132,7 +136,7 @@ pub fn locate(text: &[u8], index: &[u32], place: usize) -> Located
     if is_index(text, index) {
         return place_at(text, index, place);
     }
-    Located::Refused(NOT_ITS_INDEX, 0)
+    Located::Refused(ALIEN, 0)
 }
 
 // An answer's line, or 0 for a refusal.
@@ -179,10 +183,10 @@ pub fn locate_all(text: &[u8], index: &[u32], places: &[u32], found: &mut [usize
     if is_index(text, index) {
         let n = places.len();
         if found.len() < 2 * n {
-            return Answer::Refused(NO_ROOM, 2 * n);
+            return Answer::Refused(LINES_NO_ROOM, 2 * n);
         }
         put_answers(text, index, places, found);
         return Answer::Served(n);
     }
-    Answer::Refused(NOT_ITS_INDEX, 0)
+    Answer::Refused(ALIEN, 0)
 }

@@ -1,7 +1,11 @@
 // Builds the index of a whole text: counts its line starts, then stores them, a block of bytes at a time.
-use crate::refusals::*;
+use crate::NEWLINE;
 use chars::Utf8;
 use lines::Answer;
+use refusal::LIMIT;
+use refusal::LINES_NO_ROOM;
+use refusal::NOT_UTF8;
+use refusal::TOO_LONG;
 ghost use mathlib.Core.Path.{_≡_};
 ghost use mathlib.Core.Bool.{false};
 ghost use Prim.Native.Nat.{_+_, _≤_};
@@ -132,7 +136,7 @@ pub fn build(text: &[u8], index: &mut [u32]) -> Answer
             }
             let n = count(text);
             if index.len() < n {
-                return Answer::Refused(NO_ROOM, n);
+                return Answer::Refused(LINES_NO_ROOM, n);
             }
             put(text, index);
             Answer::Served(n)

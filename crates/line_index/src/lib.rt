@@ -2,8 +2,10 @@
 // What they answer is the crate lines; the index of a text that comes in pieces is the crate line_pieces.
 mod asking;
 mod building;
-mod refusals;
 
 pub use asking::locate;
 pub use asking::locate_all;
 pub use building::build;
+
+// A line starts after each of these.
+const NEWLINE: u8 = b'\n';

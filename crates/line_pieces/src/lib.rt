@@ -4,6 +4,11 @@ use chars::State as Begun;
 use chars::Step;
 use lines::Answer;
 use lines::State;
+use refusal::LIMIT;
+use refusal::LINES_NO_ROOM;
+use refusal::NOT_UTF8;
+use refusal::OUT_OF_BOUNDS;
+use refusal::TOO_LONG;
 ghost use mathlib.Core.Path.{_≡_};
 ghost use Prim.Native.Nat.{_≤_, _<_};
 ghost use lib.Dec.{ltb};
@@ -12,19 +17,8 @@ ghost use Rattle.laws.specs.Choice.{if_then_else_};
 ghost use Rattle.items.specs.Whole.{limit};
 ghost use Rattle.lines.specs.Pieces.{fed, openOf, movedOf, stoppedOf, stepOf, fedOf, pieceOf, endOf};
 
-// The refusals: the text exceeds the limit, which is its last place
-const TOO_LONG: u32 = 20;
-
-const LAST: u32 = 4294967295;
-
-// bytes aren't UTF-8
-const NOT_UTF8: u32 = 21;
-
-// a state outside its bounds
-const OUT_OF_BOUNDS: u32 = 27;
-
-// the line starts don't fit
-const NO_ROOM: u32 = 33;
+// The last place that there is: the end of the longest text.
+const LAST: u32 = LIMIT as u32;
 
 // No refusal was shown.
 const NONE: u32 = 0;
@@ -182,7 +176,7 @@ pub fn end(st: State, index: &[u32]) -> Answer
     }
     let n = st.lines as usize + 1;
     if index.len() < n {
-        return Answer::Refused(NO_ROOM, n);
+        return Answer::Refused(LINES_NO_ROOM, n);
     }
     Answer::Served(n)
 }

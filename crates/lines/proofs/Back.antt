@@ -10,13 +10,13 @@ use lib.Dec.{leb, ltb}
 use borrow.Author.Tests.{le-leb, lt-leb, lt-ltb, le-ltb}
 use Rattle.laws.specs.Choice.{if_then_else_}
 use Rattle.laws.proofs.Choice.{by-bool}
+use Rattle.refusal.specs.Refusals.{noPlace, alien}
 use Rattle.chars.specs.Utf8.{Front, char, bad, cut, none, front, sequences, chars}
 use Rattle.chars.specs.Encode.{utf8, width, bytesOf}
 use Rattle.chars.proofs.Sequences.{char-some, not-none, sequences-char, sequences-bad, sequences-cut}
 use Rattle.chars.proofs.Spells.{Spells, spells}
 use Rattle.chars.proofs.Chars.{chars-char, char-width}
 use Rattle.chars.proofs.Width.{width-utf8}
-use Rattle.lines.specs.Refusals.{noPlace, notItsIndex}
 use Rattle.lines.specs.Starts.{startsFrom, starts}
 use Rattle.lines.specs.Place.{isIndex, lineOf, column, since, answered, lineStart, placeOf, locateOf}
 use Rattle.lines.specs.declared.Column.{Column}

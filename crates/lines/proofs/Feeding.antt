@@ -16,13 +16,13 @@ use Rattle.chars.specs.declared.Step.the-variants as steps
 use Rattle.laws.specs.Choice.{if_then_else_}
 use Rattle.laws.specs.Lent.{written}
 use Rattle.items.specs.Whole.{limit}
-use Rattle.lines.specs.Refusals.{tooLong, notUtf8, noRoom}
 use Rattle.lines.specs.Starts.{newline}
 use Rattle.lines.specs.Pieces.{Fed, fed, movedOf, stoppedOf, stepOf, noted, fedOf, pieceOf, endOf}
 use Rattle.lines.specs.declared.State.{State}
 use Rattle.lines.specs.declared.Answer.the-variants.{Served, Refused}
 use Rattle.lines.proofs.Tests.{by-less, by-equal}
 use Rattle.laws.proofs.Choice.{by-bool, if-all}
+use Rattle.refusal.specs.Refusals.{tooLong, notUtf8, linesNoRoom}
 
 module _ (t : State) (b : ℕ) where
   pub step-stands : t .stop ≡ tooLong → stepOf t b ≡ t
@@ -95,7 +95,7 @@ module _ (st : State) (s old : List ℕ) (t : State) (m : List ℕ) (i : ℕ) (g
 -- ---- the declared end
 
 module _ (t : State) (n : ℕ) {k : ℕ} (l : t .lines ≤ t .at) (a : t .stop ≡ tooLong → ⊥) (b : t .stop ≡ notUtf8 → ⊥) (d : t .begun .need ≡ 0) (e : k ≡ t .lines) where
-  pub end-short : n < k + 1 → Refused noRoom (k + 1) ≡ endOf t n
+  pub end-short : n < k + 1 → Refused linesNoRoom (k + 1) ≡ endOf t n
   unfolding endOf
   end-short h = rw (le-ltb (t .at) (t .lines) l, ne-eqb (t .stop) tooLong a, ne-eqb (t .stop) notUtf8 b, eq-eqb (t .begun .need) 0 d, ← e, lt-ltb n (k + 1) h)
 

@@ -20,7 +20,6 @@ use Rattle.chars.proofs.Run.{run-sequences}
 use Rattle.laws.specs.Choice.{if_then_else_}
 use Rattle.laws.specs.Lent.{written}
 use Rattle.items.specs.Whole.{limit}
-use Rattle.lines.specs.Refusals.{tooLong, notUtf8, noRoom}
 use Rattle.lines.specs.Starts.{newline, startsFrom, starts, fit, ifGood, buildOf}
 use Rattle.lines.specs.declared.Answer.the-variants.{Served, Refused}
 use Rattle.lines.specs.Pieces.{Fed, fed, fresh, movedOf, stoppedOf, stepOf, noted, fedOf, shown, before, laid}
@@ -28,6 +27,7 @@ use Rattle.lines.specs.declared.State.{State}
 use Rattle.lines.proofs.Tests.{by-less, by-equal}
 use Rattle.laws.proofs.Choice.{by-bool}
 use Rattle.laws.proofs.Lent.{written-push}
+use Rattle.refusal.specs.Refusals.{tooLong, notUtf8, linesNoRoom}
 use Rattle.lines.proofs.Feeding.{step-stands, step-full, step-counts, step-did}
 use Rattle.lines.proofs.Joined.{fed-cons, fed-nil, stands, below, moved-low}
 
@@ -168,7 +168,7 @@ shown-good (short f ∷ l) n e = let z : _≡_ {A = ℕ} 0 1 = cc in absurd (ome
 
 fit-served : (l m : List ℕ) (k : ℕ) → fit l m .answer ≡ Served k → (length l ≤ length m) × (fit l m .memory ≡ written l m)
 fit-served l m k = by-less (length m) (length l)
-    (λ h. rw (lt-ltb (length m) (length l) h) (λ e. let f : Refused noRoom (length l) ≡ Served k = e in let z : _≡_ {A = ℕ} 0 1 = cc in absurd (omega arith)))
+    (λ h. rw (lt-ltb (length m) (length l) h) (λ e. let f : Refused linesNoRoom (length l) ≡ Served k = e in let z : _≡_ {A = ℕ} 0 1 = cc in absurd (omega arith)))
     (λ h. rw (le-ltb (length m) (length l) h) (λ e. (h, refl)))
 
 ifGood-served : (v : Utf8) (l m : List ℕ) (k : ℕ) → ifGood v l m .answer ≡ Served k → (v ≡ Good) × (length l ≤ length m) × (ifGood v l m .memory ≡ written l m)

@@ -21,7 +21,6 @@ use Rattle.chars.proofs.Run.{run-bad}
 use Rattle.laws.specs.Choice.{if_then_else_}
 use Rattle.laws.specs.Lent.{written}
 use Rattle.items.specs.Whole.{limit}
-use Rattle.lines.specs.Refusals.{tooLong, notUtf8, noRoom}
 use Rattle.lines.specs.Starts.{newline, startsFrom, starts, Outcome, ifGood, buildOf}
 use Rattle.lines.specs.Pieces.{Fed, fed, fresh, openOf, movedOf, stoppedOf, stepOf, noted, fedOf, pieceOf, endOf, pieces, joined}
 use Rattle.lines.specs.declared.State.{State}
@@ -29,6 +28,7 @@ use Rattle.lines.specs.declared.Answer.{Answer}
 use Rattle.lines.specs.declared.Answer.the-variants.{Served, Refused}
 use Rattle.lines.proofs.Tests.{by-less, by-equal}
 use Rattle.laws.proofs.Choice.{by-bool}
+use Rattle.refusal.specs.Refusals.{tooLong, notUtf8, linesNoRoom}
 use Rattle.lines.proofs.Feeding.{step-stands, step-full, step-counts, step-did, step-low, piece-feeds}
 
 -- ---- any cutting
@@ -58,7 +58,7 @@ cut ps m = cut-from ps (openOf m) (omega arith)
 -- ---- the answer at the declared end
 
 abbrev fits : ℕ → ℕ → Answer
-fits k n = if ltb n k then Refused noRoom k else Served k
+fits k n = if ltb n k then Refused linesNoRoom k else Served k
 
 abbrev by : Utf8 → ℕ → ℕ → Answer
 by (Bad p) k n = Refused notUtf8 p

@@ -12,13 +12,13 @@ use Rattle.laws.specs.Choice.{if_then_else_}
 use Rattle.laws.specs.Lent.{written}
 use Rattle.laws.specs.Quoted.{within}
 use Rattle.laws.proofs.Choice.{if-all}
+use Rattle.refusal.specs.Refusals.{tooLong, notUtf8}
 use Rattle.chars.specs.Utf8.{ascii, first}
 use Rattle.chars.specs.Machine.{step, start, told}
 use Rattle.chars.specs.declared.State as begun
 use Rattle.chars.specs.declared.Step.{Step}
 use Rattle.chars.specs.declared.Step.the-variants as steps
 use Rattle.items.specs.Whole.{limit}
-use Rattle.lines.specs.Refusals.{tooLong, notUtf8}
 use Rattle.lines.specs.Starts.{starts, buildOf}
 use Rattle.lines.specs.Pieces.{Fed, fed, fresh, openOf, movedOf, stoppedOf, stepOf, noted, fedOf, pieceOf, endOf, pieces, joined, before, laid}
 use Rattle.lines.specs.declared.State.{State}

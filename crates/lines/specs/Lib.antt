@@ -1,4 +1,3 @@
-pub mod Refusals
 pub mod Starts
 pub mod Place
 pub mod Many

@@ -5,7 +5,7 @@ use lib.Dec.{ltb}
 use lib.ListN.{length}
 use Rattle.laws.specs.Choice.{if_then_else_}
 use Rattle.laws.specs.Lent.{written}
-use Rattle.lines.specs.Refusals.{noRoom, notItsIndex}
+use Rattle.refusal.specs.Refusals.{linesNoRoom, alien}
 use Rattle.lines.specs.Starts.{Outcome, outcome}
 use Rattle.lines.specs.Place.{isIndex, locateOf}
 use Rattle.lines.specs.declared.Answer.the-variants.{Served, Refused}
@@ -32,6 +32,6 @@ locateAllOf s index places memory =
     if isIndex s index
     then
     (if ltb (length memory) (2 * length places)
-    then outcome (Refused noRoom (2 * length places)) memory
+    then outcome (Refused linesNoRoom (2 * length places)) memory
     else outcome (Served (length places)) (written (answers s index places) memory))
-    else outcome (Refused notItsIndex 0) memory
+    else outcome (Refused alien 0) memory

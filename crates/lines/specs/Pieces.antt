@@ -5,11 +5,11 @@ use mathlib.Core.List.{List, [], _∷_, _++_}
 use lib.Dec.{eqb, ltb}
 use lib.ListN.{length, set, take, drop}
 use Rattle.laws.specs.Choice.{if_then_else_}
+use Rattle.refusal.specs.Refusals.{tooLong, notUtf8, outOfBounds, linesNoRoom}
 use Rattle.chars.specs.Utf8.{Sequence, read, broken, short, sequences}
 use Rattle.chars.specs.Machine.{step, start, told}
 use Rattle.chars.specs.declared.State as begun
 use Rattle.items.specs.Whole.{limit}
-use Rattle.lines.specs.Refusals.{tooLong, notUtf8, outOfBounds, noRoom}
 use Rattle.lines.specs.Starts.{newline}
 use Rattle.lines.specs.declared.State.{State}
 use Rattle.lines.specs.declared.Answer.{Answer}
@@ -66,7 +66,7 @@ endOf t n =
     else if eqb (t .stop) tooLong then Refused tooLong limit
     else if eqb (t .stop) notUtf8 then Refused notUtf8 (t .from)
     else if eqb (t .begun .need) 0 then
-    (if ltb n (t .lines + 1) then Refused noRoom (t .lines + 1) else Served (t .lines + 1))
+    (if ltb n (t .lines + 1) then Refused linesNoRoom (t .lines + 1) else Served (t .lines + 1))
     else Refused notUtf8 (t .from)
 
 -- ---- pieces one after the other, and what the memory holds at the end

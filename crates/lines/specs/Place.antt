@@ -6,11 +6,11 @@ use lib.Dec.{leb, ltb}
 use lib.ListN.{length, getD}
 use Rattle.laws.specs.Choice.{if_then_else_}
 use Rattle.laws.specs.Texts.{same}
+use Rattle.refusal.specs.Refusals.{noPlace, alien}
 use Rattle.chars.specs.Utf8.{firstBad, Sequence, read, broken, short, sequences}
 use Rattle.chars.specs.declared.Utf8.{Utf8}
 use Rattle.chars.specs.declared.Utf8.the-variants.{Good, Bad}
 use Rattle.items.specs.Whole.{limit}
-use Rattle.lines.specs.Refusals.{noPlace, notItsIndex}
 use Rattle.lines.specs.Starts.{starts}
 use Rattle.lines.specs.declared.Column.{Column}
 use Rattle.lines.specs.declared.Column.the-variants.{Whole, Inside}
@@ -63,7 +63,7 @@ placeOf s index p = if ltb (length s) p then Refused noPlace p else located s in
 
 -- "48 if the index isn't that text's, then 34"
 unfoldable pub locateOf : List ℕ → List ℕ → ℕ → Located
-locateOf s index p = if isIndex s index then placeOf s index p else Refused notItsIndex 0
+locateOf s index p = if isIndex s index then placeOf s index p else Refused alien 0
 
 -- ---- what a search asks for
 

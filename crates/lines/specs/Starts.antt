@@ -6,11 +6,11 @@ use lib.Dec.{eqb, ltb}
 use lib.ListN.{length}
 use Rattle.laws.specs.Choice.{if_then_else_}
 use Rattle.laws.specs.Lent.{written}
+use Rattle.refusal.specs.Refusals.{tooLong, notUtf8, linesNoRoom}
 use Rattle.chars.specs.Utf8.{firstBad}
 use Rattle.chars.specs.declared.Utf8.{Utf8}
 use Rattle.chars.specs.declared.Utf8.the-variants.{Good, Bad}
 use Rattle.items.specs.Whole.{limit}
-use Rattle.lines.specs.Refusals.{tooLong, notUtf8, noRoom}
 use Rattle.lines.specs.declared.Answer.{Answer}
 use Rattle.lines.specs.declared.Answer.the-variants.{Served, Refused}
 
@@ -37,7 +37,7 @@ outcome a m = record { answer = a; memory = m }
 
 -- "33 if the line starts don't fit, with the number needed"; else they are written, and everything past them stays
 abbrev pub fit : List ℕ → List ℕ → Outcome
-fit l memory = if ltb (length memory) (length l) then outcome (Refused noRoom (length l)) memory else outcome (Served (length l)) (written l memory)
+fit l memory = if ltb (length memory) (length l) then outcome (Refused linesNoRoom (length l)) memory else outcome (Served (length l)) (written l memory)
 
 abbrev pub ifGood : Utf8 → List ℕ → List ℕ → Outcome
 ifGood (Bad at) l memory = outcome (Refused notUtf8 at) memory

@@ -6,7 +6,7 @@ use lib.Dec.{eqb, leb}
 use lib.ListN.{length, getD, set}
 use Rattle.laws.specs.Choice.{if_then_else_}
 use Rattle.laws.specs.Lent.{written}
-use Rattle.lines.specs.Refusals.{outOfBounds}
+use Rattle.refusal.specs.Refusals.{outOfBounds}
 use Rattle.lines.specs.Pieces.{Fed, fresh, pieceOf, endOf}
 use Rattle.lines.specs.declared.State.{State}
 use Rattle.lines.specs.declared.Answer.{Answer}

@@ -9,7 +9,7 @@ use lib.ListN.{length, getD, set}
 use borrow.Author.Tests.{eq-eqb, ne-eqb, eqb-true, le-leb, lt-leb, leb-true}
 use Rattle.laws.specs.Lent.{written}
 use Rattle.laws.proofs.Choice.{and-true, if-yes, if-no}
-use Rattle.lines.specs.Refusals.{outOfBounds}
+use Rattle.refusal.specs.Refusals.{outOfBounds}
 use Rattle.lines.specs.Pieces.{Fed, fed, fresh, openOf, pieceOf, endOf}
 use Rattle.lines.specs.declared.State.{State}
 use Rattle.lines.specs.declared.Answer.{Answer}

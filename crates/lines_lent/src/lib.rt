@@ -5,6 +5,7 @@
 use chars::State as Begun;
 use lines::Answer;
 use lines::State;
+use refusal::OUT_OF_BOUNDS;
 ghost use mathlib.Core.Path.{_≡_};
 ghost use mathlib.Core.Bool.{true};
 ghost use lib.ListN.{length};
@@ -16,9 +17,6 @@ const WORDS: usize = 8;
 
 // The words of a character begun but its code are bytes.
 const BYTE_TOP: u32 = 255;
-
-// A state outside its bounds.
-const OUT_OF_BOUNDS: u32 = 27;
 
 // Whether words are a state's.
 fn is_state(words: &[u32]) -> bool

@@ -8,8 +8,9 @@ use mathlib.Core.List.{List}
 use lib.Dec.{eqb}
 use lib.ListN.{length, getD}
 use Rattle.laws.proofs.Choice.{by-bool, if-yes, if-no}
+use Rattle.refusal.specs.Refusals.{outOfBounds, noParty, noRoom}
 use Rattle.names.specs.Layout.{count, used, slot, bears, inBounds, halfNames, halfBytes, firstBound, indexSlots, halfWords, tableNames}
-use Rattle.names.specs.Call.{slotOf, tagOf, proposes, probe, probeOf, scan, scanned, lookupOf, orElse, findOf, laid, newWords, numbered, freeOf, Outcome, outcome, newOf, enterOf, outside, noParty, noRoom, looks}
+use Rattle.names.specs.Call.{slotOf, tagOf, proposes, probe, probeOf, scan, scanned, lookupOf, orElse, findOf, laid, newWords, numbered, freeOf, Outcome, outcome, newOf, enterOf, looks}
 use Rattle.names.specs.declared.Entered.the-variants.{Number, Refused}
 use Rattle.names.specs.declared.Proposal.{Proposal}
 use Rattle.names.specs.declared.Proposal.the-variants.{Entry, Free, Full}
@@ -133,7 +134,7 @@ module _ (w b : List ℕ) (p : ℕ) (name : List ℕ) where
       let q : from ≡ used w p = f ∙ rw e in
       if-yes _ _ _ (lt-ltb (count w p) halfNames (omega arith)) (if-yes _ _ _ (le-leb (used w p + length name) halfBytes (omega arith)) (rw (j, k, e, q, i)))
 
-  pub enter-outside : inBounds w b ≡ false → outcome (Refused outside) w b ≡ enterOf w b p name
+  pub enter-outside : inBounds w b ≡ false → outcome (Refused outOfBounds) w b ≡ enterOf w b p name
   unfolding enterOf
   enter-outside h = if-no _ _ _ h refl
 

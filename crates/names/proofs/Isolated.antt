@@ -12,8 +12,9 @@ use lib.ListN.{length}
 use Rattle.laws.specs.Texts.{same}
 use Rattle.laws.proofs.Choice.{by-bool, if-yes, if-no}
 use Rattle.laws.proofs.Compared.{same-is}
+use Rattle.refusal.specs.Refusals.{noRoom}
 use Rattle.names.specs.Layout.{halfNames, halfBytes, tableNames}
-use Rattle.names.specs.Call.{noRoom, openMark, openWords, enterOf, markOf, nameOf}
+use Rattle.names.specs.Call.{openMark, openWords, enterOf, markOf, nameOf}
 use Rattle.names.specs.Book.{Name, Book, book, half, place, size, numberIn, added, Reply, reply, ask, markIn, nameIn, Call, namesOf, bookOf}
 use Rattle.names.specs.Isolation.{present, seen, room, newAnswer, toldOr, answerOf, ownAfter, answersTo, answersIn, callsOf, strangers}
 use Rattle.names.specs.declared.Entered.{Entered}

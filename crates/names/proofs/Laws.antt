@@ -15,8 +15,9 @@ use Rattle.laws.specs.Lent.{written}
 use Rattle.laws.proofs.Places.{past, here}
 use Rattle.laws.proofs.Choice.{if-yes, if-no, by-bool}
 use Rattle.laws.specs.Choice.{if_then_else_}
+use Rattle.refusal.specs.Refusals.{outOfBounds, noName}
 use Rattle.names.specs.Layout.{count, bound, used, slot, nameAt, bears, halfBounds, inBounds, halfNames, halfBytes, firstBound, firstSlot, indexSlots, halfWords, tableNames, tableBytes, tableWords, nowhere, placed, cut, placeAt}
-use Rattle.names.specs.Call.{factor, hashes, hashesASlot, turn, four, rest, mix, hashOf, slotOf, tagOf, entryIn, tagIn, proposes, probe, scan, scanned, laid, newWords, markOf, nameOf, outside, noNumber, openOf, opening, placeOf}
+use Rattle.names.specs.Call.{factor, hashes, hashesASlot, turn, four, rest, mix, hashOf, slotOf, tagOf, entryIn, tagIn, proposes, probe, scan, scanned, laid, newWords, markOf, nameOf, openOf, opening, placeOf}
 use Rattle.names.specs.declared.Place.{Place}
 use Rattle.names.specs.declared.Proposal.the-variants.{Entry, Free, Full}
 use Rattle.names.specs.declared.Found.the-variants.{At, Nothing}
@@ -274,15 +275,15 @@ pub place-of : (n : ℕ) → n % halfNames < halfNames
 place-of n = mod-lt n (omega arith)
 
 module _ (w b : List ℕ) (n : ℕ) where
-  pub mark-outside : inBounds w b ≡ false → outside ≡ markOf w b n
+  pub mark-outside : inBounds w b ≡ false → outOfBounds ≡ markOf w b n
   unfolding markOf
   mark-outside h = if-no _ _ _ h refl
 
-  pub mark-far : inBounds w b ≡ true → tableNames ≤ n → noNumber ≡ markOf w b n
+  pub mark-far : inBounds w b ≡ true → tableNames ≤ n → noName ≡ markOf w b n
   unfolding markOf
   mark-far h g = if-yes _ _ _ h (if-no _ _ _ (le-ltb _ _ g) refl)
 
-  pub mark-none : {m : ℕ} → inBounds w b ≡ true → n < tableNames → m ≡ count w (n / halfNames) → m ≤ n % halfNames → noNumber ≡ markOf w b n
+  pub mark-none : {m : ℕ} → inBounds w b ≡ true → n < tableNames → m ≡ count w (n / halfNames) → m ≤ n % halfNames → noName ≡ markOf w b n
   unfolding markOf
   mark-none h g e i = if-yes _ _ _ h (if-yes _ _ _ (lt-ltb _ _ g) (if-no _ _ _ (le-ltb (n % halfNames) (count w (n / halfNames)) (omega arith)) refl))
 
@@ -327,11 +328,11 @@ module _ (w b : List ℕ) (n : ℕ) where
 
 -- opening
 module _ (w b : List ℕ) where
-  pub open-few : length w < tableWords → opening outside w ≡ openOf w b
+  pub open-few : length w < tableWords → opening outOfBounds w ≡ openOf w b
   unfolding openOf
   open-few h = if-no _ _ _ (lt-leb _ _ h) refl
 
-  pub open-short : tableWords ≤ length w → length b < tableBytes → opening outside w ≡ openOf w b
+  pub open-short : tableWords ≤ length w → length b < tableBytes → opening outOfBounds w ≡ openOf w b
   unfolding openOf
   open-short h g = if-yes _ _ _ (le-leb _ _ h) (if-no _ _ _ (lt-leb _ _ g) refl)
 

@@ -10,8 +10,9 @@ use lib.Dec.{ltb, leb}
 use lib.ListN.{length, getD, take, drop, replicate, length-append, length-replicate, getD-replicate, List·getD-append}
 use lib.Seq.{getD-append-add, getD-take, getD-drop, length-take-le}
 use Rattle.laws.proofs.Choice.{by-bool}
+use Rattle.refusal.specs.Refusals.{outOfBounds, noParty, noRoom, noName}
 use Rattle.names.specs.Layout.{count, bound, used, nameAt, inBounds, halfNames, halfBytes, firstBound, halfWords, tableNames, tableBytes, tableWords}
-use Rattle.names.specs.Call.{findOf, probeOf, slotOf, tagOf, freeOf, newWords, laid, Outcome, outcome, newOf, enterOf, openMark, openWords, markOf, nameOf, outside, noParty, noRoom, noNumber, looks, Opening}
+use Rattle.names.specs.Call.{findOf, probeOf, slotOf, tagOf, freeOf, newWords, laid, Outcome, outcome, newOf, enterOf, openMark, openWords, markOf, nameOf, looks, Opening}
 use Rattle.names.specs.Book.{Name, Book, book, half, place, size, numberIn, Reply, ask, markIn, nameIn, Call, asks, firstNames, namesOf, bookOf, Memory, memory, calls}
 use Rattle.names.specs.declared.Entered.{Entered}
 use Rattle.names.specs.declared.Entered.the-variants.{Number, Refused}
@@ -31,8 +32,8 @@ open-parts w b e =
     (λ t. let h = leb-true tableWords (length w) t in
     by-bool (leb tableBytes (length b))
     (λ u. let g = leb-true tableBytes (length b) u in (h, g, sym (ap (λ (o : Opening). o .words) (open-all w b h g refl))))
-    (λ u. let z : outside ≡ 0 = ap (λ (o : Opening). o .mark) (open-short w b h (leb-false tableBytes (length b) u)) ∙ e in absurd (omega arith)))
-    (λ t. let z : outside ≡ 0 = ap (λ (o : Opening). o .mark) (open-few w b (leb-false tableWords (length w) t)) ∙ e in absurd (omega arith))
+    (λ u. let z : outOfBounds ≡ 0 = ap (λ (o : Opening). o .mark) (open-short w b h (leb-false tableBytes (length b) u)) ∙ e in absurd (omega arith)))
+    (λ t. let z : outOfBounds ≡ 0 = ap (λ (o : Opening). o .mark) (open-few w b (leb-false tableWords (length w) t)) ∙ e in absurd (omega arith))
 
 cleared-word : (w : List ℕ) (i : ℕ) → i < tableWords → getD (cleared tableWords w) i 0 ≡ 0
 cleared-word w i h =
@@ -225,7 +226,7 @@ kept w b p name =
     (λ n e. rw (← enter-there w b p name i two e) (kept-all w b p (Number n)))
     (λ e. rw (← enter-new w b p name i two e refl) (kept-new w b p name (bounds w b i) two)))
     (λ x. rw (← enter-party w b p name i (ltb-false p 2 x)) (kept-all w b p (Refused noParty))))
-    (λ i. rw (← enter-outside w b p name i) (kept-all w b p (Refused outside)))
+    (λ i. rw (← enter-outside w b p name i) (kept-all w b p (Refused outOfBounds)))
 
 -- ---- 27, 35 and 37, in any lent memory
 
@@ -247,7 +248,7 @@ module _ (w b : List ℕ) (p : ℕ) (name : Name) where
 
   -- why a party is refused
   why : {k : ℕ} → enterOf w b p name .answer ≡ Refused k
-      → ((k ≡ outside) × (inBounds w b ≡ false)) ⊎ (((k ≡ noParty) × (inBounds w b ≡ true) × (2 ≤ p)) ⊎ (k ≡ noRoom))
+      → ((k ≡ outOfBounds) × (inBounds w b ≡ false)) ⊎ (((k ≡ noParty) × (inBounds w b ≡ true) × (2 ≤ p)) ⊎ (k ≡ noRoom))
   why e =
       by-bool (inBounds w b)
       (λ i. inr (by-bool (ltb p 2)
@@ -259,7 +260,7 @@ module _ (w b : List ℕ) (p : ℕ) (name : Name) where
       (λ i. inl (sym (refused-same (answered (enter-outside w b p name i) ∙ e)), i))
 
   -- 27 exactly if the memory is outside the bounds
-  pub refused-27 : (enterOf w b p name .answer ≡ Refused outside → inBounds w b ≡ false) × (inBounds w b ≡ false → enterOf w b p name .answer ≡ Refused outside)
+  pub refused-27 : (enterOf w b p name .answer ≡ Refused outOfBounds → inBounds w b ≡ false) × (inBounds w b ≡ false → enterOf w b p name .answer ≡ Refused outOfBounds)
   refused-27 = (
     λ e. ⊎-elim (λ x. x .1) (⊎-elim (λ x. absurd (omega (arith, x .0))) (λ x. absurd (omega (arith, x)))) (why e),
     λ i. sym (answered (enter-outside w b p name i)),
@@ -274,8 +275,8 @@ module _ (w b : List ℕ) (p : ℕ) (name : Name) where
 
 -- 37 exactly if the memory is within the bounds, and the number was not given
 pub refused-37 : (w b : List ℕ) (k : ℕ)
-    → (markOf w b k ≡ noNumber → (inBounds w b ≡ true) × ((tableNames ≤ k) ⊎ (count w (k / halfNames) ≤ k % halfNames)))
-    × (inBounds w b ≡ true → (tableNames ≤ k) ⊎ (count w (k / halfNames) ≤ k % halfNames) → markOf w b k ≡ noNumber)
+    → (markOf w b k ≡ noName → (inBounds w b ≡ true) × ((tableNames ≤ k) ⊎ (count w (k / halfNames) ≤ k % halfNames)))
+    × (inBounds w b ≡ true → (tableNames ≤ k) ⊎ (count w (k / halfNames) ≤ k % halfNames) → markOf w b k ≡ noName)
 refused-37 w b k = (
   λ e. by-bool (inBounds w b)
       (λ i. (

@@ -5,8 +5,9 @@ use lib.Dec.{ltb, leb}
 use lib.ListN.{length, getD}
 use Rattle.laws.specs.Choice.{if_then_else_}
 use Rattle.laws.specs.Texts.{same}
+use Rattle.refusal.specs.Refusals.{noParty, noRoom, noName}
 use Rattle.names.specs.Layout.{halfNames, halfBytes, tableNames, count, nameAt}
-use Rattle.names.specs.Call.{noParty, noRoom, noNumber, enterOf}
+use Rattle.names.specs.Call.{enterOf}
 use Rattle.names.specs.declared.Entered.{Entered}
 use Rattle.names.specs.declared.Entered.the-variants.{Number, Refused}
 use Rattle.names.specs.declared.Found.{Found}
@@ -74,7 +75,7 @@ ask b p n = if ltb p 2 then answered (numberIn b n) b p n else reply (Refused no
 -- a number's name: 37, with an empty name, where there is no such number
 unfoldable pub markIn : Book → ℕ → ℕ
 markIn b k =
-    if ltb k tableNames then (if ltb (k % halfNames) (length (half b (k / halfNames))) then 0 else noNumber) else noNumber
+    if ltb k tableNames then (if ltb (k % halfNames) (length (half b (k / halfNames))) then 0 else noName) else noName
 
 unfoldable pub nameIn : Book → ℕ → Name
 nameIn b k =

@@ -6,6 +6,7 @@ use lib.Dec.{eqb, ltb, leb}
 use lib.ListN.{length, take, drop, set, replicate}
 use Rattle.laws.specs.Choice.{if_then_else_}
 use Rattle.laws.specs.Lent.{written}
+use Rattle.refusal.specs.Refusals.{outOfBounds, noParty, noRoom, noName}
 use Rattle.names.specs.Layout.{halfNames, halfBytes, firstBound, firstSlot, indexSlots, halfWords, tableNames, tableBytes, tableWords, count, bound, used, slot, nowhere, cut, placeAt, bears, inBounds}
 use Rattle.names.specs.declared.Place.{Place}
 use Rattle.names.specs.declared.Entered.{Entered}
@@ -14,20 +15,6 @@ use Rattle.names.specs.declared.Proposal.{Proposal}
 use Rattle.names.specs.declared.Proposal.the-variants.{Entry, Free, Full}
 use Rattle.names.specs.declared.Found.{Found}
 use Rattle.names.specs.declared.Found.the-variants.{At, Nothing}
-
--- "Refusals: 27 first, for lent memory outside the table's bounds; 35 a party other than 0 or 1, 36 the own half lacks the entry or the
--- bytes, 37 no such number"
-abbrev pub outside : ℕ
-outside = 27
-
-abbrev pub noParty : ℕ
-noParty = 35
-
-abbrev pub noRoom : ℕ
-noRoom = 36
-
-abbrev pub noNumber : ℕ
-noNumber = 37
 
 -- A name's hash: a product hash in 32 bits, four bytes a turn and the last ones one by one. Its top ten bits are the slot at which the
 -- search for the name begins, the other 22 its tag. Nothing that is promised rests on its being a good one.
@@ -168,7 +155,7 @@ unfoldable pub enterOf : List ℕ → List ℕ → ℕ → List ℕ → Outcome
 enterOf w b p name =
     if inBounds w b
     then (if ltb p 2 then given (findOf w b p name) w b p name else outcome (Refused noParty) w b)
-    else outcome (Refused outside) w b
+    else outcome (Refused outOfBounds) w b
 
 -- the opening call: its mark, and the final words; no byte is written
 pub record Opening : Type 0 where
@@ -182,8 +169,8 @@ opening m w = record { mark = m; words = w }
 unfoldable pub openOf : List ℕ → List ℕ → Opening
 openOf w b =
     if leb tableWords (length w)
-    then (if leb tableBytes (length b) then opening 0 (written (replicate tableWords 0) w) else opening outside w)
-    else opening outside w
+    then (if leb tableBytes (length b) then opening 0 (written (replicate tableWords 0) w) else opening outOfBounds w)
+    else opening outOfBounds w
 
 abbrev pub openMark : List ℕ → List ℕ → ℕ
 openMark w b = openOf w b .mark
@@ -196,9 +183,9 @@ unfoldable pub markOf : List ℕ → List ℕ → ℕ → ℕ
 markOf w b n =
     if inBounds w b
     then (if ltb n tableNames
-    then (if ltb (n % halfNames) (count w (n / halfNames)) then 0 else noNumber)
-    else noNumber)
-    else outside
+    then (if ltb (n % halfNames) (count w (n / halfNames)) then 0 else noName)
+    else noName)
+    else outOfBounds
 
 unfoldable pub placeOf : List ℕ → List ℕ → ℕ → Place
 placeOf w b n = if eqb (markOf w b n) 0 then placeAt w (n / halfNames) (n % halfNames) else nowhere

@@ -6,8 +6,8 @@ use mathlib.Core.List.{List, [], _∷_}
 use lib.ListN.{replicate}
 use Rattle.laws.specs.Quoted.{code, codes}
 use Rattle.laws.specs.Texts.{same}
+use Rattle.refusal.specs.Refusals.{noParty, noRoom}
 use Rattle.names.specs.Layout.{halfBytes}
-use Rattle.names.specs.Call.{noParty, noRoom}
 use Rattle.names.specs.Book.{Name, Book, book, place, size, numberIn, newIn, ask}
 use Rattle.names.specs.declared.Entered.{Entered}
 use Rattle.names.specs.declared.Entered.the-variants.{Number, Refused}

@@ -5,8 +5,9 @@ use mathlib.Core.List.{List, [], _∷_, _++_}
 use lib.Dec.{eqb, ltb, leb}
 use lib.ListN.{length}
 use Rattle.laws.specs.Choice.{if_then_else_}
+use Rattle.refusal.specs.Refusals.{noRoom}
 use Rattle.names.specs.Layout.{halfNames, halfBytes}
-use Rattle.names.specs.Call.{noRoom, enterOf}
+use Rattle.names.specs.Call.{enterOf}
 use Rattle.names.specs.Book.{Name, Book, half, place, size, ask, Call}
 use Rattle.names.specs.declared.Entered.{Entered}
 use Rattle.names.specs.declared.Entered.the-variants.{Number, Refused}

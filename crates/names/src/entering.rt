@@ -13,6 +13,9 @@ use crate::layout::TABLE_BYTES;
 use crate::layout::TABLE_WORDS;
 use crate::layout::in_bounds;
 use crate::layout::word;
+use refusal::NO_PARTY;
+use refusal::NO_ROOM;
+use refusal::OUT_OF_BOUNDS;
 ghost use mathlib.Core.Path.{_≡_};
 ghost use Prim.Native.Nat.{_+_, _≤_, _<_};
 ghost use lib.ListN.{length, replicate};
@@ -25,13 +28,6 @@ const PARTIES: u32 = 2;
 
 // The mark of an opened table.
 const OPENED: u32 = 0;
-
-// The refusals: lent memory outside the table's bounds, a party other than 0 or 1, an own half that lacks the entry or the bytes.
-const OUTSIDE: u32 = 27;
-
-const NO_PARTY: u32 = 35;
-
-const NO_ROOM: u32 = 36;
 
 // Copies a name to a place.
 fn copy(bytes: &mut [u8], at: usize, name: &[u8])
@@ -99,7 +95,7 @@ pub fn enter(words: &mut [u32], bytes: &mut [u8], party: u32, name: &[u8]) -> En
     ensures { λ r. ⌜ outcome r (now (words .exit)) (now (bytes .exit)) ≡ enterOf (now (words .entry)) (now (bytes .entry)) party (now (name .entry)) ⌝ }
 {
     if !in_bounds(words, bytes) {
-        return Entered::Refused(OUTSIDE);
+        return Entered::Refused(OUT_OF_BOUNDS);
     }
     if PARTIES <= party {
         return Entered::Refused(NO_PARTY);
@@ -127,15 +123,15 @@ fn clear(words: &mut [u32])
     }
 }
 
-// The opening call: OPENED, and the table is empty; or OUTSIDE where too little is lent.
+// The opening call: OPENED, and the table is empty; or OUT_OF_BOUNDS where too little is lent.
 pub fn open_table(words: &mut [u32], bytes: &[u8]) -> u32
     ensures { λ r. ⌜ opening r (now (words .exit)) ≡ openOf (now (words .entry)) (now (bytes .entry)) ⌝ }
 {
     if words.len() < TABLE_WORDS {
-        return OUTSIDE;
+        return OUT_OF_BOUNDS;
     }
     if bytes.len() < TABLE_BYTES {
-        return OUTSIDE;
+        return OUT_OF_BOUNDS;
     }
     clear(words);
     OPENED

@@ -6,34 +6,32 @@ use crate::layout::in_bounds;
 use crate::layout::nowhere;
 use crate::layout::place_at;
 use crate::layout::word;
+use refusal::NO_NAME;
+use refusal::OUT_OF_BOUNDS;
 ghost use mathlib.Core.Path.{_≡_};
 ghost use Rattle.names.specs.Call.{markOf, placeOf, nameOf};
 
 // Numbers lie below this one: those of both halves.
 const TABLE_NAMES: u32 = 1024;
 
-// The marks: there is such a name; refusals for lent memory outside the table's bounds and for no such number.
+// The mark of a number that has a name.
 const NAMED: u32 = 0;
 
-const OUTSIDE: u32 = 27;
-
-const NO_NUMBER: u32 = 37;
-
-// The mark of a number: NAMED, OUTSIDE or NO_NUMBER.
+// The mark of a number: NAMED, OUT_OF_BOUNDS or NO_NAME.
 pub fn name_mark(words: &[u32], bytes: &[u8], number: u32) -> u32
     ensures { λ r. ⌜ r ≡ markOf (now (words .entry)) (now (bytes .entry)) number ⌝ }
 {
     if !in_bounds(words, bytes) {
-        return OUTSIDE;
+        return OUT_OF_BOUNDS;
     }
     if TABLE_NAMES <= number {
-        return NO_NUMBER;
+        return NO_NAME;
     }
     let party = number as usize / HALF_NAMES;
     let k = number as usize % HALF_NAMES;
     let n = word(words, party * HALF_WORDS);
     if n <= k {
-        return NO_NUMBER;
+        return NO_NAME;
     }
     NAMED
 }

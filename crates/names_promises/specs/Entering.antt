@@ -7,8 +7,9 @@ use mathlib.Core.List.{List, [], _∷_}
 use lib.ListN.{replicate, getD}
 use Rattle.laws.specs.Quoted.{code, codes}
 use Rattle.laws.specs.Texts.{same}
+use Rattle.refusal.specs.Refusals.{outOfBounds, noParty, noRoom}
 use Rattle.names.specs.Layout.{halfNames, halfBytes, firstSlot, tableWords, tableBytes, placeAt, nameAt, bears, halfBounds, inBounds}
-use Rattle.names.specs.Call.{outside, noParty, noRoom, rest, mix, slotOf, tagOf, slotWord, proposes, probe, scan, lookupOf, findOf, newWords, laid, newOf, Outcome, outcome, enterOf}
+use Rattle.names.specs.Call.{rest, mix, slotOf, tagOf, slotWord, proposes, probe, scan, lookupOf, findOf, newWords, laid, newOf, Outcome, outcome, enterOf}
 use Rattle.names.specs.Book.{Book, book, place, size, numberIn, newIn, Reply, reply, ask}
 use Rattle.names.specs.declared.Entered.{Entered}
 use Rattle.names.specs.declared.Entered.the-variants.{Number, Refused}
@@ -25,7 +26,7 @@ abbrev bytes : List ℕ
 bytes = replicate tableBytes 0
 
 -- 27 goes before 35, and nothing changes
-outside-first : enterOf [] [] 2 (codes "Fagus") ≡ outcome (Refused outside) [] []
+outside-first : enterOf [] [] 2 (codes "Fagus") ≡ outcome (Refused outOfBounds) [] []
 unfolding enterOf inBounds
 outside-first = refl
 

@@ -6,8 +6,9 @@ use mathlib.Core.Path.{_≡_, refl, sym, ap, _∙_}
 use mathlib.Core.List.{List, [], _∷_, _++_}
 use lib.ListN.{length, replicate}
 use Rattle.laws.specs.Quoted.{codes}
+use Rattle.refusal.specs.Refusals.{outOfBounds, noName}
 use Rattle.names.specs.Layout.{halfNames, halfBytes, halfWords, tableWords, tableBytes, placed, placeAt, halfBounds, inBounds}
-use Rattle.names.specs.Call.{outside, noNumber, markOf, placeOf, nameOf}
+use Rattle.names.specs.Call.{markOf, placeOf, nameOf}
 use Rattle.names.specs.Book.{book, markIn, nameIn}
 
 -- two permitted answers coincide
@@ -15,12 +16,12 @@ one-answer : (w b : List ℕ) (n : ℕ) (x y : List ℕ) → x ≡ nameOf w b n 
 one-answer w b n x y e f = e ∙ sym f
 
 -- 27 goes before 37
-outside-first : markOf [] [] 9999 ≡ outside
+outside-first : markOf [] [] 9999 ≡ outOfBounds
 unfolding markOf inBounds
 outside-first = refl
 
 -- an empty table has no number 0
-none-yet : markOf (replicate tableWords 0) (replicate tableBytes 0) 0 ≡ noNumber
+none-yet : markOf (replicate tableWords 0) (replicate tableBytes 0) 0 ≡ noName
 unfolding markOf inBounds halfBounds
 none-yet = refl
 
@@ -37,7 +38,7 @@ number-512 : nameIn (book (codes "Betula" ∷ []) (codes "Fagus" ∷ [])) 512 �
 unfolding nameIn
 number-512 = refl
 
-number-513 : markIn (book (codes "Betula" ∷ []) (codes "Fagus" ∷ [])) 513 ≡ noNumber
+number-513 : markIn (book (codes "Betula" ∷ []) (codes "Fagus" ∷ [])) 513 ≡ noName
 unfolding markIn
 number-513 = refl
 

@@ -3,8 +3,9 @@ use mathlib.Core.Path.{_≡_, refl, sym, _∙_}
 use mathlib.Core.List.{List, [], _∷_, _++_}
 use Prim.Native.Nat.{ℕ, _+_}
 use lib.ListN.{replicate}
+use Rattle.refusal.specs.Refusals.{outOfBounds}
 use Rattle.names.specs.Layout.{tableWords, tableBytes}
-use Rattle.names.specs.Call.{outside, Opening, opening, openOf}
+use Rattle.names.specs.Call.{Opening, opening, openOf}
 
 -- two permitted answers coincide
 one-answer : (w b : List ℕ) (x y : Opening) → x ≡ openOf w b → y ≡ openOf w b → x ≡ y
@@ -16,6 +17,6 @@ unfolding openOf
 cleared = refl
 
 -- no memory is too little for a table
-too-little : openOf [] [] ≡ opening outside []
+too-little : openOf [] [] ≡ opening outOfBounds []
 unfolding openOf
 too-little = refl

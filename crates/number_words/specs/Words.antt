@@ -6,6 +6,7 @@ use lib.ListN.{length}
 use lib.Dec.{ltb, eqb}
 use lib.IntN.{ℤ, pos, negsuc, natAbs}
 use Rattle.laws.specs.Choice.{if_then_else_}
+use Rattle.refusal.specs.Refusals.{tooLong, notUtf8, tooFew}
 use Rattle.digits.specs.declared.Span.{Span}
 use Rattle.digits.specs.declared.Int.{Int}
 use Rattle.digits.specs.declared.Int.the-variants.{Small, Big}
@@ -13,7 +14,7 @@ use Rattle.numbers.specs.declared.Real.{Real}
 use Rattle.numbers.specs.declared.Real.the-variants.{Integer, Rational, Decimal, PosInf, NegInf, PosNan, NegNan, ImpliedZero, ImpliedOne}
 use Rattle.numbers.specs.declared.Parts.{Parts}
 use Rattle.numbers.specs.declared.Parts.the-variants.{Just, Complex, Polar}
-use Rattle.numbers.specs.Call.{Answer, parts, noNumber, error, refused, tooLong, notUtf8}
+use Rattle.numbers.specs.Call.{Answer, parts, noNumber, error, refused}
 use Rattle.number_words.specs.declared.Figure.{Figure}
 use Rattle.number_words.specs.declared.Flat.{Flat}
 use Rattle.number_words.specs.declared.Flattened.{Flattened}
@@ -89,7 +90,7 @@ numberWords = 27
 
 -- "22: records or text memory are too few" (01): here fewer words than an answer has that is no refusal
 abbrev pub roomOr : List ℕ → ℕ → ℕ
-roomOr memory n = if ltb (length memory) numberWords then 22 else n
+roomOr memory n = if ltb (length memory) numberWords then tooFew else n
 
 -- The number that the call tells: 0 for a number, 1 for none, else document 01's. 22 goes last: a refused text is told as one, however
 -- few the words are.

@@ -15,6 +15,11 @@ use numbers::NumberAnswer;
 use numbers::Parts;
 use numbers::Point;
 use numbers::Real;
+use numbers::ZERO_DENOMINATOR;
+use refusal::LIMIT;
+use refusal::NOT_UTF8;
+use refusal::TOO_FEW;
+use refusal::TOO_LONG;
 ghost use mathlib.Core.Path.{_≡_};
 ghost use mathlib.Core.Bool.{false};
 ghost use Prim.Native.Nat.{_≤_};
@@ -26,21 +31,13 @@ ghost use Rattle.chars.specs.Encode.{lay};
 ghost use Rattle.numbers.specs.Call.{answered};
 ghost use Rattle.number_words.specs.Words.{bit, minus, sign, nothing, places, intWords, formed, noReal, realWords, joined, partsWords, flattened, numberWords, roomOr, numberOr, figure, real, answer};
 
-// What the call answers: a number, none, document 01's error 8, or its refusals 20, 21 and 22 (too few words).
+// What the call answers beside the error of a zero denominator and refusals: a number, or none.
 const A_NUMBER: u32 = 0;
 
 const NO_NUMBER: u32 = 1;
 
-const ZERO_DENOMINATOR: u32 = 8;
-
-const TOO_LONG: u32 = 20;
-
-const NOT_UTF8: u32 = 21;
-
-const TOO_FEW: u32 = 22;
-
 // What refusal 20 comes with.
-const LONGEST: u64 = 4_294_967_295;
+const LONGEST: u64 = LIMIT as u64;
 
 // How many words an answer has that is no refusal.
 const NUMBER_WORDS: usize = 27;

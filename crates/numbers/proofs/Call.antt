@@ -1,9 +1,10 @@
 -- The number call: its refusals are given exactly where document 01 says, and its contract leaves one answer.
 use Rattle.numbers.specs.declared.NumberAnswer.{NumberAnswer}
 use Rattle.numbers.specs.declared.Parsed.{Parsed}
-use Rattle.numbers.specs.Call.{tooLong, notUtf8, longest, answered, given, number, Answer, parts, noNumber, error, refused}
+use Rattle.numbers.specs.Call.{answered, given, number, Answer, parts, noNumber, error, refused}
 use Rattle.numbers.specs.Grammar.{parseNumber}
 use Rattle.laws.specs.Choice.{if_then_else_}
+use Rattle.refusal.specs.Refusals.{tooLong, notUtf8, limit}
 use Rattle.chars.specs.Utf8.{firstBad}
 use Prim.Native.Nat.{ℕ, _≤_, _<_}
 use mathlib.Core.Path.{_≡_, refl, sym, ap, _∙_}
@@ -17,19 +18,19 @@ use Rattle.numbers.specs.declared.Parsed.the-variants as parsed
 use Rattle.numbers.specs.declared.NumberAnswer.the-variants as answer
 
 module _ (t : List ℕ) where
-  pub too-long : longest < length t → number t ≡ refused tooLong longest
+  pub too-long : limit < length t → number t ≡ refused tooLong limit
   unfolding number
-  too-long h = simp (lt-ltb longest (length t) h)
+  too-long h = simp (lt-ltb limit (length t) h)
 
-  module _ (h : length t ≤ longest) where
+  module _ (h : length t ≤ limit) where
     pub not-utf8 : (at : ℕ) → firstBad t ≡ utf8.Bad at → number t ≡ refused notUtf8 at
     unfolding number
-    not-utf8 at e = simp (le-ltb longest (length t) h, e)
+    not-utf8 at e = simp (le-ltb limit (length t) h, e)
 
     -- a text under the limit that is UTF-8 is not refused
     pub served : firstBad t ≡ utf8.Good → number t ≡ given (parseNumber t)
     unfolding number
-    served e = simp (le-ltb longest (length t) h, e)
+    served e = simp (le-ltb limit (length t) h, e)
 
 pub given-unrefused : (p : Parsed) (n m : ℕ) → given p ≡ refused n m → ⊥
 given-unrefused (parsed.Is p) n m e = let z : _≡_ {A = ℕ} 0 1 = cc in omega arith

@@ -4,6 +4,7 @@ use mathlib.Core.List.{List}
 use lib.ListN.{length}
 use lib.Dec.{ltb}
 use Rattle.laws.specs.Choice.{if_then_else_}
+use Rattle.refusal.specs.Refusals.{tooLong, notUtf8, limit}
 use Rattle.chars.specs.declared.Utf8.{Utf8}
 use Rattle.chars.specs.declared.Utf8.the-variants as utf8
 use Rattle.chars.specs.Utf8.{firstBad}
@@ -21,26 +22,16 @@ pub data Answer : Type 0 where
   error : ℕ → Answer
   refused : ℕ → ℕ → Answer
 
--- the error ZeroDenominator, and the refusals of a text that is too long and of one that is not UTF-8
+-- the error ZeroDenominator
 abbrev pub zeroDenominator : ℕ
 zeroDenominator = 8
-
-abbrev pub tooLong : ℕ
-tooLong = 20
-
-abbrev pub notUtf8 : ℕ
-notUtf8 = 21
-
--- the longest text that is read
-abbrev pub longest : ℕ
-longest = 4294967295
 
 -- the numbers and values of 01 for each case of the code's answer
 abbrev pub answered : NumberAnswer → Answer
 answered (answer.Is p) = parts p
 answered answer.NoNumber = noNumber
 answered answer.ZeroDenominator = error zeroDenominator
-answered answer.TooLong = refused tooLong longest
+answered answer.TooLong = refused tooLong limit
 answered (answer.NotUtf8 at) = refused notUtf8 at
 
 abbrev pub given : Parsed → Answer
@@ -55,4 +46,4 @@ checked (utf8.Bad at) a = refused notUtf8 at
 
 -- "20: the text exceeds 4,294,967,295 bytes. 21: bytes aren't UTF-8", in that order (01, Refused calls)
 unfoldable pub number : List ℕ → Answer
-number t = if ltb longest (length t) then refused tooLong longest else checked (firstBad t) (given (parseNumber t))
+number t = if ltb limit (length t) then refused tooLong limit else checked (firstBad t) (given (parseNumber t))

@@ -8,6 +8,7 @@ use mathlib.Core.Bool.{Bool, true, false}
 use lib.IntN.{ℤ, pos, negsuc}
 use Rattle.laws.specs.Quoted.{within}
 use Rattle.laws.specs.Texts.{span, starts, same}
+use Rattle.refusal.specs.Refusals.{notUtf8}
 use Rattle.chars.specs.Utf8 as chars
 use Rattle.chars.specs.Encode as encode
 use Rattle.digits.specs.declared.Span.{Span}
@@ -18,7 +19,7 @@ use Rattle.numbers.specs.declared.Real.the-variants.{Integer, Rational, 
 use Rattle.numbers.specs.declared.Parts.the-variants.{Just, Complex, Polar}
 use Rattle.numbers.specs.Reals.{exponentMarker, exponent, suffix, pointOf, dotted, undotted, decimal, infnan, integralOf, rationalOf, denominator, exact, orElse, ureal, real}
 use Rattle.numbers.specs.Grammar.{justOf, complexOf, polarOf, endsI, imaginary, aloneOf, pairOf, toSign, startsE, rectangular, complex, zeroInt, zeroReal, zeroParts, judged, radixMark, prefix, parseNumber}
-use Rattle.numbers.specs.Call.{Answer, parts, noNumber, error, refused, zeroDenominator, notUtf8, number}
+use Rattle.numbers.specs.Call.{Answer, parts, noNumber, error, refused, zeroDenominator, number}
 
 abbrev small : ℤ → Real
 small v = Integer (Small v)

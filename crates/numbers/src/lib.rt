@@ -5,6 +5,7 @@
 use chars::Utf8;
 use digits::Int;
 use digits::Span;
+use refusal::LIMIT;
 ghost use mathlib.Core.Path.{_≡_};
 ghost use Rattle.numbers.specs.Grammar.{zeroInt, zeroReal, zeroParts, judged, radixMark, prefix, parseNumber};
 ghost use lib.ListN.{drop};
@@ -121,8 +122,8 @@ pub enum MaybeParts {
     NoParts,
 }
 
-// The longest text that is read, in bytes.
-const LONGEST: usize = 4_294_967_295;
+// Document 01's number of the error of a zero denominator: 1/0
+pub const ZERO_DENOMINATOR: u32 = 8;
 
 // The radices that a prefix names; a text without a prefix is decimal.
 const BINARY: u64 = 2;
@@ -296,7 +297,7 @@ pub fn serve(p: Parsed) -> NumberAnswer
 pub fn number(t: &[u8]) -> NumberAnswer
     ensures { λ r. ⌜ answered r ≡ number (now (t .entry)) ⌝ }
 {
-    if LONGEST < t.len() {
+    if LIMIT < t.len() {
         return NumberAnswer::TooLong;
     }
     match chars::first_bad(t) {

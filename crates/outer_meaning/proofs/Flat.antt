@@ -57,13 +57,13 @@ item-read g text i ten last =
 
 -- what was given is heard
 heard-what : (w : What) (n : ℕ) (buf words text i values : List ℕ) → Tells w → 2 ≤ length values
-    → heardIn (left (whatNumber w) (memory buf words (textAfter w text) (recordAfter w i) (lay (n ∷ whatPlace w ∷ []) values))) ≡ w
+    → heardIn (left (whatNumber w) (memory buf words (textAfter w text) (recordAfter w i) (lay (whatPlace w ∷ n ∷ []) values))) ≡ w
 heard-what (item g) n buf words text i values h two = item-read g text i (h .0) (h .1)
 heard-what more n buf words text i values h two = refl
 heard-what finished n buf words text i values h two = refl
 heard-what (refused m p) n buf words text i values h two =
     rw (ne-eqb m 10 (λ e. omega arith), ne-eqb m 11 (λ e. omega arith), ne-eqb m 12 (λ e. omega arith))
-    (ap (λ (l : List ℕ). refused m (getD l 1 0)) (laid-two n p values two))
+    (ap (λ (l : List ℕ). refused m (getD l 0 0)) (laid-two p n values two))
 
 -- ---- memory keeps its lengths
 
@@ -108,7 +108,7 @@ module _ (room : ℕ) (t : Held) (m : Memory) (r : Ready room t m) (wide : longe
   heard-so = ap heardIn so ∙ heard-what (u .what) (u .taken) (u .state .buf) (written (listed (lend (u .state) .words)) (m .words)) (m .text) (m .item) (m .values) tells two
 
   taken-so : takenIn (called m call) ≡ u .taken
-  taken-so = ap takenIn so ∙ ap (λ (l : List ℕ). getD l 0 0) (laid-two (u .taken) (whatPlace (u .what)) (m .values) two)
+  taken-so = ap takenIn so ∙ ap (λ (l : List ℕ). getD l 1 0) (laid-two (whatPlace (u .what)) (u .taken) (m .values) two)
 
   ready-so : Ready room (u .state) (called m call .memory)
   ready-so =
@@ -119,9 +119,9 @@ module _ (room : ℕ) (t : Held) (m : Memory) (r : Ready room t m) (wide : longe
             (next-held m (lend t) call (r .holds) (r .roomy) (ap (λ (s : Said). length (s .state .buf)) same ∙ is-full made));
         roomy =
             ap (λ (l : Left). isRoom (length (l .memory .item)) (length (l .memory .values))) so
-            ∙ ap (λ (n : ℕ). isRoom n (length (lay (u .taken ∷ whatPlace (u .what) ∷ []) (m .values))))
+            ∙ ap (λ (n : ℕ). isRoom n (length (lay (whatPlace (u .what) ∷ u .taken ∷ []) (m .values))))
             (record-length (u .what) (m .item) tells (room-record (length (m .item)) (length (m .values)) (r .roomy)))
-            ∙ ap (isRoom (length (m .item))) (values-length (u .taken) (whatPlace (u .what)) (m .values) two)
+            ∙ ap (isRoom (length (m .item))) (values-length (whatPlace (u .what)) (u .taken) (m .values) two)
             ∙ r .roomy;
         text =
             ap (λ (l : Left). length (l .memory .text)) so

@@ -30,11 +30,11 @@ heardIn l =
     then more
     else if eqb (l .answer) 12
     then finished
-    else refused (l .answer) (getD (l .memory .values) 1 0)
+    else refused (l .answer) (getD (l .memory .values) 0 0)
 
 -- the bytes taken
 abbrev pub takenIn : Left → ℕ
-takenIn l = getD (l .memory .values) 0 0
+takenIn l = getD (l .memory .values) 1 0
 
 -- at most so many calls with one piece; `next` is what follows the piece
 unfoldable pub pieceCallsIn : ℕ → Memory → List ℕ → (Memory → Expected) → Expected

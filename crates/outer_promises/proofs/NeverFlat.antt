@@ -26,9 +26,9 @@ module _ (call : Memory → List ℕ → Left) (meets : (m : Memory) (piece : Li
   never-refuses h = omega (arith, h (holding new) (spelled "(ab"), given (λ l. l .answer), ap (λ (l : Left). l .answer) (computed .piece))
 
   -- it tells no byte taken
-  pub never-untold : ((m : Memory) (piece : List ℕ) → getD (call m piece .memory .values) 0 0 ≡ 0) → ⊥
+  pub never-untold : ((m : Memory) (piece : List ℕ) → getD (call m piece .memory .values) 1 0 ≡ 0) → ⊥
   never-untold h =
-      omega (arith, h (holding new) (spelled "(ab"), given (λ l. getD (l .memory .values) 0 0), ap (λ (l : Left). getD (l .memory .values) 0 0) (computed .piece))
+      omega (arith, h (holding new) (spelled "(ab"), given (λ l. getD (l .memory .values) 1 0), ap (λ (l : Left). getD (l .memory .values) 1 0) (computed .piece))
 
   -- it writes no record
   pub never-unwritten : ((m : Memory) (piece : List ℕ) → call m piece .memory .item ≡ m .item) → ⊥
@@ -41,9 +41,9 @@ module _ (call : Memory → List ℕ → Left) (meets : (m : Memory) (piece : Li
       omega (arith, ap (λ (w : List ℕ). getD w 3 0) (h (holding new) (spelled "(ab")), given (λ l. getD (l .memory .words) 3 0), ap (λ (l : Left). getD (l .memory .words) 3 0) (computed .piece))
 
   -- its refusals come without their place
-  pub never-placeless : ((m : Memory) (piece : List ℕ) → getD (call m piece .memory .values) 1 0 ≡ 0) → ⊥
+  pub never-placeless : ((m : Memory) (piece : List ℕ) → getD (call m piece .memory .values) 0 0 ≡ 0) → ⊥
   never-placeless h =
-      omega (arith, h (holding halted) (spelled "a"), ap (λ (l : Left). getD (l .memory .values) 1 0) (meets (holding halted) (spelled "a") ∙ computed .placed))
+      omega (arith, h (holding halted) (spelled "a"), ap (λ (l : Left). getD (l .memory .values) 0 0) (meets (holding halted) (spelled "a") ∙ computed .placed))
 
 -- ---- the end
 

@@ -84,7 +84,7 @@ pub record Rows : Type 0 where
   pub no-state : openLeft 0 false bytes [] ≡ opened 27 bytes []
   -- an item, two bytes taken, and its record, for which just its words are enough
   pub piece : pieceLeft (holding new) (spelled "(ab")
-      ≡ leaves 10 inWordA bytes (kind.OpenParen ∷ kind.Round ∷ 0 ∷ 1 ∷ 0 ∷ 1 ∷ 0 ∷ 0 ∷ 0 ∷ 0 ∷ []) (2 ∷ 0 ∷ [])
+      ≡ leaves 10 inWordA bytes (kind.OpenParen ∷ kind.Round ∷ 0 ∷ 1 ∷ 0 ∷ 1 ∷ 0 ∷ 0 ∷ 0 ∷ 0 ∷ []) (0 ∷ 2 ∷ [])
   -- the words of a state have their order: the error's place is the range that they hold
   pub end-placed : endLeft (holding afterError)
       ≡ leaves 10 (lent (wordsWith 1 idle 0 0 9 1 8 0) (afterError .buf)) bytes ((kind.firstError + kind.IncompleteString) ∷ 0 ∷ 8 ∷ 9 ∷ 1 ∷ 8 ∷ 0 ∷ 0 ∷ 0 ∷ 0 ∷ []) (0 ∷ 0 ∷ [])
@@ -92,11 +92,11 @@ pub record Rows : Type 0 where
   -- "finished" is 12
   pub finished : endLeft (holding new) ≡ leaves 12 done bytes someRecord (0 ∷ 0 ∷ [])
   -- a refusal comes with its place
-  pub placed : pieceLeft (holding halted) (spelled "a") ≡ leaves 21 halted bytes someRecord (0 ∷ 5 ∷ [])
-  -- no room for a record is 22 with 0 and 1, also with one word too few; slices that are no state's 27
-  pub no-record : pieceLeft (memory [] [] [] [] (7 ∷ 7 ∷ [])) [] ≡ left 22 (memory [] [] [] [] (0 ∷ 1 ∷ []))
+  pub placed : pieceLeft (holding halted) (spelled "a") ≡ leaves 21 halted bytes someRecord (5 ∷ 0 ∷ [])
+  -- no room for a record is 22 with 1 and 0, also with one word too few; slices that are no state's 27
+  pub no-record : pieceLeft (memory [] [] [] [] (7 ∷ 7 ∷ [])) [] ≡ left 22 (memory [] [] [] [] (1 ∷ 0 ∷ []))
   pub one-word-short : pieceLeft (memory [] [] [] (replicate (recordWords - 1) 7) (7 ∷ 7 ∷ [])) []
-      ≡ left 22 (memory [] [] [] (replicate (recordWords - 1) 7) (0 ∷ 1 ∷ []))
+      ≡ left 22 (memory [] [] [] (replicate (recordWords - 1) 7) (1 ∷ 0 ∷ []))
   pub no-slices : pieceLeft (memory [] [] [] someRecord (7 ∷ 7 ∷ [])) [] ≡ left 27 (memory [] [] [] someRecord (0 ∷ 0 ∷ []))
   -- two values are laid where there is room for both
   pub values : lay (1 ∷ 2 ∷ []) (7 ∷ 7 ∷ []) ≡ 1 ∷ 2 ∷ []

@@ -4,6 +4,7 @@ use Prim.Native.Nat.{ℕ, _+_, _-_, _*_, _^_}
 use mathlib.Core.Bool.{Bool, true, false, _&&_}
 use lib.Dec.{eqb, leb, ltb}
 use Rattle.laws.specs.Choice.{if_then_else_}
+use Rattle.refusal.specs.Refusals as refusal
 use Rattle.chars.specs.Encode.{width, isScalar}
 use Rattle.items.specs.Kinds as kind
 use Rattle.items.specs.declared.Outcome.{Outcome}
@@ -84,7 +85,7 @@ abbrev pub heldBounds : ℕ → Marks → ℕ → Bool
 heldBounds st m least = eqb (st + m .len) (m .at) && leb least (m .len)
 
 abbrev pub stopBounds : ℕ → ℕ → Bool
-stopBounds n p = (if eqb n 20 then true else if eqb n 21 then true else eqb n 23) && isPlace p
+stopBounds n p = (if eqb n refusal.tooLong then true else if eqb n refusal.notUtf8 then true else eqb n refusal.longItem) && isPlace p
 
 abbrev pub stageBounds : Stage → Marks → Bool
 stageBounds Opening m = eqb (m .at) 0

@@ -8,6 +8,7 @@ use lib.Dec.{eqb, leb, ltb}
 use Rattle.laws.specs.Choice.{if_then_else_}
 use Rattle.laws.specs.Quoted.{code}
 use Rattle.laws.specs.Lent.{written}
+use Rattle.refusal.specs.Refusals as refusal
 use Rattle.chars.specs.Encode.{width, utf8}
 use Rattle.chars.specs.Blank.{isBlank}
 use Rattle.chars.specs.Machine.{step, start, told}
@@ -155,7 +156,7 @@ ends s st o b = gives s st (rangeAfter (report s) (lastOf s) st o (itemSoFar s))
 abbrev pub onNext : State → ℕ → ℕ → Next → Turn
 onNext s st c (Eat q) =
     if ltb longest (s .marks .len + width c)
-    then stopped s 23 st
+    then stopped s refusal.longItem st
     else on (becomes s (laidAt (s .marks .len) (utf8 c) (s .buf)) (Busy st q) (s .marks .at + width c) (s .marks .len + width c) (lastOf s))
 onNext s st c (Stop o) = ends s st o (Char c)
 
@@ -198,12 +199,12 @@ partly s p =
 unfoldable pub turnOf : State → ℕ → Turn
 turnOf s b =
     if leb limit (s .marks .at + s .marks .part .count)
-    then stopped s 20 limit
+    then stopped s refusal.tooLong limit
     else
     told (step (s .marks .part .state) b)
     (λ u. on (partly s (record { count = s .marks .part .count + 1; state = u })))
     (λ c. onStage s (s .marks .stage) c)
-    (stopped s 21 (s .marks .at))
+    (stopped s refusal.notUtf8 (s .marks .at))
 
 -- ---- a piece: "the fewest bytes that make one ready, or the whole piece". n bytes were taken before
 
@@ -225,19 +226,19 @@ second s st =
 abbrev pub pieceStage : State → Stage → List ℕ → Reply
 pieceStage s (Stopped n p) bs = reply 0 (refused n p) s
 pieceStage s (Waiting st b) bs =
-    if s .marks .ended then reply 0 (refused 26 0) s else reply 0 (item (second s st)) (beyond s (lastOf s) b)
-pieceStage s Opening bs = if s .marks .ended then reply 0 (refused 26 0) s else feedOf s bs 0
-pieceStage s Pound bs = if s .marks .ended then reply 0 (refused 26 0) s else feedOf s bs 0
-pieceStage s FirstLine bs = if s .marks .ended then reply 0 (refused 26 0) s else feedOf s bs 0
-pieceStage s Idle bs = if s .marks .ended then reply 0 (refused 26 0) s else feedOf s bs 0
-pieceStage s (Busy st p) bs = if s .marks .ended then reply 0 (refused 26 0) s else feedOf s bs 0
+    if s .marks .ended then reply 0 (refused refusal.afterEnd 0) s else reply 0 (item (second s st)) (beyond s (lastOf s) b)
+pieceStage s Opening bs = if s .marks .ended then reply 0 (refused refusal.afterEnd 0) s else feedOf s bs 0
+pieceStage s Pound bs = if s .marks .ended then reply 0 (refused refusal.afterEnd 0) s else feedOf s bs 0
+pieceStage s FirstLine bs = if s .marks .ended then reply 0 (refused refusal.afterEnd 0) s else feedOf s bs 0
+pieceStage s Idle bs = if s .marks .ended then reply 0 (refused refusal.afterEnd 0) s else feedOf s bs 0
+pieceStage s (Busy st p) bs = if s .marks .ended then reply 0 (refused refusal.afterEnd 0) s else feedOf s bs 0
 
 -- 27, 24, a standing stop, 26, then work; `room` is the length of the text memory
 unfoldable pub pieceOf : State → List ℕ → ℕ → Reply
 pieceOf s bs room =
     if inBounds s
-    then (if ltb room longest then reply 0 (refused 24 0) s else pieceStage s (s .marks .stage) bs)
-    else reply 0 (refused 27 0) s
+    then (if ltb room longest then reply 0 (refused refusal.littleText 0) s else pieceStage s (s .marks .stage) bs)
+    else reply 0 (refused refusal.outOfBounds 0) s
 
 -- ---- the end
 
@@ -266,7 +267,7 @@ replied (off s w) = reply 0 w s
 
 -- "a sequence cut by the end is 21 too"
 abbrev pub unlessCut : State → Reply → Reply
-unlessCut s r = if eqb (s .marks .part .count) 0 then r else replied (stopped s 21 (s .marks .at))
+unlessCut s r = if eqb (s .marks .part .count) 0 then r else replied (stopped s refusal.notUtf8 (s .marks .at))
 
 -- the end is declared in s
 abbrev pub endStage : State → Stage → Reply
@@ -290,8 +291,8 @@ endUnlessStopped s (Waiting st b) = endStage (declared s) (Waiting st b)
 unfoldable pub endOf : State → ℕ → Reply
 endOf s room =
     if inBounds s
-    then (if ltb room longest then reply 0 (refused 24 0) s else endUnlessStopped s (s .marks .stage))
-    else reply 0 (refused 27 0) s
+    then (if ltb room longest then reply 0 (refused refusal.littleText 0) s else endUnlessStopped s (s .marks .stage))
+    else reply 0 (refused refusal.outOfBounds 0) s
 
 -- ---- opening: 25, with a fresh plain state handed back
 
@@ -303,4 +304,4 @@ fresh mode skip =
     }
 
 unfoldable pub openOf : ℕ → Bool → Reply
-openOf mode skip = if isMode mode then reply 0 more (fresh mode skip) else reply 0 (refused 25 mode) (fresh 0 skip)
+openOf mode skip = if isMode mode then reply 0 more (fresh mode skip) else reply 0 (refused refusal.noMode mode) (fresh 0 skip)

@@ -6,6 +6,7 @@ use mathlib.Core.List.{List, [], _∷_, _++_}
 use lib.ListN.{length}
 use lib.Dec.{eqb, ltb}
 use Rattle.laws.specs.Choice.{if_then_else_}
+use Rattle.refusal.specs.Refusals as refusal
 use Rattle.chars.specs.Utf8.{Sequence, read, broken, short, sequences, chars}
 use Rattle.items.specs.Items.{Item, items, kept, byteCount, endsBefore}
 use Rattle.items.specs.Whole.{limit}
@@ -35,7 +36,7 @@ pub data Ending : Type 0 where
 -- text q with c breaks off in, n the bytes of that text; `on` is how the text ends otherwise
 abbrev pub grown : Unfinished → ℕ → List ℕ → Ending → Ending
 grown nothing n q on = on
-grown (from s) n q on = if ltb longest (n - s) then stop 23 s q else on
+grown (from s) n q on = if ltb longest (n - s) then stop refusal.longItem s q else on
 
 -- "At one byte 20 goes before 21 and 23": the first byte too many lies in the sequence that passes the limit, or at its end.
 -- q are the characters so far, n is the count of all bytes
@@ -43,9 +44,9 @@ unfoldable pub endingOf : Bool → ℕ → List ℕ → List Sequence → Ending
 endingOf report n q [] = clean
 endingOf report n q (read c f t ∷ more) =
     let on = endingOf report n (q ++ (c ∷ [])) more in
-    if ltb limit t then stop 20 limit q else grown (unfinished t (items report (q ++ (c ∷ [])))) t q on
-endingOf report n q (broken f t ∷ more) = if ltb limit t then stop 20 limit q else stop 21 f q
-endingOf report n q (short f ∷ more) = if ltb limit n then stop 20 limit q else stop 21 f q
+    if ltb limit t then stop refusal.tooLong limit q else grown (unfinished t (items report (q ++ (c ∷ [])))) t q on
+endingOf report n q (broken f t ∷ more) = if ltb limit t then stop refusal.tooLong limit q else stop refusal.notUtf8 f q
+endingOf report n q (short f ∷ more) = if ltb limit n then stop refusal.tooLong limit q else stop refusal.notUtf8 f q
 
 pub data LastWord : Type 0 where
   finished : LastWord

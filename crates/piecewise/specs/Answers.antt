@@ -6,6 +6,7 @@ use mathlib.Core.List.{List, []}
 use lib.ListN.{length}
 use lib.Dec.{eqb}
 use Rattle.laws.specs.Choice.{if_then_else_}
+use Rattle.refusal.specs.Refusals as refusal
 use Rattle.pieces.specs.declared.Marks.{Marks}
 use Rattle.pieces.specs.declared.Got.{Got}
 use Rattle.pieces.specs.declared.Got.the-variants.{Item, More, Finished, Refused}
@@ -37,10 +38,10 @@ pieced p buf text = reply (p .taken) (whatOf (p .got) text) (stateOf (p .marks) 
 
 -- the calls with the buffer lent: no state has a buffer of another length, so that is 27
 abbrev pub pieceIn : Marks → List ℕ → List ℕ → ℕ → Reply
-pieceIn m buf bs room = if eqb (length buf) longest then pieceOf (stateOf m buf) bs room else reply 0 (refused 27 0) (stateOf m buf)
+pieceIn m buf bs room = if eqb (length buf) longest then pieceOf (stateOf m buf) bs room else reply 0 (refused refusal.outOfBounds 0) (stateOf m buf)
 
 abbrev pub endIn : Marks → List ℕ → ℕ → Reply
-endIn m buf room = if eqb (length buf) longest then endOf (stateOf m buf) room else reply 0 (refused 27 0) (stateOf m buf)
+endIn m buf room = if eqb (length buf) longest then endOf (stateOf m buf) room else reply 0 (refused refusal.outOfBounds 0) (stateOf m buf)
 
 -- nothing was given yet
 abbrev pub isMore : Got → Bool

@@ -14,6 +14,10 @@ use pieces::Pieced;
 use pieces::Stage;
 use pieces::State;
 use pieces::Turned;
+use refusal::AFTER_END;
+use refusal::LITTLE_TEXT;
+use refusal::NOT_UTF8;
+use refusal::OUT_OF_BOUNDS;
 use steps::finish;
 use turns::passing::ahead;
 use turns::passing::pass;
@@ -151,7 +155,7 @@ fn read_piece(m: Marks, buf: &mut [u8], piece: &[u8], text: &mut [u8]) -> Pieced
         return refuse(m, OUT_OF_BOUNDS, 0);
     }
     if text.len() < LONGEST {
-        return refuse(m, NO_ROOM, 0);
+        return refuse(m, LITTLE_TEXT, 0);
     }
     let stage = m.stage;
     match stage {
@@ -252,7 +256,7 @@ fn read_end(m: Marks, buf: &mut [u8], text: &mut [u8]) -> Pieced
         return refuse(m, OUT_OF_BOUNDS, 0);
     }
     if text.len() < LONGEST {
-        return refuse(m, NO_ROOM, 0);
+        return refuse(m, LITTLE_TEXT, 0);
     }
     let stage = m.stage;
     match stage {

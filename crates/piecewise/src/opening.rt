@@ -6,6 +6,7 @@ use pieces::Opened;
 use pieces::Stage;
 use pieces::Start;
 use pieces::State;
+use refusal::NO_MODE;
 ghost use mathlib.Core.Path.{_≡_};
 ghost use Rattle.pieces.specs.Calls.{fresh, openOf};
 ghost use Rattle.piecewise.specs.Answers.{opened};

@@ -9,6 +9,7 @@ use native.Mathlib.Omega.{arith}
 use borrow.Author.Tests.{lt-ltb}
 use Rattle.laws.specs.Texts.{span, starts, same}
 use Rattle.laws.specs.Quoted.{code, within}
+use Rattle.refusal.specs.Refusals.{limit}
 use Rattle.chars.specs.Encode.{utf8, bytesOf, spelled}
 use Rattle.chars.specs.Utf8.{first, rest, front, firstBad, sequences}
 use Rattle.chars.specs.declared.Utf8.the-variants.{Good}
@@ -22,7 +23,7 @@ use Rattle.numbers.specs.declared.Real.the-variants.{Integer, Rational}
 use Rattle.numbers.specs.declared.Parts.{Parts}
 use Rattle.numbers.specs.declared.Parts.the-variants.{Just, Complex, Polar}
 use Rattle.numbers.specs.declared.NumberAnswer.{NumberAnswer}
-use Rattle.numbers.specs.Call.{Answer, parts, noNumber, error, refused, longest, answered, given, number}
+use Rattle.numbers.specs.Call.{Answer, parts, noNumber, error, refused, answered, given, number}
 use Rattle.numbers.proofs.Call.{answered-one}
 
 abbrev small : ℤ → Real
@@ -111,4 +112,4 @@ longest-read t e good = simp (e, good)
 
 too-long-first : (t : List ℕ) → 4294967295 < length t → number t ≡ refused 20 4294967295
 unfolding number
-too-long-first t h = simp (lt-ltb longest (length t) h)
+too-long-first t h = simp (lt-ltb limit (length t) h)

@@ -5,6 +5,7 @@ use lib.ListN.{length}
 use lib.Dec.{leb}
 use Rattle.laws.specs.Choice.{if_then_else_}
 use Rattle.laws.specs.Lent.{written}
+use Rattle.refusal.specs.Refusals as refusal
 use Rattle.items.specs.Items.{Item, depthAfter, memoryOf, recordOf}
 use Rattle.reader.specs.Reading.{What, gives, ends, stops, Stand, stands, refuses-with, nextFor}
 use Rattle.reader.specs.declared.Reader.{Reader}
@@ -33,7 +34,7 @@ dueTo (m ∷ ms) depth (i ∷ is) =
     let again = dueTo ms depth (i ∷ is) in
     if leb (length (memoryOf (i .text))) (length m)
     then told (gives (recordOf 0 depth i)) (written (memoryOf (i .text)) m) ∷ more
-    else told (stops 22 1 (length (memoryOf (i .text)))) m ∷ again
+    else told (stops refusal.tooFew 1 (length (memoryOf (i .text)))) m ∷ again
 
 -- a refused reader has no items
 abbrev pub itemsFor : Stand → List Item → List Item

@@ -4,6 +4,7 @@ use Prim.Native.Nat.{ℕ}
 use mathlib.Core.Bool.{Bool, false}
 use mathlib.Core.List.{List, []}
 use denote.Ref.{RefT, now}
+use Rattle.refusal.specs.Refusals as refusal
 use Rattle.items.specs.Items.{unset, wordsOf}
 use Rattle.items.specs.Whole.{limit}
 use Rattle.meaning.specs.Places.{rangeOf}
@@ -28,8 +29,8 @@ pub data What : Type 0 where
 abbrev pub givenOf : Given → What
 givenOf (given.Item r) = gives (wordsOf r)
 givenOf given.Finished = ends
-givenOf given.TooLong = stops 20 limit 0
-givenOf (given.NoRoom text) = stops 22 1 text
+givenOf given.TooLong = stops refusal.tooLong limit 0
+givenOf (given.NoRoom text) = stops refusal.tooFew 1 text
 
 -- an answer, where reading then stands, and what the text memory then holds
 pub record Stepped : Type 0 where
@@ -82,9 +83,9 @@ pub data Stand : Type 0 where
 -- what each answer means
 abbrev pub standingOf : Standing → Stand
 standingOf standing.Open = stands
-standingOf (standing.NoMode mode) = refuses-with 25 mode
-standingOf standing.TooLong = refuses-with 20 limit
-standingOf (standing.NotUtf8 at) = refuses-with 21 at
+standingOf (standing.NoMode mode) = refuses-with refusal.noMode mode
+standingOf standing.TooLong = refuses-with refusal.tooLong limit
+standingOf (standing.NotUtf8 at) = refuses-with refusal.notUtf8 at
 
 -- whether a reader is open, and where it starts
 pub record Started : Type 0 where

@@ -6,6 +6,7 @@ use lib.ListN.{length}
 use lib.Dec.{eqb, leb}
 use Rattle.laws.specs.Choice.{if_then_else_}
 use Rattle.laws.specs.Lent.{written}
+use Rattle.refusal.specs.Refusals as refusal
 use Rattle.chars.specs.Encode.{lay}
 use Rattle.items.specs.Items.{recordWords}
 use Rattle.lexer.specs.Opening.{Opening, opened, refused, openOf}
@@ -35,7 +36,7 @@ opens (refused n a) words values = started n words (told a 0 values)
 -- 27 where there are not the words of a position; then 01: "it opens under 25, 20, 21"
 unfoldable pub openLeft : List ℕ → ℕ → Bool → List ℕ → List ℕ → Started
 openLeft source mode skip words values =
-    if eqb (length words) readerWords then opens (openOf source mode skip) words values else started 27 words (told 0 0 values)
+    if eqb (length words) readerWords then opens (openOf source mode skip) words values else started refusal.outOfBounds words (told 0 0 values)
 
 -- ---- one item
 
@@ -78,5 +79,5 @@ isRoom i values = leb recordWords i && leb 2 values
 unfoldable pub nextLeft : List ℕ → Memory → Left
 nextLeft source m =
     if isRoom (length (m .item)) (length (m .values))
-    then (if isPosition (m .words) then given m (nextOf source (positionIn (m .words)) (m .text)) else stays m 27 0 0)
-    else stays m 22 1 0
+    then (if isPosition (m .words) then given m (nextOf source (positionIn (m .words)) (m .text)) else stays m refusal.outOfBounds 0 0)
+    else stays m refusal.tooFew 1 0

@@ -23,6 +23,12 @@ use position::READER_WORDS;
 use position::is_position;
 use position::position_in;
 use position::put_position;
+use refusal::LIMIT;
+use refusal::NO_MODE;
+use refusal::NOT_UTF8;
+use refusal::OUT_OF_BOUNDS;
+use refusal::TOO_FEW;
+use refusal::TOO_LONG;
 
 // What opening answers beside refusals.
 const OPENED: u32 = 0;
@@ -32,19 +38,8 @@ const AN_ITEM: u32 = 10;
 
 const FINISHED: u32 = 12;
 
-// Document 01's refusals 20, 21, 22, 25 and 27.
-const TOO_LONG: u32 = 20;
-
-const NOT_UTF8: u32 = 21;
-
-const TOO_FEW: u32 = 22;
-
-const NO_MODE: u32 = 25;
-
-const NO_POSITION: u32 = 27;
-
 // What refusal 20 comes with.
-const LONGEST: u64 = 4_294_967_295;
+const LONGEST: u64 = LIMIT as u64;
 
 // How many values are written.
 const VALUES: usize = 2;
@@ -142,7 +137,7 @@ pub extern "C" fn mihadrena_reader_open(
 {
     if position.len() != READER_WORDS {
         put_values(values, 0, 0);
-        return NO_POSITION;
+        return OUT_OF_BOUNDS;
     }
     let answer = lexer::open(source, mode, skip);
     tell_open(answer, position, values)
@@ -168,7 +163,7 @@ pub extern "C" fn mihadrena_reader_next(
     }
     if !is_position(position) {
         put_values(values, 0, 0);
-        return NO_POSITION;
+        return OUT_OF_BOUNDS;
     }
     let answer = next_at(source, position_in(position), text);
     tell_next(answer, position, item, values)

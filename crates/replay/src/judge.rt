@@ -4,6 +4,11 @@ use crate::frame::Frame;
 use crate::frame::same_words;
 use cuttings::Cutting;
 use lexer::ReadAnswer;
+use refusal::LIMIT;
+use refusal::NO_MODE;
+use refusal::NOT_UTF8;
+use refusal::TOO_FEW;
+use refusal::TOO_LONG;
 
 // What comes of a frame.
 pub enum Verdict {
@@ -18,19 +23,11 @@ pub enum Verdict {
     Broken,
 }
 
-// The answers of the whole-text call.
+// What the whole-text call answers beside refusals.
 const SERVED: u32 = 0;
 
-const TOO_LONG: u32 = 20;
-
-const NOT_UTF8: u32 = 21;
-
-const TOO_FEW: u32 = 22;
-
-const NO_MODE: u32 = 25;
-
 // What refusal 20 comes with.
-const LONGEST: u64 = 4_294_967_295;
+const LONGEST: u64 = LIMIT as u64;
 
 // Whether a frame tells this answer, with these values.
 fn tells(f: Frame, answer: u32, first: u64, second: u64) -> bool {

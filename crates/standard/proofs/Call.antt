@@ -1,10 +1,11 @@
 -- The whole text, the refusals of the call, and the choice.
+use Rattle.refusal.specs.Refusals.{tooLong, notUtf8, limit, unknownChoice}
 use Rattle.numbers.specs.declared.Parsed.{Parsed}
 use Rattle.numbers.specs.declared.MaybeParts.{MaybeParts}
 use Rattle.numbers.specs.Grammar.{judged, prefix}
-use Rattle.numbers.specs.Call.{tooLong, notUtf8, longest, given, number, refused}
+use Rattle.numbers.specs.Call.{given, number, refused}
 use Rattle.standard.specs.Grammar.{complex, numberParts, parseStandard}
-use Rattle.standard.specs.Call.{bought, standard, unknownChoice, byStandard, numberBy}
+use Rattle.standard.specs.Call.{bought, standard, byStandard, numberBy}
 use Rattle.chars.specs.Utf8.{firstBad}
 use Rattle.chars.specs.declared.Utf8.the-variants as utf8
 use Prim.Native.Nat.{ℕ, _≤_, _<_}
@@ -25,18 +26,18 @@ module _ (s : List ℕ) (m : ℕ) (b : MaybeParts) (r : Parsed) (p : m ≡ prefi
 
 -- refusals 20 and 21
 module _ (t : List ℕ) where
-  pub too-long : longest < length t → byStandard t ≡ refused tooLong longest
+  pub too-long : limit < length t → byStandard t ≡ refused tooLong limit
   unfolding byStandard
-  too-long h = simp (lt-ltb longest (length t) h)
+  too-long h = simp (lt-ltb limit (length t) h)
 
-  module _ (h : length t ≤ longest) where
+  module _ (h : length t ≤ limit) where
     pub not-utf8 : (at : ℕ) → firstBad t ≡ utf8.Bad at → byStandard t ≡ refused notUtf8 at
     unfolding byStandard
-    not-utf8 at e = simp (le-ltb longest (length t) h, e)
+    not-utf8 at e = simp (le-ltb limit (length t) h, e)
 
     pub served : firstBad t ≡ utf8.Good → byStandard t ≡ given (parseStandard t)
     unfolding byStandard
-    served e = simp (le-ltb longest (length t) h, e)
+    served e = simp (le-ltb limit (length t) h, e)
 
 -- the choice c
 module _ (c : ℕ) (t : List ℕ) where

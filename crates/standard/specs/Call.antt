@@ -4,8 +4,9 @@ use mathlib.Core.List.{List}
 use lib.ListN.{length}
 use lib.Dec.{ltb, eqb}
 use Rattle.laws.specs.Choice.{if_then_else_}
+use Rattle.refusal.specs.Refusals.{tooLong, limit, unknownChoice}
 use Rattle.chars.specs.Utf8.{firstBad}
-use Rattle.numbers.specs.Call.{Answer, refused, tooLong, longest, answered, given, checked, number}
+use Rattle.numbers.specs.Call.{Answer, refused, answered, given, checked, number}
 use Rattle.standard.specs.declared.NumberByAnswer.{NumberByAnswer}
 use Rattle.standard.specs.declared.NumberByAnswer.the-variants.{Answered, UnknownChoice}
 use Rattle.standard.specs.Grammar.{parseStandard}
@@ -17,10 +18,6 @@ bought = 0
 abbrev pub standard : ℕ
 standard = 1
 
--- the refusal of any other
-abbrev pub unknownChoice : ℕ
-unknownChoice = 39
-
 -- the numbers and values for each case of the code's answer: 39 comes with 0
 abbrev pub answeredBy : NumberByAnswer → Answer
 answeredBy (Answered a) = answered a
@@ -28,7 +25,7 @@ answeredBy UnknownChoice = refused unknownChoice 0
 
 -- the number call with the standard's reader: 20 and 21 as with the bought one
 unfoldable pub byStandard : List ℕ → Answer
-byStandard t = if ltb longest (length t) then refused tooLong longest else checked (firstBad t) (given (parseStandard t))
+byStandard t = if ltb limit (length t) then refused tooLong limit else checked (firstBad t) (given (parseStandard t))
 
 -- the number call with the reader of a choice
 unfoldable pub numberBy : ℕ → List ℕ → Answer

@@ -8,6 +8,7 @@ use mathlib.Core.Bool.{true, false}
 use lib.IntN.{ℤ, pos, negsuc}
 use Rattle.laws.specs.Quoted.{within}
 use Rattle.laws.specs.Texts.{span, starts, same}
+use Rattle.refusal.specs.Refusals.{notUtf8, unknownChoice}
 use Rattle.chars.specs.Utf8 as chars
 use Rattle.chars.specs.Encode as encode
 use Rattle.digits.specs.declared.Int.the-variants.{Small}
@@ -17,7 +18,7 @@ use Rattle.numbers.specs.declared.Real.the-variants.{Integer, Rational, PosInf,
 use Rattle.numbers.specs.declared.Parts.the-variants.{Just, Complex, Polar}
 use Rattle.numbers.specs.Reals as bought
 use Rattle.numbers.specs.Grammar as bought-grammar
-use Rattle.numbers.specs.Call.{Answer, parts, noNumber, error, refused, zeroDenominator, notUtf8, number}
+use Rattle.numbers.specs.Call.{Answer, parts, noNumber, error, refused, zeroDenominator, number}
 use Rattle.standard.specs.Characters.{lower, isSign}
 use Rattle.standard.specs.Reals.{infnan, ratio, ureal, real}
 use Rattle.standard.specs.Grammar.{endsI, imaginary, aloneOf, pairOf, joint, rectangular, complex, numberParts, parseStandard}
@@ -75,6 +76,6 @@ unfolding table within span starts same digitOf sign uinteger value signed whole
 by-standard = refl
 
 -- any other choice is refused, before a text that is not UTF-8
-unknown : call.numberBy 2 (0xFF ∷ []) ≡ refused call.unknownChoice 0
+unknown : call.numberBy 2 (0xFF ∷ []) ≡ refused unknownChoice 0
 unfolding call.numberBy
 unknown = refl

@@ -5,6 +5,7 @@
 use chars::Utf8;
 use numbers::NumberAnswer;
 use numbers::Parsed;
+use refusal::LIMIT;
 ghost use mathlib.Core.Path.{_≡_};
 ghost use Rattle.numbers.specs.Call.{answered};
 ghost use Rattle.standard.specs.Grammar.{parseStandard};
@@ -25,9 +26,6 @@ pub enum NumberByAnswer {
 const BOUGHT: u32 = 0;
 
 const STANDARD: u32 = 1;
-
-// The longest text that is read, in bytes.
-const LONGEST: usize = 4_294_967_295;
 
 // The radix of a text without a prefix, and the one in which `e` is a digit.
 const DECIMAL: u64 = 10;
@@ -56,7 +54,7 @@ pub fn parse_standard(t: &[u8]) -> Parsed
 fn by_standard(t: &[u8]) -> NumberAnswer
     ensures { λ r. ⌜ answered r ≡ byStandard (now (t .entry)) ⌝ }
 {
-    if LONGEST < t.len() {
+    if LIMIT < t.len() {
         return NumberAnswer::TooLong;
     }
     match chars::first_bad(t) {

@@ -1,13 +1,11 @@
 // The number call with a choice of reader for programs in C and Rust: its answer as a number, and a number's parts as the words that
 // crate number_words lays out.
+use refusal::UNKNOWN_CHOICE;
 use standard::NumberByAnswer;
 ghost use mathlib.Core.Path.{_≡_};
 ghost use Rattle.chars.specs.Encode.{lay};
 ghost use Rattle.number_words.specs.Words.{flattened, numberOr};
 ghost use Rattle.standard.specs.Call.{numberBy};
-
-// The refusal of a choice that there is not.
-const UNKNOWN_CHOICE: u32 = 39;
 
 // What a text is as a number by the reader of a choice: the answer's number, and its words at the front of `words`. An unknown choice has
 // no word, a text that is refused one, what the refusal comes with; with too few words for any other answer it is refusal 22, and nothing

@@ -6,12 +6,13 @@ use mathlib.Core.List.{List}
 use lib.Dec.{eqb}
 use native.Mathlib.Omega.{arith}
 use Rattle.laws.specs.Choice.{if_then_else_}
+use Rattle.refusal.specs.Refusals.{tooLong, unknownChoice}
 use Rattle.chars.specs.Encode.{spelled}
 use Rattle.numbers.specs.declared.NumberAnswer.the-variants as answer
-use Rattle.numbers.specs.Call.{Answer, parts, noNumber, error, refused, tooLong}
+use Rattle.numbers.specs.Call.{Answer, parts, noNumber, error, refused}
 use Rattle.standard.specs.declared.NumberByAnswer.{NumberByAnswer}
 use Rattle.standard.specs.declared.NumberByAnswer.the-variants.{Answered, UnknownChoice}
-use Rattle.standard.specs.Call.{bought, standard, unknownChoice, answeredBy, numberBy}
+use Rattle.standard.specs.Call.{bought, standard, answeredBy, numberBy}
 use Rattle.standard_promises.specs.Rows.{bad, unknown, computed}
 
 -- two answers that the contract permits for one choice and text coincide

@@ -5,6 +5,7 @@ use giving::give::copy_all;
 use giving::marks::marks_at;
 use pieces::Marks;
 use pieces::Stage;
+use refusal::LIMIT;
 use steps::ascii_run;
 use texts::blank_end;
 ghost use mathlib.Core.Path.{_≡_};

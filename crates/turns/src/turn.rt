@@ -17,6 +17,10 @@ use pieces::Marks;
 use pieces::Part;
 use pieces::Stage;
 use pieces::Turned;
+use refusal::LIMIT;
+use refusal::LONG_ITEM;
+use refusal::NOT_UTF8;
+use refusal::TOO_LONG;
 use steps::step;
 ghost use mathlib.Core.Path.{_≡_};
 ghost use mathlib.Core.Bool.{true};
@@ -53,7 +57,7 @@ fn eat(m: Marks, buf: &mut [u8], start: usize, c: u32, phase: Phase) -> Turned
     let width = char_width(c);
     let len = m.len;
     if LONGEST < len + width {
-        return stop(m, TOO_LONG_ITEM, start);
+        return stop(m, LONG_ITEM, start);
     }
     lay(buf, len, c);
     go_on(marks_at(

@@ -148,10 +148,10 @@ pub struct State {
 #[repr(C)]
 #[derive(Clone, Copy, Debug, Default, PartialEq, Eq)]
 pub struct Told {
-    /// How many bytes of the piece were taken.
-    pub taken: u64,
     /// What a refusal comes with; else 0.
     pub place: u64,
+    /// How many bytes of the piece were taken.
+    pub taken: u64,
 }
 
 /// How many words a position of the reader has; docs/STATE.md says what they mean.

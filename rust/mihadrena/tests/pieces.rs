@@ -250,7 +250,7 @@ fn a_mode_that_is_none_opens_a_plain_state() {
 #[test]
 fn raw_refusals_change_nothing_else() {
     let lent = Lent::opened();
-    Lent { record: vec![OLD_WORD; raw::RECORD_WORDS - 1], ..lent.clone() }.refuses(raw::TOO_FEW, &[0, 1]);
+    Lent { record: vec![OLD_WORD; raw::RECORD_WORDS - 1], ..lent.clone() }.refuses(raw::TOO_FEW, &[1, 0]);
     Lent { values: vec![OLD_VALUE], ..lent.clone() }.refuses(raw::TOO_FEW, &[OLD_VALUE]);
     Lent { text: vec![OLD_BYTE; raw::PIECE_TEXT - 1], ..lent.clone() }.refuses(raw::LITTLE_TEXT, &[0, 0]);
     for word in 0..raw::STATE_WORDS {
@@ -313,27 +313,27 @@ fn the_longest_text() {
     let mut lent = Lent::opened();
     assert_eq!(lent.piece(b" "), raw::MORE);
     lent.state.words[AT] = raw::LONGEST - 2;
-    assert_eq!((lent.piece(b"a"), &lent.values[..]), (raw::MORE, &[1, 0][..]));
+    assert_eq!((lent.piece(b"a"), &lent.values[..]), (raw::MORE, &[0, 1][..]));
     let mut longest = lent.clone();
-    assert_eq!((longest.piece(b" "), &longest.values[..]), (raw::ITEM, &[1, 0][..]));
+    assert_eq!((longest.piece(b" "), &longest.values[..]), (raw::ITEM, &[0, 1][..]));
     assert_eq!((longest.piece(b""), longest.end()), (raw::MORE, raw::FINISHED));
     let mut longer = lent;
-    assert_eq!((longer.piece(b"aaa"), &longer.values[..]), (raw::TOO_LONG, &[2, raw::LONGEST][..]));
-    assert_eq!((longer.end(), &longer.values[..]), (raw::TOO_LONG, &[0, raw::LONGEST][..]));
+    assert_eq!((longer.piece(b"aaa"), &longer.values[..]), (raw::TOO_LONG, &[raw::LONGEST, 2][..]));
+    assert_eq!((longer.end(), &longer.values[..]), (raw::TOO_LONG, &[raw::LONGEST, 0][..]));
 }
 
 #[test]
 fn only_an_item_writes_its_record_and_text() {
     let mut lent = Lent::opened();
-    assert_eq!((lent.piece(b"ab"), &lent.values[..]), (raw::MORE, &[2, 0][..]));
+    assert_eq!((lent.piece(b"ab"), &lent.values[..]), (raw::MORE, &[0, 2][..]));
     assert_eq!(
         (&lent.record[..], &lent.text[..]),
         (&[OLD_WORD; raw::RECORD_WORDS][..], &[OLD_BYTE; raw::PIECE_TEXT][..])
     );
-    assert_eq!((lent.piece(b"c d"), &lent.values[..]), (raw::ITEM, &[2, 0][..]));
+    assert_eq!((lent.piece(b"c d"), &lent.values[..]), (raw::ITEM, &[0, 2][..]));
     assert_eq!(lent.record, [raw::IDENTIFIER, 0, 0, 3, 0, 3, raw::IN_MEMORY, 0, 3, 0]);
     assert_eq!((&lent.text[..3], &lent.text[3..]), (&b"abc"[..], &[OLD_BYTE; raw::PIECE_TEXT - 3][..]));
-    let told = Told { taken: lent.values[0], place: lent.values[1] };
-    assert_eq!(told, Told { taken: 2, place: 0 });
+    let told = Told { place: lent.values[0], taken: lent.values[1] };
+    assert_eq!(told, Told { place: 0, taken: 2 });
     assert_eq!((lent.end(), &lent.values[..]), (raw::FINISHED, &[0, 0][..]));
 }

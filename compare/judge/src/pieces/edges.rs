@@ -54,7 +54,7 @@ fn too_few(tally: &mut Tally) {
             } else {
                 proved::piece(bytes, state_words, b"(a)", &mut text, &mut record, &mut values)
             };
-            let told = if count < 2 { vec![7; count] } else { vec![0, 1] };
+            let told = if count < 2 { vec![7; count] } else { vec![1, 0] };
             let kept = lent == state && text == vec![1; STATE_BYTES] && record == vec![1; words];
             let input = || format!("{words} words, {count} values, end {ends}");
             tally.same((TOO_FEW, told, true), (number, values, kept), input);

@@ -67,7 +67,7 @@ impl Lent {
             Some(piece) => proved::piece(bytes, words, piece, text, &mut self.record, &mut values),
             None => proved::end(bytes, words, text, &mut self.record, &mut values),
         };
-        let [taken, place, past] = values;
+        let [place, taken, past] = values;
         let what = self.what(number, place);
         let stood = !self.must_stand(&what) || self.state == before;
         let kept = past == OLD_VALUE && self.text == self.text_due && self.record == self.record_due;
