@@ -147,7 +147,8 @@ module _ {q g : List ℕ} {s : State} (k : Kept q g s) (deep : Deep s) where
     turned-ends : (o : Outcome) → Ranges o → Turned (s .marks .ended) (ends s st o b)
     unfolding extentItems
     turned-ends o r =
-        turned-gives (rangeAfter (report s) (lastOf s) st o (itemSoFar s)) (kept-range k st o (itemSoFar s) r (omega (arith, h .ends, k .far)) (omega (arith, k .far)) (omega (arith, h .ends, k .far, bytes-fit s)))
+        turned-gives (rangeAfter (report s) (lastOf s) st o (itemSoFar s))
+        (kept-range k st o (itemSoFar s) r (omega (arith, h .ends, k .far)) (omega (arith, k .far)) (omega (arith, h .ends, k .far, bytes-fit s)))
         (report s) (rangeAfter (report s) (standing (report s) (lastOf s)) st o (itemSoFar s)) (meaningOf (report s) o st (s .marks .at) (take (s .marks .len) (s .buf)))
         (shape st (s .marks .at) (take (s .marks .len) (s .buf)) (report s) o)
 
