@@ -28,8 +28,8 @@ use Rattle.pieces.specs.Drive.{heed, prepend}
 use Rattle.pieces.specs.Expected.{Expected, longest}
 use Rattle.pieces.specs.Given.{given, givenAll}
 use Rattle.pieces.proofs.Cuts.{settled, afterTurn, settled-calm}
-use Rattle.pieces.proofs.Kept.{Kept, Held, Staged, Calm, Within, laid-held, kept-pass, laid-in, kept-laid, first-in, kept-first}
-use Rattle.pieces.proofs.Kept.{bytes-fit, kept-range, kept-depth}
+use Rattle.pieces.proofs.Kept.{Kept, Held, Staged, Calm, Within, laid-held, bytes-fit}
+use Rattle.pieces.proofs.Becomes.{kept-pass, laid-in, kept-laid, first-in, kept-first, kept-range, kept-depth}
 use Rattle.pieces.proofs.Pairs.{Shape, alone, pair, shape}
 use Rattle.pieces.proofs.Phases.{Goes, first-sized}
 use Rattle.pieces.proofs.Turns.{held-length, step-goes, kept-pound}

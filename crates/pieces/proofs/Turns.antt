@@ -31,8 +31,9 @@ use Rattle.pieces.specs.Calls.{gives, report, ends, onNext, onStage, par
 use Rattle.pieces.specs.Calls.{endStage, endUnlessStopped, endOf, fresh, openOf}
 use Rattle.pieces.specs.Expected.{longest}
 use Rattle.pieces.specs.Produced.{Produced, opened, pieced, ended}
-use Rattle.pieces.proofs.Kept.{Kept, Deep, HeldIn, Held, Staged, Beyonds, Calm, Within, kept-bounded, kept-pass, laid-in, kept-laid, first-in, kept-first}
-use Rattle.pieces.proofs.Kept.{kept-stopped, kept-end, kept-partly, kept-depth, kept-declared, kept-waiting, bytes-fit, kept-range, none-begun}
+use Rattle.pieces.proofs.Kept.{Kept, Deep, HeldIn, Held, Staged, Beyonds, Calm, Within, kept-bounded, bytes-fit}
+use Rattle.pieces.proofs.Becomes.{kept-pass, laid-in, kept-laid, first-in, kept-first, kept-stopped, kept-end, kept-partly}
+use Rattle.pieces.proofs.Becomes.{kept-depth, kept-declared, kept-waiting, kept-range, none-begun}
 use Rattle.pieces.proofs.Pairs.{Shape, alone, pair, shape}
 use Rattle.pieces.proofs.Parts.{Stepped, stepped}
 use Rattle.pieces.proofs.Phases.{Ranges, Sized, Goes, goes-on, first-sized, finish-ranges}
