@@ -23,7 +23,8 @@ use Rattle.items.specs.Classes.{afterHash, endsHash, inHash, staysHash}
 use Rattle.items.specs.Meaning.{lookup, lower, charNames, unnamed, onlyOne, hexNamed, spelledOut, characterOf, charInside, none, Row}
 use Rattle.items.specs.Readers.{soFar, got, firstIs, boolKind, quoteKind, formKind, hashKind, hashOn, readItem}
 use Rattle.items.specs.Kinds as kind
-use Rattle.agreement.specs.Character.{CharacterName, named-alarm, named-backspace, named-delete, named-escape, named-newline, named-null, named-return, named-space, named-tab, CharacterText, any, by-name, by-hex}
+use Rattle.agreement.specs.Character.{CharacterName, named-alarm, named-backspace, named-delete, named-escape, named-newline}
+use Rattle.agreement.specs.Character.{named-null, named-return, named-space, named-tab, CharacterText, any, by-name, by-hex}
 use Rattle.agreement.specs.Delimiter.{hashDelimiters, Ends}
 use Rattle.agreement.specs.Escape.{HexScalar}
 use Rattle.agreement.specs.Reading.{nothing, ReadAs}

@@ -19,7 +19,8 @@ use Rattle.items.specs.Meaning.{lookup, words, wordKind, source}
 use Rattle.items.specs.Readers.{readItem}
 use Rattle.items.specs.Kinds as kind
 use Rattle.agreement.specs.Delimiter.{delimiters, Ends}
-use Rattle.agreement.specs.Identifier.{explicitSigns, special, initial, Plain, plain, SignSubsequent, DotSubsequent, sign, dot-again, Peculiar, alone, signed, signed-dot, dotted, Unsplit, plus, other}
+use Rattle.agreement.specs.Identifier.{explicitSigns, special, initial, Plain, plain, SignSubsequent, DotSubsequent, sign, dot-again}
+use Rattle.agreement.specs.Identifier.{Peculiar, alone, signed, signed-dot, dotted, Unsplit, plus, other}
 use Rattle.agreement.specs.Reading.{bytes, ReadAs}
 use Rattle.agreement.specs.Repeated.{Many, done, more}
 use Rattle.agreement.proofs.Bytes.{spells-whole}

@@ -29,7 +29,8 @@ use Rattle.items.specs.Readers.{firstIs, scalarOf}
 use Rattle.items.proofs.Every.{Every}
 use Rattle.itemparts.proofs.Spelled.{spelledKinds, spelled-kind}
 use Rattle.itemparts.proofs.Stands.{Meant, token, string, here-string, character, number, word, error, wordKinds, other, none-of, no-error}
-use Rattle.agreement.specs.Character.{CharacterName, named-alarm, named-backspace, named-delete, named-escape, named-newline, named-null, named-return, named-space, named-tab, CharacterText, any, by-name, by-hex}
+use Rattle.agreement.specs.Character.{CharacterName, named-alarm, named-backspace, named-delete, named-escape, named-newline}
+use Rattle.agreement.specs.Character.{named-null, named-return, named-space, named-tab, CharacterText, any, by-name, by-hex}
 use Rattle.agreement.specs.Converse.{ForeignCharacter, CharacterIn}
 use Rattle.agreement.specs.Converse as foreign
 use Rattle.agreement.specs.Escape.{HexScalar}

@@ -30,7 +30,11 @@ unfolding wordMeans wordKind lookup words same bytesOf utf8
 dot-means s e = refl
 
 read-dot : (report : Bool) (cs : List ℕ) → Ends delimiters cs → ReadAs report (codes ".") cs kind.Dot 0 nothing
-read-dot report cs h = record { text = λ at. none; one = run-read report (code ".") kind.Dot (λ at. none) refl done h (lone-no-number (code ".") refl) refl (λ at. dot-means at _); spells = λ at. refl }
+read-dot report cs h = record {
+  text = λ at. none;
+  one = run-read report (code ".") kind.Dot (λ at. none) refl done h (lone-no-number (code ".") refl) refl (λ at. dot-means at _);
+  spells = λ at. refl;
+}
 
 pub punctuation : (report : Bool) {t : List ℕ} {k d : ℕ} (cs : List ℕ) (p : Punctuation t k d) → MayFollow p cs → ReadAs report t cs k d nothing
 unfolding isBlank readItem firstOf startsRun readHash afterHash hashOn inHash endsHash hashAt hashKind boolKind quoteKind formKind same begins bytesOf utf8 width hashBracket readComma

@@ -57,7 +57,12 @@ module _ (report : Bool) where
   an-identifier = whole-items report (tokens refl (token [] [] (token.identifier (identifier.plain (identifier.letter refl) done) refl atEnd) no-more))
 
   pub a-peculiar : AreSaid (said kind.Identifier 0 0 (codes "-") (bytes (bytesOf (codes "-"))) ∷ []) (items report (codes "-"))
-  unfolding begins wordKind lookup words same bytesOf utf8 span starts within digitOf sign uinteger value signed wholeOf bought.exponentMarker bought.exponent bought.suffix bought.pointOf bought.dotted bought.undotted bought.decimal bought.integralOf bought.rationalOf bought.orElse justOf toSign startsE radixMark prefix lower isSign standard-real.infnan standard-real.ratio standard-real.ureal standard-real.real standard.endsI standard.imaginary standard.aloneOf standard.pairOf standard.joint standard.rectangular standard.complex standard.numberParts bought.infnan
+  -- the list only permits the computing
+  unfolding begins wordKind lookup words same bytesOf utf8 span starts within digitOf sign uinteger value signed wholeOf
+      bought.exponentMarker bought.exponent bought.suffix bought.pointOf bought.dotted bought.undotted bought.decimal bought.integralOf
+      bought.rationalOf bought.orElse justOf toSign startsE radixMark prefix lower isSign standard-real.infnan standard-real.ratio
+      standard-real.ureal standard-real.real standard.endsI standard.imaginary standard.aloneOf standard.pairOf standard.joint
+      standard.rectangular standard.complex standard.numberParts bought.infnan
   a-peculiar =
       whole-items report
       (tokens refl

@@ -60,7 +60,8 @@ unfolding digitOf within lower somewhere isCapital isN zeroParts zeroReal
 decimal report =
     read-as report []
     (token.any-number
-    (written {s = codes "9"} (Prefix.decimal (Letter.letter refl)) (ComplexAt.real (RealAt.ureal Sign.empty (URealAt.integer (one-digit 10 (code "9") (lit< tt))))) refl (λ e. absurd (omega arith)) refl)
+    (written {s = codes "9"} (Prefix.decimal (Letter.letter refl))
+    (ComplexAt.real (RealAt.ureal Sign.empty (URealAt.integer (one-digit 10 (code "9") (lit< tt))))) refl (λ e. absurd (omega arith)) refl)
     atEnd)
 
 pub hexadecimal : (report : Bool) → ReadAs report (codes "#xF") [] kind.Number 0 nothing

@@ -14,10 +14,14 @@ use Rattle.chars.specs.Utf8.{first, rest, front}
 use Rattle.digits.specs.Digits.{digitOf, sign, uinteger, value, fit, signed, wholeOf, integer}
 use Rattle.digits.specs.Hex.{hexDigits, hexAfterPlus, hexValue}
 use Rattle.numbers.specs.Reals.{exponentMarker, exponent, suffix, pointOf, dotted, undotted, decimal, infnan, integralOf, rationalOf, denominator, exact, orElse, ureal, real}
-use Rattle.numbers.specs.Grammar.{justOf, complexOf, polarOf, endsI, imaginary, aloneOf, pairOf, toSign, startsE, rectangular, complex, zeroInt, zeroReal, zeroParts, judged, radixMark, prefix, parseNumber}
+use Rattle.numbers.specs.Grammar.{justOf, complexOf, polarOf, endsI, imaginary, aloneOf, pairOf, toSign, startsE, rectangular, complex}
+use Rattle.numbers.specs.Grammar.{zeroInt, zeroReal, zeroParts, judged, radixMark, prefix, parseNumber}
 use Rattle.items.specs.Classes.{startsRun, firstOf, inQuotes, afterBackslash, stopsHex, inHex, inTrim, inNest, breaksWord, inWord, staysRun, endsRun, inRun, afterHash, endsHash, inHash, inDelim}
-use Rattle.items.specs.Readers.{readLine, linedOf, scalarOf, pastFailing, readWord, readRun, boolKind, quoteKind, formKind, hashKind, hashBracket, hashAt, hashComma, unreturned, endsWith, hereEnds, hereBody, hereDelim, afterAngle, readHash, readComma, readItem, readNest, readQuoted, wordOn, hashOn}
-use Rattle.items.specs.Meaning.{Text, none, source, decoded, lookup, words, wordKind, wordMeans, runMeans, escaped, stringText, linedText, hereText, charNames, isDelimiter, nameless, hexNamed, spelledOut, characterOf, unescape}
+use Rattle.items.specs.Readers.{readLine, linedOf, scalarOf, pastFailing, readWord, readRun, boolKind, quoteKind, formKind, hashKind}
+use Rattle.items.specs.Readers.{hashBracket, hashAt, hashComma, unreturned, endsWith, hereEnds, hereBody, hereDelim, afterAngle, readHash}
+use Rattle.items.specs.Readers.{readComma, readItem, readNest, readQuoted, wordOn, hashOn}
+use Rattle.items.specs.Meaning.{Text, none, source, decoded, lookup, words, wordKind, wordMeans, runMeans, escaped, stringText, linedText}
+use Rattle.items.specs.Meaning.{hereText, charNames, isDelimiter, nameless, hexNamed, spelledOut, characterOf, unescape}
 use Rattle.items.specs.Items.{extentItems, itemsFrom, pastLine, afterPound, items}
 use Rattle.items.specs.Kinds as kind
 
@@ -231,9 +235,25 @@ abbrev read : Bool → List (List Found)
 read report = map (λ r. map (λ i. found (i .kind) (i .detail) (i .start) (i .end) (i .text)) (items report (r .text))) table
 
 computed : read false ≡ map (λ r. r .plain) table
-unfolding table span starts begins same isScalar utf8 width encode bytesOf isBlank within first rest front digitOf sign uinteger value fit signed wholeOf integer hexDigits hexAfterPlus hexValue exponentMarker exponent suffix pointOf dotted undotted decimal infnan integralOf rationalOf denominator exact orElse ureal real justOf complexOf polarOf endsI imaginary aloneOf pairOf toSign startsE rectangular complex zeroInt zeroReal zeroParts judged radixMark prefix parseNumber startsRun firstOf inQuotes afterBackslash stopsHex inHex inTrim inNest breaksWord inWord staysRun endsRun inRun afterHash endsHash inHash inDelim readLine linedOf scalarOf pastFailing readWord readRun boolKind quoteKind formKind hashKind hashBracket hashAt hashComma unreturned endsWith hereEnds hereBody hereDelim afterAngle readHash readComma readItem readNest readQuoted wordOn hashOn lookup words wordKind wordMeans runMeans escaped stringText linedText hereText charNames isDelimiter nameless hexNamed spelledOut characterOf unescape extentItems itemsFrom pastLine afterPound items
+-- the list only permits the computing
+unfolding table span starts begins same isScalar utf8 width encode bytesOf isBlank within first rest front digitOf sign uinteger value fit
+    signed wholeOf integer hexDigits hexAfterPlus hexValue exponentMarker exponent suffix pointOf dotted undotted decimal infnan integralOf
+    rationalOf denominator exact orElse ureal real justOf complexOf polarOf endsI imaginary aloneOf pairOf toSign startsE rectangular
+    complex zeroInt zeroReal zeroParts judged radixMark prefix parseNumber startsRun firstOf inQuotes afterBackslash stopsHex inHex inTrim
+    inNest breaksWord inWord staysRun endsRun inRun afterHash endsHash inHash inDelim readLine linedOf scalarOf pastFailing readWord readRun
+    boolKind quoteKind formKind hashKind hashBracket hashAt hashComma unreturned endsWith hereEnds hereBody hereDelim afterAngle readHash
+    readComma readItem readNest readQuoted wordOn hashOn lookup words wordKind wordMeans runMeans escaped stringText linedText hereText
+    charNames isDelimiter nameless hexNamed spelledOut characterOf unescape extentItems itemsFrom pastLine afterPound items
 computed = refl
 
 computed-report : read true ≡ map (λ r. r .report) table
-unfolding table span starts begins same isScalar utf8 width encode bytesOf isBlank within first rest front digitOf sign uinteger value fit signed wholeOf integer hexDigits hexAfterPlus hexValue exponentMarker exponent suffix pointOf dotted undotted decimal infnan integralOf rationalOf denominator exact orElse ureal real justOf complexOf polarOf endsI imaginary aloneOf pairOf toSign startsE rectangular complex zeroInt zeroReal zeroParts judged radixMark prefix parseNumber startsRun firstOf inQuotes afterBackslash stopsHex inHex inTrim inNest breaksWord inWord staysRun endsRun inRun afterHash endsHash inHash inDelim readLine linedOf scalarOf pastFailing readWord readRun boolKind quoteKind formKind hashKind hashBracket hashAt hashComma unreturned endsWith hereEnds hereBody hereDelim afterAngle readHash readComma readItem readNest readQuoted wordOn hashOn lookup words wordKind wordMeans runMeans escaped stringText linedText hereText charNames isDelimiter nameless hexNamed spelledOut characterOf unescape extentItems itemsFrom pastLine afterPound items
+-- the list only permits the computing
+unfolding table span starts begins same isScalar utf8 width encode bytesOf isBlank within first rest front digitOf sign uinteger value fit
+    signed wholeOf integer hexDigits hexAfterPlus hexValue exponentMarker exponent suffix pointOf dotted undotted decimal infnan integralOf
+    rationalOf denominator exact orElse ureal real justOf complexOf polarOf endsI imaginary aloneOf pairOf toSign startsE rectangular
+    complex zeroInt zeroReal zeroParts judged radixMark prefix parseNumber startsRun firstOf inQuotes afterBackslash stopsHex inHex inTrim
+    inNest breaksWord inWord staysRun endsRun inRun afterHash endsHash inHash inDelim readLine linedOf scalarOf pastFailing readWord readRun
+    boolKind quoteKind formKind hashKind hashBracket hashAt hashComma unreturned endsWith hereEnds hereBody hereDelim afterAngle readHash
+    readComma readItem readNest readQuoted wordOn hashOn lookup words wordKind wordMeans runMeans escaped stringText linedText hereText
+    charNames isDelimiter nameless hexNamed spelledOut characterOf unescape extentItems itemsFrom pastLine afterPound items
 computed-report = refl

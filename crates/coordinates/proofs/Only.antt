@@ -3,7 +3,9 @@ use mathlib.Core.Path.{_≡_, refl, sym, ap, _∙_, subst}
 use mathlib.Core.Bool.{Bool, true, false, _&&_}
 use mathlib.Core.Logic.{_⊎_, inl, inr}
 use Prim.Native.Nat.{ℕ, zero, suc, _+_, _-_, _*_, _%_, _^_, _≤_, _<_}
-use native.Mathlib.Nat.{le-trans, le-of-eq, lt-of-lt-of-le, lt-of-le-of-lt, lt-irrefl, mul-pos, mul-comm, mul-assoc, mul-left-comm, mul-right-comm, mul-one, one-mul, zero-mul, mul-le-mul-right, mul-le-mul-left, mul-lt-mul-of-pos-right, mul-sub, eq-of-mul-eq-mul-right, pow-succ', pow-suc, zero-lt-suc, suc-mul, add-comm, add-mul}
+use native.Mathlib.Nat.{le-trans, le-of-eq, lt-of-lt-of-le, lt-of-le-of-lt, lt-irrefl, mul-pos, mul-comm, mul-assoc, mul-left-comm}
+use native.Mathlib.Nat.{mul-right-comm, mul-one, one-mul, zero-mul, mul-le-mul-right, mul-le-mul-left, mul-lt-mul-of-pos-right, mul-sub}
+use native.Mathlib.Nat.{eq-of-mul-eq-mul-right, pow-succ', pow-suc, zero-lt-suc, suc-mul, add-comm, add-mul}
 use native.Mathlib.Omega.{arith}
 use lib.IntN.{ℤ, pos, negsuc}
 use lib.Dec.{T, ltb, leb, eqb, eqb→eq, ltb→lt, nltb→le, lit≤, lit<}

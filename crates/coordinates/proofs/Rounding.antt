@@ -3,7 +3,9 @@ use mathlib.Core.Path.{_≡_, refl, sym, ap, _∙_, subst}
 use mathlib.Core.Bool.{Bool, true, false, not, cond}
 use mathlib.Core.Logic.{_⊎_, inl, inr}
 use Prim.Native.Nat.{ℕ, zero, suc, _+_, _-_, _*_, _/_, _%_, _^_, _≤_, _<_, compare, Ordering, Ordering·lt, Ordering·eq, Ordering·gt}
-use native.Mathlib.Nat.{le-refl, le-trans, le-of-eq, lt-of-lt-of-le, lt-of-le-of-lt, mul-pos, mul-comm, mul-assoc, mul-one, add-mul, mul-le-mul-right, div-add-mod', mod-lt, div-le-self, div-div-eq-div-mul, le-div-iff-mul-le, div-lt-iff-lt-mul, suc-mul, zero-mul, zero-lt-suc, pow-le-pow-right, mul-le-mul, mul-le-mul-left}
+use native.Mathlib.Nat.{le-refl, le-trans, le-of-eq, lt-of-lt-of-le, lt-of-le-of-lt, mul-pos, mul-comm, mul-assoc, mul-one, add-mul}
+use native.Mathlib.Nat.{mul-le-mul-right, div-add-mod', mod-lt, div-le-self, div-div-eq-div-mul, le-div-iff-mul-le, div-lt-iff-lt-mul}
+use native.Mathlib.Nat.{suc-mul, zero-mul, zero-lt-suc, pow-le-pow-right, mul-le-mul, mul-le-mul-left}
 use native.Mathlib.Omega.{arith}
 use lib.Dec.{T, isLe, isEq, leb, ltb, eqb, leb→le, nleb→lt, eqb→eq, eqb-refl, lit≤, lit<}
 use lib.Arith.{lt-of-le-ne}

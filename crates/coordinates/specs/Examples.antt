@@ -54,7 +54,9 @@ table =
     ∷ []
 
 pub computed : map (λ r. coordinate (codes (r .text))) table ≡ map (λ r. r .answer) table
-unfolding table coordinate oneDecimal pointIn ofDecimal ofPoint allDigits scale scaled value decimal dotted undotted suffix exponent uinteger pointOf signed firstBad sequences front round ofBits first starts span sign digitOf exponentMarker within
+-- the list only permits the computing
+unfolding table coordinate oneDecimal pointIn ofDecimal ofPoint allDigits scale scaled value decimal dotted undotted suffix exponent
+    uinteger pointOf signed firstBad sequences front round ofBits first starts span sign digitOf exponentMarker within
 computed = refl
 
 pub not-utf8 : coordinate (0x31 ∷ 0x2E ∷ 0xC3 ∷ []) ≡ refused notUtf8 2

@@ -24,7 +24,9 @@ one-record-answer s k from to a b h k′ = answered-one a b (h ∙ sym k′)
 
 -- the number at 3..6 of a source, and no more of it than its extent
 corner : recordCoordinate (codes "(a 1.5 2.5)") kind.Number 3 6 ≡ float (fin false 3 (negsuc 0))
-unfolding recordCoordinate coordinate oneDecimal pointIn ofDecimal ofPoint allDigits scale scaled value decimal dotted undotted suffix exponent uinteger pointOf signed firstBad sequences front first rest round starts span sign digitOf exponentMarker within
+-- the list only permits the computing
+unfolding recordCoordinate coordinate oneDecimal pointIn ofDecimal ofPoint allDigits scale scaled value decimal dotted undotted suffix
+    exponent uinteger pointOf signed firstBad sequences front first rest round starts span sign digitOf exponentMarker within
 corner = refl
 
 -- an identifier has no coordinate, even one that is spelled like a decimal

@@ -31,16 +31,22 @@ sees n x p = record { number = n; value = x; place = p }
 
 -- a value is written, and the place stays
 value-told : seen (coordinate (codes "-1.5")) ≡ sees 0 (fin true 3 (negsuc 0)) 7
-unfolding coordinate oneDecimal pointIn ofDecimal ofPoint allDigits scale scaled value decimal dotted undotted suffix exponent uinteger pointOf signed firstBad sequences front first rest round starts span sign digitOf exponentMarker within
+-- the list only permits the computing
+unfolding coordinate oneDecimal pointIn ofDecimal ofPoint allDigits scale scaled value decimal dotted undotted suffix exponent uinteger
+    pointOf signed firstBad sequences front first rest round starts span sign digitOf exponentMarker within
 value-told = refl
 
 -- a refusal's place is written, and the value stays
 refusal-told : seen (coordinate (0x31 ∷ 0x2E ∷ 0xFF ∷ [])) ≡ sees 21 (fin false 1 (pos 0)) 2
-unfolding coordinate oneDecimal pointIn ofDecimal ofPoint allDigits scale scaled value decimal dotted undotted suffix exponent uinteger pointOf signed firstBad sequences front first rest round starts span sign digitOf exponentMarker within
+-- the list only permits the computing
+unfolding coordinate oneDecimal pointIn ofDecimal ofPoint allDigits scale scaled value decimal dotted undotted suffix exponent uinteger
+    pointOf signed firstBad sequences front first rest round starts span sign digitOf exponentMarker within
 refusal-told = refl
 
 record-told : seen (recordCoordinate (codes "(1.5)") kind.Number 1 4) ≡ sees 0 (fin false 3 (negsuc 0)) 7
-unfolding recordCoordinate coordinate oneDecimal pointIn ofDecimal ofPoint allDigits scale scaled value decimal dotted undotted suffix exponent uinteger pointOf signed firstBad sequences front first rest round starts span sign digitOf exponentMarker within
+-- the list only permits the computing
+unfolding recordCoordinate coordinate oneDecimal pointIn ofDecimal ofPoint allDigits scale scaled value decimal dotted undotted suffix
+    exponent uinteger pointOf signed firstBad sequences front first rest round starts span sign digitOf exponentMarker within
 record-told = refl
 
 extent-told : seen (recordCoordinate (codes "(1.5)") kind.Number 1 6) ≡ sees 27 (fin false 1 (pos 0)) 0
@@ -49,5 +55,7 @@ extent-told = refl
 
 -- no program that leaves the value as it was meets the promise
 never-unwritten : valueOr (fin false 1 (pos 0)) (coordinate (codes "-0.0")) ≡ fin false 1 (pos 0) → ⊥
-unfolding coordinate oneDecimal pointIn ofDecimal ofPoint allDigits scale scaled value decimal dotted undotted suffix exponent uinteger pointOf signed firstBad sequences front first rest round starts span sign digitOf exponentMarker within
+-- the list only permits the computing
+unfolding coordinate oneDecimal pointIn ofDecimal ofPoint allDigits scale scaled value decimal dotted undotted suffix exponent uinteger
+    pointOf signed firstBad sequences front first rest round starts span sign digitOf exponentMarker within
 never-unwritten h = let z : _≡_ {A = ℕ} 0 1 = cc in omega arith

@@ -68,5 +68,7 @@ computed : (map (λ r. delimOf (r .quotes) ∷ written (r .parts) ++ codes (r .c
     ≡ map (λ r. got (outcomeOf (r .quotes)) (soFar (spelled (r .item)) (length (spelled (r .item)))) []) rows)
     × ((map (λ r. unescape (r .quotes) (drop 1 (spelled (r .item)))) rows ≡ map (λ r. value (r .parts)) rows)
     × (map (λ r. textOf (r .quotes) (spelled (r .item))) rows ≡ map (λ r. r .text) rows)))
-unfolding rows written value within isScalar utf8 width encode bytesOf digitOf hexDigits hexAfterPlus hexValue startsRun firstOf inQuotes afterBackslash stopsHex inHex inTrim linedOf scalarOf readQuoted readItem escaped stringText linedText unescape
+-- the list only permits the computing
+unfolding rows written value within isScalar utf8 width encode bytesOf digitOf hexDigits hexAfterPlus hexValue startsRun firstOf inQuotes
+    afterBackslash stopsHex inHex inTrim linedOf scalarOf readQuoted readItem escaped stringText linedText unescape
 computed = (refl, (refl, (refl, refl)))

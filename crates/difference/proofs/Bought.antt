@@ -107,8 +107,10 @@ ReadI R p s r = (ImaginaryAt R p s r × (capital false s ≡ false)) ⊎ SignedB
 imaginary-read : (R p : ℕ) (s : List ℕ) (r : Real) → R ≤ 16 → (sign s ≡ 0 → ⊥) → bought-grammar.imaginary R p s ≡ AReal r → ReadI R p s r
 unfolding bought-grammar.imaginary
 imaginary-read R p s r l n h =
-    by-bool (same s (code "+" ∷ [])) (λ e. let q : AReal (ImpliedOne false) ≡ AReal r = rw e at h in let z : r ≡ ImpliedOne false = cc in rw (z, same-is s _ e) (inl (ImaginaryAt.one, plain-capital (code "+" ∷ []) (plain-sign Sign.positive)))) (λ a.
-    by-bool (same s (code "-" ∷ [])) (λ e. let q : AReal (ImpliedOne true) ≡ AReal r = rw (a, e) at h in let z : r ≡ ImpliedOne true = cc in rw (z, same-is s _ e) (inl (ImaginaryAt.minus-one, plain-capital (code "-" ∷ []) (plain-sign Sign.negative)))) (λ b.
+    by-bool (same s (code "+" ∷ [])) (λ e. let q : AReal (ImpliedOne false) ≡ AReal r = rw e at h in let z : r ≡ ImpliedOne false = cc in
+    rw (z, same-is s _ e) (inl (ImaginaryAt.one, plain-capital (code "+" ∷ []) (plain-sign Sign.positive)))) (λ a.
+    by-bool (same s (code "-" ∷ [])) (λ e. let q : AReal (ImpliedOne true) ≡ AReal r = rw (a, e) at h in let z : r ≡ ImpliedOne true = cc in
+    rw (z, same-is s _ e) (inl (ImaginaryAt.minus-one, plain-capital (code "-" ∷ []) (plain-sign Sign.negative)))) (λ b.
     go (real-read R p s r l (rw (a, b) at h))))
   where
     go : Read R p s r → ReadI R p s r
@@ -159,7 +161,8 @@ alone-read R p s a l n h =
         go z (inr d) = absurd (omega (arith, rw append-nil at (below-cut [] d)))
     one NoReal f k = no-parts (rw f at k)
 
-    imag : bought-grammar.endsI s ≡ true → (sign s ≡ 0 → ⊥) → (u : MaybeReal) → bought-grammar.imaginary R p (init s) ≡ u → complexOf (AReal ImpliedZero) (bought-grammar.imaginary R p (init s)) ≡ SomeParts a → Fine R p s a
+    imag : bought-grammar.endsI s ≡ true → (sign s ≡ 0 → ⊥) → (u : MaybeReal) → bought-grammar.imaginary R p (init s) ≡ u
+        → complexOf (AReal ImpliedZero) (bought-grammar.imaginary R p (init s)) ≡ SomeParts a → Fine R p s a
     imag e m (AReal y) f k =
         let k′ : SomeParts (Complex ImpliedZero y) ≡ SomeParts a = rw f at k in
         let z : a ≡ Complex ImpliedZero y = cc in
@@ -178,7 +181,8 @@ alone-read R p s a l n h =
     imag e m NoReal f k = no-parts (rw f at k)
 
 -- cut before a sign: the signs of the first part, the joining one and those after it
-odd-cons : (c : ℕ) (t : List ℕ) → toSign (startsE (c ∷ t)) t < length t → signAfterOddE false (take (cut (c ∷ t)) (c ∷ t)) ≡ false → signAfterOddE false (drop (cut (c ∷ t)) (c ∷ t)) ≡ false → signAfterOddE false (c ∷ t) ≡ false
+odd-cons : (c : ℕ) (t : List ℕ) → toSign (startsE (c ∷ t)) t < length t → signAfterOddE false (take (cut (c ∷ t)) (c ∷ t)) ≡ false
+    → signAfterOddE false (drop (cut (c ∷ t)) (c ∷ t)) ≡ false → signAfterOddE false (c ∷ t) ≡ false
 unfolding startsE somewhere signAfter oddE exponentMarker
 odd-cons c t n p q =
     let o : 1 + toSign (exponentMarker c) t ≡ suc (toSign (exponentMarker c) t) = omega arith in
@@ -293,18 +297,28 @@ module _ (R p : ℕ) (l : R ≤ 16) where
 polar-read : (R p : ℕ) (x y : List ℕ) (u v : Real) (a : Parts) → R ≤ 16 → a ≡ Polar u v → Read R p x u → Read R (p + length x + 1) y v → ReadC R p (x ++ code "@" ∷ y) a
 polar-read R p x y u v a l z (inl d) (inl e) = inl (rw z (ComplexAt.polar (d .0) (e .0)), cap-at x y (d .1) (e .1), λ h. odd-at x y (real-odd h (d .0)) (real-odd h (e .0)))
 polar-read R p x y u v a l z (inr d) e =
-    inr (record { a = x; b = y; text = refl; first = Side.slashed d; second = side R p l e; below = inl d }, cap-at x y (plain-capital x (below-plain l d)) (side-capital R p l e), λ h. odd-at x y (below-odd h d) (side-odd R p l e h))
+    inr (
+      record { a = x; b = y; text = refl; first = Side.slashed d; second = side R p l e; below = inl d },
+      cap-at x y (plain-capital x (below-plain l d)) (side-capital R p l e),
+      λ h. odd-at x y (below-odd h d) (side-odd R p l e h),
+    )
 polar-read R p x y u v a l z (inl d) (inr e) =
-    inr (record { a = x; b = y; text = refl; first = Side.plain (d .0) (d .1); second = Side.slashed e; below = inr e }, cap-at x y (d .1) (plain-capital y (below-plain l e)), λ h. odd-at x y (real-odd h (d .0)) (below-odd h e))
+    inr (
+      record { a = x; b = y; text = refl; first = Side.plain (d .0) (d .1); second = Side.slashed e; below = inr e },
+      cap-at x y (d .1) (plain-capital y (below-plain l e)),
+      λ h. odd-at x y (real-odd h (d .0)) (below-odd h e),
+    )
 
 pub complex-read : (R p : ℕ) (s : List ℕ) (a : Parts) → R ≤ 16 → bought-grammar.complex R p s ≡ SomeParts a → ReadC R p s a
 unfolding bought-grammar.complex
 complex-read R p s a l h = by-bool (ltb (before (code "@") s) (length s)) (λ e. polar e (rw e at h)) (λ e. inl (rect-read R p s a l (rw e at h)))
   where
-    polar : ltb (before (code "@") s) (length s) ≡ true → polarOf (bought.real R p (take (before (code "@") s) s)) (bought.real R (p + before (code "@") s + 1) (drop (before (code "@") s + 1) s)) ≡ SomeParts a → ReadC R p s a
+    polar : ltb (before (code "@") s) (length s) ≡ true → polarOf (bought.real R p (take (before (code "@") s) s))
+        (bought.real R (p + before (code "@") s + 1) (drop (before (code "@") s + 1) s)) ≡ SomeParts a → ReadC R p s a
     polar e k =
         let t = polar-two (bought.real R p (take (before (code "@") s) s)) (bought.real R (p + before (code "@") s + 1) (drop (before (code "@") s + 1) s)) a k in
         let o : length (take (before (code "@") s) s) ≡ before (code "@") s = length-take-le (before (code "@") s) s (omega (arith, ltb-true (before (code "@") s) (length s) e)) in
-        let y : Read R (p + length (take (before (code "@") s) s) + 1) (drop (before (code "@") s + 1) s) (t .1) = rw o (real-read R (p + before (code "@") s + 1) (drop (before (code "@") s + 1) s) (t .1) l (t .3)) in
+        let y : Read R (p + length (take (before (code "@") s) s) + 1) (drop (before (code "@") s + 1) s) (t .1) =
+        rw o (real-read R (p + before (code "@") s + 1) (drop (before (code "@") s + 1) s) (t .1) l (t .3)) in
         subst (λ (y : List ℕ). ReadC R p y a) (sym (before-split (code "@") s e))
         (polar-read R p (take (before (code "@") s) s) (drop (before (code "@") s + 1) s) (t .0) (t .1) a l (t .4) (real-read R p (take (before (code "@") s) s) (t .0) l (t .2)) y)

@@ -106,7 +106,8 @@ split s =
     marked n m = record { R = prefix s; g = code "#" ∷ m .0 ∷ []; t = m .1; mark = m .3; text = m .2; look = inr (n, sym (ap prefix (m .2)), refl, refl) }
 
 -- a prefix holds no capital
-cap-letter : (c x : ℕ) → lower c ≡ x → isCapital false x ≡ false → isCapital false (x - toLower) ≡ false → isN false x ≡ false → isN false (x - toLower) ≡ false → (isCapital false c ≡ false) × (isN false c ≡ false)
+cap-letter : (c x : ℕ) → lower c ≡ x → isCapital false x ≡ false → isCapital false (x - toLower) ≡ false
+    → isN false x ≡ false → isN false (x - toLower) ≡ false → (isCapital false c ≡ false) × (isN false c ≡ false)
 cap-letter c x h a b d e = go (lower-is c x h)
   where
     go : (c ≡ x) ⊎ UpperOf c x → (isCapital false c ≡ false) × (isN false c ≡ false)
@@ -149,7 +150,8 @@ module _ {R : ℕ} {g a b : List ℕ} (m : Prefix R g) (x : Side R (length g) a)
   l = radix-le (prefix-radix m)
 
   side-seen : Seen R g (a ++ code "@" ∷ b)
-  side-seen = seen (a ++ code "@" ∷ b) m (all-append (other (code "#")) a (code "@" ∷ b) (side-other (code "#") foreign-hash l x) (all-cons (other (code "#")) (code "@") b at-hash (side-other (code "#") foreign-hash l y)))
+  side-seen = seen (a ++ code "@" ∷ b) m (all-append (other (code "#")) a (code "@" ∷ b)
+      (side-other (code "#") foreign-hash l x) (all-cons (other (code "#")) (code "@") b at-hash (side-other (code "#") foreign-hash l y)))
     where
       at-hash : other (code "#") (code "@") ≡ true
       at-hash = refl
@@ -164,7 +166,14 @@ module _ {R : ℕ} {g a b : List ℕ} (m : Prefix R g) (x : Side R (length g) a)
       let v = side-real l y in (
         Polar (u .0) (v .0),
         bought-seen R g (a ++ code "@" ∷ b) side-seen ∙
-            simp (here, lt-ltb (length a) (length (a ++ code "@" ∷ b)) (omega (arith, length-append a (code "@" ∷ b))), take-append-seam a (code "@" ∷ b), drop-append-add a (code "@" ∷ b) 1, u .1, v .1),
+            simp (
+              here,
+              lt-ltb (length a) (length (a ++ code "@" ∷ b)) (omega (arith, length-append a (code "@" ∷ b))),
+              take-append-seam a (code "@" ∷ b),
+              drop-append-add a (code "@" ∷ b) 1,
+              u .1,
+              v .1,
+            ),
       )
 
   side-standard : SignedBelow R a ⊎ SignedBelow R b → numberParts (g ++ (a ++ code "@" ∷ b)) ≡ NoParts

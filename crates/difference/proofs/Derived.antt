@@ -29,7 +29,8 @@ use Rattle.standard.specs.Reals.{infnan, ratio, real, ureal}
 use Rattle.standard.specs.Characters.{isSign, lower}
 use Rattle.difference.specs.R7rs.{DecimalAt, ImaginaryAt, Infnan, RealAt, SuffixAt, URealAt, intOf, pointed}
 use Rattle.difference.specs.Productions.{Digits, Letter, Sign, UInteger}
-use Rattle.difference.proofs.Runs.{all, all-append, all-cons, all-imp, before-here, before-none, digit-differs, digits-all, digits-end, isDigit, no, span-at, span-stop, span-whole, uint-digits, uint-pos, uint-test}
+use Rattle.difference.proofs.Runs.{all, all-append, all-cons, all-imp, before-here, before-none, digit-differs, digits-all}
+use Rattle.difference.proofs.Runs.{digits-end, isDigit, no, span-at, span-stop, span-whole, uint-digits, uint-pos, uint-test}
 use Rattle.numbers.specs.Reals as bought
 
 pub marker-e : {c : ℕ} → Letter "e" c → exponentMarker c ≡ true

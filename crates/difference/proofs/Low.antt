@@ -23,7 +23,9 @@ use Rattle.standard.specs.Grammar.{joint}
 use Rattle.digits.specs.Digits.{sign}
 use Rattle.difference.specs.R7rs.{ComplexAt, ImaginaryAt}
 use Rattle.difference.specs.Productions.{Letter}
-use Rattle.difference.proofs.Walk.{Radix, Signed, all-nil, foreign-at, free, i-other, imaginary-joint, imaginary-other, imaginary-signed, joint-cons, other, radix-le, real-joint, real-other, sign-marker, signed-sign, signed-walk, walk, walk-hex, walk-i, walk-ten}
+use Rattle.difference.proofs.Walk.{Radix, Signed, all-nil, foreign-at, free, i-other, imaginary-joint, imaginary-other}
+use Rattle.difference.proofs.Walk.{imaginary-signed, joint-cons, other, radix-le, real-joint, real-other, sign-marker, signed-sign}
+use Rattle.difference.proofs.Walk.{signed-walk, walk, walk-hex, walk-i, walk-ten}
 use Rattle.difference.proofs.Runs.{all, all-append, all-cons, before-here, before-none, no, span-full}
 use Rattle.difference.proofs.Bought.{cap-back, cap-join, cap-nil, endsI-no, endsI-snoc, imaginary-low, sign-mark}
 use Rattle.difference.specs.Conditions.{capital, isCapital, isN, oddE, signAfter, signAfterOddE, somewhere}
@@ -49,7 +51,8 @@ rest-of : (R x : ℕ) (t : List ℕ) {c : ℕ} → Radix R → isSign x ≡ true
 rest-of R x t {c} h e m j = go h
   where
     k : walk R false (t ++ c ∷ []) ≡ suc (length t)
-    k = let a : joint R (x ∷ (t ++ c ∷ [])) ≡ 1 + walk R false (t ++ c ∷ []) = joint-cons R x (t ++ c ∷ []) ∙ ap (λ (b : Bool). 1 + walk R b (t ++ c ∷ [])) (sign-marker x e) in omega (arith, walk-i R m)
+    k = let a : joint R (x ∷ (t ++ c ∷ [])) ≡ 1 + walk R false (t ++ c ∷ []) =
+        joint-cons R x (t ++ c ∷ []) ∙ ap (λ (b : Bool). 1 + walk R b (t ++ c ∷ [])) (sign-marker x e) in omega (arith, walk-i R m)
 
     n : length (t ++ c ∷ []) ≡ suc (length t)
     n = length-append t (c ∷ []) ∙ omega arith
@@ -61,7 +64,8 @@ rest-of R x t {c} h e m j = go h
 rest-walk : {R p : ℕ} {b : List ℕ} {c : ℕ} {y : Real} → Radix R → ImaginaryAt R p b y → Letter "i" c → toSign false (drop 1 (b ++ c ∷ [])) ≡ length b
 rest-walk {R} {p} {b} {c} h d m =
     let g = imaginary-signed d in
-    let j : joint R (g .0 ∷ (g .1 ++ c ∷ [])) ≡ suc (length (g .1)) + walk R false (c ∷ []) = subst (λ (y : List ℕ). joint R (y ++ c ∷ []) ≡ length y + walk R false (c ∷ [])) (g .2) (imaginary-joint (c ∷ []) h d) in
+    let j : joint R (g .0 ∷ (g .1 ++ c ∷ [])) ≡ suc (length (g .1)) + walk R false (c ∷ []) =
+    subst (λ (y : List ℕ). joint R (y ++ c ∷ []) ≡ length y + walk R false (c ∷ [])) (g .2) (imaginary-joint (c ∷ []) h d) in
     rw (g .2) (rest-of R (g .0) (g .1) h (g .3) m j)
 
 capital-i : (g : Bool) → isCapital g (code "I") ≡ true
@@ -102,8 +106,11 @@ complex-low {R} {p} h (ComplexAt.polar {a = a} {b = b} d e) k o =
 complex-low {R} {p} h (ComplexAt.rectangular {a = a} {b = b} {c = c} d e m) k o =
     let l = radix-le h in
     let s : List ℕ = a ++ (b ++ c ∷ []) in
-    let j : cut (a ++ (b ++ c ∷ [])) ≡ length a = cut-joint R (a ++ (b ++ c ∷ [])) h o ∙ real-joint (b ++ c ∷ []) h d ∙ ap (λ (n : ℕ). length a + n) (signed-walk R b (c ∷ []) (imaginary-signed e)) ∙ add-zero (length a) in
-    let q : all (λ x. not (eqb x (code "@"))) (a ++ (b ++ c ∷ [])) ≡ true = all-append (other (code "@")) a (b ++ c ∷ []) (real-other (code "@") foreign-at l d) (all-append (other (code "@")) b (c ∷ []) (imaginary-other (code "@") foreign-at l e) (all-cons (other (code "@")) c [] (i-other m .0) (all-nil (other (code "@"))))) in
+    let j : cut (a ++ (b ++ c ∷ [])) ≡ length a = cut-joint R (a ++ (b ++ c ∷ [])) h o
+    ∙ real-joint (b ++ c ∷ []) h d ∙ ap (λ (n : ℕ). length a + n) (signed-walk R b (c ∷ []) (imaginary-signed e)) ∙ add-zero (length a) in
+    let q : all (λ x. not (eqb x (code "@"))) (a ++ (b ++ c ∷ [])) ≡ true =
+    all-append (other (code "@")) a (b ++ c ∷ []) (real-other (code "@") foreign-at l d) (all-append (other (code "@")) b
+    (c ∷ []) (imaginary-other (code "@") foreign-at l e) (all-cons (other (code "@")) c [] (i-other m .0) (all-nil (other (code "@"))))) in
     let n : length (a ++ (b ++ c ∷ [])) ≡ length a + (length b + 1) = length-append a (b ++ c ∷ []) ∙ ap (λ (n : ℕ). length a + n) (length-append b (c ∷ [])) in
     let v : toSign false (drop 1 (b ++ c ∷ [])) ≡ length b = rest-walk h e m in
     let i : c ≡ code "i" = low-i (a ++ b) m (rw append-assoc k) in
@@ -125,7 +132,16 @@ complex-low {R} {p} h (ComplexAt.rectangular {a = a} {b = b} {c = c} d e m) k o 
     )
 complex-low {R} {p} h (ComplexAt.imaginary {b = b} {c = c} e m) k o =
     let l = radix-le h in
-    let j : ltb (cut (b ++ c ∷ [])) (length (b ++ c ∷ [])) ≡ false = le-ltb (cut (b ++ c ∷ [])) (length (b ++ c ∷ [])) (omega (arith, cut-joint R (b ++ c ∷ []) h o, imaginary-joint (c ∷ []) h e, length-append b (c ∷ []), walk-i R m)) in
-    let q : all (λ x. not (eqb x (code "@"))) (b ++ c ∷ []) ≡ true = all-append (other (code "@")) b (c ∷ []) (imaginary-other (code "@") foreign-at l e) (all-cons (other (code "@")) c [] (i-other m .0) (all-nil (other (code "@")))) in
+    let j : ltb (cut (b ++ c ∷ [])) (length (b ++ c ∷ [])) ≡ false = le-ltb (cut (b ++ c ∷ []))
+    (length (b ++ c ∷ [])) (omega (arith, cut-joint R (b ++ c ∷ []) h o, imaginary-joint (c ∷ []) h e, length-append b (c ∷ []), walk-i R m)) in
+    let q : all (λ x. not (eqb x (code "@"))) (b ++ c ∷ []) ≡ true = all-append (other (code "@")) b
+    (c ∷ []) (imaginary-other (code "@") foreign-at l e) (all-cons (other (code "@")) c [] (i-other m .0) (all-nil (other (code "@")))) in
     let w : bought-grammar.endsI (b ++ c ∷ []) ≡ true = endsI-snoc b c ∙ eq-eqb c (code "i") (low-i b m k) in
-    simp (before-none (code "@") (b ++ c ∷ []) q, j, w, ne-eqb (sign (b ++ c ∷ [])) 0 (signed-sign b (c ∷ []) (imaginary-signed e)), init-snoc b c, imaginary-low l e (some-front isCapital isN false b (c ∷ []) k))
+    simp (
+      before-none (code "@") (b ++ c ∷ []) q,
+      j,
+      w,
+      ne-eqb (sign (b ++ c ∷ [])) 0 (signed-sign b (c ∷ []) (imaginary-signed e)),
+      init-snoc b c,
+      imaginary-low l e (some-front isCapital isN false b (c ∷ []) k),
+    )

@@ -55,7 +55,8 @@ tail-odd c t h = free-odd (oddE false c) t h
 
 hex-free : {R : ℕ} {neg : Bool} {p : ℕ} {s : List ℕ} {r : Real} → R ≡ 16 → URealAt R neg p s r → all free s ≡ true
 hex-free h (URealAt.integer u) = free-digits (omega arith) (uint-digits u)
-hex-free h (URealAt.rational {a = a} {b = b} u v) = all-append free a (code "/" ∷ b) (free-digits (omega arith) (uint-digits u)) (all-cons free (code "/") b (marks .2) (free-digits (omega arith) (uint-digits v)))
+hex-free h (URealAt.rational {a = a} {b = b} u v) = all-append free a
+    (code "/" ∷ b) (free-digits (omega arith) (uint-digits u)) (all-cons free (code "/") b (marks .2) (free-digits (omega arith) (uint-digits v)))
 hex-free h (URealAt.decimal e d) = absurd (omega arith)
 
 infnan-odd : {s : List ℕ} {r : Real} → Infnan s r → signAfterOddE false s ≡ false
@@ -87,7 +88,8 @@ unfolding oddE exponentMarker
 odd-next x h true = refl
 odd-next x h false = h
 
-pub mark-facts : (isSign (code "/") ≡ false) × (exponentMarker (code "/") ≡ false) × (isSign (code "@") ≡ false) × (exponentMarker (code "@") ≡ false) × (isSign (code "i") ≡ false) × (exponentMarker (code "i") ≡ false)
+pub mark-facts : (isSign (code "/") ≡ false) × (exponentMarker (code "/") ≡ false)
+    × (isSign (code "@") ≡ false) × (exponentMarker (code "@") ≡ false) × (isSign (code "i") ≡ false) × (exponentMarker (code "i") ≡ false)
 unfolding isSign exponentMarker
 mark-facts = (refl, refl, refl, refl, refl, refl)
 

@@ -24,7 +24,8 @@ use Rattle.numbers.specs.Reals.{decimal, denominator, exact, integralOf, orElse
 use Rattle.digits.specs.Digits.{digitOf, integer, negative, sign, wholeOf}
 use Rattle.standard.specs.Characters.{isSign}
 use Rattle.standard.specs.Reals.{ratio, real, ureal}
-use Rattle.difference.proofs.Derived.{Head, at-slash, dec-digits, dec-slash, decimal-is, digit-slash, head-sign, head-uint, head-ureal, infnan-none, plain, plain-digits, plain-sign, plain-ureal, sign-is, whole-is}
+use Rattle.difference.proofs.Derived.{Head, at-slash, dec-digits, dec-slash, decimal-is, digit-slash, head-sign, head-uint}
+use Rattle.difference.proofs.Derived.{head-ureal, infnan-none, plain, plain-digits, plain-sign, plain-ureal, sign-is, whole-is}
 use Rattle.difference.specs.R7rs.{RealAt, URealAt, intOf}
 use Rattle.difference.specs.Productions.{Sign, UInteger}
 use Rattle.difference.proofs.Walk.{Signed, digit-sign, other}
@@ -41,7 +42,12 @@ exact-cut : (R : ℕ) (neg : Bool) (p : ℕ) (w x : List ℕ) → all (other (co
     → exact R neg p (w ++ code "/" ∷ x) ≡ rationalOf (wholeOf R neg p w) (denominator R (p + length w + 1) x)
 unfolding exact
 exact-cut R neg p w x h =
-    simp (before-here (code "/") w x h, lt-ltb (length w) (length (w ++ code "/" ∷ x)) (omega (arith, length-append w (code "/" ∷ x))), take-append-seam w (code "/" ∷ x), drop-append-add w (code "/" ∷ x) 1)
+    simp (
+      before-here (code "/") w x h,
+      lt-ltb (length w) (length (w ++ code "/" ∷ x)) (omega (arith, length-append w (code "/" ∷ x))),
+      take-append-seam w (code "/" ∷ x),
+      drop-append-add w (code "/" ∷ x) 1,
+    )
 
 -- a denominator with a sign, or with none
 denominator-made : {R : ℕ} {g a : List ℕ} {n : Bool} (q : ℕ) → R ≤ 16 → Sign g n → UInteger R a → denominator R q (g ++ a) ≡ AnInt (intOf R n (q + length g) a)
@@ -137,7 +143,8 @@ exact-inv : (R : ℕ) (neg : Bool) (p : ℕ) (s : List ℕ) (r : Real) → exact
 unfolding exact rationalOf integralOf
 exact-inv R neg p s r h = by-bool (ltb (before (code "/") s) (length s)) (λ e. two e _ refl _ refl (rw e at h)) (λ e. one _ refl (rw e at h))
   where
-    two : ltb (before (code "/") s) (length s) ≡ true → (x : MaybeInt) → wholeOf R neg p (take (before (code "/") s) s) ≡ x → (y : MaybeInt) → denominator R (p + before (code "/") s + 1) (drop (before (code "/") s + 1) s) ≡ y
+    two : ltb (before (code "/") s) (length s) ≡ true → (x : MaybeInt) → wholeOf R neg p (take (before (code "/") s) s) ≡ x
+        → (y : MaybeInt) → denominator R (p + before (code "/") s + 1) (drop (before (code "/") s + 1) s) ≡ y
         → rationalOf (wholeOf R neg p (take (before (code "/") s) s)) (denominator R (p + before (code "/") s + 1) (drop (before (code "/") s + 1) s)) ≡ AReal r → ReadU R neg p s r
     two e (AnInt n) f (AnInt m) g k =
         let k′ : AReal (Rational n m) ≡ AReal r = rw (f, g) at k in
@@ -217,7 +224,12 @@ whole-sign R q c b l e = go (wholeOf R false q (c ∷ b)) refl
 ratio-cut : (R : ℕ) (neg : Bool) (p : ℕ) (w x : List ℕ) → all (other (code "/")) w ≡ true → ratio R neg p (w ++ code "/" ∷ x) ≡ rationalOf (wholeOf R neg p w) (wholeOf R false (p + length w + 1) x)
 unfolding ratio
 ratio-cut R neg p w x h =
-    simp (before-here (code "/") w x h, lt-ltb (length w) (length (w ++ code "/" ∷ x)) (omega (arith, length-append w (code "/" ∷ x))), take-append-seam w (code "/" ∷ x), drop-append-add w (code "/" ∷ x) 1)
+    simp (
+      before-here (code "/") w x h,
+      lt-ltb (length w) (length (w ++ code "/" ∷ x)) (omega (arith, length-append w (code "/" ∷ x))),
+      take-append-seam w (code "/" ∷ x),
+      drop-append-add w (code "/" ∷ x) 1,
+    )
 
 ratio-below : {R : ℕ} {a : List ℕ} (n : Bool) (p c : ℕ) (b : List ℕ) → R ≤ 16 → UInteger R a → isSign c ≡ true → ratio R n p (a ++ code "/" ∷ c ∷ b) ≡ NoReal
 unfolding rationalOf
@@ -229,7 +241,15 @@ below-not {R} p l (SignedBelow.ratio {g = g} {a = a} {b = b} {n = n} z u c e v) 
     let h = head-uint (code "/" ∷ c ∷ b) u in
     let k = sign-is (a ++ code "/" ∷ c ∷ b) z (head-sign R (a ++ code "/" ∷ c ∷ b) l h) in
     by-bool (eqb R 10)
-    (λ q. let q′ : R ≡ 10 = eqb-true R 10 q in simp (infnan-none l z h, k .0, k .1, drop-append-seam g (a ++ code "/" ∷ c ∷ b), q, dec-slash n (p + length g) (c ∷ b) (rw q′ at (uint-digits u)), ratio-below n (p + length g) c b l u e))
+    (λ q. let q′ : R ≡ 10 = eqb-true R 10 q in simp (
+      infnan-none l z h,
+      k .0,
+      k .1,
+      drop-append-seam g (a ++ code "/" ∷ c ∷ b),
+      q,
+      dec-slash n (p + length g) (c ∷ b) (rw q′ at (uint-digits u)),
+      ratio-below n (p + length g) c b l u e,
+    ))
     (λ q. simp (infnan-none l z h, k .0, k .1, drop-append-seam g (a ++ code "/" ∷ c ∷ b), q, ratio-below n (p + length g) c b l u e))
 
 sign-plain : (c : ℕ) → isSign c ≡ true → plain c ≡ true
@@ -238,4 +258,5 @@ sign-plain c e = by-bool (eqb c (code "+")) (λ f. rw (eqb-true c (code "+") f))
 
 pub below-plain : {R : ℕ} {s : List ℕ} → R ≤ 16 → SignedBelow R s → all plain s ≡ true
 below-plain {R} l (SignedBelow.ratio {g = g} {a = a} {b = b} z u c e v) =
-    all-append plain g (a ++ code "/" ∷ c ∷ b) (plain-sign z) (all-append plain a (code "/" ∷ c ∷ b) (plain-digits l (uint-digits u)) (all-cons plain (code "/") (c ∷ b) at-slash (all-cons plain c b (sign-plain c e) (plain-digits l (uint-digits v)))))
+    all-append plain g (a ++ code "/" ∷ c ∷ b) (plain-sign z) (all-append plain a (code "/" ∷ c ∷ b) (plain-digits l (uint-digits u))
+    (all-cons plain (code "/") (c ∷ b) at-slash (all-cons plain c b (sign-plain c e) (plain-digits l (uint-digits v)))))

@@ -11,7 +11,8 @@ use Rattle.laws.specs.Texts.{starts}
 use Rattle.digits.specs.Digits.{digitOf}
 use Rattle.standard.specs.Characters.{lower, isSign}
 use Rattle.difference.specs.Productions.{Letter, Digits, UInteger, Sign, Prefix}
-use Rattle.difference.specs.Conditions.{URealText, RealText, ImaginaryText, ComplexText, NumberText, somewhere, isCapital, isN, signAfter, oddE, signAfterOddE, SignedBelow, SideText, SignBelowSlash, UpperCase, OddE}
+use Rattle.difference.specs.Conditions.{URealText, RealText, ImaginaryText, ComplexText, NumberText, somewhere, isCapital, isN}
+use Rattle.difference.specs.Conditions.{signAfter, oddE, signAfterOddE, SignedBelow, SideText, SignBelowSlash, UpperCase, OddE}
 use Rattle.difference.proofs.Runs.{no}
 use Rattle.difference.proofs.Differs.{exclusive}
 

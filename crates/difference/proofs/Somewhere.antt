@@ -32,7 +32,9 @@ module _ (hit next : Bool → ℕ → Bool) where
     reset-join f a b p q = some-reset f a b ∙ ap (λ (z : Bool). if z then true else somewhere hit next false b) p ∙ q
 
     pub reset-back : (f : Bool) (a b : List ℕ) → somewhere hit next f (a ++ x ∷ b) ≡ false → somewhere hit next false b ≡ false
-    reset-back f a b e = by-bool (somewhere hit next f a) (λ q. no (sym (some-reset f a b ∙ ap (λ (z : Bool). if z then true else somewhere hit next false b) q) ∙ e)) (λ q. sym (some-reset f a b ∙ ap (λ (z : Bool). if z then true else somewhere hit next false b) q) ∙ e)
+    reset-back f a b e =
+        by-bool (somewhere hit next f a) (λ q. no (sym (some-reset f a b ∙ ap (λ (z : Bool). if z then true else somewhere hit next false b) q) ∙ e))
+        (λ q. sym (some-reset f a b ∙ ap (λ (z : Bool). if z then true else somewhere hit next false b) q) ∙ e)
 
   -- characters that are never hit
   pub some-none : (t : ℕ → Bool) → ((f : Bool) (c : ℕ) → t c ≡ true → hit f c ≡ false) → (f : Bool) (s : List ℕ) → all t s ≡ true → somewhere hit next f s ≡ false
@@ -81,7 +83,10 @@ others = (refl, refl, refl)
 
 quiet-cap : (c : ℕ) → plain c ≡ true → (isCapital false c ≡ false) × (isN false c ≡ false)
 unfolding isCapital isN
-quiet-cap c p = (simp (ne-eqb c (code "I") (not-plain c (code "I") (others .0) p), ne-eqb c (code "N") (not-plain c (code "N") (others .1) p)), ne-eqb c (code "n") (not-plain c (code "n") (others .2) p))
+quiet-cap c p = (
+  simp (ne-eqb c (code "I") (not-plain c (code "I") (others .0) p), ne-eqb c (code "N") (not-plain c (code "N") (others .1) p)),
+  ne-eqb c (code "n") (not-plain c (code "n") (others .2) p),
+)
 
 pub plain-capital : (s : List ℕ) → all plain s ≡ true → capital false s ≡ false
 unfolding somewhere

@@ -150,10 +150,12 @@ dotted-inv neg p Digits.none t r h =
     made e f z =
         let u : UInteger 10 (take (digits 10 t) t) = digits-uint (run t) (λ q. eqb-false (0 + digits 10 t) 0 f (omega (arith, ap length q, run-length t))) in
         let z′ : SuffixAt (p + 1 + length (take (digits 10 t) t)) (drop (digits 10 t) t) e = rw (run-length t) z in
-        let b : DecimalAt neg p (code "." ∷ (take (digits 10 t) t ++ drop (digits 10 t) t)) (pointed neg (record { start = p; end = p }) (spanAt (p + 1) (length (take (digits 10 t) t))) e) = DecimalAt.point u z′ in
+        let b : DecimalAt neg p (code "." ∷ (take (digits 10 t) t ++ drop (digits 10 t) t))
+        (pointed neg (record { start = p; end = p }) (spanAt (p + 1) (length (take (digits 10 t) t))) e) = DecimalAt.point u z′ in
         rw (take-append-drop (digits 10 t) t, run-length t) at b
 
-    good : eqb (0 + digits 10 t) 0 ≡ false → pointOf neg (spanAt p 0) (spanAt (p + 0 + 1) (digits 10 t)) (suffix (p + 0 + 1 + digits 10 t) (drop (digits 10 t) t)) ≡ AReal r → DecimalAt neg p (code "." ∷ t) r
+    good : eqb (0 + digits 10 t) 0 ≡ false → pointOf neg (spanAt p 0)
+        (spanAt (p + 0 + 1) (digits 10 t)) (suffix (p + 0 + 1 + digits 10 t) (drop (digits 10 t) t)) ≡ AReal r → DecimalAt neg p (code "." ∷ t) r
     good e k =
         let k′ : pointOf neg (record { start = p; end = p }) (spanAt (p + 1) (digits 10 t)) (suffix (p + 1 + digits 10 t) (drop (digits 10 t) t)) ≡ AReal r = simp (add-zero p) at k in
         let i = point-inv neg (record { start = p; end = p }) (spanAt (p + 1) (digits 10 t)) (p + 1 + digits 10 t) (drop (digits 10 t) t) r refl k′ in
@@ -165,11 +167,13 @@ dotted-inv neg p (Digits.more {c = c} {s = s} d ds) t r h =
         → DecimalAt neg p (c ∷ (s ++ code "." ∷ t)) (pointed neg (spanAt p (suc (length s))) (spanAt (p + suc (length s) + 1) (digits 10 t)) e)
     made e z =
         let z′ : SuffixAt (p + suc (length s) + 1 + length (take (digits 10 t) t)) (drop (digits 10 t) t) e = rw (run-length t) z in
-        let b : DecimalAt neg p (c ∷ (s ++ code "." ∷ (take (digits 10 t) t ++ drop (digits 10 t) t))) (pointed neg (spanAt p (suc (length s))) (spanAt (p + suc (length s) + 1) (length (take (digits 10 t) t))) e)
+        let b : DecimalAt neg p (c ∷ (s ++ code "." ∷ (take (digits 10 t) t ++ drop (digits 10 t) t)))
+        (pointed neg (spanAt p (suc (length s))) (spanAt (p + suc (length s) + 1) (length (take (digits 10 t) t))) e)
         = DecimalAt.both {d = c ∷ s} (UInteger.uint d ds) (run t) z′ in
         rw (take-append-drop (digits 10 t) t, run-length t) at b
 
-    good : pointOf neg (spanAt p (suc (length s))) (spanAt (p + suc (length s) + 1) (digits 10 t)) (suffix (p + suc (length s) + 1 + digits 10 t) (drop (digits 10 t) t)) ≡ AReal r → DecimalAt neg p (c ∷ (s ++ code "." ∷ t)) r
+    good : pointOf neg (spanAt p (suc (length s))) (spanAt (p + suc (length s) + 1) (digits 10 t))
+        (suffix (p + suc (length s) + 1 + digits 10 t) (drop (digits 10 t) t)) ≡ AReal r → DecimalAt neg p (c ∷ (s ++ code "." ∷ t)) r
     good k =
         let i = point-inv neg (spanAt p (suc (length s))) (spanAt (p + suc (length s) + 1) (digits 10 t)) (p + suc (length s) + 1 + digits 10 t) (drop (digits 10 t) t) r refl k in
         rw (i .2) (made (i .0) (i .1))
@@ -199,7 +203,8 @@ unfolding decimal starts
 decimal-inv neg p s r h =
     by-bool (starts (code ".") (drop (digits 10 s) s)) (λ e. dots (drop (digits 10 s) s) refl e (rw e at h)) (λ e. dotless (rw e at h))
   where
-    dots : (x : List ℕ) → drop (digits 10 s) s ≡ x → starts (code ".") (drop (digits 10 s) s) ≡ true → dotted neg p (digits 10 s) (p + digits 10 s + 1) (drop (digits 10 s + 1) s) ≡ AReal r → DecimalAt neg p s r
+    dots : (x : List ℕ) → drop (digits 10 s) s ≡ x → starts (code ".") (drop (digits 10 s) s) ≡ true
+        → dotted neg p (digits 10 s) (p + digits 10 s + 1) (drop (digits 10 s + 1) s) ≡ AReal r → DecimalAt neg p s r
     dots [] q e k = no (sym (rw q at e))
     dots (c ∷ x) q e k =
         let c-dot : c ≡ code "." = eqb-true c (code ".") (rw q at e) in
@@ -221,15 +226,20 @@ ratio-inv R neg p s r h = by-bool (ltb (before (code "/") s) (length s)) (λ e. 
     k : ℕ
     k = before (code "/") s
 
-    two : ltb (before (code "/") s) (length s) ≡ true → (x : MaybeInt) → wholeOf R neg p (take (before (code "/") s) s) ≡ x → (y : MaybeInt) → wholeOf R false (p + before (code "/") s + 1) (drop (before (code "/") s + 1) s) ≡ y
+    two : ltb (before (code "/") s) (length s) ≡ true → (x : MaybeInt) → wholeOf R neg p (take (before (code "/") s) s) ≡ x
+        → (y : MaybeInt) → wholeOf R false (p + before (code "/") s + 1) (drop (before (code "/") s + 1) s) ≡ y
         → rationalOf (wholeOf R neg p (take (before (code "/") s) s)) (wholeOf R false (p + before (code "/") s + 1) (drop (before (code "/") s + 1) s)) ≡ AReal r → URealAt R neg p s r
     two e (AnInt n) f (AnInt d) g j =
         let a = whole-inv R neg p (take (before (code "/") s) s) n f in
         let b = whole-inv R false (p + before (code "/") s + 1) (drop (before (code "/") s + 1) s) d g in
         let l : length (take (before (code "/") s) s) ≡ before (code "/") s = length-take-le (before (code "/") s) s (omega (arith, ltb-true (before (code "/") s) (length s) e)) in
         let q : r ≡ Rational n d = sym (unr (rw (f, g) at j)) in
-        let u : URealAt R neg p (take (before (code "/") s) s ++ code "/" ∷ drop (before (code "/") s + 1) s) (Rational (intOf R neg p (take (before (code "/") s) s)) (intOf R false (p + length (take (before (code "/") s) s) + 1) (drop (before (code "/") s + 1) s))) = URealAt.rational (a .0) (b .0) in
-        let v : URealAt R neg p s (Rational (intOf R neg p (take (before (code "/") s) s)) (intOf R false (p + length (take (before (code "/") s) s) + 1) (drop (before (code "/") s + 1) s))) = subst (λ (x : List ℕ). URealAt R neg p x (Rational (intOf R neg p (take (before (code "/") s) s)) (intOf R false (p + length (take (before (code "/") s) s) + 1) (drop (before (code "/") s + 1) s)))) (sym (before-split (code "/") s e)) u in
+        let u : URealAt R neg p
+        (take (before (code "/") s) s ++ code "/" ∷ drop (before (code "/") s + 1) s) (Rational (intOf R neg p (take (before (code "/") s) s))
+        (intOf R false (p + length (take (before (code "/") s) s) + 1) (drop (before (code "/") s + 1) s))) = URealAt.rational (a .0) (b .0) in
+        let v : URealAt R neg p s (Rational (intOf R neg p (take (before (code "/") s) s)) (intOf R false (p + length (take (before (code "/") s) s)
+        + 1) (drop (before (code "/") s + 1) s))) = subst (λ (x : List ℕ). URealAt R neg p x (Rational (intOf R neg p (take (before (code "/") s) s))
+        (intOf R false (p + length (take (before (code "/") s) s) + 1) (drop (before (code "/") s + 1) s)))) (sym (before-split (code "/") s e)) u in
         rw (q, a .1, b .1) (rw l at v)
       where
         unr : {n d : Int} → AReal (Rational n d) ≡ AReal r → Rational n d ≡ r

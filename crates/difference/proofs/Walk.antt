@@ -39,7 +39,8 @@ abbrev pub other : ℕ → ℕ → Bool
 other x c = not (eqb c x)
 
 abbrev pub Foreign : ℕ → Type 0
-Foreign x = (plain x ≡ false) × (lower x ≡ x) × (all (other x) (codes "+inf.0") ≡ true) × (all (other x) (codes "-inf.0") ≡ true) × (all (other x) (codes "+nan.0") ≡ true) × (all (other x) (codes "-nan.0") ≡ true)
+Foreign x = (plain x ≡ false) × (lower x ≡ x) × (all (other x) (codes "+inf.0") ≡ true)
+    × (all (other x) (codes "-inf.0") ≡ true) × (all (other x) (codes "+nan.0") ≡ true) × (all (other x) (codes "-nan.0") ≡ true)
 
 pub foreign-at : Foreign (code "@")
 unfolding plain digitOf isSign lower all within
@@ -201,7 +202,8 @@ ureal-walk {R} {s = s} y (inl h) (URealAt.decimal e d) = simp (walk-ten R false 
 ureal-walk {R} y (inr h) (URealAt.integer {s = s} u) = simp (walk-hex R false (s ++ y) h, walk-hex R false y h) (span-all free s y (free-digits (omega arith) (uint-digits u)))
 ureal-walk {R} y (inr h) (URealAt.rational {a = a} {b = b} u v) =
     simp (walk-hex R false (a ++ code "/" ∷ b ++ y) h, walk-hex R false y h)
-    (span-all free (a ++ code "/" ∷ b) y (all-append free a (code "/" ∷ b) (free-digits (omega arith) (uint-digits u)) (all-cons free (code "/") b (marks .2) (free-digits (omega arith) (uint-digits v)))))
+    (span-all free (a ++ code "/" ∷ b) y (all-append free a
+    (code "/" ∷ b) (free-digits (omega arith) (uint-digits u)) (all-cons free (code "/") b (marks .2) (free-digits (omega arith) (uint-digits v)))))
 ureal-walk {R} y (inr h) (URealAt.decimal e d) = absurd (omega arith)
 
 -- after a sign, and without one

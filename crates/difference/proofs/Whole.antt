@@ -30,7 +30,8 @@ use Rattle.standard.specs.Characters.{isSign, lower, toLower}
 use Rattle.standard.specs.Reals.{real}
 use Rattle.difference.specs.R7rs.{ComplexAt, ImaginaryAt, Infnan, Number, RealAt}
 use Rattle.difference.specs.Productions.{Letter, Prefix}
-use Rattle.difference.proofs.Walk.{Radix, Signed, all-nil, foreign-at, foreign-hash, free, i-other, imaginary-joint, imaginary-other, imaginary-signed, joint-cons, other, radix-le, real-joint, real-other, signed-sign, signed-walk, walk, walk-i}
+use Rattle.difference.proofs.Walk.{Radix, Signed, all-nil, foreign-at, foreign-hash, free, i-other, imaginary-joint, imaginary-other}
+use Rattle.difference.proofs.Walk.{imaginary-signed, joint-cons, other, radix-le, real-joint, real-other, signed-sign, signed-walk, walk, walk-i}
 use Rattle.difference.proofs.Runs.{all, all-append, all-cons, all-head, all-tail, before-here, before-none, before-split, no}
 use Rattle.difference.proofs.Sound.{imaginary-inv, real-inv}
 use Rattle.difference.proofs.Derived.{imaginary-is, plain, plain-sign, plain-ureal, real-is}
@@ -111,11 +112,20 @@ complex-is {R} {p} h (ComplexAt.real {s = s} {r = r} d) =
 complex-is {R} {p} h (ComplexAt.polar {a = a} {b = b} d e) =
     let l = radix-le h in
     let k : before (code "@") (a ++ code "@" ∷ b) ≡ length a = before-here (code "@") a b (real-other (code "@") foreign-at l d) in
-    simp (k, lt-ltb (length a) (length (a ++ code "@" ∷ b)) (omega (arith, length-append a (code "@" ∷ b))), take-append-seam a (code "@" ∷ b), drop-append-add a (code "@" ∷ b) 1, real-is l d, real-is l e)
+    simp (
+      k,
+      lt-ltb (length a) (length (a ++ code "@" ∷ b)) (omega (arith, length-append a (code "@" ∷ b))),
+      take-append-seam a (code "@" ∷ b),
+      drop-append-add a (code "@" ∷ b) 1,
+      real-is l d,
+      real-is l e,
+    )
 complex-is {R} {p} h (ComplexAt.rectangular {a = a} {b = b} {c = c} d e m) =
     let l = radix-le h in
     let k : joint R (a ++ (b ++ c ∷ [])) ≡ length a = real-joint (b ++ c ∷ []) h d ∙ ap (λ (n : ℕ). length a + n) (signed-walk R b (c ∷ []) (imaginary-signed e)) ∙ add-zero (length a) in
-    let o : all (λ x. not (eqb x (code "@"))) (a ++ (b ++ c ∷ [])) ≡ true = all-append (other (code "@")) a (b ++ c ∷ []) (real-other (code "@") foreign-at l d) (all-append (other (code "@")) b (c ∷ []) (imaginary-other (code "@") foreign-at l e) (all-cons (other (code "@")) c [] (i-other m .0) (all-nil (other (code "@"))))) in
+    let o : all (λ x. not (eqb x (code "@"))) (a ++ (b ++ c ∷ [])) ≡ true =
+    all-append (other (code "@")) a (b ++ c ∷ []) (real-other (code "@") foreign-at l d) (all-append (other (code "@")) b
+    (c ∷ []) (imaginary-other (code "@") foreign-at l e) (all-cons (other (code "@")) c [] (i-other m .0) (all-nil (other (code "@"))))) in
     simp (
       before-none (code "@") (a ++ (b ++ c ∷ [])) o,
       k,
@@ -129,8 +139,10 @@ complex-is {R} {p} h (ComplexAt.rectangular {a = a} {b = b} {c = c} d e m) =
     )
 complex-is {R} {p} h (ComplexAt.imaginary {b = b} {c = c} e m) =
     let l = radix-le h in
-    let k : ltb (joint R (b ++ c ∷ [])) (length (b ++ c ∷ [])) ≡ false = le-ltb (joint R (b ++ c ∷ [])) (length (b ++ c ∷ [])) (omega (arith, imaginary-joint (c ∷ []) h e, length-append b (c ∷ []), walk-i R m)) in
-    let o : all (λ x. not (eqb x (code "@"))) (b ++ c ∷ []) ≡ true = all-append (other (code "@")) b (c ∷ []) (imaginary-other (code "@") foreign-at l e) (all-cons (other (code "@")) c [] (i-other m .0) (all-nil (other (code "@")))) in
+    let k : ltb (joint R (b ++ c ∷ [])) (length (b ++ c ∷ [])) ≡ false =
+    le-ltb (joint R (b ++ c ∷ [])) (length (b ++ c ∷ [])) (omega (arith, imaginary-joint (c ∷ []) h e, length-append b (c ∷ []), walk-i R m)) in
+    let o : all (λ x. not (eqb x (code "@"))) (b ++ c ∷ []) ≡ true = all-append (other (code "@")) b
+    (c ∷ []) (imaginary-other (code "@") foreign-at l e) (all-cons (other (code "@")) c [] (i-other m .0) (all-nil (other (code "@")))) in
     simp (before-none (code "@") (b ++ c ∷ []) o, k, ends-i b m, ne-eqb (sign (b ++ c ∷ [])) 0 (signed-sign b (c ∷ []) (imaginary-signed e)), init-snoc b c, imaginary-is l e)
 
 -- what is read is derived
@@ -160,7 +172,8 @@ sign-zero c t h e = by-bool (eqb c (code "+")) (λ f. omega (arith, rw f at e)) 
 -- a signed part that ends in i: its sign stands before the i
 init-sign : (c : ℕ) (t : List ℕ) → isSign c ≡ true → endsI (c ∷ t) ≡ true → sign (init (c ∷ t)) ≡ 0 → ⊥
 unfolding endsI starts isSign lower within
-init-sign c [] h k e = by-bool (eqb c (code "+")) (λ f. no (sym (rw (eqb-true c (code "+") f) at k))) (λ f. by-bool (eqb c (code "-")) (λ g. no (sym (rw (eqb-true c (code "-") g) at k))) (λ g. no (sym (rw (f, g) at h))))
+init-sign c [] h k e = by-bool (eqb c (code "+")) (λ f. no (sym (rw (eqb-true c (code "+") f) at k)))
+    (λ f. by-bool (eqb c (code "-")) (λ g. no (sym (rw (eqb-true c (code "-") g) at k))) (λ g. no (sym (rw (f, g) at h))))
 init-sign c (x ∷ t) h k e = let n : suc (suc (length t)) - 1 ≡ suc (length t) = omega arith in sign-zero c (take (length t) (x ∷ t)) h (rw n at e)
 
 -- where the walk stops, a sign stands
@@ -198,7 +211,8 @@ signed-init t d h e = init-sign (d .0) (d .1) (d .3) (sym (ap endsI (d .2)) ∙ 
 pub sign-signed : (s : List ℕ) → (sign s ≡ 0 → ⊥) → Signed s
 unfolding sign isSign
 sign-signed [] h = absurd (h refl)
-sign-signed (c ∷ t) h = by-bool (isSign c) (λ e. (c, t, refl, e)) (λ e. absurd (h (by-bool (eqb c (code "+")) (λ f. no (rw f at e)) (λ f. by-bool (eqb c (code "-")) (λ g. no (rw (f, g) at e)) (λ g. rw (f, g))))))
+sign-signed (c ∷ t) h = by-bool (isSign c) (λ e. (c, t, refl, e))
+    (λ e. absurd (h (by-bool (eqb c (code "+")) (λ f. no (rw f at e)) (λ f. by-bool (eqb c (code "-")) (λ g. no (rw (f, g) at e)) (λ g. rw (f, g))))))
 
 complex-of : (R p q : ℕ) (s t : List ℕ) (a : Parts) → R ≤ 16 → (sign t ≡ 0 → ⊥) → complexOf (real R p s) (imaginary R q t) ≡ SomeParts a
     → (x : Real) × (y : Real) × RealAt R p s x × ImaginaryAt R q t y × (a ≡ Complex x y)
@@ -264,7 +278,8 @@ complex-inv R p s a l h =
     by-bool (ltb (joint R s) (length s)) (λ f. pair-inv R p (joint R s) s a l (ltb-true (joint R s) (length s) f) (joint-at R s (ltb-true (joint R s) (length s) f)) (rw (e, f) at h)) (λ f.
     alone-inv R p s a l (rw (e, f) at h)))
   where
-    polar : ltb (before (code "@") s) (length s) ≡ true → polarOf (real R p (take (before (code "@") s) s)) (real R (p + before (code "@") s + 1) (drop (before (code "@") s + 1) s)) ≡ SomeParts a → ComplexAt R p s a
+    polar : ltb (before (code "@") s) (length s) ≡ true → polarOf (real R p (take (before (code "@") s) s))
+        (real R (p + before (code "@") s + 1) (drop (before (code "@") s + 1) s)) ≡ SomeParts a → ComplexAt R p s a
     polar e j =
         let t = polar-of R p (p + before (code "@") s + 1) (take (before (code "@") s) s) (drop (before (code "@") s + 1) s) a j in
         let n : length (take (before (code "@") s) s) ≡ before (code "@") s = length-take-le (before (code "@") s) s (omega (arith, ltb-true (before (code "@") s) (length s) e)) in
@@ -283,7 +298,8 @@ unfolding all
 complex-hash l (ComplexAt.real d) = real-other (code "#") foreign-hash l d
 complex-hash l (ComplexAt.polar {a = a} {b = b} d e) = all-append (other (code "#")) a (code "@" ∷ b) (real-other (code "#") foreign-hash l d) (real-other (code "#") foreign-hash l e)
 complex-hash l (ComplexAt.rectangular {a = a} {b = b} {c = c} d e m) =
-    all-append (other (code "#")) a (b ++ c ∷ []) (real-other (code "#") foreign-hash l d) (all-append (other (code "#")) b (c ∷ []) (imaginary-other (code "#") foreign-hash l e) (all-cons (other (code "#")) c [] (i-other m .1) refl))
+    all-append (other (code "#")) a (b ++ c ∷ []) (real-other (code "#") foreign-hash l d)
+    (all-append (other (code "#")) b (c ∷ []) (imaginary-other (code "#") foreign-hash l e) (all-cons (other (code "#")) c [] (i-other m .1) refl))
 complex-hash l (ComplexAt.imaginary {b = b} {c = c} e m) = all-append (other (code "#")) b (c ∷ []) (imaginary-other (code "#") foreign-hash l e) (all-cons (other (code "#")) c [] (i-other m .1) refl)
 
 letter-mark : (c x R : ℕ) → lower c ≡ x → radixMark x ≡ R → radixMark (x - toLower) ≡ R → radixMark c ≡ R

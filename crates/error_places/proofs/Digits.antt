@@ -53,7 +53,8 @@ bad-digits (c ∷ hs) q v p e = go (λ n f. bad-digits hs (q + 1) n p f) (utf8 c
     here : q ≡ p → 16 ≤ digitOf c → Bad (c ∷ hs) q p
     here z w = record { before = []; c = c; after = hs; is = refl; place = omega arith; wrong = w }
 
-    go : ((n : ℕ) → hexDigits (q + 1) n (bytesOf hs) ≡ Wrong badDigit p → Bad hs (q + 1) p) → (w : List ℕ) → w ≡ utf8 c → Spelt c w → hexDigits q v (w ++ bytesOf hs) ≡ Wrong badDigit p → Bad (c ∷ hs) q p
+    go : ((n : ℕ) → hexDigits (q + 1) n (bytesOf hs) ≡ Wrong badDigit p → Bad hs (q + 1) p)
+        → (w : List ℕ) → w ≡ utf8 c → Spelt c w → hexDigits q v (w ++ bytesOf hs) ≡ Wrong badDigit p → Bad (c ∷ hs) q p
     go on w f (low h) e = by-bool (ltb (digitOf c) 16)
         (λ g. by-bool (ltb (v * 16 + digitOf c) (2 ^ 32))
         (λ k. let r = on (v * 16 + digitOf c) (rw (g, k, hexDigits) at e) in

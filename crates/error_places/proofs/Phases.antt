@@ -1,22 +1,19 @@
 -- Where an escape's error 11 comes from: in quotes, the digits stand after a byte of ASCII and before another. What each phase has of that
--- stands in `Holds`; a line for each class of a character in each phase shows that a step keeps it.
-use Prim.Native.Nat.{ℕ, _+_, _-_, _≤_, _<_}
-use mathlib.Core.Path.{_≡_, refl, sym, ap, subst, _∙_}
-use mathlib.Core.Bool.{Bool, true, false}
-use mathlib.Core.List.{List, [], _∷_, _++_, append-assoc, append-nil}
-use lib.ListN.{length, drop, length-append, length-drop}
+-- stands in `Holds`; that a step keeps it, in `Steps`.
+use Prim.Native.Nat.{ℕ, _+_, _<_}
+use mathlib.Core.Path.{_≡_, sym, ap, _∙_}
+use mathlib.Core.List.{List, [], _∷_, _++_, append-assoc}
+use lib.ListN.{length, drop, length-append}
 use lib.Seq.{drop-append-seam}
-use lib.Dec.{eqb, leb, ltb}
+use lib.Dec.{leb}
 use native.Mathlib.Omega.{arith}
-use borrow.Author.Tests.{eqb-true}
 use Rattle.laws.specs.Quoted.{code}
-use Rattle.laws.proofs.Choice.{by-bool, if-all, if-is}
+use Rattle.laws.proofs.Choice.{if-all}
 use Rattle.laws.specs.Texts.{begins, same}
-use Rattle.chars.specs.Encode.{utf8, width, spelled, isScalar}
-use Rattle.chars.proofs.Width.{utf8-one, width-utf8}
-use Rattle.digits.specs.declared.Hex.{Hex}
+use Rattle.chars.specs.Encode.{utf8, spelled}
+use Rattle.chars.proofs.Width.{utf8-one}
 use Rattle.digits.specs.declared.Hex.the-variants as hex
-use Rattle.digits.specs.Hex.{hexValue, empty}
+use Rattle.digits.specs.Hex.{hexValue}
 use Rattle.items.specs.declared.Quotes.{Quotes}
 use Rattle.items.specs.declared.Quotes.the-variants.{Double, Lines}
 use Rattle.items.specs.declared.Outcome.{Outcome}
@@ -27,21 +24,9 @@ use Rattle.items.specs.declared.Next.{Next}
 use Rattle.items.specs.declared.Next.the-variants.{Eat, Stop}
 use Rattle.items.specs.declared.HashKind.{HashKind}
 use Rattle.items.specs.declared.HashKind.the-variants.{Decided, Bracket, Undecided}
-use Rattle.items.specs.declared.CharValue.{CharValue}
-use Rattle.items.specs.declared.CharValue.the-variants.{Scalar, Wrong, WrongAt}
 use Rattle.items.specs.Kinds as kind
-use Rattle.items.specs.Classes.{startsRun, firstOf, delimOf, stopsHex, inQuotes, afterBackslash, inHex, inTrim, inNest, inWord, inRun}
-use Rattle.items.specs.Classes.{afterHash, inHash, inDelim, First, InQuotes, ends, escapes, plain, AfterBackslash, simple, hexX, hexU}
-use Rattle.items.specs.Classes.{blank, newline, invalid, InHex, closes, stops, digit, InTrim, space, line, solid, InNest, bar, sharp}
-use Rattle.items.specs.Classes.{inside, InWord, breaks, skips, goes, InRun, stays, stopsRun, leaves, AfterHash, radix, opensNest}
-use Rattle.items.specs.Classes.{datum, twice, angle, value, InHash, skipsTwo, tick, commas, stopsHash, staysHash, InDelim, endsDelim}
-use Rattle.items.specs.Classes.{returns, blankDelim, ofDelim}
-use Rattle.items.specs.Machine.{onNest, onBar, onSharp, onQuoted, onEscape, onBrace, closeHex, onHex, onTrimBefore, onTrimAfter}
-use Rattle.items.specs.Machine.{onWord, enterWord, onRun, hashThen, hashLast, onHash, onAfterHash, onDelim, stepOf, finishOf, onFirst, scanOf}
-use Rattle.items.specs.Readers.{soFar, eat, firstIs, lastIs, linedOf, closed, unclosed, cut, scalarOf, pastFailing, boolKind, quoteKind, formKind, orElse, hashKind, hereEnds, readItem, SoFar}
-use Rattle.items.proofs.Cases.{by-next}
-use Rattle.items.proofs.Failing.{Inside, hex-inside}
-use Rattle.items.proofs.Same.{item-same}
+use Rattle.items.specs.Machine.{hashLast}
+use Rattle.items.specs.Readers.{eat, firstIs, lastIs, linedOf, closed, unclosed, cut, pastFailing, boolKind, quoteKind, formKind, orElse, hashKind, SoFar}
 
 -- what stands after the digits: nothing, or a byte of ASCII
 pub data Stops : List ℕ → Type 0 where
@@ -76,7 +61,7 @@ Told s raw Character = Unit {0}
 Told s raw (Error n d) = n < kind.InvalidHexEscapeLiteral
 Told s raw (ErrorAt n d a b) = n ≡ kind.InvalidHexEscapeLiteral → Digits s raw d a b
 
-abbrev ToldKind : ℕ → List ℕ → HashKind → Type 0
+abbrev pub ToldKind : ℕ → List ℕ → HashKind → Type 0
 ToldKind s raw (Decided o) = Told s raw o
 ToldKind s raw (Bracket d) = Unit {0}
 ToldKind s raw Undecided = Unit {0}
@@ -90,7 +75,7 @@ pub record Opened (raw : List ℕ) (n : ℕ) : Type 0 where
   pub is : raw ≡ x ++ k ∷ ds
   pub count : n ≡ length x + 1
 
-abbrev Holds : ℕ → SoFar → Phase → Type 0
+abbrev pub Holds : ℕ → SoFar → Phase → Type 0
 Holds s i ph.InLine = Unit {0}
 Holds s i ph.AfterComma = Unit {0}
 Holds s i ph.AfterHash = Unit {0}
@@ -117,17 +102,17 @@ Holds s i (ph.Brace k from) = Opened (i .bytes) (length (i .bytes))
 Holds s i (ph.Hex k closer from m) = Opened (i .bytes) m × (closer < 0x80)
 Holds s i (ph.Done o) = Told s (i .bytes) o
 
-abbrev Goes : ℕ → SoFar → ℕ → Next → Type 0
+abbrev pub Goes : ℕ → SoFar → ℕ → Next → Type 0
 Goes s i c (Eat q) = Holds s (eat i c) q
 Goes s i c (Stop o) = Told s (i .bytes) o
 
 -- a byte of ASCII was added
-opens : (raw : List ℕ) (c : ℕ) → c < 0x80 → Opened (raw ++ utf8 c) (length (raw ++ utf8 c))
+pub opens : (raw : List ℕ) (c : ℕ) → c < 0x80 → Opened (raw ++ utf8 c) (length (raw ++ utf8 c))
 opens raw c h =
     let u : utf8 c ≡ c ∷ [] = utf8-one c h in
     record { x = raw; k = c; ds = []; ascii = h; is = ap (λ (l : List ℕ). raw ++ l) u; count = length-append raw (utf8 c) ∙ omega (arith, ap length u) }
 
-more-opened : (raw : List ℕ) (n c : ℕ) → Opened raw n → Opened (raw ++ utf8 c) n
+pub more-opened : (raw : List ℕ) (n c : ℕ) → Opened raw n → Opened (raw ++ utf8 c) n
 more-opened raw n c o = record {
   x = o .x;
   k = o .k;
@@ -138,7 +123,7 @@ more-opened raw n c o = record {
 }
 
 -- what follows the byte of ASCII
-opened-rest : (raw : List ℕ) (n : ℕ) (o : Opened raw n) → drop n raw ≡ o .ds
+pub opened-rest : (raw : List ℕ) (n : ℕ) (o : Opened raw n) → drop n raw ≡ o .ds
 opened-rest raw n o =
     let e : raw ≡ (o .x ++ (o .k ∷ [])) ++ o .ds = o .is ∙ sym (append-assoc (o .x) (o .k ∷ []) (o .ds)) in
     let l : n ≡ length (o .x ++ (o .k ∷ [])) = omega (arith, o .count, length-append (o .x) (o .k ∷ [])) in
@@ -153,15 +138,15 @@ module _ (s : ℕ) (raw : List ℕ) where
       (if-all P (firstIs (code "+") raw) tt
       (if-all P (firstIs (code "|") raw) (if-all P (lastIs (code "|") raw) tt (omega arith)) (omega arith)))
 
-  told-closed : (k : Quotes) → Told s raw (closed k raw)
+  pub told-closed : (k : Quotes) → Told s raw (closed k raw)
   told-closed Double = tt
   told-closed Lines = told-lined
 
-  told-unclosed : (k : Quotes) → Told s raw (unclosed k raw)
+  pub told-unclosed : (k : Quotes) → Told s raw (unclosed k raw)
   told-unclosed Double = omega arith
   told-unclosed Lines = told-lined
 
-  told-cut : (k : Quotes) → Told s raw (cut k)
+  pub told-cut : (k : Quotes) → Told s raw (cut k)
   told-cut Double = omega arith
   told-cut Lines = omega arith
 
@@ -192,272 +177,11 @@ module _ (s : ℕ) (raw : List ℕ) where
   told-else (Bracket d) k p q = p
   told-else Undecided k p q = q
 
-  told-kind : ToldKind s raw (hashKind raw)
+  pub told-kind : ToldKind s raw (hashKind raw)
   unfolding hashKind
   told-kind = told-else (boolKind raw) (orElse (quoteKind raw) (formKind raw)) told-bool (told-else (quoteKind raw) (formKind raw) told-quote told-form)
 
-  told-last : (k : HashKind) → ToldKind s raw k → Told s raw (hashLast k)
+  pub told-last : (k : HashKind) → ToldKind s raw k → Told s raw (hashLast k)
   told-last (Decided o) p = p
   told-last (Bracket d) p = tt
   told-last Undecided p = tt
-
--- ---- a step
-
--- after a backslash, `x` and `u` are of ASCII; a closer is what was looked for
-abbrev Letter : ℕ → AfterBackslash → Type 0
-Letter c (simple x) = Unit {0}
-Letter c hexX = c < 0x80
-Letter c hexU = c < 0x80
-Letter c blank = Unit {0}
-Letter c newline = Unit {0}
-Letter c invalid = Unit {0}
-
-letter : (c : ℕ) → Letter c (afterBackslash c)
-unfolding afterBackslash
-letter c =
-    let P : AfterBackslash → Type 0 = Letter c in
-    if-all P (eqb c (code "\"")) tt (if-all P (eqb c (code "a")) tt (if-all P (eqb c (code "b")) tt (if-all P (eqb c (code "\\")) tt
-    (if-all P (eqb c (code "|")) tt (if-all P (eqb c (code "t")) tt (if-all P (eqb c (code "n")) tt (if-all P (eqb c (code "r")) tt
-    (if-all P (eqb c (code "0")) tt
-    (if-is P (eqb c (code "x")) (λ e. let z : c ≡ code "x" = eqb-true c (code "x") e in omega arith)
-    (λ _. if-is P (eqb c (code "u")) (λ e. let z : c ≡ code "u" = eqb-true c (code "u") e in omega arith)
-    (λ _. if-all P (eqb c (code " ")) tt (if-all P (eqb c (code "\t")) tt (if-all P (eqb c (code "\n")) tt tt)))))))))))))
-
-abbrev Closer : ℕ → ℕ → InHex → Type 0
-Closer closer c closes = c ≡ closer
-Closer closer c stops = Unit {0}
-Closer closer c digit = Unit {0}
-
-closer-is : (k : Quotes) (closer c : ℕ) → Closer closer c (inHex k closer c)
-unfolding inHex
-closer-is k closer c =
-    let P : InHex → Type 0 = Closer closer c in
-    if-is P (eqb c closer) (λ e. eqb-true c closer e) (λ _. if-all P (stopsHex c) tt (if-all P (eqb c (delimOf k)) tt tt))
-
--- the failing value of hex digits
-abbrev HexFails : List ℕ → CharValue → Type 0
-HexFails ds (Scalar x) = Unit {0}
-HexFails ds (Wrong n d) = kind.InvalidHexEscapeLiteral < n
-HexFails ds (WrongAt n d p) = hexValue ds ≡ hex.Wrong d p
-
-scalar-fails : (ds : List ℕ) (h : Hex) → hexValue ds ≡ h → HexFails ds (scalarOf h)
-unfolding scalarOf
-scalar-fails ds (hex.Value v) e = if-all (HexFails ds) (isScalar v) tt (omega arith)
-scalar-fails ds (hex.Wrong d p) e = e
-
-module _ (s : ℕ) (i : SoFar) (c : ℕ) (starts : i .at ≡ s + length (i .bytes)) where
-  abbrev G : Next → Type 0
-  G = Goes s i c
-
-  goes-nest : (k : InNest) (d : ℕ) → G (onNest k d)
-  goes-nest bar d = tt
-  goes-nest sharp d = tt
-  goes-nest inside d = tt
-
-  goes-bar : (k : InNest) (d : ℕ) → G (onBar k d)
-  goes-bar bar d = tt
-  goes-bar sharp d = if-all G (leb d 1) (omega arith) tt
-  goes-bar inside d = tt
-
-  goes-sharp : (k : InNest) (d : ℕ) → G (onSharp k d)
-  goes-sharp bar d = tt
-  goes-sharp sharp d = tt
-  goes-sharp inside d = tt
-
-  goes-quoted : (k : InQuotes) (q : Quotes) → G (onQuoted k q i c)
-  goes-quoted ends q = tt
-  goes-quoted escapes q = tt
-  goes-quoted plain q = tt
-
-  goes-escape : (k : AfterBackslash) (q : Quotes) (from : ℕ) → Letter c k → G (onEscape k q from i c)
-  goes-escape (simple x) q from h = tt
-  goes-escape hexX q from h = (opens (i .bytes) c h, omega arith)
-  goes-escape hexU q from h = opens (i .bytes) c h
-  goes-escape blank q from h = tt
-  goes-escape newline q from h = tt
-  goes-escape invalid q from h = λ n. absurd (omega arith)
-
-  -- digits ds that fail, after the bytes x and k of the item, before the closer c
-  failed : (x : List ℕ) (k : ℕ) (ds : List ℕ) (d p : ℕ) → k < 0x80 → c < 0x80 → i .bytes ≡ x ++ k ∷ ds → hexValue ds ≡ hex.Wrong d p
-      → (a : ℕ) → a ≡ s + (length x + 1 + p)
-      → Digits s (eat i c .bytes) d a (pastFailing d a (drop p ds))
-  failed x k ds d p ascii small is fails a from = record {
-    x = x;
-    k = k;
-    ds = ds;
-    ys = utf8 c;
-    zs = [];
-    p = p;
-    ascii = ascii;
-    stop = subst Stops (sym (utf8-one c small)) (Stops.byte c [] small);
-    is = ap (λ (l : List ℕ). l ++ utf8 c) is ∙ append-assoc x (k ∷ ds) (utf8 c);
-    fails = fails;
-    from = from;
-    to = ap (pastFailing d a) (sym (append-nil (drop p ds)));
-  }
-
-  goes-brace : (k : InHex) (q : Quotes) (from : ℕ) → Closer (code ";") c k → Opened (i .bytes) (length (i .bytes)) → G (onBrace true k q from i c)
-  unfolding hexValue
-  goes-brace closes q from z o = λ n.
-      let none : o .ds ≡ [] = no-more (o .ds) (omega (arith, o .count, ap length (o .is), length-append (o .x) (o .k ∷ o .ds))) in
-      failed (o .x) (o .k) [] empty 0 (o .ascii) (omega arith) (o .is ∙ ap (λ (l : List ℕ). o .x ++ o .k ∷ l) none) refl (i .at)
-      (omega (arith, o .count))
-    where
-      no-more : (l : List ℕ) → length l ≡ 0 → l ≡ []
-      no-more [] e = refl
-      no-more (y ∷ l) e = absurd (omega arith)
-  goes-brace stops q from z o = λ n. absurd (omega arith)
-  goes-brace digit q from z o = (more-opened (i .bytes) (length (i .bytes)) c o, omega arith)
-
-  goes-close : (v : CharValue) (q : Quotes) (from m : ℕ) → c < 0x80 → (o : Opened (i .bytes) m) → HexFails (drop m (i .bytes)) v
-      → Inside (length (drop m (i .bytes))) v
-      → G (closeHex true v q from m (eat i c .at) i)
-  goes-close (Scalar x) q from m small o f g = tt
-  goes-close (Wrong n d) q from m small o f g = λ e. absurd (omega arith)
-  goes-close (WrongAt n d p) q from m small o f g = λ e.
-      let r : drop m (i .bytes) ≡ o .ds = opened-rest (i .bytes) m o in
-      let t : List ℕ = drop p (drop m (i .bytes)) in
-      let at : i .at - length t ≡ s + (length (o .x) + 1 + p)
-      = omega (arith, g, length-drop p (drop m (i .bytes)), ap length r, ap length (o .is), length-append (o .x) (o .k ∷ o .ds)) in
-      subst (λ (l : List ℕ). Digits s (eat i c .bytes) d (i .at - length t) (pastFailing d (i .at - length t) (drop p l))) (sym r)
-      (failed (o .x) (o .k) (o .ds) d p (o .ascii) small (o .is) (subst (λ (l : List ℕ). hexValue l ≡ hex.Wrong d p) r f) (i .at - length t) at)
-
-  goes-hex : (k : InHex) (q : Quotes) (closer from m : ℕ) → Closer closer c k → Opened (i .bytes) m → closer < 0x80 → G (onHex true k q closer from m i c)
-  goes-hex closes q closer from m z o small =
-      goes-close (scalarOf (hexValue (drop m (i .bytes)))) q from m (omega arith) o
-      (scalar-fails (drop m (i .bytes)) (hexValue (drop m (i .bytes))) refl) (hex-inside (drop m (i .bytes)))
-  goes-hex stops q closer from m z o small = λ n. absurd (omega arith)
-  goes-hex digit q closer from m z o small = (more-opened (i .bytes) m c o, small)
-
-  goes-before : (k : InTrim) (q : Quotes) → G (onTrimBefore k q i c)
-  goes-before space q = tt
-  goes-before line q = tt
-  goes-before solid q = λ n. absurd (omega arith)
-
-  goes-trim : (k : InTrim) (q : Quotes) → G (onTrimAfter k q i c)
-  goes-trim space q = tt
-  goes-trim line q = tt
-  goes-trim solid q = goes-quoted (inQuotes q c) q
-
-  goes-word : (k : InWord) → G (onWord k)
-  goes-word breaks = tt
-  goes-word skips = tt
-  goes-word goes = tt
-
-  goes-enter : G (enterWord c)
-  goes-enter = if-all G (eqb c (code "|")) tt (goes-word (inWord c))
-
-  goes-run : (k : InRun) → G (onRun k c)
-  goes-run stays = tt
-  goes-run stopsRun = tt
-  goes-run leaves = goes-enter
-
-  goes-then : (k : HashKind) → ToldKind s (i .bytes) k → G (hashThen k c)
-  goes-then (Decided o) f = f
-  goes-then (Bracket d) f = if-all G (eqb c (code "(")) (omega arith) goes-enter
-  goes-then Undecided f = goes-enter
-
-  goes-hash : (k : InHash) → G (onHash k (i .bytes) c)
-  goes-hash skipsTwo = tt
-  goes-hash tick = tt
-  goes-hash commas = tt
-  goes-hash stopsHash = goes-then (hashKind (i .bytes)) (told-kind s (i .bytes))
-  goes-hash staysHash = tt
-
-  goes-after : (k : AfterHash) → G (onAfterHash k (i .bytes) c)
-  goes-after radix = tt
-  goes-after opensNest = tt
-  goes-after datum = omega arith
-  goes-after twice = omega arith
-  goes-after angle = tt
-  goes-after value = goes-hash (inHash c)
-
-  goes-delim : (k : InDelim) → G (onDelim k c)
-  goes-delim endsDelim = tt
-  goes-delim returns = tt
-  goes-delim blankDelim = omega arith
-  goes-delim ofDelim = tt
-
-  goes-on : (p : Phase) → Holds s i p → G (stepOf true p i c)
-  goes-on ph.InLine h = if-all G (eqb c (code "\n")) (omega arith) tt
-  goes-on ph.AfterComma h = if-all G (eqb c (code "@")) (omega arith) (omega arith)
-  goes-on ph.AfterHash h = goes-after (afterHash c)
-  goes-on ph.AfterAngle h = if-all G (eqb c (code "<")) tt goes-enter
-  goes-on ph.HereDelim h = goes-delim (inDelim c)
-  goes-on ph.HereStart h = tt
-  goes-on ph.HereBody h = if-all G (hereEnds (i .bytes)) tt tt
-  goes-on ph.InWord h = goes-word (inWord c)
-  goes-on ph.WordEscape h = tt
-  goes-on ph.InRun h = goes-run (inRun true c)
-  goes-on ph.InHash h = goes-hash (inHash c)
-  goes-on ph.HashEscape h = tt
-  goes-on ph.HashTick h = goes-then (hashKind (i .bytes)) (told-kind s (i .bytes))
-  goes-on ph.HashComma h = if-all G (eqb c (code "@")) tt (goes-then (hashKind (i .bytes)) (told-kind s (i .bytes)))
-  goes-on (ph.Nest d) h = goes-nest (inNest c) d
-  goes-on (ph.NestBar d) h = goes-bar (inNest c) d
-  goes-on (ph.NestSharp d) h = goes-sharp (inNest c) d
-  goes-on (ph.Quoted k) h = goes-quoted (inQuotes k c) k
-  goes-on (ph.Closed k) h = told-closed s (i .bytes) k
-  goes-on (ph.TrimBefore k) h = goes-before (inTrim c) k
-  goes-on (ph.TrimAfter k) h = goes-trim (inTrim c) k
-  goes-on (ph.Escape k from) h = goes-escape (afterBackslash c) k from (letter c)
-  goes-on (ph.Brace k from) h =
-      if-is G (eqb c (code "{")) (λ e. let z : c ≡ code "{" = eqb-true c (code "{") e in (opens (i .bytes) c (omega arith), omega arith))
-      (λ _. goes-brace (inHex k (code ";") c) k from (closer-is k (code ";") c) h)
-  goes-on (ph.Hex k closer from m) h = goes-hex (inHex k closer c) k closer from m (closer-is k closer c) (h .0) (h .1)
-  goes-on (ph.Done o) h = h
-
--- ---- the end, the start, and the whole item
-
-module _ (s : ℕ) where
-  told-finish : (i : SoFar) (p : Phase) → Holds s i p → Told s (i .bytes) (finishOf p (i .bytes))
-  told-finish i ph.InLine h = omega arith
-  told-finish i ph.AfterComma h = omega arith
-  told-finish i ph.AfterHash h = told-last s (i .bytes) (hashKind (i .bytes)) (told-kind s (i .bytes))
-  told-finish i ph.AfterAngle h = tt
-  told-finish i ph.HereDelim h = omega arith
-  told-finish i ph.HereStart h = omega arith
-  told-finish i ph.HereBody h = if-all (Told s (i .bytes)) (hereEnds (i .bytes)) tt (omega arith)
-  told-finish i ph.InWord h = tt
-  told-finish i ph.WordEscape h = tt
-  told-finish i ph.InRun h = tt
-  told-finish i ph.InHash h = told-last s (i .bytes) (hashKind (i .bytes)) (told-kind s (i .bytes))
-  told-finish i ph.HashEscape h = told-last s (i .bytes) (hashKind (i .bytes)) (told-kind s (i .bytes))
-  told-finish i ph.HashTick h = told-last s (i .bytes) (hashKind (i .bytes)) (told-kind s (i .bytes))
-  told-finish i ph.HashComma h = told-last s (i .bytes) (hashKind (i .bytes)) (told-kind s (i .bytes))
-  told-finish i (ph.Nest d) h = omega arith
-  told-finish i (ph.NestBar d) h = omega arith
-  told-finish i (ph.NestSharp d) h = omega arith
-  told-finish i (ph.Quoted k) h = told-unclosed s (i .bytes) k
-  told-finish i (ph.Closed k) h = told-closed s (i .bytes) k
-  told-finish i (ph.TrimBefore k) h = told-cut s (i .bytes) k
-  told-finish i (ph.TrimAfter k) h = told-cut s (i .bytes) k
-  told-finish i (ph.Escape k from) h = told-cut s (i .bytes) k
-  told-finish i (ph.Brace k from) h = told-cut s (i .bytes) k
-  told-finish i (ph.Hex k closer from m) h = told-cut s (i .bytes) k
-  told-finish i (ph.Done o) h = h
-
-  scan-told : (p : Phase) (i : SoFar) (cs : List ℕ) → Holds s i p → i .at ≡ s + length (i .bytes)
-      → Told s (scanOf true p i cs .item .bytes) (scanOf true p i cs .what)
-  unfolding scanOf
-  scan-told p i [] h l = told-finish i p h
-  scan-told p i (c ∷ cs) h l =
-      let g : Goes s i c (stepOf true p i c) = goes-on s i c l p h in
-      by-next (stepOf true p i c)
-      (λ q e. rw (e, scanOf) (scan-told q (eat i c) cs (rw e at g) (omega (arith, length-append (i .bytes) (utf8 c), width-utf8 c))))
-      (λ o e. rw (e, scanOf) (rw e at g))
-
-  first-holds : (i : SoFar) (c : ℕ) → Holds s i (onFirst (firstOf c))
-  unfolding firstOf
-  first-holds i c =
-      let P : First → Type 0 = λ f. Holds s i (onFirst f) in
-      if-all P (eqb c (code ";")) tt (if-all P (eqb c (code "\"")) tt (if-all P (eqb c (code ",")) tt (if-all P (eqb c (code "#")) tt
-      (if-all P (eqb c (code "(")) (omega arith) (if-all P (eqb c (code "[")) (omega arith) (if-all P (eqb c (code "{")) (omega arith)
-      (if-all P (eqb c (code ")")) (omega arith) (if-all P (eqb c (code "]")) (omega arith) (if-all P (eqb c (code "}")) (omega arith)
-      (if-all P (eqb c (code "'")) (omega arith) (if-all P (eqb c (code "`")) (omega arith)
-      (if-all P (startsRun c) tt (if-all P (eqb c (code "|")) tt (if-all P (eqb c (code "\\")) tt tt))))))))))))))
-
-  pub read-told : (c : ℕ) (cs : List ℕ) → Told s (readItem true s c cs .item .bytes) (readItem true s c cs .what)
-  read-told c cs =
-      let i : SoFar = eat (soFar [] s) c in
-      rw (item-same true s c cs) at (scan-told (onFirst (firstOf c)) i cs (first-holds i c) (omega (arith, width-utf8 c)))

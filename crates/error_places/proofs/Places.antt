@@ -40,7 +40,8 @@ use Rattle.coverage.proofs.Located.{itemsThere, every-item}
 use Rattle.error_places.specs.Failing.{NoDigits, BadDigit, Overflow, Fails, Pointed}
 use Rattle.error_places.proofs.Ascii.{Split, split}
 use Rattle.error_places.proofs.Digits.{digit-small, Bad, Over, Many, Known, known, empty-value, bad-value, over-value}
-use Rattle.error_places.proofs.Phases.{Stops, Digits, Told, read-told}
+use Rattle.error_places.proofs.Phases.{Stops, Digits, Told}
+use Rattle.error_places.proofs.Steps.{read-told}
 use Rattle.error_places.proofs.Characters.{Named, Of, of-character}
 
 abbrev IsChar : ℕ → Type 0

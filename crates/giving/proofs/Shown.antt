@@ -19,7 +19,8 @@ use Rattle.numbers.specs.Grammar.{parseNumber}
 use Rattle.numbers.specs.declared.Parsed.{Parsed}
 use Rattle.numbers.specs.declared.Parsed.the-variants as parsed
 use Rattle.items.specs.Readers.{firstIs}
-use Rattle.items.specs.Meaning.{Text, none, source, decoded, Meaning, meaningOf, wordMeans, wordKind, runMeans, escaped, unescape, stringText, linedText, hereText, characterOf, charInside, characterMeans}
+use Rattle.items.specs.Meaning.{Text, none, source, decoded, Meaning, meaningOf, wordMeans, wordKind, runMeans, escaped, unescape}
+use Rattle.items.specs.Meaning.{stringText, linedText, hereText, characterOf, charInside, characterMeans}
 use Rattle.items.specs.Items.{Place, Item, itemOf, itemsOf, rangeAfter, standing, extentItems}
 use Rattle.meaning.specs.declared.Means.{Means}
 use Rattle.meaning.specs.declared.Meant.the-variants.{One, Two}
@@ -114,7 +115,8 @@ module _ (s : State) (st : ℕ) (set last : Place) (b : Beyond) where
       let e : x ≡ sized m = cc in
       let g = shown-as (s .marks .depth) (report s) set st (s .marks .at) raw m x e (q .0) in
       ap (λ (t : Given). if s .marks .skip && eqb (x .kind) kind.Comment then on (beyond s last b) else off (beyond (deeper (x .kind) s) last b) (item t)) g
-      ∙ ap (λ (k : ℕ). if s .marks .skip && eqb k kind.Comment then on (beyond s last b) else off (beyond (deeper k s) last b) (item (given (s .marks .depth) raw (itemOf (report s) set st (s .marks .at) m)))) (ap (λ (y : Means). y .kind) e)
+      ∙ ap (λ (k : ℕ). if s .marks .skip && eqb k kind.Comment then on (beyond s last b) else off (beyond (deeper k s) last b)
+      (item (given (s .marks .depth) raw (itemOf (report s) set st (s .marks .at) m)))) (ap (λ (y : Means). y .kind) e)
   one-shown ms x (pair two) q h = absurd (let z : _≡_ {A = ℕ} 1 2 = ap length h in omega arith)
 
   pair-shown : (ms : List Meaning) (x y : Means) → Shape st (s .marks .at) raw ms → QuotedAll raw ms → meant (Two x y) ≡ sizedAll ms
@@ -130,7 +132,8 @@ module _ (s : State) (st : ℕ) (o : Outcome) (b : Beyond) (e : ℕ) (at : e ≡
       → oneGiven s st (rangeAfter (report s) (standing (report s) (lastOf s)) st o (itemSoFar s)) (rangeAfter (report s) (lastOf s) st o (itemSoFar s)) b x ≡ ends s st o b
   unfolding extentItems
   ends-one x h =
-      one-shown s st (rangeAfter (report s) (standing (report s) (lastOf s)) st o (itemSoFar s)) (rangeAfter (report s) (lastOf s) st o (itemSoFar s)) b (meaningOf (report s) o st (s .marks .at) (itemSoFar s .bytes)) x
+      one-shown s st (rangeAfter (report s) (standing (report s) (lastOf s)) st o (itemSoFar s))
+      (rangeAfter (report s) (lastOf s) st o (itemSoFar s)) b (meaningOf (report s) o st (s .marks .at) (itemSoFar s .bytes)) x
       (shape st (s .marks .at) (itemSoFar s .bytes) (report s) o) (quoted st (s .marks .at) (itemSoFar s .bytes) (report s) o)
       (h ∙ ap (λ (k : ℕ). sizedAll (meaningOf (report s) o st k (itemSoFar s .bytes))) at)
 
@@ -138,6 +141,7 @@ module _ (s : State) (st : ℕ) (o : Outcome) (b : Beyond) (e : ℕ) (at : e ≡
       → pairGiven s st (rangeAfter (report s) (standing (report s) (lastOf s)) st o (itemSoFar s)) (rangeAfter (report s) (lastOf s) st o (itemSoFar s)) b x ≡ ends s st o b
   unfolding extentItems
   ends-pair x y h =
-      pair-shown s st (rangeAfter (report s) (standing (report s) (lastOf s)) st o (itemSoFar s)) (rangeAfter (report s) (lastOf s) st o (itemSoFar s)) b (meaningOf (report s) o st (s .marks .at) (itemSoFar s .bytes)) x y
+      pair-shown s st (rangeAfter (report s) (standing (report s) (lastOf s)) st o (itemSoFar s))
+      (rangeAfter (report s) (lastOf s) st o (itemSoFar s)) b (meaningOf (report s) o st (s .marks .at) (itemSoFar s .bytes)) x y
       (shape st (s .marks .at) (itemSoFar s .bytes) (report s) o) (quoted st (s .marks .at) (itemSoFar s .bytes) (report s) o)
       (h ∙ ap (λ (k : ℕ). sizedAll (meaningOf (report s) o st k (itemSoFar s .bytes))) at)

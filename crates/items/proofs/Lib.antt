@@ -17,4 +17,5 @@ pub mod Fit
 pub mod Few
 pub mod Places
 pub mod Own
+pub mod OwnSteps
 pub mod Pointed

@@ -29,7 +29,8 @@ use Rattle.items.specs.Readers.{firstIs, pastFailing, readItem, SoFar, R
 use Rattle.items.proofs.Every.{Every}
 use Rattle.items.proofs.Failing.{past-within, Named, character-inside}
 use Rattle.items.proofs.Meanings.{word-le}
-use Rattle.items.proofs.Own.{holds, Own, Fails, character-fails, read-own}
+use Rattle.items.proofs.Own.{holds, Own, Fails, character-fails}
+use Rattle.items.proofs.OwnSteps.{read-own}
 use Rattle.items.proofs.Splits.{read-at}
 
 -- where no range is set the place is the extent

@@ -1,5 +1,6 @@
 -- The machine: what a character does in a phase, what the end of the text makes of a phase, and the scan of one item. A means of
--- proof. The piece calls' contracts cite it; of states that calls made, pieces' `call-means` says the same without it. `i` is the item so far, which the code has as a part of the source or in the piece state.
+-- proof. The piece calls' contracts cite it; of states that calls made, pieces' `call-means` says the same without it. `i` is the item so
+-- far, which the code has as a part of the source or in the piece state.
 use Prim.Native.Nat.{ℕ, _+_, _-_}
 use mathlib.Core.Bool.{Bool}
 use mathlib.Core.List.{List, [], _∷_}

@@ -75,5 +75,7 @@ refusal w = pieceFor (lent w (replicate longest 0)) (spelled "a") longest .what
 
 computed : (new .words ≡ zeros) × (after (spelled " \"\\x4") ≡ inHexDigits) × (after (0xCE ∷ []) ≡ inLambda) × (refusal unused ≡ refused 27 0)
     × (refusal noStage ≡ refused 27 0)
-unfolding within isScalar utf8 width encode bytesOf isBlank step first startsRun firstOf inQuotes afterBackslash stopsHex inHex inBounds turnOf feedOf pieceOf openOf stageOf standing coded narrow sameRow isCode pieceFor openFor
+-- the list only permits the computing
+unfolding within isScalar utf8 width encode bytesOf isBlank step first startsRun firstOf inQuotes afterBackslash stopsHex inHex inBounds
+    turnOf feedOf pieceOf openOf stageOf standing coded narrow sameRow isCode pieceFor openFor
 computed = (refl, refl, refl, refl, refl)

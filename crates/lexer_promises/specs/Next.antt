@@ -13,7 +13,8 @@ use Rattle.chars.specs.Blank.{isBlank}
 use Rattle.chars.specs.Utf8.{first, rest, front, sequences, chars}
 use Rattle.digits.specs.Digits.{digitOf, sign, uinteger, value, signed, wholeOf, integer}
 use Rattle.numbers.specs.Reals.{exponentMarker, exponent, suffix, pointOf, dotted, undotted, decimal, infnan, integralOf, rationalOf, denominator, exact, orElse, ureal, real}
-use Rattle.numbers.specs.Grammar.{justOf, complexOf, polarOf, endsI, imaginary, aloneOf, pairOf, toSign, startsE, rectangular, complex, zeroInt, zeroReal, zeroParts, judged, radixMark, prefix, parseNumber}
+use Rattle.numbers.specs.Grammar.{justOf, complexOf, polarOf, endsI, imaginary, aloneOf, pairOf, toSign, startsE, rectangular, complex}
+use Rattle.numbers.specs.Grammar.{zeroInt, zeroReal, zeroParts, judged, radixMark, prefix, parseNumber}
 use Rattle.items.specs.Kinds as kind
 use Rattle.promises.specs.Shapes.{room, bare, texted, deep}
 use Rattle.items.specs.Classes.{startsRun, firstOf, inQuotes, afterBackslash, stopsHex, inHex, inTrim, breaksWord, inWord, staysRun, endsRun, inRun, afterHash, endsHash, inHash}
@@ -74,7 +75,14 @@ pub record Rows : Type 0 where
   pub past-end : nextOf (spelled "a") (at 9) [] ≡ replied finished []
 
 rows : Rows
-unfolding span starts begins same within isScalar utf8 width encode bytesOf isBlank first rest front sequences chars digitOf sign uinteger value signed wholeOf integer exponentMarker exponent suffix pointOf dotted undotted decimal infnan integralOf rationalOf denominator exact orElse ureal real justOf complexOf polarOf endsI imaginary aloneOf pairOf toSign startsE rectangular complex zeroInt zeroReal zeroParts judged radixMark prefix parseNumber startsRun firstOf inQuotes afterBackslash stopsHex inHex inTrim breaksWord inWord staysRun endsRun inRun afterHash endsHash inHash readLine linedOf readWord readRun boolKind quoteKind formKind hashKind hashBracket hashAt hashComma readHash readItem readQuoted wordOn hashOn lookup words wordKind wordMeans runMeans escaped stringText linedText charNames isDelimiter nameless spelledOut characterOf unescape extentItems giveOf nextOf turnFrom turn nextFrom nextAt
+-- the list only permits the computing
+unfolding span starts begins same within isScalar utf8 width encode bytesOf isBlank first rest front sequences chars digitOf sign uinteger
+    value signed wholeOf integer exponentMarker exponent suffix pointOf dotted undotted decimal infnan integralOf rationalOf denominator
+    exact orElse ureal real justOf complexOf polarOf endsI imaginary aloneOf pairOf toSign startsE rectangular complex zeroInt zeroReal
+    zeroParts judged radixMark prefix parseNumber startsRun firstOf inQuotes afterBackslash stopsHex inHex inTrim breaksWord inWord staysRun
+    endsRun inRun afterHash endsHash inHash readLine linedOf readWord readRun boolKind quoteKind formKind hashKind hashBracket hashAt
+    hashComma readHash readItem readQuoted wordOn hashOn lookup words wordKind wordMeans runMeans escaped stringText linedText charNames
+    isDelimiter nameless spelledOut characterOf unescape extentItems giveOf nextOf turnFrom turn nextFrom nextAt
 rows = record {
   first-item = refl;
   next-item = refl;

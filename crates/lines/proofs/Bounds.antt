@@ -95,7 +95,8 @@ splitting (b ∷ s) t f at (suc i) w l g h e =
     rw y (turns (step t b) b s f at i (splitting s) w (step-low t b) (omega arith) e g)
 
 -- the place after a newline byte of a UTF-8 text is one where a character starts, or the end
-pub line-bound : (s : List ℕ) (i : ℕ) → firstBad s ≡ Good → i < length s → getD s i 0 ≡ newline → (pre : List Sequence) × (sequences 0 0 s ≡ pre ++ sequences 0 (suc i) (drop (suc i) s)) × Early (suc i) pre
+pub line-bound : (s : List ℕ) (i : ℕ) → firstBad s ≡ Good → i < length s
+    → getD s i 0 ≡ newline → (pre : List Sequence) × (sequences 0 0 s ≡ pre ++ sequences 0 (suc i) (drop (suc i) s)) × Early (suc i) pre
 line-bound s i g h e =
     let y : 0 + suc i ≡ suc i = omega arith in
     rw (← run-sequences s 0) (rw y at (splitting s start 0 0 i (omega arith) (inl refl) (run-bad s ∙ g) h e))

@@ -61,7 +61,8 @@ after-bad (b ∷ s) t m e =
     let n : t .lines ≤ t .lines = omega arith in
     by-equal (t .at) limit
     (λ q. ap (λ (f : Fed). f .memory) (fed-cons t b s m (step-full t b z q) ∙ stands s (stoppedOf t limit tooLong) (noted t (stoppedOf t limit tooLong) m) refl) ∙ rw (le-ltb (t .lines) (t .lines) n))
-    (λ q. ap (λ (f : Fed). f .memory) (fed-cons t b s m (step-counts t b z q e)) ∙ after-bad s (stoppedOf t (t .at + 1) notUtf8) (noted t (stoppedOf t (t .at + 1) notUtf8) m) refl ∙ rw (le-ltb (t .lines) (t .lines) n))
+    (λ q. ap (λ (f : Fed). f .memory) (fed-cons t b s m (step-counts t b z q e))
+    ∙ after-bad s (stoppedOf t (t .at + 1) notUtf8) (noted t (stoppedOf t (t .at + 1) notUtf8) m) refl ∙ rw (le-ltb (t .lines) (t .lines) n))
 
 shown-past : (s : List ℕ) (u : begun.State) (f at : ℕ) → at ≤ shown (run u f at s) (at + length s)
 unfolding run shown
@@ -92,8 +93,12 @@ unfolding startsFrom
 moved-memory t b u f done m rest h = by-equal b newline
     (λ e.
     let g : t .lines < t .lines + 1 = omega arith in
-    rw (eq-eqb b newline e, lt-ltb (t .lines) (t .lines + 1) g)
-    (done ++ ((t .at + 1) ∷ []), ap (λ (k : ℕ). set (laid done m) k (t .at + 1)) (sym h) ∙ laid-push done m (t .at + 1), length-append done ((t .at + 1) ∷ []) ∙ rw h, sym (append-assoc done ((t .at + 1) ∷ []) (startsFrom (t .at + 1) rest))))
+    rw (eq-eqb b newline e, lt-ltb (t .lines) (t .lines + 1) g) (
+      done ++ ((t .at + 1) ∷ []),
+      ap (λ (k : ℕ). set (laid done m) k (t .at + 1)) (sym h) ∙ laid-push done m (t .at + 1),
+      length-append done ((t .at + 1) ∷ []) ∙ rw h,
+      sym (append-assoc done ((t .at + 1) ∷ []) (startsFrom (t .at + 1) rest)),
+    ))
     (λ e.
     let g : t .lines ≤ t .lines = omega arith in
     rw (ne-eqb b newline e, le-ltb (t .lines) (t .lines) g) (done, refl, h, refl))
@@ -109,7 +114,8 @@ moves t b s u f done m ih h a q k =
     let v = moved-memory t b u f done m rest k in
     ap (λ (x : List ℕ). fedOf (movedOf t b u f) s x .memory) (v .1)
     ∙ ih (movedOf t b u f) (v .0) m (moved-low t b u f h) (below (t .at) a q) refl (v .2)
-    ∙ ap (λ (x : List ℕ). laid x m) (sym (v .3) ∙ ap (λ (x : List ℕ). done ++ startsFrom (t .at) x) (sym (from-cons (run u f (t .at + 1) s) (t .at) b s (below (t .at) a q) (shown-past s u f (t .at + 1)))))
+    ∙ ap (λ (x : List ℕ). laid x m) (sym (v .3) ∙ ap (λ (x : List ℕ). done ++ startsFrom (t .at) x)
+    (sym (from-cons (run u f (t .at + 1) s) (t .at) b s (below (t .at) a q) (shown-past s u f (t .at + 1)))))
 
 held-step : (o : Step) (b : ℕ) (s : List ℕ) (t : State) (done m : List ℕ) → Holds s → t .lines ≤ t .at → t .at ≤ limit → t .stop ≡ 0 → length done ≡ t .lines + 1 → (t .at ≡ limit → ⊥)
     → step (t .begun) b ≡ o
@@ -123,7 +129,8 @@ held-step o b s t done m ih h a e k q d =
     go : (o : Step)
         → let u = told o (λ v. movedOf t b v (t .from)) (λ c. movedOf t b start (t .at + 1)) (stoppedOf t (t .at + 1) notUtf8) in
         fedOf u s (noted t u (laid done m)) .memory
-        ≡ laid (done ++ startsFrom (t .at) (from (told o (λ v. run v (t .from) (t .at + 1) s) (λ c. read c (t .from) (t .at + 1) ∷ run start (t .at + 1) (t .at + 1) s) (broken (t .from) (t .at + 1) ∷ [])) (t .at) (b ∷ s))) m
+        ≡ laid (done ++ startsFrom (t .at) (from (told o (λ v. run v (t .from) (t .at + 1) s)
+        (λ c. read c (t .from) (t .at + 1) ∷ run start (t .at + 1) (t .at + 1) s) (broken (t .from) (t .at + 1) ∷ [])) (t .at) (b ∷ s))) m
     go (steps.More v) = moves t b s v (t .from) done m ih h a q k
     go (steps.Char c) = moves t b s start (t .at + 1) done m ih h a q k
     go steps.Bad =
@@ -155,7 +162,8 @@ held s m =
     ∙ ap (λ (x : List ℕ). laid (0 ∷ startsFrom 0 x) m) (ap (λ (l : List Sequence). from l 0 s) (run-sequences s 0) ∙ whole)
   where
     whole : from (sequences 0 0 s) 0 s ≡ before s
-    whole = let a : limit - 0 ≡ limit = omega arith in let b : shown (sequences 0 0 s) (0 + length s) - 0 ≡ shown (sequences 0 0 s) (length s) = ap (λ (k : ℕ). k - 0) (ap (shown (sequences 0 0 s)) (let q : 0 + length s ≡ length s = omega arith in q)) ∙ omega arith in rw (a, b)
+    whole = let a : limit - 0 ≡ limit = omega arith in let b : shown (sequences 0 0 s) (0 + length s) - 0 ≡ shown (sequences 0 0 s) (length s) =
+        ap (λ (k : ℕ). k - 0) (ap (shown (sequences 0 0 s)) (let q : 0 + length s ≡ length s = omega arith in q)) ∙ omega arith in rw (a, b)
 
 -- ---- a text that is served: the same index as in one
 
@@ -186,6 +194,7 @@ pub same-index : (s m : List ℕ) (k : ℕ) → buildOf s m .answer ≡ Served k
 unfolding firstBad
 same-index s m k e =
     let v = build-served s m k e in
-    let a : take (shown (sequences 0 0 s) (length s)) s ≡ s = ap (λ (n : ℕ). take n s) (shown-good (sequences 0 0 s) (length s) (v .1)) ∙ take-all (length s) s (let q : length s ≤ length s = omega arith in q) in
+    let a : take (shown (sequences 0 0 s) (length s)) s ≡ s = ap (λ (n : ℕ). take n s) (shown-good (sequences 0 0 s) (length s) (v .1))
+    ∙ take-all (length s) s (let q : length s ≤ length s = omega arith in q) in
     let b : before s ≡ s = ap (take limit) a ∙ take-all limit s (v .0) in
     held s m ∙ ap (λ (l : List ℕ). laid (starts l) m) b ∙ ap (λ (l : List ℕ). l ++ drop (length (starts s)) m) (take-all (length m) (starts s) (v .2)) ∙ sym (v .3)

@@ -154,7 +154,8 @@ by-step o b s t m n ih h a e q d =
     go : (o : Step) → t .at + 1 + length s ≡ t .at + suc (length s)
         → let u = told o (λ v. movedOf t b v (t .from)) (λ c. movedOf t b start (t .at + 1)) (stoppedOf t (t .at + 1) notUtf8) in
         endOf (fedOf u s (noted t u m) .state) n
-        ≡ said (t .at + suc (length s)) (verdict (told o (λ v. run v (t .from) (t .at + 1) s) (λ c. read c (t .from) (t .at + 1) ∷ run start (t .at + 1) (t .at + 1) s) (broken (t .from) (t .at + 1) ∷ [])))
+        ≡ said (t .at + suc (length s)) (verdict (told o (λ v. run v (t .from) (t .at + 1) s)
+        (λ c. read c (t .from) (t .at + 1) ∷ run start (t .at + 1) (t .at + 1) s) (broken (t .from) (t .at + 1) ∷ [])))
         (t .lines + 1 + length (startsFrom (t .at) (b ∷ s))) n
     go (steps.More v) len =
         ih (movedOf t b v (t .from)) (noted t (movedOf t b v (t .from)) m) n (moved-low t b v (t .from) h) (below (t .at) a q) refl

@@ -10,7 +10,8 @@ use lib.ListN.{length, getD}
 use Rattle.laws.proofs.Choice.{by-bool, if-yes, if-no}
 use Rattle.refusal.specs.Refusals.{outOfBounds, noParty, noRoom}
 use Rattle.names.specs.Layout.{count, used, slot, bears, inBounds, halfNames, halfBytes, firstBound, indexSlots, halfWords, tableNames}
-use Rattle.names.specs.Call.{slotOf, tagOf, proposes, probe, probeOf, scan, scanned, lookupOf, orElse, findOf, laid, newWords, numbered, freeOf, Outcome, outcome, newOf, enterOf, looks}
+use Rattle.names.specs.Call.{slotOf, tagOf, proposes, probe, probeOf, scan, scanned, lookupOf, orElse, findOf, laid, newWords}
+use Rattle.names.specs.Call.{numbered, freeOf, Outcome, outcome, newOf, enterOf, looks}
 use Rattle.names.specs.declared.Entered.the-variants.{Number, Refused}
 use Rattle.names.specs.declared.Proposal.{Proposal}
 use Rattle.names.specs.declared.Proposal.the-variants.{Entry, Free, Full}
@@ -121,7 +122,8 @@ module _ (w b : List ℕ) (p : ℕ) (name : List ℕ) where
   unfolding newOf
   new-full {n} e h = if-no _ _ _ (le-ltb (count w p) halfNames (omega arith)) refl
 
-  pub new-long : {n from : ℕ} → n ≡ count w p → n < halfNames → from ≡ getD w (p * halfWords + firstBound + n) 0 → used w p ≤ halfBytes → halfBytes - from < length name → outcome (Refused noRoom) w b ≡ newOf w b p name
+  pub new-long : {n from : ℕ} → n ≡ count w p → n < halfNames → from ≡ getD w (p * halfWords + firstBound + n) 0
+      → used w p ≤ halfBytes → halfBytes - from < length name → outcome (Refused noRoom) w b ≡ newOf w b p name
   unfolding newOf
   new-long {n} {from} e h f u g =
       let q : from ≡ used w p = f ∙ rw e in

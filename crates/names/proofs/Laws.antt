@@ -16,8 +16,10 @@ use Rattle.laws.proofs.Places.{past, here}
 use Rattle.laws.proofs.Choice.{if-yes, if-no, by-bool}
 use Rattle.laws.specs.Choice.{if_then_else_}
 use Rattle.refusal.specs.Refusals.{outOfBounds, noName}
-use Rattle.names.specs.Layout.{count, bound, used, slot, nameAt, bears, halfBounds, inBounds, halfNames, halfBytes, firstBound, firstSlot, indexSlots, halfWords, tableNames, tableBytes, tableWords, nowhere, placed, cut, placeAt}
-use Rattle.names.specs.Call.{factor, hashes, hashesASlot, turn, four, rest, mix, hashOf, slotOf, tagOf, entryIn, tagIn, proposes, probe, scan, scanned, laid, newWords, markOf, nameOf, openOf, opening, placeOf}
+use Rattle.names.specs.Layout.{count, bound, used, slot, nameAt, bears, halfBounds, inBounds, halfNames, halfBytes, firstBound}
+use Rattle.names.specs.Layout.{firstSlot, indexSlots, halfWords, tableNames, tableBytes, tableWords, nowhere, placed, cut, placeAt}
+use Rattle.names.specs.Call.{factor, hashes, hashesASlot, turn, four, rest, mix, hashOf, slotOf, tagOf, entryIn, tagIn, proposes}
+use Rattle.names.specs.Call.{probe, scan, scanned, laid, newWords, markOf, nameOf, openOf, opening, placeOf}
 use Rattle.names.specs.declared.Place.{Place}
 use Rattle.names.specs.declared.Proposal.the-variants.{Entry, Free, Full}
 use Rattle.names.specs.declared.Found.the-variants.{At, Nothing}

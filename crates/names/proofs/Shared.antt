@@ -109,7 +109,10 @@ number-stays b p x n {k} e f = stays p
     stays zero =
         where-is b n
         (λ j r. number-planner (added b 0 x) n
-        (record { less = rw (place-grows n (b .planner) x (r .less), length-more (b .planner) x) (let g = r .less in omega arith); number = sym (at-same (sym (number-planner b n r) ∙ f)) ∙ r .number ∙ sym (place-grows n (b .planner) x (r .less)) }))
+        (record {
+          less = rw (place-grows n (b .planner) x (r .less), length-more (b .planner) x) (let g = r .less in omega arith);
+          number = sym (at-same (sym (number-planner b n r) ∙ f)) ∙ r .number ∙ sym (place-grows n (b .planner) x (r .less));
+        }))
         (λ j r. number-contractor (added b 0 x) n
         (record { none = place-not n (b .planner) x (r .none) differ; less = r .less; number = sym (at-same (sym (number-contractor b n r) ∙ f)) ∙ r .number }))
         (λ u v. absurd (at-none (sym f ∙ number-none b n u v)))
@@ -138,7 +141,14 @@ ways b p n two =
     (λ k e. record { way = inl (k, e, sym (if-yes _ _ _ (lt-ltb p 2 two) (rw e))) })
     (λ e. by-bool (ltb (length (half b p)) halfNames)
     (λ t. by-bool (leb (size (half b p) + length n) halfBytes)
-    (λ u. record { way = inr (inl (e, ltb-true (length (half b p)) halfNames t, leb-true (size (half b p) + length n) halfBytes u, sym (if-yes _ _ _ (lt-ltb p 2 two) (rw e (if-yes _ _ _ t (if-yes _ _ _ u refl)))))) })
+    (λ u. record {
+      way = inr (inl (
+        e,
+        ltb-true (length (half b p)) halfNames t,
+        leb-true (size (half b p) + length n) halfBytes u,
+        sym (if-yes _ _ _ (lt-ltb p 2 two) (rw e (if-yes _ _ _ t (if-yes _ _ _ u refl)))),
+      ));
+    })
     (λ u. record { way = inr (inr (e, inr (leb-false (size (half b p) + length n) halfBytes u), sym (if-yes _ _ _ (lt-ltb p 2 two) (rw e (if-yes _ _ _ t (if-no _ _ _ u refl)))))) }))
     (λ t. record { way = inr (inr (e, inl (ltb-false (length (half b p)) halfNames t), sym (if-yes _ _ _ (lt-ltb p 2 two) (rw e (if-no _ _ _ t refl))))) }))
 

@@ -62,7 +62,8 @@ name-same : (w b v c : List ℕ) (q k : ℕ) → bound v q k ≡ bound w q k →
 name-same w b v c q k e f up l g = sym (name-part v q k (sym e) (sym f) c up l) ∙ g ∙ name-part w q k refl refl b up l
 
 -- one name more
-module _ (w b name : List ℕ) (p s : ℕ) (t : Sound w b) (two : p < 2) (few : count w p < halfNames) (fits : used w p + length name ≤ halfBytes) (small : s < indexSlots + 1) (free : s ≡ freeOf (probeOf w b p name))
+module _ (w b name : List ℕ) (p s : ℕ) (t : Sound w b) (two : p < 2)
+    (few : count w p < halfNames) (fits : used w p + length name ≤ halfBytes) (small : s < indexSlots + 1) (free : s ≡ freeOf (probeOf w b p name))
     (absent : (q k : ℕ) → q < 2 → k < count w q → nameAt w b q k ≡ name → ⊥) where
   abbrev v : List ℕ
   v = newWords w p s (tagOf name) (length name)

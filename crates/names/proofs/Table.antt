@@ -12,12 +12,14 @@ use lib.Seq.{getD-append-add, getD-take, getD-drop, length-take-le}
 use Rattle.laws.proofs.Choice.{by-bool}
 use Rattle.refusal.specs.Refusals.{outOfBounds, noParty, noRoom, noName}
 use Rattle.names.specs.Layout.{count, bound, used, nameAt, inBounds, halfNames, halfBytes, firstBound, halfWords, tableNames, tableBytes, tableWords}
-use Rattle.names.specs.Call.{findOf, probeOf, slotOf, tagOf, freeOf, newWords, laid, Outcome, outcome, newOf, enterOf, openMark, openWords, markOf, nameOf, looks, Opening}
+use Rattle.names.specs.Call.{findOf, probeOf, slotOf, tagOf, freeOf, newWords, laid, Outcome, outcome, newOf, enterOf, openMark}
+use Rattle.names.specs.Call.{openWords, markOf, nameOf, looks, Opening}
 use Rattle.names.specs.Book.{Name, Book, book, half, place, size, numberIn, Reply, ask, markIn, nameIn, Call, asks, firstNames, namesOf, bookOf, Memory, memory, calls}
 use Rattle.names.specs.declared.Entered.{Entered}
 use Rattle.names.specs.declared.Entered.the-variants.{Number, Refused}
 use Rattle.names.specs.declared.Found.the-variants.{At}
-use Rattle.names.proofs.Laws.{slot-small, Bounds, bounds, cleared, length-cleared, party-of, open-few, open-short, open-all, name-none, name-there, mark-outside, mark-far, mark-none, mark-there}
+use Rattle.names.proofs.Laws.{slot-small, Bounds, bounds, cleared, length-cleared, party-of, open-few, open-short, open-all}
+use Rattle.names.proofs.Laws.{name-none, name-there, mark-outside, mark-far, mark-none, mark-there}
 use Rattle.names.proofs.Gives.{by-found, free-small, enter-outside, enter-party, enter-there, enter-new}
 use Rattle.names.proofs.Parts.{word-other}
 use Rattle.names.proofs.Sound.{Sound, in-bounds}

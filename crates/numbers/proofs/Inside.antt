@@ -13,7 +13,8 @@ use Rattle.numbers.specs.declared.MaybeParts.{MaybeParts}
 use Rattle.numbers.specs.declared.MaybeParts.the-variants.{SomeParts, NoParts}
 use Rattle.numbers.specs.Grammar.{justOf, complexOf, polarOf, endsI, init, imaginary, aloneOf, pairOf, toSign, cut, rectangular, complex, zeroParts, judged, prefix, parseNumber}
 use Rattle.numbers.specs.Inside.{InSpan, InInt, InPoint, InReal, InParts}
-use Rattle.numbers.specs.Reals.{exponentMarker, exponent, suffix, pointOf, dotted, undotted, decimal, pointIn, oneDecimal, infnan, integralOf, rationalOf, denominator, exact, orElse, ureal, real}
+use Rattle.numbers.specs.Reals.{exponentMarker, exponent, suffix, pointOf, dotted, undotted, decimal, pointIn, oneDecimal, infnan}
+use Rattle.numbers.specs.Reals.{integralOf, rationalOf, denominator, exact, orElse, ureal, real}
 use Rattle.numbers.proofs.Judged.{prefix-short}
 use Rattle.laws.specs.Choice.{if_then_else_}
 use Rattle.laws.specs.Quoted.{codes, code}

@@ -18,7 +18,8 @@ use Rattle.numbers.specs.declared.Real.{Real}
 use Rattle.numbers.specs.declared.Real.the-variants.{Integer, Rational, Decimal, PosInf, NegInf, PosNan, NegNan, ImpliedZero, ImpliedOne}
 use Rattle.numbers.specs.declared.Parts.the-variants.{Just, Complex, Polar}
 use Rattle.numbers.specs.Reals.{exponentMarker, exponent, suffix, pointOf, dotted, undotted, decimal, infnan, integralOf, rationalOf, denominator, exact, orElse, ureal, real}
-use Rattle.numbers.specs.Grammar.{justOf, complexOf, polarOf, endsI, imaginary, aloneOf, pairOf, toSign, startsE, rectangular, complex, zeroInt, zeroReal, zeroParts, judged, radixMark, prefix, parseNumber}
+use Rattle.numbers.specs.Grammar.{justOf, complexOf, polarOf, endsI, imaginary, aloneOf, pairOf, toSign, startsE, rectangular}
+use Rattle.numbers.specs.Grammar.{complex, zeroInt, zeroReal, zeroParts, judged, radixMark, prefix, parseNumber}
 use Rattle.numbers.specs.Call.{Answer, parts, noNumber, error, refused, zeroDenominator, number}
 
 abbrev small : ℤ → Real
@@ -82,5 +83,9 @@ table =
     []
 
 computed : map (λ r. number (r .text)) table ≡ map (λ r. r .answer) table
-unfolding table within span starts same digitOf sign uinteger value signed wholeOf integer exponentMarker exponent suffix pointOf dotted undotted decimal infnan integralOf rationalOf denominator exact orElse ureal real justOf complexOf polarOf endsI imaginary aloneOf pairOf toSign startsE rectangular complex zeroInt zeroReal zeroParts judged radixMark prefix parseNumber number chars.first chars.rest chars.front chars.sequences chars.firstBad encode.utf8 encode.bytesOf
+-- the list only permits the computing
+unfolding table within span starts same digitOf sign uinteger value signed wholeOf integer exponentMarker exponent suffix pointOf dotted
+    undotted decimal infnan integralOf rationalOf denominator exact orElse ureal real justOf complexOf polarOf endsI imaginary aloneOf
+    pairOf toSign startsE rectangular complex zeroInt zeroReal zeroParts judged radixMark prefix parseNumber number chars.first chars.rest
+    chars.front chars.sequences chars.firstBad encode.utf8 encode.bytesOf
 computed = refl

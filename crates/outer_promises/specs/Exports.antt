@@ -13,10 +13,13 @@ use Rattle.chars.specs.Blank.{isBlank}
 use Rattle.chars.specs.Utf8.{first, rest, front, placed, firstBad, sequences, chars}
 use Rattle.digits.specs.Digits.{digitOf, sign, uinteger, value, fit, signed, wholeOf, integer}
 use Rattle.numbers.specs.Reals.{exponentMarker, exponent, suffix, pointOf, dotted, undotted, decimal, infnan, integralOf, rationalOf, denominator, exact, orElse, ureal, real}
-use Rattle.numbers.specs.Grammar.{justOf, complexOf, polarOf, endsI, imaginary, aloneOf, pairOf, toSign, startsE, rectangular, complex, zeroInt, zeroReal, zeroParts, judged, radixMark, prefix, parseNumber}
+use Rattle.numbers.specs.Grammar.{justOf, complexOf, polarOf, endsI, imaginary, aloneOf, pairOf, toSign, startsE, rectangular, complex}
+use Rattle.numbers.specs.Grammar.{zeroInt, zeroReal, zeroParts, judged, radixMark, prefix, parseNumber}
 use Rattle.numbers.specs.Call.{number}
 use Rattle.items.specs.Classes.{startsRun, firstOf, inQuotes, afterBackslash, stopsHex, inHex, inTrim, inNest, breaksWord, inWord, staysRun, endsRun, inRun, afterHash, endsHash, inHash, inDelim}
-use Rattle.items.specs.Readers.{readLine, linedOf, scalarOf, readWord, readRun, boolKind, quoteKind, formKind, hashKind, hashBracket, hashAt, hashComma, unreturned, endsWith, hereEnds, hereBody, hereDelim, afterAngle, readHash, readComma, readItem, readNest, readQuoted, wordOn, hashOn}
+use Rattle.items.specs.Readers.{readLine, linedOf, scalarOf, readWord, readRun, boolKind, quoteKind, formKind, hashKind, hashBracket}
+use Rattle.items.specs.Readers.{hashAt, hashComma, unreturned, endsWith, hereEnds, hereBody, hereDelim, afterAngle, readHash, readComma}
+use Rattle.items.specs.Readers.{readItem, readNest, readQuoted, wordOn, hashOn}
 use Rattle.items.specs.Meaning.{lookup, words, wordKind, wordMeans, runMeans, escaped, stringText, linedText, hereText, unescape}
 use Rattle.items.specs.Items.{extentItems, itemsFrom, pastLine, afterPound, items, kept, records, texts}
 use Rattle.items.specs.Whole.{Call, call, served, refused, deliver, readOf}
@@ -83,7 +86,16 @@ pub record Rows : Type 0 where
   pub put-count : laid (encode (code "λ")) (7 ∷ 7 ∷ 7 ∷ []) ≡ 2
 
 pub computed : Rows
-unfolding readNumber readValues readOf deliver textMark number intWords formed realWords joined partsWords refusalWords flattened numberOr lay laid firstBad sequences chars span starts begins same isScalar utf8 width encode bytesOf isBlank within first rest front digitOf sign uinteger value fit signed wholeOf integer exponentMarker exponent suffix pointOf dotted undotted decimal infnan integralOf rationalOf denominator exact orElse ureal real justOf complexOf polarOf endsI imaginary aloneOf pairOf toSign startsE rectangular complex zeroInt zeroReal zeroParts judged radixMark prefix parseNumber startsRun firstOf inQuotes afterBackslash stopsHex inHex inTrim inNest breaksWord inWord staysRun endsRun inRun afterHash endsHash inHash inDelim readLine linedOf scalarOf readWord readRun boolKind quoteKind formKind hashKind hashBracket hashAt hashComma unreturned endsWith hereEnds hereBody hereDelim afterAngle readHash readComma readItem readNest readQuoted wordOn hashOn lookup words wordKind wordMeans runMeans escaped stringText linedText hereText unescape extentItems itemsFrom pastLine afterPound items kept records texts
+-- the list only permits the computing
+unfolding readNumber readValues readOf deliver textMark number intWords formed realWords joined partsWords refusalWords flattened numberOr
+    lay laid firstBad sequences chars span starts begins same isScalar utf8 width encode bytesOf isBlank within first rest front digitOf
+    sign uinteger value fit signed wholeOf integer exponentMarker exponent suffix pointOf dotted undotted decimal infnan integralOf
+    rationalOf denominator exact orElse ureal real justOf complexOf polarOf endsI imaginary aloneOf pairOf toSign startsE rectangular
+    complex zeroInt zeroReal zeroParts judged radixMark prefix parseNumber startsRun firstOf inQuotes afterBackslash stopsHex inHex inTrim
+    inNest breaksWord inWord staysRun endsRun inRun afterHash endsHash inHash inDelim readLine linedOf scalarOf readWord readRun boolKind
+    quoteKind formKind hashKind hashBracket hashAt hashComma unreturned endsWith hereEnds hereBody hereDelim afterAngle readHash readComma
+    readItem readNest readQuoted wordOn hashOn lookup words wordKind wordMeans runMeans escaped stringText linedText hereText unescape
+    extentItems itemsFrom pastLine afterPound items kept records texts
 computed =
     record {
       read-skipped = refl;

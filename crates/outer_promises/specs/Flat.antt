@@ -103,7 +103,11 @@ pub record Rows : Type 0 where
   pub no-values : lay (1 ∷ 2 ∷ []) (7 ∷ []) ≡ 7 ∷ []
 
 pub computed : Rows
-unfolding openLeft called lay within span starts begins same isScalar utf8 width encode bytesOf isBlank step first rest front startsRun firstOf inQuotes afterBackslash stopsHex inHex inTrim inNest breaksWord inWord staysRun endsRun inRun afterHash endsHash inHash inDelim lookup words wordKind wordMeans runMeans escaped stringText linedText hereText unescape extentItems inBounds turnOf feedOf pieceOf endOf openOf stageOf standing coded narrow sameRow isCode pieceFor endFor openFor
+-- the list only permits the computing
+unfolding openLeft called lay within span starts begins same isScalar utf8 width encode bytesOf isBlank step first rest front startsRun
+    firstOf inQuotes afterBackslash stopsHex inHex inTrim inNest breaksWord inWord staysRun endsRun inRun afterHash endsHash inHash inDelim
+    lookup words wordKind wordMeans runMeans escaped stringText linedText hereText unescape extentItems inBounds turnOf feedOf pieceOf endOf
+    openOf stageOf standing coded narrow sameRow isCode pieceFor endFor openFor
 computed =
     record {
       opened-kept = refl;

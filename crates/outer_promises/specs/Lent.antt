@@ -152,7 +152,11 @@ pub record Rows : Type 0 where
   pub unknown-stage-end : endFor unknown longest ≡ saying 0 (refused 27 0) unknown
 
 pub computed : Rows
-unfolding within span starts begins same isScalar utf8 width encode bytesOf isBlank step first rest front digitOf hexDigits hexAfterPlus hexValue startsRun firstOf inQuotes afterBackslash stopsHex inHex inTrim inNest breaksWord inWord staysRun endsRun inRun afterHash endsHash inHash inDelim scalarOf lookup words wordKind wordMeans runMeans escaped stringText linedText hereText unescape extentItems inBounds turnOf feedOf pieceOf endOf openOf stageOf standing coded narrow sameRow isCode pieceFor endFor openFor
+-- the list only permits the computing
+unfolding within span starts begins same isScalar utf8 width encode bytesOf isBlank step first rest front digitOf hexDigits hexAfterPlus
+    hexValue startsRun firstOf inQuotes afterBackslash stopsHex inHex inTrim inNest breaksWord inWord staysRun endsRun inRun afterHash
+    endsHash inHash inDelim scalarOf lookup words wordKind wordMeans runMeans escaped stringText linedText hereText unescape extentItems
+    inBounds turnOf feedOf pieceOf endOf openOf stageOf standing coded narrow sameRow isCode pieceFor endFor openFor
 computed =
     record {
       no-mode = refl;

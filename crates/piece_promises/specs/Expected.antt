@@ -46,7 +46,10 @@ pub record Rows : Type 0 where
   pub stopped : expected false false (spelled "(a" ++ (0xFF ∷ [])) ≡ expecting (bracket ∷ []) (word.refused 21 2)
 
 rows : Rows
-unfolding within same isScalar utf8 width encode bytesOf isBlank first rest front sequences chars startsRun firstOf breaksWord inWord readWord readItem wordOn lookup words wordKind wordMeans extentItems itemsFrom pastLine items kept endsBefore givenAll unfinished endingOf expected shown due lateAnswer
+-- the list only permits the computing
+unfolding within same isScalar utf8 width encode bytesOf isBlank first rest front sequences chars startsRun firstOf breaksWord inWord
+    readWord readItem wordOn lookup words wordKind wordMeans extentItems itemsFrom pastLine items kept endsBefore givenAll unfinished
+    endingOf expected shown due lateAnswer
 rows =
     record {
       begun = refl;

@@ -28,8 +28,8 @@ use Rattle.pieces.specs.Drive.{heed, prepend}
 use Rattle.pieces.specs.Expected.{Expected, longest}
 use Rattle.pieces.specs.Given.{given, givenAll}
 use Rattle.pieces.proofs.Cuts.{settled, afterTurn, settled-calm}
-use Rattle.pieces.proofs.Kept.{Kept, Held, Staged, Calm, Within, laid-held, kept-pass, laid-in, kept-laid, first-in, kept-first}
-use Rattle.pieces.proofs.Kept.{bytes-fit, kept-range, kept-depth}
+use Rattle.pieces.proofs.Kept.{Kept, Held, Staged, Calm, Within, laid-held, bytes-fit}
+use Rattle.pieces.proofs.Becomes.{kept-pass, laid-in, kept-laid, first-in, kept-first, kept-range, kept-depth}
 use Rattle.pieces.proofs.Pairs.{Shape, alone, pair, shape}
 use Rattle.pieces.proofs.Phases.{Goes, first-sized}
 use Rattle.pieces.proofs.Turns.{held-length, step-goes, kept-pound}
@@ -178,7 +178,8 @@ module _ (bytes : List ℕ) where
             let w : Within last = kept-range k st o (itemSoFar s) z (omega (arith, h .ends, k .far)) (omega (arith, k .far)) (omega (arith, h .ends, k .far, bytes-fit s)) in
             let d : ℕ = depthPast (s .marks .depth) (kept (s .marks .skip) (extentItems (report s) (lastOf s) st o (itemSoFar s))) in
             goes (begin (atDepth d s) last c) (arrives-begin d last w)
-            (λ go. gives-all after text st h (Char c) last (rangeAfter (report s) (standing (report s) (lastOf s)) st o (itemSoFar s)) (meaningOf (report s) o st (s .marks .at) (take (s .marks .len) (s .buf)))
+            (λ go. gives-all after text st h (Char c) last (rangeAfter (report s) (standing (report s) (lastOf s)) st o (itemSoFar s))
+            (meaningOf (report s) o st (s .marks .at) (take (s .marks .len) (s .buf)))
             (shape st (s .marks .at) (take (s .marks .len) (s .buf)) (report s) o) go (λ e. settled-calm (begin (atDepth e s) last c) (begin-calm (atDepth e s) last c) go))
 
         staged : {b : Stage} → s .marks .stage ≡ b → Staged q s b

@@ -16,7 +16,8 @@ use Rattle.chars.specs.declared.Utf8.the-variants.{Good}
 use Rattle.digits.specs.Digits.{digitOf, sign, uinteger, value, signed, wholeOf, integer}
 use Rattle.digits.specs.declared.Int.the-variants.{Small}
 use Rattle.numbers.specs.Reals.{exponentMarker, exponent, suffix, pointOf, dotted, undotted, decimal, infnan, integralOf, rationalOf, denominator, exact, orElse, ureal, real}
-use Rattle.numbers.specs.Grammar.{justOf, complexOf, polarOf, endsI, imaginary, aloneOf, pairOf, toSign, startsE, rectangular, complex, zeroInt, zeroReal, zeroParts, judged, radixMark, prefix, parseNumber}
+use Rattle.numbers.specs.Grammar.{justOf, complexOf, polarOf, endsI, imaginary, aloneOf, pairOf, toSign, startsE, rectangular, complex}
+use Rattle.numbers.specs.Grammar.{zeroInt, zeroReal, zeroParts, judged, radixMark, prefix, parseNumber}
 use Rattle.numbers.specs.Plain.{plain}
 use Rattle.numbers.specs.declared.Real.{Real}
 use Rattle.numbers.specs.declared.Real.the-variants.{Integer, Rational}
@@ -44,7 +45,11 @@ pub record Rows : Type 0 where
   pub plain-zero : plain (spelled "1/0") ≡ false
 
 rows : Rows
-unfolding number firstBad sequences span starts same utf8 bytesOf within first rest front digitOf sign uinteger value signed wholeOf integer exponentMarker exponent suffix pointOf dotted undotted decimal infnan integralOf rationalOf denominator exact orElse ureal real justOf complexOf polarOf endsI imaginary aloneOf pairOf toSign startsE rectangular complex zeroInt zeroReal zeroParts judged radixMark prefix parseNumber plain
+-- the list only permits the computing
+unfolding number firstBad sequences span starts same utf8 bytesOf within first rest front digitOf sign uinteger value signed wholeOf integer
+    exponentMarker exponent suffix pointOf dotted undotted decimal infnan integralOf rationalOf denominator exact orElse ureal real justOf
+    complexOf polarOf endsI imaginary aloneOf pairOf toSign startsE rectangular complex zeroInt zeroReal zeroParts judged radixMark prefix
+    parseNumber plain
 rows = record {
   negative = refl;
   no-digits = refl;

@@ -45,7 +45,10 @@ pub record Rows : Type 0 where
   pub scan : scanOf false (ph.Nest 1) (soFar (spelled "#|") 2) (codes "#||#|#a") ≡ got comment (soFar (spelled "#|#||#|#") 8) (codes "a")
 
 rows : Rows
-unfolding within span begins same isScalar utf8 width encode bytesOf isBlank first rest front digitOf hexDigits hexAfterPlus hexValue startsRun firstOf inQuotes afterBackslash stopsHex inHex inTrim inNest breaksWord inWord staysRun endsRun inRun afterHash linedOf scalarOf pastFailing scanOf
+-- the list only permits the computing
+unfolding within span begins same isScalar utf8 width encode bytesOf isBlank first rest front digitOf hexDigits hexAfterPlus hexValue
+    startsRun firstOf inQuotes afterBackslash stopsHex inHex inTrim inNest breaksWord inWord staysRun endsRun inRun afterHash linedOf
+    scalarOf pastFailing scanOf
 rows = record {
   comma = refl;
   comma-at = refl;

@@ -69,7 +69,9 @@ pub record Rows : Type 0 where
   pub longer : map (same (spelled "ab")) (spelled "ab" ∷ spelled "abc" ∷ spelled "a" ∷ []) ≡ true ∷ false ∷ false ∷ []
 
 rows : Rows
-unfolding span same within isScalar utf8 encode bytesOf first rest front digitOf hexDigits hexAfterPlus hexValue inQuotes afterBackslash stopsHex inHex inTrim scalarOf pastFailing lookup words wordKind charNames isDelimiter nameless hexNamed spelledOut characterOf unescape
+-- the list only permits the computing
+unfolding span same within isScalar utf8 encode bytesOf first rest front digitOf hexDigits hexAfterPlus hexValue inQuotes afterBackslash
+    stopsHex inHex inTrim scalarOf pastFailing lookup words wordKind charNames isDelimiter nameless hexNamed spelledOut characterOf unescape
 rows = record {
   defn = refl;
   set = refl;

@@ -68,11 +68,24 @@ table =
     []
 
 by-bought : map (λ r. call.numberBy call.bought (r .text)) table ≡ map (λ r. r .bought) table
-unfolding table within span starts same digitOf sign uinteger value signed wholeOf integer bought.exponentMarker bought.exponent bought.suffix bought.pointOf bought.dotted bought.undotted bought.decimal bought.infnan bought.integralOf bought.rationalOf bought.denominator bought.exact bought.orElse bought.ureal bought.real bought-grammar.justOf bought-grammar.complexOf bought-grammar.polarOf bought-grammar.endsI bought-grammar.imaginary bought-grammar.aloneOf bought-grammar.pairOf bought-grammar.toSign bought-grammar.startsE bought-grammar.rectangular bought-grammar.complex bought-grammar.zeroInt bought-grammar.zeroReal bought-grammar.zeroParts bought-grammar.judged bought-grammar.radixMark bought-grammar.prefix bought-grammar.parseNumber number chars.first chars.rest chars.front chars.sequences chars.firstBad encode.utf8 encode.bytesOf call.numberBy
+-- the list only permits the computing
+unfolding table within span starts same digitOf sign uinteger value signed wholeOf integer bought.exponentMarker bought.exponent
+    bought.suffix bought.pointOf bought.dotted bought.undotted bought.decimal bought.infnan bought.integralOf bought.rationalOf
+    bought.denominator bought.exact bought.orElse bought.ureal bought.real bought-grammar.justOf bought-grammar.complexOf
+    bought-grammar.polarOf bought-grammar.endsI bought-grammar.imaginary bought-grammar.aloneOf bought-grammar.pairOf bought-grammar.toSign
+    bought-grammar.startsE bought-grammar.rectangular bought-grammar.complex bought-grammar.zeroInt bought-grammar.zeroReal
+    bought-grammar.zeroParts bought-grammar.judged bought-grammar.radixMark bought-grammar.prefix bought-grammar.parseNumber number
+    chars.first chars.rest chars.front chars.sequences chars.firstBad encode.utf8 encode.bytesOf call.numberBy
 by-bought = refl
 
 by-standard : map (λ r. call.numberBy call.standard (r .text)) table ≡ map (λ r. r .standard) table
-unfolding table within span starts same digitOf sign uinteger value signed wholeOf bought.exponentMarker bought.exponent bought.suffix bought.pointOf bought.dotted bought.undotted bought.decimal bought.infnan bought.integralOf bought.rationalOf bought.orElse bought-grammar.justOf bought-grammar.complexOf bought-grammar.polarOf bought-grammar.toSign bought-grammar.startsE bought-grammar.zeroInt bought-grammar.zeroReal bought-grammar.zeroParts bought-grammar.judged bought-grammar.radixMark bought-grammar.prefix lower isSign infnan ratio ureal real endsI imaginary aloneOf pairOf joint rectangular complex numberParts parseStandard chars.first chars.rest chars.front chars.sequences chars.firstBad encode.utf8 encode.bytesOf call.byStandard call.numberBy
+-- the list only permits the computing
+unfolding table within span starts same digitOf sign uinteger value signed wholeOf bought.exponentMarker bought.exponent bought.suffix
+    bought.pointOf bought.dotted bought.undotted bought.decimal bought.infnan bought.integralOf bought.rationalOf bought.orElse
+    bought-grammar.justOf bought-grammar.complexOf bought-grammar.polarOf bought-grammar.toSign bought-grammar.startsE
+    bought-grammar.zeroInt bought-grammar.zeroReal bought-grammar.zeroParts bought-grammar.judged bought-grammar.radixMark
+    bought-grammar.prefix lower isSign infnan ratio ureal real endsI imaginary aloneOf pairOf joint rectangular complex numberParts
+    parseStandard chars.first chars.rest chars.front chars.sequences chars.firstBad encode.utf8 encode.bytesOf call.byStandard call.numberBy
 by-standard = refl
 
 -- any other choice is refused, before a text that is not UTF-8

@@ -58,7 +58,16 @@ pub record Rows : Type 0 where
   pub words-bad : lay (flattened (numberBy standard bad)) (7 ∷ 7 ∷ []) ≡ 0 ∷ 7 ∷ []
 
 pub computed : Rows
-unfolding within span starts same first rest front sequences firstBad utf8 bytesOf digitOf sign uinteger value signed wholeOf integer bought-reals.exponentMarker bought-reals.exponent bought-reals.suffix bought-reals.pointOf bought-reals.dotted bought-reals.undotted bought-reals.decimal bought-reals.infnan bought-reals.integralOf bought-reals.rationalOf bought-reals.denominator bought-reals.exact bought-reals.orElse bought-reals.ureal bought-reals.real bought-grammar.justOf bought-grammar.complexOf bought-grammar.polarOf bought-grammar.endsI bought-grammar.imaginary bought-grammar.aloneOf bought-grammar.pairOf bought-grammar.toSign bought-grammar.startsE bought-grammar.rectangular bought-grammar.complex bought-grammar.zeroInt bought-grammar.zeroReal bought-grammar.zeroParts bought-grammar.judged bought-grammar.radixMark bought-grammar.prefix bought-grammar.parseNumber number lower isSign infnan ratio ureal real endsI imaginary aloneOf pairOf joint rectangular complex numberParts parseStandard byStandard numberBy intWords formed realWords joined partsWords refusalWords flattened numberOr lay
+-- the list only permits the computing
+unfolding within span starts same first rest front sequences firstBad utf8 bytesOf digitOf sign uinteger value signed wholeOf integer
+    bought-reals.exponentMarker bought-reals.exponent bought-reals.suffix bought-reals.pointOf bought-reals.dotted bought-reals.undotted
+    bought-reals.decimal bought-reals.infnan bought-reals.integralOf bought-reals.rationalOf bought-reals.denominator bought-reals.exact
+    bought-reals.orElse bought-reals.ureal bought-reals.real bought-grammar.justOf bought-grammar.complexOf bought-grammar.polarOf
+    bought-grammar.endsI bought-grammar.imaginary bought-grammar.aloneOf bought-grammar.pairOf bought-grammar.toSign bought-grammar.startsE
+    bought-grammar.rectangular bought-grammar.complex bought-grammar.zeroInt bought-grammar.zeroReal bought-grammar.zeroParts
+    bought-grammar.judged bought-grammar.radixMark bought-grammar.prefix bought-grammar.parseNumber number lower isSign infnan ratio ureal
+    real endsI imaginary aloneOf pairOf joint rectangular complex numberParts parseStandard byStandard numberBy intWords formed realWords
+    joined partsWords refusalWords flattened numberOr lay
 computed = record {
   slash-bought = refl;
   slash-standard = refl;

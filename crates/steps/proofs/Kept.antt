@@ -130,7 +130,8 @@ module _ (s : List ℕ) (report : Bool) (a : ℕ) (p : Phase) where
       by-bool (keeps p (getD s at 0))
       (λ e. let on = span-hit (keeps p) s at inside e in
       let j : at + suc n ≡ at + 1 + n = omega arith in
-      rw j (turn-eat s report a p at (getD s at 0) (at + 1) (char-at s at (getD s at 0) (at + 1) (ascii-found s at inside (ltb-true (getD s at 0) 0x80 (kept-ascii p (getD s at 0) e))) (omega arith)) p h (kept-stays report p _ (getD s at 0) e)
+      rw j (turn-eat s report a p at (getD s at 0) (at + 1) (char-at s at (getD s at 0) (at + 1) (ascii-found s at inside
+      (ltb-true (getD s at 0) 0x80 (kept-ascii p (getD s at 0) e))) (omega arith)) p h (kept-stays report p _ (getD s at 0) e)
       ∙ steps n (at + 1) (omega arith) (omega (arith, on))))
       (λ e. absurd (omega (arith, span-stop (keeps p) s at inside e)))
 
@@ -171,11 +172,56 @@ module _ (c : ℕ) where
   letter-words e =
       let h = within-true 0x61 0x7A c e in
       let other : (k : ℕ) → (k < 0x61) ⊎ (0x7A < k) → eqb c k ≡ false = λ k d. ne-eqb c k (λ f. ⊎-elim (λ x. omega arith) (λ x. omega arith) d) in
-      rw (lt-ltb c 0x80 (omega arith), other (code "(") (inl (omega arith)), other (code "[") (inl (omega arith)), other (code ")") (inl (omega arith)), other (code "]") (inl (omega arith)), other (code "{") (inr (omega arith)), other (code "}") (inr (omega arith)), other (code "'") (inl (omega arith)), other (code "\"") (inl (omega arith)), other (code "`") (inl (omega arith)), other (code ";") (inl (omega arith)), other (code ",") (inl (omega arith)), other (code "\\") (inl (omega arith)), between-blanks c (omega arith) (omega arith) (λ f. omega arith) (λ f. omega arith) (λ f. omega arith) (λ f. omega arith))
+      rw (
+        lt-ltb c 0x80 (omega arith),
+        other (code "(") (inl (omega arith)),
+        other (code "[") (inl (omega arith)),
+        other (code ")") (inl (omega arith)),
+        other (code "]") (inl (omega arith)),
+        other (code "{") (inr (omega arith)),
+        other (code "}") (inr (omega arith)),
+        other (code "'") (inl (omega arith)),
+        other (code "\"") (inl (omega arith)),
+        other (code "`") (inl (omega arith)),
+        other (code ";") (inl (omega arith)),
+        other (code ",") (inl (omega arith)),
+        other (code "\\") (inl (omega arith)),
+        between-blanks c (omega arith) (omega arith) (λ f. omega arith) (λ f. omega arith) (λ f. omega arith) (λ f. omega arith),
+      )
 
   -- what comes before the plus is in no number run
   pub early-stops : c < 0x2B → staysRun c ≡ false
   unfolding staysRun
   early-stops h =
       let other : (k : ℕ) → 0x2B ≤ k → eqb c k ≡ false = λ k d. ne-eqb c k (λ f. omega arith) in
-      rw (other (code "+") (omega arith), other (code "-") (omega arith), other (code ".") (omega arith), other (code "/") (omega arith), other (code "@") (omega arith), other (code "0") (omega arith), other (code "1") (omega arith), other (code "2") (omega arith), other (code "3") (omega arith), other (code "4") (omega arith), other (code "5") (omega arith), other (code "6") (omega arith), other (code "7") (omega arith), other (code "8") (omega arith), other (code "9") (omega arith), other (code "a") (omega arith), other (code "A") (omega arith), other (code "b") (omega arith), other (code "B") (omega arith), other (code "c") (omega arith), other (code "C") (omega arith), other (code "d") (omega arith), other (code "D") (omega arith), other (code "e") (omega arith), other (code "E") (omega arith), other (code "f") (omega arith), other (code "F") (omega arith), other (code "i") (omega arith), other (code "n") (omega arith))
+      rw (
+        other (code "+") (omega arith),
+        other (code "-") (omega arith),
+        other (code ".") (omega arith),
+        other (code "/") (omega arith),
+        other (code "@") (omega arith),
+        other (code "0") (omega arith),
+        other (code "1") (omega arith),
+        other (code "2") (omega arith),
+        other (code "3") (omega arith),
+        other (code "4") (omega arith),
+        other (code "5") (omega arith),
+        other (code "6") (omega arith),
+        other (code "7") (omega arith),
+        other (code "8") (omega arith),
+        other (code "9") (omega arith),
+        other (code "a") (omega arith),
+        other (code "A") (omega arith),
+        other (code "b") (omega arith),
+        other (code "B") (omega arith),
+        other (code "c") (omega arith),
+        other (code "C") (omega arith),
+        other (code "d") (omega arith),
+        other (code "D") (omega arith),
+        other (code "e") (omega arith),
+        other (code "E") (omega arith),
+        other (code "f") (omega arith),
+        other (code "F") (omega arith),
+        other (code "i") (omega arith),
+        other (code "n") (omega arith),
+      )

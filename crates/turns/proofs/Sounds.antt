@@ -240,8 +240,11 @@ module _ (s : State) (full : length (s .buf) ≡ longest) (k : Sane s) where
     sane-stage : (g : Stage) → s .marks .stage ≡ g → Stood (s .marks) g → OnSane (onStage s g c)
     sane-stage Opening e h =
         if-is (λ (t : State). OnSane (on t)) (eqb c (quoted.code "#"))
-        (λ f. let one : width c ≡ 1 = width-hash c (eqb-true c (quoted.code "#") f) in
-        (become Pound (s .marks .at + width c) (width c) (lastOf s) far (omega arith) (omega (arith, k .numbers .deep)) within-last (one, omega arith) (laidAt 0 (utf8 c) (s .buf)), laid 0 (omega arith)))
+        (λ f. let one : width c ≡ 1 = width-hash c (eqb-true c (quoted.code "#") f) in (
+          become Pound (s .marks .at + width c)
+              (width c) (lastOf s) far (omega arith) (omega (arith, k .numbers .deep)) within-last (one, omega arith) (laidAt 0 (utf8 c) (s .buf)),
+          laid 0 (omega arith),
+        ))
         (λ _. sane-begin (lastOf s) within-last)
     sane-stage Pound e h =
         if-all OnSane (eqb c (quoted.code "!"))
@@ -267,8 +270,21 @@ module _ (s : State) (full : length (s .buf) ≡ longest) (k : Sane s) where
     where
       go : s .marks .at + s .marks .part .count < limit → (o : Step) → step (s .marks .part .state) b ≡ o → Wanted (s .marks .part .count) o
           → OnSane (told o (λ u. on (partly s (record { count = s .marks .part .count + 1; state = u }))) (λ c. onStage s (s .marks .stage) c) (stopped s 21 (s .marks .at)))
-      go far (steps.More u) e w =
-          (record { numbers = record { mode = k .numbers .mode; far = omega arith; small = k .numbers .small; from = k .numbers .from; to = k .numbers .to; deep = k .numbers .deep }; wants = w .0; stood = still (s .marks .stage) (k .stood) }, full)
+      go far (steps.More u) e w = (
+        record {
+          numbers = record {
+            mode = k .numbers .mode;
+            far = omega arith;
+            small = k .numbers .small;
+            from = k .numbers .from;
+            to = k .numbers .to;
+            deep = k .numbers .deep;
+          };
+          wants = w .0;
+          stood = still (s .marks .stage) (k .stood);
+        },
+        full,
+      )
         where
           still : (g : Stage) → Stood (s .marks) g → Stood (partly s (record { count = s .marks .part .count + 1; state = u }) .marks) g
           still Opening h = h

@@ -27,7 +27,11 @@ stage-bounds-requires c κs = omega (arith, numbers (c .before .before .before .
 
 returns-3 : tie.Need-returns-3
 unfolding inBounds
-returns-3 c = λ buf. simp (sym (c .before .before .before .before .number-bounds .ensures) ∙ not-false _ (c .before .before .before .if1 .left), sym (c .before .before .part-bounds .ensures) ∙ not-false _ (c .before .if2 .left), c .stage-bounds .ensures)
+returns-3 c = λ buf. simp (
+  sym (c .before .before .before .before .number-bounds .ensures) ∙ not-false _ (c .before .before .before .if1 .left),
+  sym (c .before .before .part-bounds .ensures) ∙ not-false _ (c .before .if2 .left),
+  c .stage-bounds .ensures,
+)
 
 pub in-bounds-spec : {M : Type 1} → statement M
 in-bounds-spec =

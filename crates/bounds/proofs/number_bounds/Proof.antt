@@ -28,26 +28,48 @@ returns-3 : tie.Need-returns-3
 returns-3 c = let m : Marks = c .before .before .before .before .before .before .before .args .m in simp (lt-ltb (m .mode) 2 (omega arith), lt-leb (m .at + m .part .count) limit (omega arith))
 
 returns-4 : tie.Need-returns-4
-returns-4 c = let m : Marks = c .before .before .before .before .before .before .before .before .before .args .m in simp (lt-ltb (m .mode) 2 (omega arith), le-leb (m .at + m .part .count) limit (omega arith), lt-leb (m .len) longest (omega arith))
+returns-4 c = let m : Marks = c .before .before .before .before .before .before .before .before .before .args .m in
+    simp (lt-ltb (m .mode) 2 (omega arith), le-leb (m .at + m .part .count) limit (omega arith), lt-leb (m .len) longest (omega arith))
 
 returns-5 : tie.Need-returns-5
-returns-5 c = let m : Marks = c .before .before .before .before .before .before .before .before .before .before .before .args .m in simp (lt-ltb (m .mode) 2 (omega arith), le-leb (m .at + m .part .count) limit (omega arith), le-leb (m .len) longest (omega arith), lt-leb (m .from) limit (omega arith))
+returns-5 c = let m : Marks = c .before .before .before .before .before .before .before .before .before .before .before .args .m in simp (
+  lt-ltb (m .mode) 2 (omega arith),
+  le-leb (m .at + m .part .count) limit (omega arith),
+  le-leb (m .len) longest (omega arith),
+  lt-leb (m .from) limit (omega arith),
+)
 
 returns-6 : tie.Need-returns-6
-returns-6 c = let m : Marks = c .before .before .before .before .before .before .before .before .before .before .before .before .before .args .m in simp (lt-ltb (m .mode) 2 (omega arith), le-leb (m .at + m .part .count) limit (omega arith), le-leb (m .len) longest (omega arith), le-leb (m .from) limit (omega arith), lt-leb (m .to) limit (omega arith))
+returns-6 c = let m : Marks = c .before .before .before .before .before .before .before .before .before .before .before .before .before .args .m in
+    simp (
+      lt-ltb (m .mode) 2 (omega arith),
+      le-leb (m .at + m .part .count) limit (omega arith),
+      le-leb (m .len) longest (omega arith),
+      le-leb (m .from) limit (omega arith),
+      lt-leb (m .to) limit (omega arith),
+    )
 
 returns-7 : tie.Need-returns-7
-returns-7 c = let m : Marks = c .before .before .before .before .before .before .before .before .before .before .before .before .before .before .before .args .m in simp (lt-ltb (m .mode) 2 (omega arith), le-leb (m .at + m .part .count) limit (omega arith), le-leb (m .len) longest (omega arith), le-leb (m .from) limit (omega arith), le-leb (m .to) limit (omega arith), lt-leb (m .depth + m .len) (m .at) (omega arith))
+returns-7 c = let m : Marks =
+    c .before .before .before .before .before .before .before .before .before .before .before .before .before .before .before .args .m in simp (
+      lt-ltb (m .mode) 2 (omega arith),
+      le-leb (m .at + m .part .count) limit (omega arith),
+      le-leb (m .len) longest (omega arith),
+      le-leb (m .from) limit (omega arith),
+      le-leb (m .to) limit (omega arith),
+      lt-leb (m .depth + m .len) (m .at) (omega arith),
+    )
 
 cast-result : tie.Need-cast-result
 cast-result c = search needs
 
 returns-8 : tie.Need-returns-8
 returns-8 c =
-    let m : Marks = c .before .before .before .before .before .before .before .before .before .before .before .before .before .before .before .before .before .args .m in
+    let branch = c .before .before .before .before .before .before .before .before .before .before in
+    let m : Marks = branch .before .before .before .before .before .before .before .args .m in
     simp (
-      lt-ltb (m .mode) 2 (omega (arith, c .before .before .before .before .before .before .before .before .before .before .before .before .before .before .before .if1 .left)),
-      le-leb (m .at + m .part .count) limit (omega (arith, c .before .before .before .before .before .before .before .before .before .before .before .before .before .if2 .left, c .before .before .before .before .before .before .before .before .before .before .if3 .left)),
+      lt-ltb (m .mode) 2 (omega (arith, branch .before .before .before .before .before .if1 .left)),
+      le-leb (m .at + m .part .count) limit (omega (arith, branch .before .before .before .if2 .left, branch .if3 .left)),
       le-leb (m .len) longest (omega arith),
       le-leb (m .from) limit (omega arith),
       le-leb (m .to) limit (omega arith),

@@ -25,7 +25,8 @@ is-delimiter-requires : tie.Need-is-delimiter-requires Inv-loop μ-loop
 is-delimiter-requires c κs = search needs
 
 returns : tie.Need-returns Inv-loop μ-loop
-returns c = sym (c .before .before .before .before .loop .inv ∙ span-stop (λ b. not (isDelimiter b)) _ _ (c .before .before .before .loop-test .taken) (ap not (sym (c .before .is-delimiter .ensures) ∙ c .if1 .taken)))
+returns c = sym (c .before .before .before .before .loop .inv ∙ span-stop (λ b. not (isDelimiter b)) _ _
+    (c .before .before .before .loop-test .taken) (ap not (sym (c .before .is-delimiter .ensures) ∙ c .if1 .taken)))
 
 add-i : tie.Need-add-i Inv-loop μ-loop
 add-i c = search needs
@@ -34,7 +35,8 @@ loop-less : tie.Need-loop-less Inv-loop μ-loop
 loop-less c = search needs
 
 loop-again : tie.Need-loop-again Inv-loop μ-loop
-loop-again c = c .before .before .before .before .loop .inv ∙ span-hit (λ b. not (isDelimiter b)) _ _ (c .before .before .before .loop-test .taken) (ap not (sym (c .before .is-delimiter .ensures) ∙ c .if1 .left))
+loop-again c = c .before .before .before .before .loop .inv ∙ span-hit (λ b. not (isDelimiter b)) _ _
+    (c .before .before .before .loop-test .taken) (ap not (sym (c .before .is-delimiter .ensures) ∙ c .if1 .left))
 
 returns-2 : tie.Need-returns-2 Inv-loop μ-loop
 returns-2 c = sym (c .before .loop .inv ∙ span-end (λ b. not (isDelimiter b)) _ _ (c .loop-test .left))

@@ -37,10 +37,13 @@ returns-3 : tie.Need-returns-3
 returns-3 c = hex-unclosed (c .before .before .before .before .before .before .before .args .t .now) (c .before .before .before .before .if1 .left) (c .before .before .if2 .left) (c .if3 .taken)
 
 hex-part-requires-3 : tie.Need-hex-part-requires-3
-hex-part-requires-3 c κs = (hex-room (c .before .before .before .before .before .before .before .args .t .now) (c .before .before .before .before .if1 .left) (c .before .before .if2 .left) (c .if3 .left) (c .before .before .before .before .before .before .before .pre), omega arith)
+hex-part-requires-3 c κs =
+    let entry = c .before .before .before .before .before .before .before in
+    (hex-room (entry .args .t .now) (c .before .before .before .before .if1 .left) (c .before .before .if2 .left) (c .if3 .left) (entry .pre), omega arith)
 
 returns-4 : tie.Need-returns-4
-returns-4 c = c .hex-part3 .ensures ∙ hex-braces (c .before .before .before .before .before .before .before .before .args .t .now) (c .before .before .before .before .before .if1 .left) (c .before .before .before .if2 .left) (c .before .if3 .left)
+returns-4 c = c .hex-part3 .ensures ∙ hex-braces (c .before .before .before .before .before .before .before .before .args .t .now)
+    (c .before .before .before .before .before .if1 .left) (c .before .before .before .if2 .left) (c .before .if3 .left)
 
 pub hex-named-spec : {M : Type 1} → statement M
 hex-named-spec =

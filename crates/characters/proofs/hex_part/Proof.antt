@@ -32,7 +32,15 @@ enum-known-error-2 : tie.Need-enum-known-error-2
 enum-known-error-2 c = search needs
 
 add-t17 : tie.Need-add-t17
-add-t17 c = let t = c .before .before .before .before .before .before .before .args .t .now in let good = c .before .before .before .before .before .before .before .good in omega (arith, part-place t (c .before .before .before .before .before .before .before .args .from) (c .before .before .before .before .before .before .before .args .to) _ _ _ (c .before .before .before .before .before .before .before .pre .0) (c .before .before .before .before .before .before .before .pre .1) (sym (ap scalarOf (c .before .before .before .before .hex-value .ensures)) ∙ sym (c .before .before .before .scalar-of .ensures) ∙ c .before .error2 .given .1))
+add-t17 c =
+    let entry = c .before .before .before .before .before .before .before in
+    let t = c .before .before .before .before .before .before .before .args .t .now in
+    let good = c .before .before .before .before .before .before .before .good in omega (
+      arith,
+      part-place t (entry .args .from)
+          (entry .args .to) _ _ _ (entry .pre .0) (entry .pre .1) (sym (ap scalarOf (c .before .before .before .before .hex-value .ensures))
+          ∙ sym (c .before .before .before .scalar-of .ensures) ∙ c .before .error2 .given .1),
+    )
 
 returns : tie.Need-returns
 returns c = rw (sym (ap scalarOf (c .before .before .before .before .hex-value .ensures)) ∙ sym (c .before .before .before .scalar-of .ensures) ∙ c .before .c .given .1)

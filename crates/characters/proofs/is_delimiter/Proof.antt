@@ -11,7 +11,12 @@ returns c = ⊎-elim (λ h. rw h) (⊎-elim (λ h. rw h) (⊎-elim (λ h. rw h) 
 
 returns-2 : tie.Need-returns-2
 unfolding isDelimiter
-returns-2 c = simp (ne-eqb _ _ (λ h. c .match .rest .1 (inl h)), ne-eqb _ _ (λ h. c .match .rest .1 (inr (inl h))), ne-eqb _ _ (λ h. c .match .rest .1 (inr (inr (inl h)))), ne-eqb _ _ (λ h. c .match .rest .1 (inr (inr (inr h)))))
+returns-2 c = simp (
+  ne-eqb _ _ (λ h. c .match .rest .1 (inl h)),
+  ne-eqb _ _ (λ h. c .match .rest .1 (inr (inl h))),
+  ne-eqb _ _ (λ h. c .match .rest .1 (inr (inr (inl h)))),
+  ne-eqb _ _ (λ h. c .match .rest .1 (inr (inr (inr h)))),
+)
 
 pub is-delimiter-spec : {M : Type 1} → statement M
 is-delimiter-spec = tie.close (tie.spec returns returns-2)

@@ -12,7 +12,11 @@ enum-known-code : tie.Need-enum-known-code
 enum-known-code c = search needs
 
 returns : tie.Need-returns
-returns c = alone-all (c .before .before .before .before .before .before .args .report) (c .before .before .before .before .before .before .args .t .now) (c .before .before .before .before .decode-at .ensures) (c .before .before .code .given .0 .0) (c .before .before .code .given .0 .1 .0) (c .before .before .code .given .1) (c .if1 .taken)
+returns c =
+    let told = c .before .before in
+    let entry = told .before .before .before .before in
+    alone-all (entry .args .report) (entry .args .t .now)
+    (told .before .before .decode-at .ensures) (told .code .given .0 .0) (told .code .given .0 .1 .0) (told .code .given .1) (c .if1 .taken)
 
 no-name-requires : tie.Need-no-name-requires
 no-name-requires c κs = search needs
@@ -36,16 +40,29 @@ no-name-requires-4 : tie.Need-no-name-requires-4
 no-name-requires-4 c κs = search needs
 
 returns-2 : tie.Need-returns-2
-returns-2 c = c .no-name .ensures ∙ alone-more (c .before .before .before .before .before .before .before .args .report) (c .before .before .before .before .before .before .before .args .t .now) (c .before .before .before .before .before .decode-at .ensures) (c .before .before .before .code .given .0 .0) (c .before .before .before .code .given .0 .1 .0) (c .before .before .before .code .given .1) (c .before .if1 .left)
+returns-2 c =
+    let told = c .before .before .before in
+    let entry = told .before .before .before .before in
+    c .no-name .ensures ∙ alone-more (entry .args .report) (entry .args .t .now)
+    (told .before .before .decode-at .ensures) (told .code .given .0 .0) (told .code .given .0 .1 .0) (told .code .given .1) (c .before .if1 .left)
 
 returns-3 : tie.Need-returns-3
-returns-3 c = c .no-name2 .ensures ∙ alone-is (c .before .before .before .before .before .args .report) (c .before .before .before .before .before .args .t .now) (c .before .before .before .decode-at .ensures) _ (c .before .enum-told .given .1)
+returns-3 c =
+    let entry = c .before .before .before .before .before in
+    c .no-name2 .ensures
+    ∙ alone-is (entry .args .report) (entry .args .t .now) (c .before .before .before .decode-at .ensures) _ (c .before .enum-told .given .1)
 
 returns-4 : tie.Need-returns-4
-returns-4 c = c .no-name3 .ensures ∙ alone-is (c .before .before .before .before .before .args .report) (c .before .before .before .before .before .args .t .now) (c .before .before .before .decode-at .ensures) _ (c .before .enum-told2 .given .1)
+returns-4 c =
+    let entry = c .before .before .before .before .before in
+    c .no-name3 .ensures
+    ∙ alone-is (entry .args .report) (entry .args .t .now) (c .before .before .before .decode-at .ensures) _ (c .before .enum-told2 .given .1)
 
 returns-5 : tie.Need-returns-5
-returns-5 c = c .no-name4 .ensures ∙ alone-is (c .before .before .before .before .before .args .report) (c .before .before .before .before .before .args .t .now) (c .before .before .before .decode-at .ensures) _ (c .before .enum-told3 .given .1)
+returns-5 c =
+    let entry = c .before .before .before .before .before in
+    c .no-name4 .ensures
+    ∙ alone-is (entry .args .report) (entry .args .t .now) (c .before .before .before .decode-at .ensures) _ (c .before .enum-told3 .given .1)
 
 pub only-one-spec : {M : Type 1} → statement M
 only-one-spec =

@@ -45,8 +45,9 @@ returns-3 c =
 
 returns-4 : tie.Need-returns-4
 returns-4 c =
-    call-bad _ (c .before .before .before .before .before .before .before .if1 .left)
-    (sym (c .before .before .before .before .enum-told .given .1) ∙ c .before .before .before .before .before .before .one-decimal .ensures) _
+    let told = c .before .before .before .before in
+    call-bad _ (told .before .before .before .if1 .left)
+    (sym (told .enum-told .given .1) ∙ told .before .before .one-decimal .ensures) _
     (sym (c .before .at .given .1) ∙ c .before .before .before .first-bad .ensures)
 
 pub coordinate-spec : {M : Type 1} → statement M

@@ -6,7 +6,8 @@ use Rattle.cuttings.proofs.hand_all.Statement.{statement}
 use Rattle.cuttings.proofs.hand_all.Tie as tie
 
 abbrev Inv-loop : tie.InvT-loop
-Inv-loop source cutting records₀ counts₀ texts₀ now₀ size₀ pieces₀ records counts texts now size pieces = (length records ≡ length records₀) × (length counts ≡ length counts₀) × (length texts ≡ length texts₀)
+Inv-loop source cutting records₀ counts₀ texts₀ now₀ size₀ pieces₀ records counts texts now size pieces = (length records ≡ length records₀)
+    × (length counts ≡ length counts₀) × (length texts ≡ length texts₀)
 
 abbrev μ-loop : tie.MeasureT-loop
 μ-loop source cutting records₀ counts₀ texts₀ now₀ size₀ pieces₀ records counts texts now size pieces = pieces

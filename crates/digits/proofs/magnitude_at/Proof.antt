@@ -34,7 +34,8 @@ div-if1 c = omega arith
 returns : tie.Need-returns Inv-loop μ-loop
 returns c =
     fit-large _
-    (rw (c .before .before .before .before .loop .inv .0) (product-over _ _ _ _ _ (c .before .before .before .before .before .before .pre .0) (c .before .before .before .loop-test .taken) (c .before .digit .ensures) (c .if1 .taken)))
+    (rw (c .before .before .before .before .loop .inv .0) (product-over _ _ _ _ _ (c .before .before .before .before .before .before .pre .0)
+    (c .before .before .before .loop-test .taken) (c .before .digit .ensures) (c .if1 .taken)))
 
 mul-v : tie.Need-mul-v Inv-loop μ-loop
 mul-v c = omega (arith, product-fits _ _ (c .before .digit .ensures) _ _ (c .before .before .before .before .before .before .pre .0) (c .if1 .left))

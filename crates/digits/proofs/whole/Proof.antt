@@ -25,16 +25,18 @@ enum-told c = search needs
 
 returns : tie.Need-returns
 returns c =
+    let told = c .before .before .before .before in
     whole-small _ _ _ _
-    (sym (c .before .before .before .before .before .before .before .if1 .taken) ∙ c .before .before .before .before .before .before .before .before .unsigned .ensures)
-    _ _ (sym (c .before .before .before .before .m .given .1) ∙ c .before .before .before .before .before .before .magnitude-at .ensures)
+    (sym (told .before .before .before .if1 .taken) ∙ told .before .before .before .before .unsigned .ensures)
+    _ _ (sym (told .m .given .1) ∙ told .before .before .magnitude-at .ensures)
     (rw (c .before .before .top-of .ensures) at (c .before .if2 .taken)) (c .small .ensures)
 
 returns-2 : tie.Need-returns-2
 returns-2 c =
+    let magnitude = c .before .before .before .before .before in
     whole-big _ _ _ _
-    (sym (c .before .before .before .before .before .before .if1 .taken) ∙ c .before .before .before .before .before .before .before .unsigned .ensures)
-    _ (sym (c .before .before .before .m .given .1) ∙ c .before .before .before .before .before .magnitude-at .ensures)
+    (sym (magnitude .before .if1 .taken) ∙ magnitude .before .before .unsigned .ensures)
+    _ (sym (c .before .before .before .m .given .1) ∙ magnitude .magnitude-at .ensures)
     (rw (c .before .top-of .ensures) at (c .if2 .left))
 
 returns-3 : tie.Need-returns-3

@@ -10,13 +10,17 @@ slice-relend-prefix-read : tie.Need-slice-relend-prefix-read
 slice-relend-prefix-read c = search needs
 
 slice-aggregate-read : tie.Need-slice-aggregate-read
-slice-aggregate-read c = sym (length-take-le (c .before .before .before .before .args .words) (c .before .before .before .before .args .records .now) (omega arith))
+slice-aggregate-read c =
+    let entry = c .before .before .before .before in
+    sym (length-take-le (entry .args .words) (entry .args .records .now) (omega arith))
 
 slice-relend-prefix-read-2 : tie.Need-slice-relend-prefix-read-2
 slice-relend-prefix-read-2 c = search needs
 
 slice-aggregate-read-2 : tie.Need-slice-aggregate-read-2
-slice-aggregate-read-2 c = sym (length-take-le (c .before .before .before .before .before .args .bytes) (c .before .before .before .before .before .args .text .now) (omega arith))
+slice-aggregate-read-2 c =
+    let entry = c .before .before .before .before .before in
+    sym (length-take-le (entry .args .bytes) (entry .args .text .now) (omega arith))
 
 read-requires : tie.Need-read-requires
 read-requires c κs = search needs

@@ -47,37 +47,105 @@ sub-n : tie.Need-sub-n Inv-loop μ-loop
 sub-n c = omega (arith, c .before .before .before .before .before .run-end .ensures)
 
 add-n : tie.Need-add-n Inv-loop μ-loop
-add-n c = omega (arith, laying-le (laying-run (c .before .before .before .before .before .run-end .ensures) (c .before .before .before .before .before .before .before .loop .inv) (c .before .before .before .before .before .before .before .before .before .before .pre .1) _ (c .before .before .put-run .ensures)) (c .before .before .before .before .before .before .before .before .before .before .pre .1), laying-length (laying-run (c .before .before .before .before .before .run-end .ensures) (c .before .before .before .before .before .before .before .loop .inv) (c .before .before .before .before .before .before .before .before .before .before .pre .1) _ (c .before .before .put-run .ensures)) (c .before .before .before .before .before .before .before .before .before .before .pre .1), laying-length (c .before .before .before .before .before .before .before .loop .inv) (c .before .before .before .before .before .before .before .before .before .before .pre .1))
+add-n c =
+    let passed = c .before .before .before .before .before in
+    let turn = passed .before .before in
+    let entry = turn .before .before .before in
+    omega (
+      arith,
+      laying-le (laying-run (passed .run-end .ensures) (turn .loop .inv) (entry .pre .1) _ (c .before .before .put-run .ensures)) (entry .pre .1),
+      laying-length (laying-run (passed .run-end .ensures) (turn .loop .inv) (entry .pre .1) _ (c .before .before .put-run .ensures)) (entry .pre .1),
+      laying-length (turn .loop .inv) (entry .pre .1),
+    )
 
 same-length : tie.Need-same-length Inv-loop μ-loop
-same-length c = laying-length (laying-run (c .before .before .before .before .before .before .run-end .ensures) (c .before .before .before .before .before .before .before .before .loop .inv) (c .before .before .before .before .before .before .before .before .before .before .before .pre .1) _ (c .before .before .before .put-run .ensures)) (c .before .before .before .before .before .before .before .before .before .before .before .pre .1)
+same-length c =
+    let entry = c .before .before .before .before .before .before .before .before .before .before .before in
+    laying-length (laying-run (c .before .before .before .before .before .before .run-end .ensures)
+    (c .before .before .before .before .before .before .before .before .loop .inv) (entry .pre .1) _ (c .before .before .before .put-run .ensures))
+    (entry .pre .1)
 
 returns : tie.Need-returns Inv-loop μ-loop
-returns c = laying-end (laying-run (c .before .before .before .before .before .before .run-end .ensures) (c .before .before .before .before .before .before .before .before .loop .inv) (c .before .before .before .before .before .before .before .before .before .before .before .pre .1) _ (c .before .before .before .put-run .ensures)) (c .before .before .before .before .before .before .before .before .before .before .before .pre .1) (c .if1 .taken)
+returns c =
+    let entry = c .before .before .before .before .before .before .before .before .before .before .before in
+    laying-end (laying-run (c .before .before .before .before .before .before .run-end .ensures)
+    (c .before .before .before .before .before .before .before .before .loop .inv) (entry .pre .1) _ (c .before .before .before .put-run .ensures))
+    (entry .pre .1) (c .if1 .taken)
 
 read-element-requires : tie.Need-read-element-requires Inv-loop μ-loop
 read-element-requires c κs = search needs
 
 sub-put-given : tie.Need-sub-put-given Inv-loop μ-loop
-sub-put-given c = omega (arith, laying-le (laying-run (c .before .before .before .before .before .before .before .run-end .ensures) (c .before .before .before .before .before .before .before .before .before .loop .inv) (c .before .before .before .before .before .before .before .before .before .before .before .before .pre .1) _ (c .before .before .before .before .put-run .ensures)) (c .before .before .before .before .before .before .before .before .before .before .before .before .pre .1))
+sub-put-given c =
+    let written = c .before .before .before .before in
+    let entry = written .before .before .before .before .before .before .before .before in
+    omega (
+      arith,
+      laying-le (laying-run (written .before .before .before .run-end .ensures)
+          (written .before .before .before .before .before .loop .inv) (entry .pre .1) _ (written .put-run .ensures)) (entry .pre .1),
+    )
 
 part-put-given-start : tie.Need-part-put-given-start Inv-loop μ-loop
-part-put-given-start c = omega (arith, laying-le (laying-run (c .before .before .before .before .before .before .before .run-end .ensures) (c .before .before .before .before .before .before .before .before .before .loop .inv) (c .before .before .before .before .before .before .before .before .before .before .before .before .pre .1) _ (c .before .before .before .before .put-run .ensures)) (c .before .before .before .before .before .before .before .before .before .before .before .before .pre .1))
+part-put-given-start c =
+    let written = c .before .before .before .before in
+    let entry = written .before .before .before .before .before .before .before .before in
+    omega (
+      arith,
+      laying-le (laying-run (written .before .before .before .run-end .ensures)
+          (written .before .before .before .before .before .loop .inv) (entry .pre .1) _ (written .put-run .ensures)) (entry .pre .1),
+    )
 
 part-put-given-end : tie.Need-part-put-given-end Inv-loop μ-loop
-part-put-given-end c = omega (arith, laying-le (laying-run (c .before .before .before .before .before .before .before .run-end .ensures) (c .before .before .before .before .before .before .before .before .before .loop .inv) (c .before .before .before .before .before .before .before .before .before .before .before .before .pre .1) _ (c .before .before .before .before .put-run .ensures)) (c .before .before .before .before .before .before .before .before .before .before .before .before .pre .1))
+part-put-given-end c =
+    let written = c .before .before .before .before in
+    let entry = written .before .before .before .before .before .before .before .before in
+    omega (
+      arith,
+      laying-le (laying-run (written .before .before .before .run-end .ensures)
+          (written .before .before .before .before .before .loop .inv) (entry .pre .1) _ (written .put-run .ensures)) (entry .pre .1),
+    )
 
 put-given-requires : tie.Need-put-given-requires Inv-loop μ-loop
-put-given-requires c κs = laying-room (laying-run (c .before .before .before .before .before .before .before .before .run-end .ensures) (c .before .before .before .before .before .before .before .before .before .before .loop .inv) (c .before .before .before .before .before .before .before .before .before .before .before .before .before .pre .1) _ (c .before .before .before .before .before .put-run .ensures)) (c .before .before .before .before .before .before .before .before .before .before .before .before .before .pre .1) (c .before .read-element .result) (c .before .read-element .ensures)
+put-given-requires c κs =
+    let written = c .before .before .before .before .before in
+    let entry = written .before .before .before .before .before .before .before .before in
+    laying-room (laying-run (written .before .before .before .run-end .ensures) (written .before .before .before .before .before .loop .inv)
+    (entry .pre .1) _ (written .put-run .ensures)) (entry .pre .1) (c .before .read-element .result) (c .before .read-element .ensures)
 
 add-n-2 : tie.Need-add-n-2 Inv-loop μ-loop
-add-n-2 c = omega (arith, laying-fits (laying-run (c .before .before .before .before .before .before .before .before .before .before .before .run-end .ensures) (c .before .before .before .before .before .before .before .before .before .before .before .before .before .loop .inv) (c .before .before .before .before .before .before .before .before .before .before .before .before .before .before .before .before .pre .1) _ (c .before .before .before .before .before .before .before .before .put-run .ensures)) (c .before .before .before .before .before .before .before .before .before .before .before .before .before .before .before .before .pre .1) (c .before .before .before .before .read-element .result) (c .before .before .before .before .read-element .ensures), c .before .before .put-given .ensures .0, laying-length (laying-run (c .before .before .before .before .before .before .before .before .before .before .before .run-end .ensures) (c .before .before .before .before .before .before .before .before .before .before .before .before .before .loop .inv) (c .before .before .before .before .before .before .before .before .before .before .before .before .before .before .before .before .pre .1) _ (c .before .before .before .before .before .before .before .before .put-run .ensures)) (c .before .before .before .before .before .before .before .before .before .before .before .before .before .before .before .before .pre .1), laying-length (c .before .before .before .before .before .before .before .before .before .before .before .before .before .loop .inv) (c .before .before .before .before .before .before .before .before .before .before .before .before .before .before .before .before .pre .1))
+add-n-2 c =
+    let element = c .before .before .before .before in
+    let written = element .before .before .before .before in
+    let passed = written .before .before .before in
+    let turn = passed .before .before in
+    let entry = turn .before .before .before in
+    omega (
+      arith,
+      laying-fits (laying-run (passed .run-end .ensures) (turn .loop .inv) (entry .pre .1) _ (written .put-run .ensures))
+          (entry .pre .1) (element .read-element .result) (element .read-element .ensures),
+      c .before .before .put-given .ensures .0,
+      laying-length (laying-run (passed .run-end .ensures) (turn .loop .inv) (entry .pre .1) _ (written .put-run .ensures)) (entry .pre .1),
+      laying-length (turn .loop .inv) (entry .pre .1),
+    )
 
 loop-less : tie.Need-loop-less Inv-loop μ-loop
-loop-less c = omega (arith, c .before .before .before .before .read-element .ensures .ahead, c .before .before .before .before .read-element .ensures .inside, c .before .before .before .before .before .before .before .before .before .before .before .run-end .ensures)
+loop-less c =
+    let element = c .before .before .before .before in
+    omega (
+      arith,
+      element .read-element .ensures .ahead,
+      element .read-element .ensures .inside,
+      element .before .before .before .before .before .before .before .run-end .ensures,
+    )
 
 loop-again : tie.Need-loop-again Inv-loop μ-loop
-loop-again c = laying-on (laying-run (c .before .before .before .before .before .before .before .before .before .before .before .run-end .ensures) (c .before .before .before .before .before .before .before .before .before .before .before .before .before .loop .inv) (c .before .before .before .before .before .before .before .before .before .before .before .before .before .before .before .before .pre .1) _ (c .before .before .before .before .before .before .before .before .put-run .ensures)) (c .before .before .before .before .before .before .before .before .before .before .before .before .before .before .before .before .pre .1) (c .before .before .before .before .read-element .result) (c .before .before .before .before .read-element .ensures) _ _ (c .before .before .put-given .ensures .0) (c .before .before .put-given .ensures .1)
+loop-again c =
+    let element = c .before .before .before .before in
+    let written = element .before .before .before .before in
+    let entry = written .before .before .before .before .before .before .before .before in
+    laying-on (laying-run (written .before .before .before .run-end .ensures) (written .before .before .before .before .before .loop .inv)
+    (entry .pre .1) _ (written .put-run .ensures)) (entry .pre .1) (element .read-element .result)
+    (element .read-element .ensures) _ _ (c .before .before .put-given .ensures .0) (c .before .before .put-given .ensures .1)
 
 same-length-2 : tie.Need-same-length-2 Inv-loop μ-loop
 same-length-2 c = laying-length (c .before .loop .inv) (c .before .before .before .before .pre .1)

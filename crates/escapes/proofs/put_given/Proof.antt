@@ -28,13 +28,18 @@ same-length : tie.Need-same-length
 same-length c = search needs
 
 returns-2 : tie.Need-returns-2
-returns-2 c = rw (c .before .given .given .1) (refl, byte-written (c .before .before .before .before .args .free .now) _ (let h = rw (c .before .given .given .1) at (c .before .before .before .before .pre) in omega arith))
+returns-2 c =
+    let entry = c .before .before .before .before in
+    rw (c .before .given .given .1)
+    (refl, byte-written (entry .args .free .now) _ (let h = rw (c .before .given .given .1) at (entry .pre) in omega arith))
 
 same-length-2 : tie.Need-same-length-2
 same-length-2 c = search needs
 
 returns-3 : tie.Need-returns-3
-returns-3 c = let e = c .before .before .before .before .before .given2 .given .1 in let h = lay-written _ _ (rw e at (c .before .before .before .before .before .before .before .before .pre)) in rw e (c .before .before .put-char .ensures .0 ∙ h .0, c .before .before .put-char .ensures .1 ∙ h .1)
+returns-3 c = let e = c .before .before .before .before .before .given2 .given .1 in
+    let h = lay-written _ _ (rw e at (c .before .before .before .before .before .before .before .before .pre)) in
+    rw e (c .before .before .put-char .ensures .0 ∙ h .0, c .before .before .put-char .ensures .1 ∙ h .1)
 
 pub put-given-spec : {M : Type 1} → statement M
 put-given-spec =

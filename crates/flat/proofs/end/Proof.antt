@@ -13,19 +13,31 @@ returns c = too-few _ _ (sym (c .before .before .before .before .before .is-room
 
 returns-2 : tie.Need-returns-2
 returns-2 c =
-    no-state _ _ (sym (c .before .before .before .before .before .before .before .is-room .ensures) ∙ not-false _ (c .before .before .before .before .before .before .if1 .left)) (sym (c .before .before .before .before .before .is-state .ensures) ∙ not-true _ (c .before .before .before .before .if2 .taken)) (c .before .before .put-values2 .ensures)
+    let branch = c .before .before .before .before in
+    no-state _ _ (sym (branch .before .before .before .is-room .ensures) ∙ not-false _ (branch .before .before .if1 .left))
+    (sym (branch .before .is-state .ensures) ∙ not-true _ (branch .if2 .taken)) (c .before .before .put-values2 .ensures)
 
 words-in-requires : tie.Need-words-in-requires
-words-in-requires c κs = state-words (length (now (c .before .before .before .before .before .before .before .before .before .before .args .buf))) _ (sym (c .before .before .is-state .ensures) ∙ not-false _ (c .before .if2 .left))
+words-in-requires c κs = state-words (length (now (c .before .before .before .before .before .before .before .before .before .before .args .buf))) _
+    (sym (c .before .before .is-state .ensures) ∙ not-false _ (c .before .if2 .left))
 
 tell-requires : tie.Need-tell-requires
 tell-requires c κs =
-    (state-words (length (now (c .before .before .before .before .before .before .before .before .before .before .before .before .before .before .before .before .before .before .before .before .before .args .buf))) _ (sym (c .before .before .before .before .before .before .before .before .before .before .before .before .before .is-state .ensures) ∙ not-false _ (c .before .before .before .before .before .before .before .before .before .before .before .before .if2 .left)), room-record _ (length (now (c .before .before .before .before .before .before .before .before .before .before .before .before .before .before .before .before .before .before .before .before .before .args .values))) (sym (c .before .before .before .before .before .before .before .before .before .before .before .before .before .before .before .is-room .ensures) ∙ not-false _ (c .before .before .before .before .before .before .before .before .before .before .before .before .before .before .if1 .left)))
+    let branch = c .before .before .before .before .before .before .before .before .before .before .before .before in
+    let entry = branch .before .before .before .before .before .before .before .before .before in (
+      state-words (length (now (entry .args .buf))) _ (sym (branch .before .is-state .ensures) ∙ not-false _ (branch .if2 .left)),
+      room-record _ (length (now (entry .args .values)))
+          (sym (branch .before .before .before .is-room .ensures) ∙ not-false _ (branch .before .before .if1 .left)),
+    )
 
 returns-3 : tie.Need-returns-3
 returns-3 c =
-    told-on _ _ (c .before .before .before .before .before .before .before .before .before .before .before .before .before .before .end-words .result) (sym (c .before .before .before .before .before .before .before .before .before .before .before .before .before .before .before .before .before .before .before .before .before .before .is-room .ensures) ∙ not-false _ (c .before .before .before .before .before .before .before .before .before .before .before .before .before .before .before .before .before .before .before .before .before .if1 .left)) (sym (c .before .before .before .before .before .before .before .before .before .before .before .before .before .before .before .before .before .before .before .before .is-state .ensures) ∙ not-false _ (c .before .before .before .before .before .before .before .before .before .before .before .before .before .before .before .before .before .before .before .if2 .left))
-    (c .before .before .before .before .before .before .before .before .before .before .before .before .before .before .before .before .before .words-in .ensures) (c .before .before .before .before .before .before .before .before .before .before .before .before .before .before .end-words .ensures .0) (c .before .before .before .before .before .before .before .before .before .before .before .before .before .before .end-words .ensures .1) (c .before .before .before .before .before .before .tell .ensures _ _ _)
+    let ended = c .before .before .before .before .before .before .before .before .before .before .before .before .before .before in
+    let branch = ended .before .before .before .before .before in
+    told-on _ _ (ended .end-words .result) (sym (branch .before .before .before .is-room .ensures) ∙ not-false _ (branch .before .before .if1 .left))
+    (sym (branch .before .is-state .ensures) ∙ not-false _ (branch .if2 .left))
+    (ended .before .before .before .words-in .ensures)
+    (ended .end-words .ensures .0) (ended .end-words .ensures .1) (c .before .before .before .before .before .before .tell .ensures _ _ _)
 
 pub end-spec : {M : Type 1} → statement M
 end-spec =

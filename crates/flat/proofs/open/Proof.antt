@@ -13,11 +13,16 @@ returns : tie.Need-returns
 returns c = not-opened _ _ _ _ (sym (c .before .is-state .ensures) ∙ not-true _ (c .if1 .taken))
 
 put-words-requires : tie.Need-put-words-requires
-put-words-requires c κs = state-words (length (now (c .before .before .before .before .before .before .before .before .before .before .args .buf))) _ (sym (c .before .before .before .before .before .before .before .is-state .ensures) ∙ not-false _ (c .before .before .before .before .before .before .if1 .left))
+put-words-requires c κs =
+    let branch = c .before .before .before .before .before .before in
+    state-words
+    (length (now (branch .before .before .before .before .args .buf))) _ (sym (branch .before .is-state .ensures) ∙ not-false _ (branch .if1 .left))
 
 returns-2 : tie.Need-returns-2
 returns-2 c =
-    opened-so _ _ _ _ (c .before .before .before .before .before .before .before .before .open-words .result) (sym (c .before .before .before .before .before .before .before .before .before .before .before .is-state .ensures) ∙ not-false _ (c .before .before .before .before .before .before .before .before .before .before .if1 .left)) (c .before .before .before .before .before .before .before .before .open-words .ensures) (c .start-number .ensures []) (c .before .before .before .put-words .ensures)
+    let opened = c .before .before .before .before .before .before .before .before in
+    opened-so _ _ _ _ (opened .open-words .result) (sym (opened .before .before .before .is-state .ensures) ∙ not-false _
+    (opened .before .before .if1 .left)) (opened .open-words .ensures) (c .start-number .ensures []) (c .before .before .before .put-words .ensures)
 
 pub open-spec : {M : Type 1} → statement M
 open-spec =

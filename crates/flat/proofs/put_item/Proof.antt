@@ -9,7 +9,9 @@ use Rattle.flat.proofs.put_item.Statement.{statement}
 use Rattle.flat.proofs.put_item.Tie as tie
 
 returns : tie.Need-returns
-returns c = λ text. c .before .before .put .ensures ∙ ap (λ (g : Got). recordAfter (whatOf g text) (now (c .before .before .before .before .before .before .before .before .args .item))) (sym (c .before .before .before .before .before .got .given .1))
+returns c = λ text. c .before .before .put .ensures
+    ∙ ap (λ (g : Got). recordAfter (whatOf g text) (now (c .before .before .before .before .before .before .before .before .args .item)))
+    (sym (c .before .before .before .before .before .got .given .1))
 
 returns-2 : tie.Need-returns-2
 returns-2 c = λ text. rw (c .enum-told .given .1)

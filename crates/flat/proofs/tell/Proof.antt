@@ -6,8 +6,10 @@ use Rattle.flat.proofs.tell.Tie as tie
 
 returns : tie.Need-returns
 returns c =
-    λ buf text old. left-is (c .number .ensures text) (c .before .before .before .before .before .before .before .before .before .before .before .before .put-words .ensures) (c .before .before .before .before .before .before .before .before .put-item .ensures text)
-    (values-are _ _ (c .before .before .before .put-values .ensures) (c .before .before .before .before .place .ensures text))
+    let placed = c .before .before .before .before in
+    λ buf text old. left-is (c .number .ensures text) (placed .before .before .before .before .before .before .before .before .put-words .ensures)
+    (placed .before .before .before .before .put-item .ensures text)
+    (values-are _ _ (c .before .before .before .put-values .ensures) (placed .place .ensures text))
 
 pub tell-spec : {M : Type 1} → statement M
 tell-spec =

@@ -42,10 +42,18 @@ add-n : tie.Need-add-n
 add-n c = search needs
 
 returns-5 : tie.Need-returns-5
-returns-5 c = let t = c .before .before .before .before .before .before .before .before .before .before .before .args .st in end-short t (length (now (c .before .before .before .before .before .before .before .before .before .before .before .args .index))) (c .before .before .before .before .before .before .before .before .before .if1 .left) (c .before .before .before .before .before .before .before .if2 .left) (c .before .before .before .before .before .if3 .left) (c .before .before .if4 .left) refl (c .if5 .taken)
+returns-5 c =
+    let branch = c .before .before .before .before .before in
+    let t = c .before .before .before .before .before .before .before .before .before .before .before .args .st in end-short t
+    (length (now (branch .before .before .before .before .before .before .args .index))) (branch .before .before .before .before .if1 .left)
+    (branch .before .before .if2 .left) (branch .if3 .left) (c .before .before .if4 .left) refl (c .if5 .taken)
 
 returns-6 : tie.Need-returns-6
-returns-6 c = let t = c .before .before .before .before .before .before .before .before .before .before .before .args .st in end-served t (length (now (c .before .before .before .before .before .before .before .before .before .before .before .args .index))) (c .before .before .before .before .before .before .before .before .before .if1 .left) (c .before .before .before .before .before .before .before .if2 .left) (c .before .before .before .before .before .if3 .left) (c .before .before .if4 .left) refl (c .if5 .left)
+returns-6 c =
+    let branch = c .before .before .before .before .before in
+    let t = c .before .before .before .before .before .before .before .before .before .before .before .args .st in end-served t
+    (length (now (branch .before .before .before .before .before .before .args .index))) (branch .before .before .before .before .if1 .left)
+    (branch .before .before .if2 .left) (branch .if3 .left) (c .before .before .if4 .left) refl (c .if5 .left)
 
 pub end-spec : {M : Type 1} → statement M
 end-spec =

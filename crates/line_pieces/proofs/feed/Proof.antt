@@ -36,7 +36,9 @@ loop-again : tie.Need-loop-again Inv-loop μ-loop
 loop-again c =
     let a = c .before .before .before .before .before .before .before .before .before .before .args in
     let l = c .before .before .before .before .before .before .before .loop in
-    feeding-next (a .st) (now (a .bytes)) (now (a .index)) (l .t) (l .index) (l .i) (l .inv) (c .before .before .before .before .before .before .loop-test .taken) (c .before .before .before .before .step .ensures) (c .before .before .note .ensures)
+    feeding-next (a .st)
+    (now (a .bytes)) (now (a .index)) (l .t) (l .index) (l .i) (l .inv) (c .before .before .before .before .before .before .loop-test .taken)
+    (c .before .before .before .before .step .ensures) (c .before .before .note .ensures)
 
 same-length : tie.Need-same-length Inv-loop μ-loop
 same-length c = c .before .loop .inv .size

@@ -18,7 +18,8 @@ same-length c = search needs
 returns : tie.Need-returns
 returns c =
     let a = c .before .before .before .before .before .before .args in
-    if-yes (ltb (a .had) (a .lines)) (set (now (a .index)) (a .lines) (a .at)) (now (a .index)) (lt-ltb (a .had) (a .lines) (c .before .before .before .before .if1 .taken)) (c .before .before .store .ensures)
+    if-yes (ltb (a .had) (a .lines)) (set (now (a .index)) (a .lines) (a .at))
+    (now (a .index)) (lt-ltb (a .had) (a .lines) (c .before .before .before .before .if1 .taken)) (c .before .before .store .ensures)
 
 returns-2 : tie.Need-returns-2
 returns-2 c =

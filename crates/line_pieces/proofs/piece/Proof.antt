@@ -16,7 +16,8 @@ same-length : tie.Need-same-length
 same-length c = search needs
 
 returns-2 : tie.Need-returns-2
-returns-2 c = let a = c .before .before .before .before .before .before .before .before .args in c .before .before .feed .ensures ∙ piece-feeds (a .st) (now (a .bytes)) (now (a .index)) (c .before .before .before .before .if1 .left)
+returns-2 c = let a = c .before .before .before .before .before .before .before .before .args in
+    c .before .before .feed .ensures ∙ piece-feeds (a .st) (now (a .bytes)) (now (a .index)) (c .before .before .before .before .if1 .left)
 
 pub piece-spec : {M : Type 1} → statement M
 piece-spec = tie.close (tie.spec returns feed-requires same-length returns-2)

@@ -13,7 +13,9 @@ stopped-requires : tie.Need-stopped-requires
 stopped-requires c κs = search needs
 
 returns-2 : tie.Need-returns-2
-returns-2 c = c .stopped .ensures ∙ sym (step-full (c .before .before .before .before .before .args .t) (c .before .before .before .before .before .args .b) (c .before .before .before .if1 .left) (c .before .if2 .taken))
+returns-2 c =
+    let entry = c .before .before .before .before .before in
+    c .stopped .ensures ∙ sym (step-full (entry .args .t) (entry .args .b) (c .before .before .before .if1 .left) (c .before .if2 .taken))
 
 add-stopped : tie.Need-add-stopped
 add-stopped c = search needs
@@ -22,7 +24,10 @@ stopped-requires-2 : tie.Need-stopped-requires-2
 stopped-requires-2 c κs = search needs
 
 returns-3 : tie.Need-returns-3
-returns-3 c = c .stopped2 .ensures ∙ sym (step-counts (c .before .before .before .before .before .before .before .before .args .t) (c .before .before .before .before .before .before .before .before .args .b) (c .before .before .before .before .before .before .if1 .left) (c .before .before .before .before .if2 .left) (c .before .before .if3 .taken))
+returns-3 c =
+    let entry = c .before .before .before .before .before .before .before .before in
+    c .stopped2 .ensures ∙ sym (step-counts (entry .args .t) (entry .args .b)
+    (c .before .before .before .before .before .before .if1 .left) (c .before .before .before .before .if2 .left) (c .before .before .if3 .taken))
 
 byte-step-requires : tie.Need-byte-step-requires
 byte-step-requires c κs = search needs
@@ -55,13 +60,28 @@ stopped-requires-3 : tie.Need-stopped-requires-3
 stopped-requires-3 c κs = search needs
 
 returns-4 : tie.Need-returns-4
-returns-4 c = c .moved .ensures ∙ sym (step-did (c .before .before .before .before .before .before .before .before .before .before .before .before .args .t) (c .before .before .before .before .before .before .before .before .before .before .before .before .args .b) (c .before .before .before .before .before .before .before .before .before .before .if1 .left) (c .before .before .before .before .before .before .before .before .if2 .left) (c .before .before .before .before .before .before .if3 .left) (sym (c .before .before .before .before .byte-step .ensures) ∙ c .before .before .u .given .1))
+returns-4 c =
+    let stepped = c .before .before .before .before in
+    let entry = stepped .before .before .before .before .before .before .before .before in
+    c .moved .ensures ∙ sym (step-did (entry .args .t) (entry .args .b) (stepped .before .before .before .before .before .before .if1 .left)
+    (stepped .before .before .before .before .if2 .left)
+    (stepped .before .before .if3 .left) (sym (stepped .byte-step .ensures) ∙ c .before .before .u .given .1))
 
 returns-5 : tie.Need-returns-5
-returns-5 c = (rw (c .before .before .between .ensures) at (c .moved2 .ensures)) ∙ sym (step-did (c .before .before .before .before .before .before .before .before .before .before .before .before .before .args .t) (c .before .before .before .before .before .before .before .before .before .before .before .before .before .args .b) (c .before .before .before .before .before .before .before .before .before .before .before .if1 .left) (c .before .before .before .before .before .before .before .before .before .if2 .left) (c .before .before .before .before .before .before .before .if3 .left) (sym (c .before .before .before .before .before .byte-step .ensures) ∙ c .before .before .before .enum-told .given .1))
+returns-5 c =
+    let stepped = c .before .before .before .before .before in
+    let entry = stepped .before .before .before .before .before .before .before .before in
+    (rw (c .before .before .between .ensures) at (c .moved2 .ensures)) ∙ sym (step-did (entry .args .t)
+    (entry .args .b) (stepped .before .before .before .before .before .before .if1 .left) (stepped .before .before .before .before .if2 .left)
+    (stepped .before .before .if3 .left) (sym (stepped .byte-step .ensures) ∙ c .before .before .before .enum-told .given .1))
 
 returns-6 : tie.Need-returns-6
-returns-6 c = c .stopped3 .ensures ∙ sym (step-did (c .before .before .before .before .before .before .before .before .before .before .before .before .args .t) (c .before .before .before .before .before .before .before .before .before .before .before .before .args .b) (c .before .before .before .before .before .before .before .before .before .before .if1 .left) (c .before .before .before .before .before .before .before .before .if2 .left) (c .before .before .before .before .before .before .if3 .left) (sym (c .before .before .before .before .byte-step .ensures) ∙ c .before .before .enum-told2 .given .1))
+returns-6 c =
+    let stepped = c .before .before .before .before in
+    let entry = stepped .before .before .before .before .before .before .before .before in
+    c .stopped3 .ensures ∙ sym (step-did (entry .args .t) (entry .args .b) (stepped .before .before .before .before .before .before .if1 .left)
+    (stepped .before .before .before .before .if2 .left)
+    (stepped .before .before .if3 .left) (sym (stepped .byte-step .ensures) ∙ c .before .before .enum-told2 .given .1))
 
 pub step-spec : {M : Type 1} → statement M
 step-spec =

@@ -5,7 +5,10 @@ use Rattle.lines_exports.proofs.mihadrena_locate.Statement.{statement}
 use Rattle.lines_exports.proofs.mihadrena_locate.Tie as tie
 
 returns : tie.Need-returns
-returns c = told-place _ _ (c .before .before .before .before .before .before .before .locate .ensures) (c .located-number .ensures) (c .before .before .before .before .before .located-first .ensures) (c .before .before .before .before .located-second .ensures) (c .before .before .before .put-values .ensures)
+returns c =
+    let at-located-second = c .before .before .before .before in
+    told-place _ _ (at-located-second .before .before .before .locate .ensures) (c .located-number .ensures)
+    (at-located-second .before .located-first .ensures) (at-located-second .located-second .ensures) (c .before .before .before .put-values .ensures)
 
 pub mihadrena-locate-spec : {M : Type 1} → statement M
 mihadrena-locate-spec =

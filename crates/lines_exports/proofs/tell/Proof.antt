@@ -9,7 +9,12 @@ use Rattle.lines_exports.proofs.tell.Statement.{statement}
 use Rattle.lines_exports.proofs.tell.Tie as tie
 
 returns : tie.Need-returns
-returns c = (c .number .ensures, c .before .before .before .put-values .ensures ∙ ap (λ (v : ℕ). lay (v ∷ 0 ∷ []) (now (c .before .before .before .before .before .before .before .args .values))) (c .before .before .before .before .value .ensures))
+returns c = (
+  c .number .ensures,
+  c .before .before .before .put-values .ensures
+      ∙ ap (λ (v : ℕ). lay (v ∷ 0 ∷ []) (now (c .before .before .before .before .before .before .before .args .values)))
+      (c .before .before .before .before .value .ensures),
+)
 
 pub tell-spec : {M : Type 1} → statement M
 tell-spec =

@@ -17,7 +17,8 @@ end-requires : tie.Need-end-requires
 end-requires c κs = search needs
 
 returns : tie.Need-returns
-returns c = let a = c .before .before .before .before .before .before .args in ends (now (a .words)) (length (now (a .index))) (sym (c .before .before .before .is-state .ensures) ∙ c .before .before .if1 .taken) (rw (c .before .state-in .ensures) at (c .end .ensures))
+returns c = let a = c .before .before .before .before .before .before .args in ends (now (a .words)) (length (now (a .index)))
+    (sym (c .before .before .before .is-state .ensures) ∙ c .before .before .if1 .taken) (rw (c .before .state-in .ensures) at (c .end .ensures))
 
 returns-2 : tie.Need-returns-2
 returns-2 c = let a = c .before .before .before .before .args in ends-not (now (a .words)) (length (now (a .index))) (sym (c .before .is-state .ensures) ∙ c .if1 .left)

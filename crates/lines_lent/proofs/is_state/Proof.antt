@@ -24,7 +24,8 @@ shared-slice-read-result : tie.Need-shared-slice-read-result
 shared-slice-read-result c = omega arith
 
 returns-4 : tie.Need-returns-4
-returns-4 c = third-says (now (c .before .before .before .before .before .before .args .words)) (c .before .before .before .before .before .if1 .left) (c .before .before .before .if2 .left) (c .before .if3 .left)
+returns-4 c = third-says (now (c .before .before .before .before .before .before .args .words))
+    (c .before .before .before .before .before .if1 .left) (c .before .before .before .if2 .left) (c .before .if3 .left)
 
 pub is-state-spec : {M : Type 1} → statement M
 is-state-spec =

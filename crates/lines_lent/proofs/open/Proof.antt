@@ -18,7 +18,9 @@ same-length-2 : tie.Need-same-length-2
 same-length-2 c = search needs
 
 returns : tie.Need-returns
-returns c = let a = c .before .before .before .before .before .before .before .before .before .before .before .args in opens (now (a .words)) (now (a .index)) (c .before .before .before .before .before .before .before .before .if1 .taken) (c .before .before .before .before .before .before .«open» .ensures) (c .before .before .put-state .ensures)
+returns c = let a = c .before .before .before .before .before .before .before .before .before .before .before .args in
+    opens (now (a .words)) (now (a .index)) (c .before .before .before .before .before .before .before .before .if1 .taken)
+    (c .before .before .before .before .before .before .«open» .ensures) (c .before .before .put-state .ensures)
 
 returns-2 : tie.Need-returns-2
 returns-2 c = opens-not (now (c .before .before .before .args .words)) (now (c .before .before .before .args .index)) (c .if1 .left)

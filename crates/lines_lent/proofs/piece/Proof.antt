@@ -16,7 +16,9 @@ piece-requires : tie.Need-piece-requires
 piece-requires c κs = search needs
 
 put-state-requires : tie.Need-put-state-requires
-put-state-requires c κs = state-is (now (c .before .before .before .before .before .before .before .before .before .before .before .before .before .args .words)) (sym (c .before .before .before .before .before .before .before .before .is-state .ensures) ∙ c .before .before .before .before .before .before .before .if1 .taken) .0
+put-state-requires c κs =
+    let branch = c .before .before .before .before .before .before .before in
+    state-is (now (branch .before .before .before .before .before .before .args .words)) (sym (branch .before .is-state .ensures) ∙ branch .if1 .taken) .0
 
 same-length : tie.Need-same-length
 same-length c = search needs
@@ -26,8 +28,11 @@ same-length-2 c = search needs
 
 returns : tie.Need-returns
 returns c =
+    let gone-on = c .before .before .before .before .before .before in
     let a = c .before .before .before .before .before .before .before .before .before .before .before .before .before .before .before .before .args in
-    feeds (now (a .words)) (now (a .index)) (now (a .bytes)) (sym (c .before .before .before .before .before .before .before .before .before .before .before .is-state .ensures) ∙ c .before .before .before .before .before .before .before .before .before .before .if1 .taken) (rw (c .before .before .before .before .before .before .before .before .state-in .ensures) at (c .before .before .before .before .before .before .piece .ensures)) (c .before .before .put-state .ensures)
+    feeds (now (a .words)) (now (a .index))
+    (now (a .bytes)) (sym (gone-on .before .before .before .before .before .is-state .ensures) ∙ gone-on .before .before .before .before .if1 .taken)
+    (rw (gone-on .before .before .state-in .ensures) at (gone-on .piece .ensures)) (c .before .before .put-state .ensures)
 
 same-length-3 : tie.Need-same-length-3
 same-length-3 c = search needs

@@ -45,7 +45,9 @@ same-length : tie.Need-same-length
 same-length c = simp length-set
 
 returns : tie.Need-returns
-returns c = sets-eq (listed (c .before .before .before .before .args .t)) (now (c .before .before .before .before .args .words)) 0 (omega arith)
+returns c =
+    let entry = c .before .before .before .before in
+    sets-eq (listed (entry .args .t)) (now (entry .args .words)) 0 (omega arith)
 
 pub put-state-spec : {M : Type 1} → statement M
 put-state-spec =

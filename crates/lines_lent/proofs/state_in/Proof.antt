@@ -25,19 +25,29 @@ cast-t11 : tie.Need-cast-t11
 cast-t11 c = omega (arith, state-is (now (c .before .before .before .args .words)) (c .before .before .before .pre) .3)
 
 shared-slice-read-t13 : tie.Need-shared-slice-read-t13
-shared-slice-read-t13 c = omega (arith, state-is (now (c .before .before .before .before .args .words)) (c .before .before .before .before .pre) .0)
+shared-slice-read-t13 c =
+    let entry = c .before .before .before .before in
+    omega (arith, state-is (now (entry .args .words)) (entry .pre) .0)
 
 shared-slice-read-t4-2 : tie.Need-shared-slice-read-t4-2
-shared-slice-read-t4-2 c = omega (arith, state-is (now (c .before .before .before .before .before .args .words)) (c .before .before .before .before .before .pre) .0)
+shared-slice-read-t4-2 c =
+    let entry = c .before .before .before .before .before in
+    omega (arith, state-is (now (entry .args .words)) (entry .pre) .0)
 
 shared-slice-read-t13-2 : tie.Need-shared-slice-read-t13-2
-shared-slice-read-t13-2 c = omega (arith, state-is (now (c .before .before .before .before .before .before .args .words)) (c .before .before .before .before .before .before .pre) .0)
+shared-slice-read-t13-2 c =
+    let entry = c .before .before .before .before .before .before in
+    omega (arith, state-is (now (entry .args .words)) (entry .pre) .0)
 
 shared-slice-read-t7-2 : tie.Need-shared-slice-read-t7-2
-shared-slice-read-t7-2 c = omega (arith, state-is (now (c .before .before .before .before .before .before .before .args .words)) (c .before .before .before .before .before .before .before .pre) .0)
+shared-slice-read-t7-2 c =
+    let entry = c .before .before .before .before .before .before .before in
+    omega (arith, state-is (now (entry .args .words)) (entry .pre) .0)
 
 shared-slice-read-t10-2 : tie.Need-shared-slice-read-t10-2
-shared-slice-read-t10-2 c = omega (arith, state-is (now (c .before .before .before .before .before .before .before .before .args .words)) (c .before .before .before .before .before .before .before .before .pre) .0)
+shared-slice-read-t10-2 c =
+    let entry = c .before .before .before .before .before .before .before .before in
+    omega (arith, state-is (now (entry .args .words)) (entry .pre) .0)
 
 returns : tie.Need-returns
 returns c = refl

@@ -24,14 +24,24 @@ two-requires c κs = search needs
 
 returns-2 : tie.Need-returns-2
 unfolding wordMeans
-returns-2 c = rw (sym (c .before .before .before .before .word-kind .ensures), eq-eqb _ _ (c .before .before .before .if1 .left), sym (c .before .before .splits .ensures) ∙ c .before .if2 .taken, c .two .ensures)
+returns-2 c = rw (
+  sym (c .before .before .before .before .word-kind .ensures),
+  eq-eqb _ _ (c .before .before .before .if1 .left),
+  sym (c .before .before .splits .ensures) ∙ c .before .if2 .taken,
+  c .two .ensures,
+)
 
 one-requires-2 : tie.Need-one-requires-2
 one-requires-2 c κs = search needs
 
 returns-3 : tie.Need-returns-3
 unfolding wordMeans
-returns-3 c = rw (sym (c .before .before .before .before .word-kind .ensures), eq-eqb _ _ (c .before .before .before .if1 .left), sym (c .before .before .splits .ensures) ∙ c .before .if2 .left, c .one2 .ensures)
+returns-3 c = rw (
+  sym (c .before .before .before .before .word-kind .ensures),
+  eq-eqb _ _ (c .before .before .before .if1 .left),
+  sym (c .before .before .splits .ensures) ∙ c .before .if2 .left,
+  c .one2 .ensures,
+)
 
 pub word-spec : {M : Type 1} → statement M
 word-spec =

@@ -12,7 +12,8 @@ use Rattle.number_words.proofs.put_answer.Tie as tie
 returns : tie.Need-returns
 unfolding joined answer
 returns c =
-    third-put (now (c .before .before .before .before .before .before .before .before .before .args .words)) (c .before .before .before .before .before .before .before .before .before .args .w .first) (c .before .before .before .before .before .before .before .before .before .pre) _ _
+    let entry = c .before .before .before .before .before .before .before .before .before in
+    third-put (now (entry .args .words)) (entry .args .w .first) (entry .pre) _ _
     (c .before .before .before .before .before .before .put-real .ensures) _ _ (c .before .before .put-real2 .ensures)
 
 pub put-answer-spec : {M : Type 1} → statement M
@@ -24,9 +25,14 @@ put-answer-spec =
     (λ c. simp length-set (omega arith))
     (λ c. search needs)
     (λ c κs. rw (length-part _ 1) (simp length-set (omega arith)))
-    (λ c. second-in (now (c .before .before .before .before .before .args .words)) (c .before .before .before .before .before .args .w .first) (c .before .before .before .before .before .pre) _ _ (c .before .before .put-real .ensures))
-    (λ c. second-in (now (c .before .before .before .before .before .args .words)) (c .before .before .before .before .before .args .w .first) (c .before .before .before .before .before .pre) _ _ (c .before .before .put-real .ensures))
+    (λ c. let entry = c .before .before .before .before .before in
+    second-in (now (entry .args .words)) (entry .args .w .first) (entry .pre) _ _ (c .before .before .put-real .ensures))
+    (λ c. let entry = c .before .before .before .before .before in
+    second-in (now (entry .args .words)) (entry .args .w .first) (entry .pre) _ _ (c .before .before .put-real .ensures))
     (λ c. search needs)
-    (λ c κs. second-room (now (c .before .before .before .before .before .before .args .words)) (c .before .before .before .before .before .before .args .w .first) (c .before .before .before .before .before .before .pre) _ _ (c .before .before .before .put-real .ensures))
-    (λ c. length-third (now (c .before .before .before .before .before .before .before .before .before .args .words)) (c .before .before .before .before .before .before .before .before .before .args .w .first) (c .before .before .before .before .before .before .before .before .before .pre) _ _ (c .before .before .before .before .before .before .put-real .ensures) _ _ (c .before .before .put-real2 .ensures))
+    (λ c κs. let entry = c .before .before .before .before .before .before in
+    second-room (now (entry .args .words)) (entry .args .w .first) (entry .pre) _ _ (c .before .before .before .put-real .ensures))
+    (λ c. let entry = c .before .before .before .before .before .before .before .before .before in
+    length-third (now (entry .args .words)) (entry .args .w .first)
+    (entry .pre) _ _ (c .before .before .before .before .before .before .put-real .ensures) _ _ (c .before .before .put-real2 .ensures))
     returns)

@@ -11,19 +11,22 @@ returns : tie.Need-returns
 unfolding flattened numberOr
 returns c =
     told-of _ (ap answered (sym (c .before .before .before .before .before .before .a .given .1)))
-    (served-as _ _ _ _ (c .before .before .before .parts-words .ensures .0) (c .before .before .before .parts-words .ensures .1) (c .before .before .tell-served .ensures .0) (c .before .before .tell-served .ensures .1))
+    (served-as _ _ _ _ (c .before .before .before .parts-words .ensures .0)
+    (c .before .before .before .parts-words .ensures .1) (c .before .before .tell-served .ensures .0) (c .before .before .tell-served .ensures .1))
 
 returns-2 : tie.Need-returns-2
 unfolding flattened numberOr
 returns-2 c =
     told-of _ (ap answered (sym (c .before .before .before .before .before .enum-told .given .1)))
-    (served-as _ _ _ _ (c .before .before .before .bare .ensures .0) (c .before .before .before .bare .ensures .1) (c .before .before .tell-served2 .ensures .0) (c .before .before .tell-served2 .ensures .1))
+    (served-as _ _ _ _ (c .before .before .before .bare .ensures .0)
+    (c .before .before .before .bare .ensures .1) (c .before .before .tell-served2 .ensures .0) (c .before .before .tell-served2 .ensures .1))
 
 returns-3 : tie.Need-returns-3
 unfolding flattened numberOr
 returns-3 c =
     told-of _ (ap answered (sym (c .before .before .before .before .before .enum-told2 .given .1)))
-    (served-as _ _ _ _ (c .before .before .before .bare2 .ensures .0) (c .before .before .before .bare2 .ensures .1) (c .before .before .tell-served3 .ensures .0) (c .before .before .tell-served3 .ensures .1))
+    (served-as _ _ _ _ (c .before .before .before .bare2 .ensures .0)
+    (c .before .before .before .bare2 .ensures .1) (c .before .before .tell-served3 .ensures .0) (c .before .before .tell-served3 .ensures .1))
 
 returns-4 : tie.Need-returns-4
 unfolding flattened refusalWords numberOr

@@ -22,13 +22,17 @@ shared-slice-read-if3 : tie.Need-shared-slice-read-if3
 shared-slice-read-if3 c = search needs
 
 returns-2 : tie.Need-returns-2
-returns-2 c = ratio-zero (now (c .before .before .before .before .before .before .args .t)) (c .before .before .before .before .before .before .args .from) (sym (c .before .before .before .if1 .taken) ∙ c .before .before .before .before .starts-at .ensures) (c .if3 .taken)
+returns-2 c =
+    let entry = c .before .before .before .before .before .before in
+    ratio-zero (now (entry .args .t))
+    (entry .args .from) (sym (c .before .before .before .if1 .taken) ∙ c .before .before .before .before .starts-at .ensures) (c .if3 .taken)
 
 decimal-end-requires : tie.Need-decimal-end-requires
 decimal-end-requires c κs = search needs
 
 returns-3 : tie.Need-returns-3
-returns-3 c = ratio-run _ _ (sym (c .before .before .before .before .if1 .taken) ∙ c .before .before .before .before .before .starts-at .ensures) _ (c .before .before .before .if2 .left) (c .before .if3 .left) (c .decimal-end .ensures)
+returns-3 c = ratio-run _ _ (sym (c .before .before .before .before .if1 .taken) ∙ c .before .before .before .before .before .starts-at .ensures) _
+    (c .before .before .before .if2 .left) (c .before .if3 .left) (c .decimal-end .ensures)
 
 returns-4 : tie.Need-returns-4
 returns-4 c = ratio-no (now (c .before .before .before .args .t)) (c .before .before .before .args .from) (sym (c .if1 .left) ∙ c .before .starts-at .ensures)

@@ -15,13 +15,15 @@ enum-told c = search needs
 
 returns : tie.Need-returns
 returns c =
-    let f : toZ w64 (ofZ w64 (c .before .before .n .given .0 .0)) ≡ c .before .before .n .given .0 .0 = search needs in
-    zero-yes _ _ (c .before .before .n .given .1) f (c .if1 .taken)
+    let told = c .before .before in
+    let f : toZ w64 (ofZ w64 (told .n .given .0 .0)) ≡ told .n .given .0 .0 = search needs in
+    zero-yes _ _ (told .n .given .1) f (c .if1 .taken)
 
 returns-2 : tie.Need-returns-2
 returns-2 c =
-    let f : toZ w64 (ofZ w64 (c .before .before .n .given .0 .0)) ≡ c .before .before .n .given .0 .0 = search needs in
-    zero-no _ _ (c .before .before .n .given .1) f (c .if1 .left)
+    let told = c .before .before in
+    let f : toZ w64 (ofZ w64 (told .n .given .0 .0)) ≡ told .n .given .0 .0 = search needs in
+    zero-no _ _ (told .n .given .1) f (c .if1 .left)
 
 returns-3 : tie.Need-returns-3
 returns-3 c = zero-big _ _ _ (c .enum-told .given .1)

@@ -14,21 +14,29 @@ returns c = too-few _ _ (sym (c .before .before .before .before .before .is-room
 
 returns-2 : tie.Need-returns-2
 returns-2 c =
-    no-position _ _ (sym (c .before .before .before .before .before .before .before .before .is-room .ensures) ∙ not-false _ (c .before .before .before .before .before .before .before .if1 .left)) (sym (c .before .before .before .before .before .is-position .ensures) ∙ not-true _ (c .before .before .before .before .if2 .taken)) (c .before .before .put-values2 .ensures)
+    let branch = c .before .before .before .before in
+    no-position _ _ (sym (branch .before .before .before .before .is-room .ensures) ∙ not-false _ (branch .before .before .before .if1 .left))
+    (sym (branch .before .is-position .ensures) ∙ not-true _ (branch .if2 .taken)) (c .before .before .put-values2 .ensures)
 
 position-in-requires : tie.Need-position-in-requires
 position-in-requires c κs = sym (c .before .before .is-position .ensures) ∙ not-false _ (c .before .if2 .left)
 
 tell-next-requires : tie.Need-tell-next-requires
-tell-next-requires c κs = (
-  position-length _ (sym (c .before .before .before .before .before .before .before .before .before .before .is-position .ensures) ∙ not-false _ (c .before .before .before .before .before .before .before .before .before .if2 .left)),
-  room-record _ (length (now (c .before .before .before .before .before .before .before .before .before .before .before .before .before .before .before .before .before .before .before .args .values))) (sym (c .before .before .before .before .before .before .before .before .before .before .before .before .before .is-room .ensures) ∙ not-false _ (c .before .before .before .before .before .before .before .before .before .before .before .before .if1 .left)),
-)
+tell-next-requires c κs =
+    let branch = c .before .before .before .before .before .before .before .before .before in (
+      position-length _ (sym (branch .before .is-position .ensures) ∙ not-false _ (branch .if2 .left)),
+      room-record _ (length (now (branch .before .before .before .before .before .before .before .before .before .before .args .values)))
+          (sym (branch .before .before .before .before .is-room .ensures) ∙ not-false _ (branch .before .before .before .if1 .left)),
+    )
 
 returns-3 : tie.Need-returns-3
 returns-3 c =
-    told-on _ _ (sym (c .before .before .before .before .before .before .before .before .before .before .before .before .before .before .before .before .before .before .before .before .is-room .ensures) ∙ not-false _ (c .before .before .before .before .before .before .before .before .before .before .before .before .before .before .before .before .before .before .before .if1 .left)) (sym (c .before .before .before .before .before .before .before .before .before .before .before .before .before .before .before .before .before .is-position .ensures) ∙ not-false _ (c .before .before .before .before .before .before .before .before .before .before .before .before .before .before .before .before .if2 .left))
-    (c .before .before .before .before .before .before .before .before .before .before .before .before .before .before .position-in .ensures) (c .before .before .before .before .before .before .before .before .before .before .before .before .next-at .ensures) (c .before .before .before .before .before .before .tell-next .ensures _ _)
+    let told = c .before .before .before .before .before .before in
+    let stepped = told .before .before .before .before .before .before in
+    let branch = stepped .before .before .before .before in
+    told-on _ _ (sym (branch .before .before .before .before .is-room .ensures) ∙ not-false _ (branch .before .before .before .if1 .left))
+    (sym (branch .before .is-position .ensures) ∙ not-false _ (branch .if2 .left))
+    (stepped .before .before .position-in .ensures) (stepped .next-at .ensures) (told .tell-next .ensures _ _)
 
 pub mihadrena-reader-next-spec : {M : Type 1} → statement M
 mihadrena-reader-next-spec =

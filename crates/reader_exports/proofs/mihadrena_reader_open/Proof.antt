@@ -8,7 +8,9 @@ returns : tie.Need-returns
 returns c = no-words _ _ _ _ _ (c .before .before .before .before .if1 .taken) (c .before .before .put-values .ensures)
 
 returns-2 : tie.Need-returns-2
-returns-2 c = open-so _ _ _ _ _ (c .before .before .before .before .before .before .before .before .if1 .left) (c .before .before .before .before .before .before .before .«open» .ensures) (c .before .before .before .before .tell-open .ensures)
+returns-2 c =
+    let told = c .before .before .before .before in
+    open-so _ _ _ _ _ (told .before .before .before .before .if1 .left) (told .before .before .before .«open» .ensures) (told .tell-open .ensures)
 
 pub mihadrena-reader-open-spec : {M : Type 1} → statement M
 mihadrena-reader-open-spec =

@@ -8,7 +8,10 @@ use Rattle.reader_exports.proofs.tell_next.Statement.{statement}
 use Rattle.reader_exports.proofs.tell_next.Tie as tie
 
 returns : tie.Need-returns
-returns c = λ old text. item-told _ old _ _ text _ _ (ap replyOf (c .before .before .before .before .before .before .before .before .before .before .before .before .before .answer .given .1)) (c .before .before .before .before .before .before .before .before .before .before .put-position .ensures) (c .before .before .before .before .before .before .put .ensures) (c .before .before .put-values .ensures)
+returns c =
+    let written = c .before .before .before .before .before .before in
+    λ old text. item-told _ old _ _ text _ _ (ap replyOf (written .before .before .before .before .before .before .before .answer .given .1))
+    (written .before .before .before .before .put-position .ensures) (written .put .ensures) (c .before .before .put-values .ensures)
 
 returns-2 : tie.Need-returns-2
 returns-2 c = λ old text. end-told _ old _ _ text (ap replyOf (c .before .before .before .before .enum-told .given .1)) (c .before .before .put-values2 .ensures)

@@ -8,7 +8,8 @@ use Rattle.reader_exports.proofs.tell_open.Statement.{statement}
 use Rattle.reader_exports.proofs.tell_open.Tie as tie
 
 returns : tie.Need-returns
-returns c = open-told _ _ _ (ap openingOf (c .before .before .before .before .before .before .before .before .before .answer .given .1)) (c .before .before .before .before .before .before .put-position .ensures) (c .before .before .put-values .ensures)
+returns c = open-told _ _ _ (ap openingOf (c .before .before .before .before .before .before .before .before .before .answer .given .1))
+    (c .before .before .before .before .before .before .put-position .ensures) (c .before .before .put-values .ensures)
 
 returns-2 : tie.Need-returns-2
 returns-2 c = refused-told _ _ 25 _ (ap openingOf (c .before .before .before .before .before .answer2 .given .1)) (c .before .before .put-values2 .ensures)

@@ -9,7 +9,8 @@ use Rattle.standard_exports.proofs.mihadrena_number_by.Tie as tie
 
 returns : tie.Need-returns
 returns c =
-    told-of _ (ap answeredBy (sym (c .before .before .before .before .before .a .given .1)) ∙ c .before .before .before .before .before .before .before .number-by .ensures) (c .before .before .tell .ensures)
+    told-of _ (ap answeredBy (sym (c .before .before .before .before .before .a .given .1))
+    ∙ c .before .before .before .before .before .before .before .number-by .ensures) (c .before .before .tell .ensures)
 
 returns-2 : tie.Need-returns-2
 unfolding refusalWords flattened numberOr

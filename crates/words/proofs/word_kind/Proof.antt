@@ -112,7 +112,8 @@ either-requires-6 c κs = search needs
 
 returns-2 : tie.Need-returns-2
 unfolding words lookup bytesOf utf8
-returns-2 c = by-first (now (c .before .before .before .before .before .before .before .args .raw)) _ (c .before .before .before .before .before .if1 .left) (c .before .before .before .match .keys1) (c .either .ensures)
+returns-2 c = by-first (now (c .before .before .before .before .before .before .before .args .raw)) _
+    (c .before .before .before .before .before .if1 .left) (c .before .before .before .match .keys1) (c .either .ensures)
 
 returns-3 : tie.Need-returns-3
 unfolding words lookup bytesOf utf8
@@ -120,15 +121,20 @@ returns-3 c = by-first (now (c .before .before .before .before .before .before .
 
 returns-4 : tie.Need-returns-4
 unfolding words lookup bytesOf utf8
-returns-4 c = by-first (now (c .before .before .before .before .before .before .before .args .raw)) _ (c .before .before .before .before .before .if1 .left) (c .before .before .before .match .keys3) (c .either2 .ensures)
+returns-4 c = by-first (now (c .before .before .before .before .before .before .before .args .raw)) _
+    (c .before .before .before .before .before .if1 .left) (c .before .before .before .match .keys3) (c .either2 .ensures)
 
 returns-5 : tie.Need-returns-5
 unfolding words lookup bytesOf utf8
-returns-5 c = by-first (now (c .before .before .before .before .before .before .before .before .before .args .raw)) _ (c .before .before .before .before .before .before .before .if1 .left) (c .before .before .before .before .before .match .keys4) (rw (c .before .either3 .ensures) at (c .row .ensures))
+returns-5 c =
+    let matched = c .before .before .before .before .before in
+    by-first (now (matched .before .before .before .before .args .raw)) _
+    (matched .before .before .if1 .left) (matched .match .keys4) (rw (c .before .either3 .ensures) at (c .row .ensures))
 
 returns-6 : tie.Need-returns-6
 unfolding words lookup bytesOf utf8
-returns-6 c = by-first (now (c .before .before .before .before .before .before .before .args .raw)) _ (c .before .before .before .before .before .if1 .left) (c .before .before .before .match .keys5) (c .either4 .ensures)
+returns-6 c = by-first (now (c .before .before .before .before .before .before .before .args .raw)) _
+    (c .before .before .before .before .before .if1 .left) (c .before .before .before .match .keys5) (c .either4 .ensures)
 
 returns-7 : tie.Need-returns-7
 unfolding words lookup bytesOf utf8
@@ -136,7 +142,8 @@ returns-7 c = by-first (now (c .before .before .before .before .before .before .
 
 returns-8 : tie.Need-returns-8
 unfolding words lookup bytesOf utf8
-returns-8 c = by-first (now (c .before .before .before .before .before .before .before .args .raw)) _ (c .before .before .before .before .before .if1 .left) (c .before .before .before .match .keys7) (c .either5 .ensures)
+returns-8 c = by-first (now (c .before .before .before .before .before .before .before .args .raw)) _
+    (c .before .before .before .before .before .if1 .left) (c .before .before .before .match .keys7) (c .either5 .ensures)
 
 returns-9 : tie.Need-returns-9
 unfolding words lookup bytesOf utf8
@@ -156,10 +163,15 @@ returns-12 c = by-first (now (c .before .before .before .before .before .before 
 
 returns-13 : tie.Need-returns-13
 unfolding words lookup bytesOf utf8
-returns-13 c = by-first (now (c .before .before .before .before .before .before .before .args .raw)) _ (c .before .before .before .before .before .if1 .left) (c .before .before .before .match .keys12) (c .either6 .ensures)
+returns-13 c = by-first (now (c .before .before .before .before .before .before .before .args .raw)) _
+    (c .before .before .before .before .before .if1 .left) (c .before .before .before .match .keys12) (c .either6 .ensures)
 
 returns-14 : tie.Need-returns-14
-returns-14 c = by-first (now (c .before .before .before .before .args .raw)) _ (c .before .before .if1 .left) refl (no-row _ _ (c .match .rest .0 .0 .0 .0 .0 .0 .0 .0 .0 .0 .0 .1) (c .match .rest .0 .0 .0 .0 .0 .0 .0 .0 .0 .0 .1) (c .match .rest .0 .0 .0 .0 .0 .0 .0 .0 .0 .1) (c .match .rest .0 .0 .0 .0 .0 .0 .0 .0 .1) (c .match .rest .0 .0 .0 .0 .0 .0 .0 .1) (c .match .rest .0 .0 .0 .0 .0 .0 .1) (c .match .rest .0 .0 .0 .0 .0 .1) (c .match .rest .0 .0 .0 .0 .1) (c .match .rest .0 .0 .0 .1) (c .match .rest .0 .0 .1) (c .match .rest .0 .1) (c .match .rest .1))
+returns-14 c = by-first (now (c .before .before .before .before .args .raw)) _ (c .before .before .if1 .left) refl
+    (no-row _ _ (c .match .rest .0 .0 .0 .0 .0 .0 .0 .0 .0 .0 .0 .1)
+    (c .match .rest .0 .0 .0 .0 .0 .0 .0 .0 .0 .0 .1) (c .match .rest .0 .0 .0 .0 .0 .0 .0 .0 .0 .1) (c .match .rest .0 .0 .0 .0 .0 .0 .0 .0 .1)
+    (c .match .rest .0 .0 .0 .0 .0 .0 .0 .1) (c .match .rest .0 .0 .0 .0 .0 .0 .1) (c .match .rest .0 .0 .0 .0 .0 .1)
+    (c .match .rest .0 .0 .0 .0 .1) (c .match .rest .0 .0 .0 .1) (c .match .rest .0 .0 .1) (c .match .rest .0 .1) (c .match .rest .1))
 
 pub word-kind-spec : {M : Type 1} → statement M
 word-kind-spec =

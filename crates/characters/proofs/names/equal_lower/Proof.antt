@@ -34,9 +34,12 @@ shared-slice-read-if2 c = omega (arith, c .before .before .before .loop-test .ta
 
 returns-2 : tie.Need-returns-2 Inv-loop μ-loop
 returns-2 c =
-    let t = c .before .before .before .before .before .before .before .before .before .args .t .now in let name = c .before .before .before .before .before .before .before .before .before .args .name .now in let l = c .before .before .before .before .before .loop in
-    let in-name : l .i < length name = omega (arith, c .before .before .before .before .loop-test .taken, c .before .before .before .before .before .before .if1 .left) in
-    sym (l .inv .1 ∙ case-differ t name (l .i) (c .before .before .before .before .loop-test .taken) in-name (λ h. c .if2 .taken (c .before .before .lower-case .ensures ∙ h)))
+    let tested = c .before .before .before .before in
+    let t = c .before .before .before .before .before .before .before .before .before .args .t .now in
+    let name = c .before .before .before .before .before .before .before .before .before .args .name .now in
+    let l = c .before .before .before .before .before .loop in
+    let in-name : l .i < length name = omega (arith, tested .loop-test .taken, tested .before .before .if1 .left) in
+    sym (l .inv .1 ∙ case-differ t name (l .i) (tested .loop-test .taken) in-name (λ h. c .if2 .taken (c .before .before .lower-case .ensures ∙ h)))
 
 add-i : tie.Need-add-i Inv-loop μ-loop
 add-i c = search needs
@@ -46,12 +49,16 @@ loop-less c = search needs
 
 loop-again : tie.Need-loop-again Inv-loop μ-loop
 loop-again c =
-    let t = c .before .before .before .before .before .before .before .before .before .args .t .now in let name = c .before .before .before .before .before .before .before .before .before .args .name .now in let l = c .before .before .before .before .before .loop in
-    let in-name : l .i < length name = omega (arith, c .before .before .before .before .loop-test .taken, c .before .before .before .before .before .before .if1 .left) in
-    (omega arith, l .inv .1 ∙ case-more t name (l .i) (c .before .before .before .before .loop-test .taken) in-name (sym (c .before .before .lower-case .ensures) ∙ c .if2 .left))
+    let tested = c .before .before .before .before in
+    let t = c .before .before .before .before .before .before .before .before .before .args .t .now in
+    let name = c .before .before .before .before .before .before .before .before .before .args .name .now in
+    let l = c .before .before .before .before .before .loop in
+    let in-name : l .i < length name = omega (arith, tested .loop-test .taken, tested .before .before .if1 .left) in
+    (omega arith, l .inv .1 ∙ case-more t name (l .i) (tested .loop-test .taken) in-name (sym (c .before .before .lower-case .ensures) ∙ c .if2 .left))
 
 returns-3 : tie.Need-returns-3 Inv-loop μ-loop
-returns-3 c = sym (c .before .loop .inv .1 ∙ case-end _ (c .before .before .before .before .before .args .name .now) (c .before .loop .i) (c .loop-test .left) (omega (arith, c .loop-test .left, c .before .before .if1 .left)))
+returns-3 c = sym (c .before .loop .inv .1 ∙ case-end _ (c .before .before .before .before .before .args .name .now)
+    (c .before .loop .i) (c .loop-test .left) (omega (arith, c .loop-test .left, c .before .before .if1 .left)))
 
 pub equal-lower-spec : {M : Type 1} → statement M
 equal-lower-spec =

@@ -30,7 +30,10 @@ equal-lower-requires : tie.Need-equal-lower-requires
 equal-lower-requires c κs = search needs
 
 returns : tie.Need-returns
-returns c = c .equal-lower .ensures ∙ ap (same (map lower (c .before .before .before .before .before .before .args .t .now))) (own-name (c .before .before .before .before .before .before .args .k) _ _ (c .before .before .before .before .name-row .ensures) (c .before .before .find .ensures))
+returns c =
+    let entry = c .before .before .before .before .before .before in
+    c .equal-lower .ensures ∙ ap (same (map lower (entry .args .t .now)))
+    (own-name (entry .args .k) _ _ (c .before .before .before .before .name-row .ensures) (c .before .before .find .ensures))
 
 pub is-name-spec : {M : Type 1} → statement M
 is-name-spec =

@@ -26,7 +26,10 @@ row-code-requires : tie.Need-row-code-requires Inv-loop μ-loop
 row-code-requires c κs = search needs
 
 returns : tie.Need-returns Inv-loop μ-loop
-returns c = c .row-code .ensures ∙ sym (c .before .before .before .before .loop .inv .1 ∙ named-here _ (c .before .before .before .before .loop .k) (c .before .before .before .loop-test .taken) (sym (c .before .before .is-name .ensures) ∙ c .before .if1 .taken))
+returns c =
+    let turn = c .before .before .before .before in
+    c .row-code .ensures ∙ sym (turn .loop .inv .1
+    ∙ named-here _ (turn .loop .k) (c .before .before .before .loop-test .taken) (sym (c .before .before .is-name .ensures) ∙ c .before .if1 .taken))
 
 add-k : tie.Need-add-k Inv-loop μ-loop
 add-k c = search needs
@@ -35,7 +38,11 @@ loop-less : tie.Need-loop-less Inv-loop μ-loop
 loop-less c = search needs
 
 loop-again : tie.Need-loop-again Inv-loop μ-loop
-loop-again c = (omega arith, c .before .before .before .loop .inv .1 ∙ named-later _ (c .before .before .before .loop .k) (c .before .before .loop-test .taken) (sym (c .before .is-name .ensures) ∙ c .if1 .left))
+loop-again c = (
+  omega arith,
+  c .before .before .before .loop .inv .1
+      ∙ named-later _ (c .before .before .before .loop .k) (c .before .before .loop-test .taken) (sym (c .before .is-name .ensures) ∙ c .if1 .left),
+)
 
 returns-2 : tie.Need-returns-2 Inv-loop μ-loop
 returns-2 c = sym (c .before .loop .inv .1 ∙ named-never _ (c .before .loop .k) (c .loop-test .left))

@@ -48,8 +48,14 @@ first-bad-spec =
     (λ c κs. search needs)
     (λ c κs. search needs)
     (λ c. search needs)
-    (λ c. let v = c .before .next .given in
-    omega (arith, further (now (c .before .before .before .before .before .before .before .before .args .s)) (c .before .before .before .before .ascii-end .result) (v .0 .0) (v .0 .1 .0) (sym (v .1) ∙ c .before .before .before .decode-at .ensures), c .before .before .before .before .ascii-end .ensures))
+    (λ c. let passed = c .before .before .before .before in
+    let v = c .before .next .given in
+    omega (
+      arith,
+      further (now (passed .before .before .before .before .args .s))
+          (passed .ascii-end .result) (v .0 .0) (v .0 .1 .0) (sym (v .1) ∙ c .before .before .before .decode-at .ensures),
+      passed .ascii-end .ensures,
+    ))
     (λ c. turn (c .before .before .before) (c .before .next .given .1))
     (λ c. search needs)
     (λ c. turn (c .before .before) (c .enum-told .given .1))

@@ -21,35 +21,104 @@ put-char-spec =
     (λ c κs. search needs)
     (λ c. lay-none (c .before .before .before .args .code) (now (c .before .before .before .args .text)) (sym (c .before .is-scalar .ensures) ∙ not-true _ (c .if1 .taken)))
     (λ c κs. search needs)
-    (λ c. lay-short (c .before .before .before .before .before .args .code) (now (c .before .before .before .before .before .args .text)) _ (sym (c .before .before .before .is-scalar .ensures) ∙ not-false _ (c .before .before .if1 .left)) (c .before .char-width .ensures) (c .if2 .taken))
+    (λ c. let entry = c .before .before .before .before .before in
+    lay-short (entry .args .code) (now (entry .args .text)) _ (sym (c .before .before .before .is-scalar .ensures)
+    ∙ not-false _ (c .before .before .if1 .left)) (c .before .char-width .ensures) (c .if2 .taken))
     (λ c. search needs)
     (λ c. omega (arith, c .before .if2 .left, c .before .before .char-width .ensures, wide (c .before .before .before .before .before .before .args .code)))
     (λ c. search needs)
-    (λ c. lay-bytes (c .before .before .before .before .before .before .args .code) (now (c .before .before .before .before .before .before .args .text)) _ (one (c .before .before .before .before .before .before .args .code)) (sym (c .before .before .before .before .is-scalar .ensures) ∙ not-false _ (c .before .before .before .if1 .left)) (c .before .before .char-width .ensures) (c .before .if2 .left) (utf8-one (c .before .before .before .before .before .before .args .code) (c .if3 .taken)))
+    (λ c. let entry = c .before .before .before .before .before .before in
+    lay-bytes (entry .args .code) (now (entry .args .text)) _
+    (one (entry .args .code)) (sym (c .before .before .before .before .is-scalar .ensures) ∙ not-false _ (c .before .before .before .if1 .left))
+    (c .before .before .char-width .ensures) (c .before .if2 .left) (utf8-one (entry .args .code) (c .if3 .taken)))
     (λ c. search needs)
     (λ c. search needs)
-    (λ c. omega (arith, c .before .before .if2 .left, c .before .before .before .char-width .ensures, width-two (c .before .before .before .before .before .before .before .args .code) (c .before .if3 .left)))
+    (λ c. omega (
+      arith,
+      c .before .before .if2 .left,
+      c .before .before .before .char-width .ensures,
+      width-two (c .before .before .before .before .before .before .before .args .code) (c .before .if3 .left),
+    ))
     (λ c κs. search needs)
-    (λ c. simp length-set (omega (arith, c .before .before .before .if2 .left, c .before .before .before .before .char-width .ensures, width-two (c .before .before .before .before .before .before .before .before .args .code) (c .before .before .if3 .left))))
+    (λ c. simp length-set (omega (
+      arith,
+      c .before .before .before .if2 .left,
+      c .before .before .before .before .char-width .ensures,
+      width-two (c .before .before .before .before .before .before .before .before .args .code) (c .before .before .if3 .left),
+    )))
     (λ c. search needs)
-    (λ c. rw (c .later .ensures) (lay-bytes (c .before .before .before .before .before .before .before .before .args .code) (now (c .before .before .before .before .before .before .before .before .args .text)) _ (two (c .before .before .before .before .before .before .before .before .args .code)) (sym (c .before .before .before .before .before .before .is-scalar .ensures) ∙ not-false _ (c .before .before .before .before .before .if1 .left)) (c .before .before .before .before .char-width .ensures) (c .before .before .before .if2 .left) (utf8-two (c .before .before .before .before .before .before .before .before .args .code) (c .before .before .if3 .left) (c .before .if4 .taken))))
+    (λ c. let measured = c .before .before .before .before in
+    let entry = measured .before .before .before .before in
+    rw (c .later .ensures) (lay-bytes (entry .args .code) (now (entry .args .text)) _ (two (entry .args .code))
+    (sym (measured .before .before .is-scalar .ensures) ∙ not-false _ (measured .before .if1 .left)) (measured .char-width .ensures)
+    (c .before .before .before .if2 .left) (utf8-two (entry .args .code) (c .before .before .if3 .left) (c .before .if4 .taken))))
     (λ c. search needs)
     (λ c. search needs)
-    (λ c. omega (arith, c .before .before .before .if2 .left, c .before .before .before .before .char-width .ensures, width-three (c .before .before .before .before .before .before .before .before .args .code) (c .before .if4 .left)))
+    (λ c. omega (
+      arith,
+      c .before .before .before .if2 .left,
+      c .before .before .before .before .char-width .ensures,
+      width-three (c .before .before .before .before .before .before .before .before .args .code) (c .before .if4 .left),
+    ))
     (λ c κs. search needs)
-    (λ c. simp length-set (omega (arith, c .before .before .before .before .if2 .left, c .before .before .before .before .before .char-width .ensures, width-three (c .before .before .before .before .before .before .before .before .before .args .code) (c .before .before .if4 .left))))
+    (λ c. let branch = c .before .before .before .before in
+    simp length-set (omega (
+      arith,
+      branch .if2 .left,
+      branch .before .char-width .ensures,
+      width-three (branch .before .before .before .before .before .args .code) (c .before .before .if4 .left),
+    )))
     (λ c κs. search needs)
-    (λ c. simp length-set (omega (arith, c .before .before .before .before .before .if2 .left, c .before .before .before .before .before .before .char-width .ensures, width-three (c .before .before .before .before .before .before .before .before .before .before .args .code) (c .before .before .before .if4 .left))))
+    (λ c. let branch = c .before .before .before .before .before in
+    simp length-set (omega (
+      arith,
+      branch .if2 .left,
+      branch .before .char-width .ensures,
+      width-three (branch .before .before .before .before .before .args .code) (c .before .before .before .if4 .left),
+    )))
     (λ c. search needs)
-    (λ c. rw (c .later3 .ensures, c .before .later2 .ensures) (lay-bytes (c .before .before .before .before .before .before .before .before .before .before .args .code) (now (c .before .before .before .before .before .before .before .before .before .before .args .text)) _ (three (c .before .before .before .before .before .before .before .before .before .before .args .code)) (sym (c .before .before .before .before .before .before .before .before .is-scalar .ensures) ∙ not-false _ (c .before .before .before .before .before .before .before .if1 .left)) (c .before .before .before .before .before .before .char-width .ensures) (c .before .before .before .before .before .if2 .left) (utf8-three (c .before .before .before .before .before .before .before .before .before .before .args .code) (c .before .before .before .if4 .left) (c .before .before .if5 .taken))))
+    (λ c. let branch = c .before .before .before .before .before in
+    let entry = branch .before .before .before .before .before in
+    rw (c .later3 .ensures, c .before .later2 .ensures) (lay-bytes (entry .args .code) (now (entry .args .text)) _ (three (entry .args .code))
+    (sym (branch .before .before .before .is-scalar .ensures) ∙ not-false _ (branch .before .before .if1 .left)) (branch .before .char-width .ensures)
+    (branch .if2 .left) (utf8-three (entry .args .code) (c .before .before .before .if4 .left) (c .before .before .if5 .taken))))
     (λ c. search needs)
-    (λ c. ⊎-elim (λ h. omega arith) (λ h. omega arith) (scalar-true (c .before .before .before .before .before .before .before .before .args .code) (sym (c .before .before .before .before .before .before .is-scalar .ensures) ∙ not-false _ (c .before .before .before .before .before .if1 .left))))
-    (λ c. omega (arith, c .before .before .before .if2 .left, c .before .before .before .before .char-width .ensures, width-four (c .before .before .before .before .before .before .before .before .args .code) (c .if5 .left)))
+    (λ c. let branch = c .before .before .before .before .before in
+    ⊎-elim (λ h. omega arith) (λ h. omega arith)
+    (scalar-true (branch .before .before .before .args .code) (sym (branch .before .is-scalar .ensures) ∙ not-false _ (branch .if1 .left))))
+    (λ c. omega (
+      arith,
+      c .before .before .before .if2 .left,
+      c .before .before .before .before .char-width .ensures,
+      width-four (c .before .before .before .before .before .before .before .before .args .code) (c .if5 .left),
+    ))
     (λ c κs. search needs)
-    (λ c. simp length-set (omega (arith, c .before .before .before .before .if2 .left, c .before .before .before .before .before .char-width .ensures, width-four (c .before .before .before .before .before .before .before .before .before .args .code) (c .before .if5 .left))))
+    (λ c. let branch = c .before .before .before .before in
+    simp length-set (omega (
+      arith,
+      branch .if2 .left,
+      branch .before .char-width .ensures,
+      width-four (branch .before .before .before .before .before .args .code) (c .before .if5 .left),
+    )))
     (λ c κs. search needs)
-    (λ c. simp length-set (omega (arith, c .before .before .before .before .before .if2 .left, c .before .before .before .before .before .before .char-width .ensures, width-four (c .before .before .before .before .before .before .before .before .before .before .args .code) (c .before .before .if5 .left))))
+    (λ c. let branch = c .before .before .before .before .before in
+    simp length-set (omega (
+      arith,
+      branch .if2 .left,
+      branch .before .char-width .ensures,
+      width-four (branch .before .before .before .before .before .args .code) (c .before .before .if5 .left),
+    )))
     (λ c κs. search needs)
-    (λ c. simp length-set (omega (arith, c .before .before .before .before .before .before .if2 .left, c .before .before .before .before .before .before .before .char-width .ensures, width-four (c .before .before .before .before .before .before .before .before .before .before .before .args .code) (c .before .before .before .if5 .left))))
+    (λ c. let branch = c .before .before .before .before .before .before in
+    simp length-set (omega (
+      arith,
+      branch .if2 .left,
+      branch .before .char-width .ensures,
+      width-four (branch .before .before .before .before .before .args .code) (c .before .before .before .if5 .left),
+    )))
     (λ c. search needs)
-    (λ c. rw (c .later6 .ensures, c .before .later5 .ensures, c .before .before .later4 .ensures) (lay-bytes (c .before .before .before .before .before .before .before .before .before .before .before .args .code) (now (c .before .before .before .before .before .before .before .before .before .before .before .args .text)) _ (four (c .before .before .before .before .before .before .before .before .before .before .before .args .code)) (sym (c .before .before .before .before .before .before .before .before .before .is-scalar .ensures) ∙ not-false _ (c .before .before .before .before .before .before .before .before .if1 .left)) (c .before .before .before .before .before .before .before .char-width .ensures) (c .before .before .before .before .before .before .if2 .left) (utf8-four (c .before .before .before .before .before .before .before .before .before .before .before .args .code) (c .before .before .before .if5 .left)))))
+    (λ c. let branch = c .before .before .before .before .before .before in
+    let entry = branch .before .before .before .before .before in
+    rw (c .later6 .ensures, c .before .later5 .ensures, c .before .before .later4 .ensures) (lay-bytes (entry .args .code) (now (entry .args .text)) _
+    (four (entry .args .code)) (sym (branch .before .before .before .is-scalar .ensures) ∙ not-false _ (branch .before .before .if1 .left))
+    (branch .before .char-width .ensures) (branch .if2 .left) (utf8-four (entry .args .code) (c .before .before .before .if5 .left)))))

@@ -24,8 +24,9 @@ sub-f c = let x = c .before .before .before .before .before .before .before .bef
 
 shifted-requires : tie.Need-shifted-requires
 shifted-requires c κs =
-    let v = within-is _ _ (sym (c .before .before .before .before .before .before .m .given .1) ∙ c .before .before .before .before .before .before .before .before .all-digits .ensures) in
-    let w = within-is _ _ (sym (c .before .before .e .given .1) ∙ c .before .before .before .before .run-at .ensures) in
+    let ran = c .before .before .before .before in
+    let v = within-is _ _ (sym (ran .before .before .m .given .1) ∙ ran .before .before .before .before .all-digits .ensures) in
+    let w = within-is _ _ (sym (c .before .before .e .given .1) ∙ ran .run-at .ensures) in
     let p = c .before .before .before .before .before .before .before .before .before .before .pre in
     (omega (arith, v .0, v .1), omega (arith, w .0, w .1), omega (arith, p .0 .1 .1, p .1))
 
@@ -37,14 +38,16 @@ enum-told-2 c = search needs
 
 returns : tie.Need-returns
 returns c =
-    point-in _ _ _ _ _ (sym (c .before .before .before .before .before .before .before .m .given .1)
-    ∙ c .before .before .before .before .before .before .before .before .before .all-digits .ensures)
-    (sym (c .before .before .before .e .given .1) ∙ c .before .before .before .before .before .run-at .ensures) (c .shifted .ensures)
+    let ran = c .before .before .before .before .before in
+    point-in _ _ _ _ _ (sym (ran .before .before .m .given .1)
+    ∙ ran .before .before .before .before .all-digits .ensures)
+    (sym (c .before .before .before .e .given .1) ∙ ran .run-at .ensures) (c .shifted .ensures)
 
 returns-2 : tie.Need-returns-2
 returns-2 c =
     let p = c .before .before .before .before .before .before .before .before .pre in
-    point-far _ _ _ (sym (c .before .before .before .before .m .given .1) ∙ c .before .before .before .before .before .before .all-digits .ensures) (sym (c .enum-told .given .1) ∙ c .before .before .run-at .ensures)
+    point-far _ _ _ (sym (c .before .before .before .before .m .given .1) ∙ c .before .before .before .before .before .before .all-digits .ensures)
+    (sym (c .enum-told .given .1) ∙ c .before .before .run-at .ensures)
     (omega (arith, p .0 .1 .1, p .1))
 
 returns-3 : tie.Need-returns-3

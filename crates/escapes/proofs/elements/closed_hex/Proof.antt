@@ -30,7 +30,8 @@ give-requires-3 : tie.Need-give-requires-3
 give-requires-3 c κs = search needs
 
 returns : tie.Need-returns
-returns c = rw (sym (ap scalarOf (c .before .before .before .before .before .hex-value .ensures)) ∙ sym (c .before .before .before .before .scalar-of .ensures) ∙ c .before .before .c .given .1) (c .give .ensures)
+returns c = rw (sym (ap scalarOf (c .before .before .before .before .before .hex-value .ensures))
+    ∙ sym (c .before .before .before .before .scalar-of .ensures) ∙ c .before .before .c .given .1) (c .give .ensures)
 
 returns-2 : tie.Need-returns-2
 returns-2 c = rw (sym (ap scalarOf (c .before .before .before .before .hex-value .ensures)) ∙ sym (c .before .before .before .scalar-of .ensures) ∙ c .before .enum-told .given .1) (c .give2 .ensures)

@@ -13,17 +13,29 @@ starts-at-requires : tie.Need-starts-at-requires
 starts-at-requires c κs = search needs
 
 add-spaces-end : tie.Need-add-spaces-end
-add-spaces-end c = omega (arith, past-newline (c .before .before .before .before .args .raw .now) (c .before .before .before .before .args .from) _ (c .before .before .spaces-end .ensures) (sym (c .if1 .taken) ∙ c .before .starts-at .ensures))
+add-spaces-end c =
+    let entry = c .before .before .before .before in
+    omega (
+      arith,
+      past-newline (entry .args .raw .now)
+          (entry .args .from) _ (c .before .before .spaces-end .ensures) (sym (c .if1 .taken) ∙ c .before .starts-at .ensures),
+    )
 
 spaces-end-requires-2 : tie.Need-spaces-end-requires-2
 spaces-end-requires-2 c κs = search needs
 
 returns : tie.Need-returns
-returns c = let raw = c .before .before .before .before .before .args .raw .now in let s = sym (c .before .if1 .taken) ∙ c .before .before .starts-at .ensures in let e = c .before .before .before .spaces-end .ensures in
-    ahead-goes-on raw (c .before .before .before .before .before .args .from) _ e s (seen-goes-on raw _ _ (c .spaces-end2 .ensures) (past-newline raw (c .before .before .before .before .before .args .from) _ e s))
+returns c =
+    let entry = c .before .before .before .before .before in
+    let raw = c .before .before .before .before .before .args .raw .now in
+    let s = sym (c .before .if1 .taken) ∙ c .before .before .starts-at .ensures in let e = c .before .before .before .spaces-end .ensures in
+    ahead-goes-on raw (entry .args .from) _ e s (seen-goes-on raw _ _ (c .spaces-end2 .ensures) (past-newline raw (entry .args .from) _ e s))
 
 returns-2 : tie.Need-returns-2
-returns-2 c = missing-goes-on (c .before .before .before .before .args .raw .now) (c .before .before .before .before .args .from) _ (c .before .before .spaces-end .ensures) (c .before .before .before .before .pre) (sym (c .if1 .left) ∙ c .before .starts-at .ensures)
+returns-2 c =
+    let entry = c .before .before .before .before in
+    missing-goes-on (entry .args .raw .now)
+    (entry .args .from) _ (c .before .before .spaces-end .ensures) (entry .pre) (sym (c .if1 .left) ∙ c .before .starts-at .ensures)
 
 pub next-line-spec : {M : Type 1} → statement M
 next-line-spec =

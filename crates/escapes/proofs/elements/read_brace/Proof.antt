@@ -20,13 +20,19 @@ read-hex-requires : tie.Need-read-hex-requires
 read-hex-requires c κs = omega (arith, starts-in (code "{") (c .before .before .before .args .raw .now) (c .before .before .before .args .from) (sym (c .if1 .taken) ∙ c .before .starts-at .ensures))
 
 returns : tie.Need-returns
-returns c = let s = sym (c .before .if1 .taken) ∙ c .before .before .starts-at .ensures in same-text (c .before .before .before .before .args .k) _ (brace-open (c .before .before .before .before .args .k) (c .before .before .before .before .args .raw .now) (c .before .before .before .before .args .from) s) (omega arith) (c .read-hex .ensures)
+returns c =
+    let entry = c .before .before .before .before in
+    let s = sym (c .before .if1 .taken) ∙ c .before .before .starts-at .ensures in
+    same-text (entry .args .k) _ (brace-open (entry .args .k) (entry .args .raw .now) (entry .args .from) s) (omega arith) (c .read-hex .ensures)
 
 read-hex-requires-2 : tie.Need-read-hex-requires-2
 read-hex-requires-2 c κs = search needs
 
 returns-2 : tie.Need-returns-2
-returns-2 c = same-text (c .before .before .before .before .args .k) _ (brace-missing (c .before .before .before .before .args .k) _ (sym (c .before .if1 .left) ∙ c .before .before .starts-at .ensures)) (le-refl _) (c .read-hex2 .ensures)
+returns-2 c =
+    let entry = c .before .before .before .before in
+    same-text (entry .args .k) _
+    (brace-missing (entry .args .k) _ (sym (c .before .if1 .left) ∙ c .before .before .starts-at .ensures)) (le-refl _) (c .read-hex2 .ensures)
 
 pub read-brace-spec : {M : Type 1} → statement M
 read-brace-spec =

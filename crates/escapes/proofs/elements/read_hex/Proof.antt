@@ -20,7 +20,14 @@ abbrev μ-loop : tie.MeasureT-loop
 μ-loop raw from closer k i₀ i = length raw - i
 
 loop-holds : tie.Need-loop-holds Inv-loop μ-loop
-loop-holds c = (le-refl _, (c .before .pre, ap (λ (ds : List ℕ). unescapeHex (c .before .args .k) (c .before .args .closer) ds (drop (c .before .args .from) (c .before .args .raw .now))) (sym (digits-none (c .before .args .raw .now) (c .before .args .from)))))
+loop-holds c = (
+  le-refl _,
+  (
+    c .before .pre,
+    ap (λ (ds : List ℕ). unescapeHex (c .before .args .k) (c .before .args .closer) ds (drop (c .before .args .from) (c .before .args .raw .now)))
+        (sym (digits-none (c .before .args .raw .now) (c .before .args .from))),
+  ),
+)
 
 shared-slice-read-b : tie.Need-shared-slice-read-b Inv-loop μ-loop
 shared-slice-read-b c = search needs
@@ -42,7 +49,8 @@ closed-hex-requires c κs = search needs
 
 returns : tie.Need-returns Inv-loop μ-loop
 returns c = let l = c .before .before .before .before .before .loop in let a = c .before .before .before .before .before .before .before .args in
-    rw (c .closed-hex .ensures) (same-text (a .k) (a .raw .now) (l .inv .1 .1) (le-refl _) (hex-closes (a .k) (a .raw .now) (a .closer) (a .from) (l .i) (l .inv .0) (c .before .before .before .before .loop-test .taken) (is-closer _ _ _ (c .before .before .if1 .taken))))
+    rw (c .closed-hex .ensures) (same-text (a .k) (a .raw .now) (l .inv .1 .1) (le-refl _) (hex-closes (a .k) (a .raw .now)
+    (a .closer) (a .from) (l .i) (l .inv .0) (c .before .before .before .before .loop-test .taken) (is-closer _ _ _ (c .before .before .if1 .taken))))
 
 stops-hex-requires : tie.Need-stops-hex-requires Inv-loop μ-loop
 stops-hex-requires c κs = search needs
@@ -52,7 +60,9 @@ give-requires c κs = search needs
 
 returns-2 : tie.Need-returns-2 Inv-loop μ-loop
 returns-2 c = let l = c .before .before .before .before .before .before .loop in let a = c .before .before .before .before .before .before .before .before .args in
-    rw (c .give .ensures) (same-text (a .k) (a .raw .now) (l .inv .1 .1) (le-refl _) (hex-stops (a .k) (a .raw .now) (a .closer) (a .from) (l .i) (l .inv .0) (c .before .before .before .before .before .loop-test .taken) (is-stop _ _ _ (c .before .before .before .if1 .left) (sym (c .before .before .stops-hex .ensures) ∙ c .before .if2 .taken))))
+    rw (c .give .ensures) (same-text (a .k) (a .raw .now) (l .inv .1 .1)
+    (le-refl _) (hex-stops (a .k) (a .raw .now) (a .closer) (a .from) (l .i) (l .inv .0) (c .before .before .before .before .before .loop-test .taken)
+    (is-stop _ _ _ (c .before .before .before .if1 .left) (sym (c .before .before .stops-hex .ensures) ∙ c .before .if2 .taken))))
 
 delimiter-requires : tie.Need-delimiter-requires Inv-loop μ-loop
 delimiter-requires c κs = search needs
@@ -61,8 +71,13 @@ give-requires-2 : tie.Need-give-requires-2 Inv-loop μ-loop
 give-requires-2 c κs = search needs
 
 returns-3 : tie.Need-returns-3 Inv-loop μ-loop
-returns-3 c = let l = c .before .before .before .before .before .before .before .before .loop in let a = c .before .before .before .before .before .before .before .before .before .before .args in
-    rw (c .give2 .ensures) (same-text (a .k) (a .raw .now) (l .inv .1 .1) (le-refl _) (hex-stops (a .k) (a .raw .now) (a .closer) (a .from) (l .i) (l .inv .0) (c .before .before .before .before .before .before .before .loop-test .taken) (is-quote _ _ _ (c .before .before .before .before .before .if1 .left) (sym (c .before .before .before .before .stops-hex .ensures) ∙ c .before .before .before .if2 .left) (c .before .if3 .taken ∙ c .before .before .delimiter .ensures))))
+returns-3 c =
+    let stopped = c .before .before .before .before in
+    let l = c .before .before .before .before .before .before .before .before .loop in
+    let a = c .before .before .before .before .before .before .before .before .before .before .args in
+    rw (c .give2 .ensures) (same-text (a .k) (a .raw .now) (l .inv .1 .1) (le-refl _) (hex-stops (a .k) (a .raw .now) (a .closer) (a .from)
+    (l .i) (l .inv .0) (stopped .before .before .before .loop-test .taken) (is-quote _ _ _ (stopped .before .if1 .left)
+    (sym (stopped .stops-hex .ensures) ∙ c .before .before .before .if2 .left) (c .before .if3 .taken ∙ c .before .before .delimiter .ensures))))
 
 add-i : tie.Need-add-i Inv-loop μ-loop
 add-i c = search needs
@@ -71,15 +86,25 @@ loop-less : tie.Need-loop-less Inv-loop μ-loop
 loop-less c = search needs
 
 loop-again : tie.Need-loop-again Inv-loop μ-loop
-loop-again c = let l = c .before .before .before .before .before .before .before .loop in let a = c .before .before .before .before .before .before .before .before .before .args in
-    (omega arith, (omega arith, l .inv .1 .1 ∙ hex-digit (a .k) (a .raw .now) (a .closer) (a .from) (l .i) (l .inv .0) (c .before .before .before .before .before .before .loop-test .taken) (is-digit _ _ _ (c .before .before .before .before .if1 .left) (sym (c .before .before .before .stops-hex .ensures) ∙ c .before .before .if2 .left) (λ h. c .if3 .left (h ∙ sym (c .before .delimiter .ensures))))))
+loop-again c = let l = c .before .before .before .before .before .before .before .loop in
+    let a = c .before .before .before .before .before .before .before .before .before .args in (
+      omega arith,
+      (
+        omega arith,
+        l .inv .1 .1 ∙ hex-digit (a .k)
+            (a .raw .now) (a .closer) (a .from) (l .i) (l .inv .0) (c .before .before .before .before .before .before .loop-test .taken)
+            (is-digit _ _ _ (c .before .before .before .before .if1 .left) (sym (c .before .before .before .stops-hex .ensures)
+            ∙ c .before .before .if2 .left) (λ h. c .if3 .left (h ∙ sym (c .before .delimiter .ensures)))),
+      ),
+    )
 
 give-requires-3 : tie.Need-give-requires-3 Inv-loop μ-loop
 give-requires-3 c κs = search needs
 
 returns-4 : tie.Need-returns-4 Inv-loop μ-loop
 returns-4 c = let l = c .before .before .loop in let a = c .before .before .before .before .args in
-    rw (c .give3 .ensures) (same-text (a .k) (a .raw .now) (l .inv .1 .1) (le-refl _) (hex-cut (a .k) (a .raw .now) (a .closer) (a .from) (l .i) (l .inv .0) (c .before .before .before .before .pre) (c .before .loop-test .left)))
+    rw (c .give3 .ensures) (same-text (a .k) (a .raw .now) (l .inv .1 .1) (le-refl _)
+    (hex-cut (a .k) (a .raw .now) (a .closer) (a .from) (l .i) (l .inv .0) (c .before .before .before .before .pre) (c .before .loop-test .left)))
 
 pub read-hex-spec : {M : Type 1} → statement M
 read-hex-spec =

@@ -6,7 +6,9 @@ use Rattle.exports.proofs.read.mihadrena_read.Tie as tie
 
 returns : tie.Need-returns
 returns c =
-    told _ _ (c .before .before .before .before .before .before .before .before .before .read .ensures) (c .before .before .before .before .answer .ensures .0) (c .before .before .before .before .answer .ensures .1) (c .before .before .put-values .ensures)
+    let answered = c .before .before .before .before in
+    told _ _ (answered .before .before .before .before .before .read .ensures)
+    (answered .answer .ensures .0) (answered .answer .ensures .1) (c .before .before .put-values .ensures)
 
 pub mihadrena-read-spec : {M : Type 1} → statement M
 mihadrena-read-spec =

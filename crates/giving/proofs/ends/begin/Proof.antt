@@ -22,7 +22,9 @@ returns : tie.Need-returns
 returns c = simp (sym (c .before .before .is-blank .ensures) ∙ c .before .if1 .taken, c .marks-at .ensures, c .before .before .before .char-width .ensures)
 
 lay-requires : tie.Need-lay-requires
-lay-requires c κs = (c .before .before .before .before .before .pre .0, omega (arith, width-le (c .before .before .before .before .before .args .c)), c .before .before .before .before .before .pre .1 .small)
+lay-requires c κs =
+    let entry = c .before .before .before .before .before in
+    (entry .pre .0, omega (arith, width-le (entry .args .c)), entry .pre .1 .small)
 
 first-phase-requires : tie.Need-first-phase-requires
 first-phase-requires c κs = search needs
@@ -37,7 +39,15 @@ same-length : tie.Need-same-length
 same-length c = search needs
 
 returns-2 : tie.Need-returns-2
-returns-2 c = simp (sym (c .before .before .before .before .before .before .before .is-blank .ensures) ∙ c .before .before .before .before .before .before .if1 .left, c .marks-at2 .ensures, c .before .first-phase .ensures, c .before .before .before .before .lay .ensures, c .before .before .before .before .before .before .before .before .char-width .ensures)
+returns-2 c =
+    let laid = c .before .before .before .before in
+    simp (
+      sym (laid .before .before .before .is-blank .ensures) ∙ laid .before .before .if1 .left,
+      c .marks-at2 .ensures,
+      c .before .first-phase .ensures,
+      laid .lay .ensures,
+      laid .before .before .before .before .char-width .ensures,
+    )
 
 pub begin-spec : {M : Type 1} → statement M
 begin-spec =

@@ -26,7 +26,9 @@ cast-begin-2 : tie.Need-cast-begin-2
 cast-begin-2 c = search needs
 
 begin-requires : tie.Need-begin-requires
-begin-requires c κs = (c .before .before .before .before .before .before .before .pre .0, beyond-fits _ _ _ (c .before .before .before .before .b .given .1) (c .before .before .before .before .before .before .before .pre .1))
+begin-requires c κs =
+    let entry = c .before .before .before .before .before .before .before in
+    (entry .pre .0, beyond-fits _ _ _ (c .before .before .before .before .b .given .1) (entry .pre .1))
 
 returns : tie.Need-returns
 returns c = rw (c .before .before .before .enum-told .given .1) (simp (c .marks-at .ensures))

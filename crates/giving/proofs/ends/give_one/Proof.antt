@@ -13,7 +13,9 @@ skips-requires : tie.Need-skips-requires
 skips-requires c κs = search needs
 
 beyond-requires : tie.Need-beyond-requires
-beyond-requires c κs = (c .before .before .before .before .before .pre .0 .full, c .before .before .before .before .before .pre .1)
+beyond-requires c κs =
+    let entry = c .before .before .before .before .before in
+    (entry .pre .0 .full, entry .pre .1)
 
 go-on-requires : tie.Need-go-on-requires
 go-on-requires c κs = search needs
@@ -22,7 +24,10 @@ same-length : tie.Need-same-length
 same-length c = search needs
 
 returns : tie.Need-returns
-returns c = rw (sym (c .before .before .before .before .before .before .skips .ensures) ∙ c .before .before .before .before .before .if1 .taken, c .go-on .ensures) (ap on (c .before .before .before .beyond .ensures), refl)
+returns c = rw (
+  sym (c .before .before .before .before .before .before .skips .ensures) ∙ c .before .before .before .before .before .if1 .taken,
+  c .go-on .ensures,
+) (ap on (c .before .before .before .beyond .ensures), refl)
 
 extent-requires : tie.Need-extent-requires
 extent-requires c κs = (omega arith, omega arith)
@@ -31,17 +36,22 @@ slice-reshare-prefix-give : tie.Need-slice-reshare-prefix-give
 slice-reshare-prefix-give c = omega arith
 
 slice-aggregate-give : tie.Need-slice-aggregate-give
-slice-aggregate-give c = sym (length-take-le (c .before .before .before .before .before .before .before .args .m .len) (now (c .before .before .before .before .before .before .before .args .buf)) (omega arith))
+slice-aggregate-give c =
+    let entry = c .before .before .before .before .before .before .before in
+    sym (length-take-le (entry .args .m .len) (now (entry .args .buf)) (omega arith))
 
 give-requires : tie.Need-give-requires
-give-requires c κs = let l = length-take-le (c .before .before .before .before .before .before .before .before .args .m .len) (now (c .before .before .before .before .before .before .before .before .args .buf)) (omega arith) in (omega (arith, l), omega (arith, l), omega arith)
+give-requires c κs =
+    let entry = c .before .before .before .before .before .before .before .before in
+    let l = length-take-le (entry .args .m .len) (now (entry .args .buf)) (omega arith) in (omega (arith, l), omega (arith, l), omega arith)
 
 counted-requires : tie.Need-counted-requires
 counted-requires c κs = search needs
 
 beyond-requires-2 : tie.Need-beyond-requires-2
 beyond-requires-2 c κs =
-    (c .before .before .before .before .before .before .before .before .before .before .before .before .before .pre .0 .full, rw (c .before .counted .ensures) (c .before .before .before .before .before .before .before .before .before .before .before .before .before .pre .1))
+    let entry = c .before .before .before .before .before .before .before .before .before .before .before .before .before in
+    (entry .pre .0 .full, rw (c .before .counted .ensures) (entry .pre .1))
 
 same-length-2 : tie.Need-same-length-2
 same-length-2 c = search needs
@@ -51,9 +61,11 @@ same-length-3 c = search needs
 
 returns-2 : tie.Need-returns-2
 returns-2 c =
-    let g = (rw (c .before .before .before .before .before .before .before .before .before .before .extent .ensures) at (c .before .before .before .before .before .before .before .give .ensures)) in
-    rw (sym (c .before .before .before .before .before .before .before .before .before .before .before .before .before .skips .ensures) ∙ c .before .before .before .before .before .before .before .before .before .before .before .before .if1 .left)
-    (off-both (rw (c .before .before .before .before .counted .ensures) at (c .before .before .beyond2 .ensures)) (g .0), g .1)
+    let at-counted = c .before .before .before .before in
+    let measured = at-counted .before .before .before .before .before .before in
+    let g = (rw (measured .extent .ensures) at (at-counted .before .before .before .give .ensures)) in
+    rw (sym (measured .before .before .before .skips .ensures) ∙ measured .before .before .if1 .left)
+    (off-both (rw (at-counted .counted .ensures) at (c .before .before .beyond2 .ensures)) (g .0), g .1)
 
 pub give-one-spec : {M : Type 1} → statement M
 give-one-spec =

@@ -17,10 +17,14 @@ slice-reshare-prefix-give : tie.Need-slice-reshare-prefix-give
 slice-reshare-prefix-give c = omega arith
 
 slice-aggregate-give : tie.Need-slice-aggregate-give
-slice-aggregate-give c = sym (length-take-le (c .before .before .before .before .before .args .m .len) (now (c .before .before .before .before .before .args .buf)) (omega arith))
+slice-aggregate-give c =
+    let entry = c .before .before .before .before .before in
+    sym (length-take-le (entry .args .m .len) (now (entry .args .buf)) (omega arith))
 
 give-requires : tie.Need-give-requires
-give-requires c κs = let l = length-take-le (c .before .before .before .before .before .before .args .m .len) (now (c .before .before .before .before .before .before .args .buf)) (omega arith) in (omega (arith, l), omega (arith, l), omega arith)
+give-requires c κs =
+    let entry = c .before .before .before .before .before .before in
+    let l = length-take-le (entry .args .m .len) (now (entry .args .buf)) (omega arith) in (omega (arith, l), omega (arith, l), omega arith)
 
 cast-marks-at : tie.Need-cast-marks-at
 cast-marks-at c = search needs
@@ -38,7 +42,13 @@ same-length-2 : tie.Need-same-length-2
 same-length-2 c = search needs
 
 returns : tie.Need-returns
-returns c = let g = (rw (c .before .before .before .before .before .before .before .before .extent .ensures) at (c .before .before .before .before .before .give .ensures)) in (off-both (ap (λ (x : Marks). stateOf x (now (c .before .before .before .before .before .before .before .before .before .before .before .before .args .buf))) (c .marks-at .ensures)) (g .0), g .1)
+returns c =
+    let handed = c .before .before .before .before .before in
+    let g = (rw (handed .before .before .before .extent .ensures) at (handed .give .ensures)) in (
+      off-both (ap (λ (x : Marks). stateOf x (now (handed .before .before .before .before .before .before .before .args .buf)))
+          (c .marks-at .ensures)) (g .0),
+      g .1,
+    )
 
 pub give-pair-spec : {M : Type 1} → statement M
 give-pair-spec =

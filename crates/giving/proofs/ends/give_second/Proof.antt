@@ -17,10 +17,14 @@ extent-requires-2 : tie.Need-extent-requires-2
 extent-requires-2 c κs = (omega arith, omega arith)
 
 slice-aggregate-give : tie.Need-slice-aggregate-give
-slice-aggregate-give c = sym (length-take-le (c .before .before .before .before .before .before .args .m .len) (now (c .before .before .before .before .before .before .args .buf)) (omega arith))
+slice-aggregate-give c =
+    let entry = c .before .before .before .before .before .before in
+    sym (length-take-le (entry .args .m .len) (now (entry .args .buf)) (omega arith))
 
 give-requires : tie.Need-give-requires
-give-requires c κs = let l = length-take-le (c .before .before .before .before .before .before .before .args .m .len) (now (c .before .before .before .before .before .before .before .args .buf)) (omega arith) in (omega (arith, l), omega (arith, l), omega arith)
+give-requires c κs =
+    let entry = c .before .before .before .before .before .before .before in
+    let l = length-take-le (entry .args .m .len) (now (entry .args .buf)) (omega arith) in (omega (arith, l), omega (arith, l), omega arith)
 
 same-length : tie.Need-same-length
 same-length c = search needs

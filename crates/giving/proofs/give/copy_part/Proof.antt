@@ -15,7 +15,10 @@ past-requires : tie.Need-past-requires
 past-requires c κs = search needs
 
 returns : tie.Need-returns
-returns c = let e = part-none (now (c .before .before .before .before .args .raw)) (c .before .before .before .before .args .from) (c .before .before .before .before .args .count) (sym (c .before .past .ensures) ∙ c .if1 .taken) in (sym (ap length e), ap (λ (l : List ℕ). written l (now (c .before .before .before .before .args .text))) (sym e))
+returns c =
+    let entry = c .before .before .before .before in
+    let e = part-none (now (entry .args .raw)) (entry .args .from) (entry .args .count) (sym (c .before .past .ensures) ∙ c .if1 .taken) in
+    (sym (ap length e), ap (λ (l : List ℕ). written l (now (entry .args .text))) (sym e))
 
 sub-copy-all : tie.Need-sub-copy-all
 sub-copy-all c = omega (arith, c .before .before .past .ensures)
@@ -27,13 +30,26 @@ part-copy-all-end : tie.Need-part-copy-all-end
 part-copy-all-end c = omega (arith, c .before .before .past .ensures)
 
 copy-all-requires : tie.Need-copy-all-requires
-copy-all-requires c κs = omega (arith, length-take (length (now (c .before .before .before .before .before .before .before .args .raw)) - c .before .before .before .before .before .before .before .args .from) (drop (c .before .before .before .before .before .before .before .args .from) (now (c .before .before .before .before .before .before .before .args .raw))), length-drop (c .before .before .before .before .before .before .before .args .from) (now (c .before .before .before .before .before .before .before .args .raw)))
+copy-all-requires c κs =
+    let entry = c .before .before .before .before .before .before .before in
+    omega (
+      arith,
+      length-take (length (now (entry .args .raw)) - entry .args .from) (drop (entry .args .from) (now (entry .args .raw))),
+      length-drop (entry .args .from) (now (entry .args .raw)),
+    )
 
 same-length : tie.Need-same-length
 same-length c = search needs
 
 returns-2 : tie.Need-returns-2
-returns-2 c = let h : length (now (c .before .before .before .before .before .before .before .before .before .before .args .raw)) - c .before .before .before .before .before .before .before .before .before .before .args .from < c .before .before .before .before .before .before .before .before .before .before .args .count = omega (arith, c .before .before .before .before .before .before .before .past .ensures) in (c .before .before .before .before .before .before .before .past .ensures ∙ length-short (now (c .before .before .before .before .before .before .before .before .before .before .args .raw)) (c .before .before .before .before .before .before .before .before .before .before .args .from) (c .before .before .before .before .before .before .before .before .before .before .args .count) h, c .before .before .copy-all .ensures ∙ ap (λ (l : List ℕ). written l (now (c .before .before .before .before .before .before .before .before .before .before .args .text))) (part-short (now (c .before .before .before .before .before .before .before .before .before .before .args .raw)) (c .before .before .before .before .before .before .before .before .before .before .args .from) (c .before .before .before .before .before .before .before .before .before .before .args .count) h))
+returns-2 c =
+    let passed = c .before .before .before .before .before .before .before in
+    let entry = passed .before .before .before in
+    let h : length (now (entry .args .raw)) - entry .args .from < entry .args .count = omega (arith, passed .past .ensures) in (
+      passed .past .ensures ∙ length-short (now (entry .args .raw)) (entry .args .from) (entry .args .count) h,
+      c .before .before .copy-all .ensures
+          ∙ ap (λ (l : List ℕ). written l (now (entry .args .text))) (part-short (now (entry .args .raw)) (entry .args .from) (entry .args .count) h),
+    )
 
 add-copy-all : tie.Need-add-copy-all
 add-copy-all c = omega (arith, c .before .before .past .ensures)
@@ -48,13 +64,25 @@ part-copy-all-end-2 : tie.Need-part-copy-all-end-2
 part-copy-all-end-2 c = omega (arith, c .before .before .past .ensures)
 
 copy-all-requires-2 : tie.Need-copy-all-requires-2
-copy-all-requires-2 c κs = omega (arith, length-take (c .before .before .before .before .before .before .before .args .from + c .before .before .before .before .before .before .before .args .count - c .before .before .before .before .before .before .before .args .from) (drop (c .before .before .before .before .before .before .before .args .from) (now (c .before .before .before .before .before .before .before .args .raw))), length-drop (c .before .before .before .before .before .before .before .args .from) (now (c .before .before .before .before .before .before .before .args .raw)))
+copy-all-requires-2 c κs =
+    let entry = c .before .before .before .before .before .before .before in
+    omega (
+      arith,
+      length-take (entry .args .from + entry .args .count - entry .args .from) (drop (entry .args .from) (now (entry .args .raw))),
+      length-drop (entry .args .from) (now (entry .args .raw)),
+    )
 
 same-length-2 : tie.Need-same-length-2
 same-length-2 c = search needs
 
 returns-3 : tie.Need-returns-3
-returns-3 c = (length-full (now (c .before .before .before .before .before .before .before .before .before .before .args .raw)) (c .before .before .before .before .before .before .before .before .before .before .args .from) (c .before .before .before .before .before .before .before .before .before .before .args .count) (omega (arith, c .before .before .before .before .before .before .before .past .ensures)), c .before .before .copy-all2 .ensures ∙ ap (λ (l : List ℕ). written l (now (c .before .before .before .before .before .before .before .before .before .before .args .text))) (part-full (now (c .before .before .before .before .before .before .before .before .before .before .args .raw)) (c .before .before .before .before .before .before .before .before .before .before .args .from) (c .before .before .before .before .before .before .before .before .before .before .args .count)))
+returns-3 c =
+    let entry = c .before .before .before .before .before .before .before .before .before .before in (
+      length-full (now (entry .args .raw))
+          (entry .args .from) (entry .args .count) (omega (arith, c .before .before .before .before .before .before .before .past .ensures)),
+      c .before .before .copy-all2 .ensures
+          ∙ ap (λ (l : List ℕ). written l (now (entry .args .text))) (part-full (now (entry .args .raw)) (entry .args .from) (entry .args .count)),
+    )
 
 pub copy-part-spec : {M : Type 1} → statement M
 copy-part-spec =

@@ -32,7 +32,9 @@ quotes-of-requires : tie.Need-quotes-of-requires
 quotes-of-requires c κs = search needs
 
 decode-requires : tie.Need-decode-requires
-decode-requires c κs = (omega arith, omega (arith, shorter (c .before .quotes-of .result) (drop 1 (now (c .before .before .before .before .before .before .before .args .raw))), length-drop 1 (now (c .before .before .before .before .before .before .before .args .raw))))
+decode-requires c κs =
+    let entry = c .before .before .before .before .before .before .before in
+    (omega arith, omega (arith, shorter (c .before .quotes-of .result) (drop 1 (now (entry .args .raw))), length-drop 1 (now (entry .args .raw))))
 
 same-length : tie.Need-same-length
 same-length c = search needs
@@ -44,7 +46,10 @@ same-length-2 : tie.Need-same-length-2
 same-length-2 c = search needs
 
 returns-2 : tie.Need-returns-2
-returns-2 c = rw (c .before .before .before .before .before .before .before .source .given .1) (rw (c .before .before .before .before .before .past .ensures, c .before .before .before .before .past2 .ensures) at (c .before .before .copy-part .ensures))
+returns-2 c =
+    let passed = c .before .before .before .before in
+    rw (passed .before .before .before .source .given .1)
+    (rw (passed .before .past .ensures, passed .past2 .ensures) at (c .before .before .copy-part .ensures))
 
 same-length-3 : tie.Need-same-length-3
 same-length-3 c = search needs

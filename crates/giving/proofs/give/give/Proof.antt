@@ -21,7 +21,13 @@ has-text-requires : tie.Need-has-text-requires
 has-text-requires c κs = search needs
 
 cast-record-with : tie.Need-cast-record-with
-cast-record-with c = omega (arith, c .before .before .before .before .before .copy-text .ensures .0, copied-short (c .before .before .before .before .before .before .before .before .before .before .args .m .kind) (c .before .before .before .before .before .before .before .before .before .before .args .extent .from) (now (c .before .before .before .before .before .before .before .before .before .before .args .raw)) (c .before .before .before .before .before .before .before .before .before .before .args .m .text))
+cast-record-with c =
+    let entry = c .before .before .before .before .before .before .before .before .before .before in
+    omega (
+      arith,
+      c .before .before .before .before .before .copy-text .ensures .0,
+      copied-short (entry .args .m .kind) (entry .args .extent .from) (now (entry .args .raw)) (entry .args .m .text),
+    )
 
 record-with-requires : tie.Need-record-with-requires
 record-with-requires c κs = search needs
@@ -30,7 +36,15 @@ same-length : tie.Need-same-length
 same-length c = search needs
 
 returns : tie.Need-returns
-returns c = (given-with (c .before .before .before .before .before .before .before .before .before .before .before .args .depth) (c .before .before .before .before .before .before .before .before .before .before .before .args .report) (c .before .before .before .before .before .before .before .before .before .before .before .args .m) (placeIn (c .before .before .before .before .before .before .before .before .before .before .before .args .last)) (c .before .before .before .before .before .before .before .before .before .before .before .args .extent .from) (c .before .before .before .before .before .before .before .before .before .before .before .args .extent .to) (now (c .before .before .before .before .before .before .before .before .before .before .before .args .raw)) (now (c .before .before .before .before .before .before .before .before .before .before .before .args .text)) _ _ _ (c .before .before .before .place .ensures) (c .before .before .before .before .before .before .copy-text .ensures .1) _ (sym (c .before .before .has-text .ensures) ∙ c .before .if1 .taken) (c .before .before .before .before .before .before .copy-text .ensures .0) (c .record-with .ensures), c .before .before .before .before .before .before .copy-text .ensures .1)
+returns c =
+    let copied = c .before .before .before .before .before .before in
+    let entry = copied .before .before .before .before .before in (
+      given-with (entry .args .depth) (entry .args .report)
+          (entry .args .m) (placeIn (entry .args .last)) (entry .args .extent .from) (entry .args .extent .to) (now (entry .args .raw))
+          (now (entry .args .text)) _ _ _ (c .before .before .before .place .ensures) (copied .copy-text .ensures .1) _
+          (sym (c .before .before .has-text .ensures) ∙ c .before .if1 .taken) (copied .copy-text .ensures .0) (c .record-with .ensures),
+      copied .copy-text .ensures .1,
+    )
 
 record-with-requires-2 : tie.Need-record-with-requires-2
 record-with-requires-2 c κs = search needs
@@ -39,7 +53,14 @@ same-length-2 : tie.Need-same-length-2
 same-length-2 c = search needs
 
 returns-2 : tie.Need-returns-2
-returns-2 c = (given-without (c .before .before .before .before .before .before .before .before .before .before .before .args .depth) (c .before .before .before .before .before .before .before .before .before .before .before .args .report) (c .before .before .before .before .before .before .before .before .before .before .before .args .m) (placeIn (c .before .before .before .before .before .before .before .before .before .before .before .args .last)) (c .before .before .before .before .before .before .before .before .before .before .before .args .extent .from) (c .before .before .before .before .before .before .before .before .before .before .before .args .extent .to) (now (c .before .before .before .before .before .before .before .before .before .before .before .args .raw)) (now (c .before .before .before .before .before .before .before .before .before .before .before .args .text)) _ _ _ (c .before .before .before .place .ensures) (c .before .before .before .before .before .before .copy-text .ensures .1) (sym (c .before .before .has-text .ensures) ∙ c .before .if1 .left) (c .record-with2 .ensures), c .before .before .before .before .before .before .copy-text .ensures .1)
+returns-2 c =
+    let copied = c .before .before .before .before .before .before in
+    let entry = copied .before .before .before .before .before in (
+      given-without (entry .args .depth) (entry .args .report) (entry .args .m) (placeIn (entry .args .last)) (entry .args .extent .from)
+          (entry .args .extent .to) (now (entry .args .raw)) (now (entry .args .text)) _ _ _ (c .before .before .before .place .ensures)
+          (copied .copy-text .ensures .1) (sym (c .before .before .has-text .ensures) ∙ c .before .if1 .left) (c .record-with2 .ensures),
+      copied .copy-text .ensures .1,
+    )
 
 pub give-spec : {M : Type 1} → statement M
 give-spec =

@@ -19,7 +19,9 @@ same-length : tie.Need-same-length
 same-length c = simp length-set
 
 returns : tie.Need-returns
-returns c = laid-one (now (c .before .before .args .buf)) (c .before .before .args .at) (c .before .before .args .c) (omega arith) (c .if1 .taken)
+returns c =
+    let entry = c .before .before in
+    laid-one (now (entry .args .buf)) (entry .args .at) (entry .args .c) (omega arith) (c .if1 .taken)
 
 add-buf : tie.Need-add-buf
 add-buf c = search needs
@@ -43,7 +45,10 @@ same-length-2 : tie.Need-same-length-2
 same-length-2 c = simp length-set
 
 returns-2 : tie.Need-returns-2
-returns-2 c = laid-two (now (c .before .before .before .before .args .buf)) (c .before .before .before .before .args .at) (c .before .before .before .before .args .c) (omega arith) _ _ refl (c .later .ensures) (c .before .before .if1 .left) (c .before .if2 .taken)
+returns-2 c =
+    let entry = c .before .before .before .before in
+    laid-two (now (entry .args .buf))
+    (entry .args .at) (entry .args .c) (omega arith) _ _ refl (c .later .ensures) (c .before .before .if1 .left) (c .before .if2 .taken)
 
 add-buf-3 : tie.Need-add-buf-3
 add-buf-3 c = search needs
@@ -76,7 +81,10 @@ same-length-3 : tie.Need-same-length-3
 same-length-3 c = simp length-set
 
 returns-3 : tie.Need-returns-3
-returns-3 c = laid-three (now (c .before .before .before .before .before .before .args .buf)) (c .before .before .before .before .before .before .args .at) (c .before .before .before .before .before .before .args .c) (omega arith) _ _ _ refl (c .before .later2 .ensures) (c .later3 .ensures) (c .before .before .before .if2 .left) (c .before .before .if3 .taken)
+returns-3 c =
+    let entry = c .before .before .before .before .before .before in
+    laid-three (now (entry .args .buf)) (entry .args .at) (entry .args .c)
+    (omega arith) _ _ _ refl (c .before .later2 .ensures) (c .later3 .ensures) (c .before .before .before .if2 .left) (c .before .before .if3 .taken)
 
 add-buf-6 : tie.Need-add-buf-6
 add-buf-6 c = search needs
@@ -118,7 +126,10 @@ same-length-4 : tie.Need-same-length-4
 same-length-4 c = simp length-set
 
 returns-4 : tie.Need-returns-4
-returns-4 c = laid-four (now (c .before .before .before .before .before .before .before .args .buf)) (c .before .before .before .before .before .before .before .args .at) (c .before .before .before .before .before .before .before .args .c) (omega arith) _ _ _ _ refl (c .before .before .later4 .ensures) (c .before .later5 .ensures) (c .later6 .ensures) (c .before .before .before .if3 .left)
+returns-4 c =
+    let entry = c .before .before .before .before .before .before .before in
+    laid-four (now (entry .args .buf)) (entry .args .at) (entry .args .c) (omega arith) _ _ _ _ refl
+    (c .before .before .later4 .ensures) (c .before .later5 .ensures) (c .later6 .ensures) (c .before .before .before .if3 .left)
 
 pub lay-spec : {M : Type 1} → statement M
 lay-spec =

@@ -35,11 +35,19 @@ same-length-2 c = search needs
 
 returns : tie.Need-returns
 unfolding endFor
-returns c = served (lent (c .before .before .before .before .before .before .before .before .before .before .before .before .before .before .args .words) (now (c .before .before .before .before .before .before .before .before .before .before .before .before .before .before .args .buf))) (λ m. endIn m (now (c .before .before .before .before .before .before .before .before .before .before .before .before .before .before .args .buf)) (length (now (c .before .before .before .before .before .before .before .before .before .before .before .before .before .before .args .text)))) (now (c .before .before .before .before .before .before .before .before .before .before .before .before .before .before .args .text)) (sym (c .before .before .before .before .before .before .before .before .before .before .before .decode .ensures) ∙ c .before .before .before .before .before .before .before .before .before .seen .given .1) (c .worded .ensures) (c .before .before .before .before .before .end-call .ensures)
+returns c =
+    let ended = c .before .before .before .before .before in
+    let entry = ended .before .before .before .before .before .before .before .before .before in
+    served (lent (entry .args .words) (now (entry .args .buf))) (λ m. endIn m (now (entry .args .buf)) (length (now (entry .args .text))))
+    (now (entry .args .text)) (sym (ended .before .before .before .before .before .before .decode .ensures)
+    ∙ ended .before .before .before .before .seen .given .1) (c .worded .ensures) (ended .end-call .ensures)
 
 returns-2 : tie.Need-returns-2
 unfolding endFor
-returns-2 c = unserved (lent (c .before .before .before .before .before .before .args .words) (now (c .before .before .before .before .before .before .args .buf))) (λ m. endIn m (now (c .before .before .before .before .before .before .args .buf)) (length (now (c .before .before .before .before .before .before .args .text)))) (now (c .before .before .before .before .before .before .args .text)) (sym (c .before .before .before .decode .ensures) ∙ c .before .enum-told .given .1) (c .refuse .ensures)
+returns-2 c =
+    let entry = c .before .before .before .before .before .before in
+    unserved (lent (entry .args .words) (now (entry .args .buf))) (λ m. endIn m (now (entry .args .buf)) (length (now (entry .args .text))))
+    (now (entry .args .text)) (sym (c .before .before .before .decode .ensures) ∙ c .before .enum-told .given .1) (c .refuse .ensures)
 
 pub end-words-spec : {M : Type 1} → statement M
 end-words-spec =

@@ -13,7 +13,10 @@ refuse-requires : tie.Need-refuse-requires
 refuse-requires c κs = search needs
 
 returns : tie.Need-returns
-returns c = opens-short (c .before .before .before .before .args .mode) (c .before .before .before .before .args .skip) (now (c .before .before .before .before .args .buf)) (c .before .before .if1 .taken) (c .before .fresh-words .ensures) (c .refuse .ensures)
+returns c =
+    let entry = c .before .before .before .before in
+    opens-short (entry .args .mode)
+    (entry .args .skip) (now (entry .args .buf)) (c .before .before .if1 .taken) (c .before .fresh-words .ensures) (c .refuse .ensures)
 
 clear-requires : tie.Need-clear-requires
 clear-requires c κs = search needs
@@ -28,7 +31,11 @@ same-length : tie.Need-same-length
 same-length c = search needs
 
 returns-2 : tie.Need-returns-2
-returns-2 c = opens-no-mode (c .before .before .before .before .before .before .before .before .before .args .mode) (c .before .before .before .before .before .before .before .before .before .args .skip) (now (c .before .before .before .before .before .before .before .before .before .args .buf)) (c .before .before .before .before .before .before .before .if1 .left) (c .before .before .before .before .before .clear .ensures) (c .before .before .if2 .taken) (c .before .fresh-words2 .ensures) (c .refuse2 .ensures)
+returns-2 c =
+    let entry = c .before .before .before .before .before .before .before .before .before in
+    opens-no-mode (entry .args .mode) (entry .args .skip) (now (entry .args .buf))
+    (c .before .before .before .before .before .before .before .if1 .left) (c .before .before .before .before .before .clear .ensures)
+    (c .before .before .if2 .taken) (c .before .fresh-words2 .ensures) (c .refuse2 .ensures)
 
 fresh-words-requires-3 : tie.Need-fresh-words-requires-3
 fresh-words-requires-3 c κs = search needs
@@ -37,7 +44,10 @@ same-length-2 : tie.Need-same-length-2
 same-length-2 c = search needs
 
 returns-3 : tie.Need-returns-3
-returns-3 c = opens (c .before .before .before .before .before .before .before .before .args .mode) (c .before .before .before .before .before .before .before .before .args .skip) (now (c .before .before .before .before .before .before .before .before .args .buf)) (c .before .before .before .before .before .before .if1 .left) (c .before .before .before .before .clear .ensures) (omega arith) (c .fresh-words3 .ensures)
+returns-3 c =
+    let entry = c .before .before .before .before .before .before .before .before in
+    opens (entry .args .mode) (entry .args .skip) (now (entry .args .buf)) (c .before .before .before .before .before .before .if1 .left)
+    (c .before .before .before .before .clear .ensures) (omega arith) (c .fresh-words3 .ensures)
 
 pub open-words-spec : {M : Type 1} → statement M
 open-words-spec =

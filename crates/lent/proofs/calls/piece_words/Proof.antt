@@ -35,11 +35,21 @@ same-length-2 c = search needs
 
 returns : tie.Need-returns
 unfolding pieceFor
-returns c = served (lent (c .before .before .before .before .before .before .before .before .before .before .before .before .before .before .before .args .words) (now (c .before .before .before .before .before .before .before .before .before .before .before .before .before .before .before .args .buf))) (λ m. pieceIn m (now (c .before .before .before .before .before .before .before .before .before .before .before .before .before .before .before .args .buf)) (now (c .before .before .before .before .before .before .before .before .before .before .before .before .before .before .before .args .piece)) (length (now (c .before .before .before .before .before .before .before .before .before .before .before .before .before .before .before .args .text)))) (now (c .before .before .before .before .before .before .before .before .before .before .before .before .before .before .before .args .text)) (sym (c .before .before .before .before .before .before .before .before .before .before .before .decode .ensures) ∙ c .before .before .before .before .before .before .before .before .before .seen .given .1) (c .worded .ensures) (c .before .before .before .before .before .piece-call .ensures)
+returns c =
+    let called = c .before .before .before .before .before in
+    let entry = called .before .before .before .before .before .before .before .before .before .before in
+    served (lent (entry .args .words) (now (entry .args .buf)))
+    (λ m. pieceIn m (now (entry .args .buf)) (now (entry .args .piece)) (length (now (entry .args .text)))) (now (entry .args .text))
+    (sym (called .before .before .before .before .before .before .decode .ensures) ∙ called .before .before .before .before .seen .given .1)
+    (c .worded .ensures) (called .piece-call .ensures)
 
 returns-2 : tie.Need-returns-2
 unfolding pieceFor
-returns-2 c = unserved (lent (c .before .before .before .before .before .before .before .args .words) (now (c .before .before .before .before .before .before .before .args .buf))) (λ m. pieceIn m (now (c .before .before .before .before .before .before .before .args .buf)) (now (c .before .before .before .before .before .before .before .args .piece)) (length (now (c .before .before .before .before .before .before .before .args .text)))) (now (c .before .before .before .before .before .before .before .args .text)) (sym (c .before .before .before .decode .ensures) ∙ c .before .enum-told .given .1) (c .refuse .ensures)
+returns-2 c =
+    let entry = c .before .before .before .before .before .before .before in
+    unserved (lent (entry .args .words) (now (entry .args .buf)))
+    (λ m. pieceIn m (now (entry .args .buf)) (now (entry .args .piece)) (length (now (entry .args .text))))
+    (now (entry .args .text)) (sym (c .before .before .before .decode .ensures) ∙ c .before .enum-told .given .1) (c .refuse .ensures)
 
 pub piece-words-spec : {M : Type 1} → statement M
 piece-words-spec =

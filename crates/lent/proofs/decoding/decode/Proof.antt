@@ -20,14 +20,29 @@ returns-2 c = simp (sym (c .before .before .before .narrow .ensures) ∙ not-fal
 
 returns-3 : tie.Need-returns-3
 unfolding isCode
-returns-3 c = simp (sym (c .before .before .before .before .before .narrow .ensures) ∙ not-false _ (c .before .before .before .before .if1 .left), le-leb _ _ (c .before .before .if2 .left), lt-leb _ _ (c .if3 .taken))
+returns-3 c = simp (
+  sym (c .before .before .before .before .before .narrow .ensures) ∙ not-false _ (c .before .before .before .before .if1 .left),
+  le-leb _ _ (c .before .before .if2 .left),
+  lt-leb _ _ (c .if3 .taken),
+)
 
 returns-4 : tie.Need-returns-4
 unfolding isCode
-returns-4 c = simp (sym (c .before .before .before .before .before .before .before .narrow .ensures) ∙ not-false _ (c .before .before .before .before .before .before .if1 .left), le-leb _ _ (c .before .before .before .before .if2 .left), le-leb _ _ (c .before .before .if3 .left), le-ltb _ _ (c .if4 .taken))
+returns-4 c =
+    let branch = c .before .before .before .before in
+    simp (
+      sym (branch .before .before .before .narrow .ensures) ∙ not-false _ (branch .before .before .if1 .left),
+      le-leb _ _ (branch .if2 .left),
+      le-leb _ _ (c .before .before .if3 .left),
+      le-ltb _ _ (c .if4 .taken),
+    )
 
 stand-requires : tie.Need-stand-requires
-stand-requires c κs = (c .if4 .left, narrowed _ (sym (c .before .before .before .before .before .before .before .narrow .ensures) ∙ not-false _ (c .before .before .before .before .before .before .if1 .left)))
+stand-requires c κs = (
+  c .if4 .left,
+  narrowed _ (sym (c .before .before .before .before .before .before .before .narrow .ensures)
+      ∙ not-false _ (c .before .before .before .before .before .before .if1 .left)),
+)
 
 row-of-requires : tie.Need-row-of-requires
 row-of-requires c κs = search needs
@@ -40,11 +55,32 @@ same-row-requires c κs = search needs
 
 returns-5 : tie.Need-returns-5
 unfolding isCode
-returns-5 c = simp (sym (c .before .before .before .before .before .before .before .before .before .before .before .before .narrow .ensures) ∙ not-false _ (c .before .before .before .before .before .before .before .before .before .before .before .if1 .left), le-leb _ _ (c .before .before .before .before .before .before .before .before .before .if2 .left), le-leb _ _ (c .before .before .before .before .before .before .before .if3 .left), lt-ltb _ _ (c .before .before .before .before .before .if4 .left), rows-compared (c .before .before .before .before .before .before .before .before .before .before .before .before .before .args .words) (c .before .before .before .before .stand .ensures) (c .before .before .before .row-of .ensures) (c .before .before .stage-row .ensures) (c .before .same-row .ensures) ∙ not-true _ (c .if5 .taken))
+returns-5 c =
+    let stood = c .before .before .before .before in
+    let branch = stood .before .before .before .before .before in
+    simp (
+      sym (branch .before .before .before .narrow .ensures) ∙ not-false _ (branch .before .before .if1 .left),
+      le-leb _ _ (branch .if2 .left),
+      le-leb _ _ (stood .before .before .before .if3 .left),
+      lt-ltb _ _ (stood .before .if4 .left),
+      rows-compared (branch .before .before .before .before .args .words) (stood .stand .ensures) (c .before .before .before .row-of .ensures)
+          (c .before .before .stage-row .ensures) (c .before .same-row .ensures) ∙ not-true _ (c .if5 .taken),
+    )
 
 returns-6 : tie.Need-returns-6
 unfolding isCode
-returns-6 c = simp (sym (c .before .before .before .before .before .before .before .before .before .before .before .before .narrow .ensures) ∙ not-false _ (c .before .before .before .before .before .before .before .before .before .before .before .if1 .left), le-leb _ _ (c .before .before .before .before .before .before .before .before .before .if2 .left), le-leb _ _ (c .before .before .before .before .before .before .before .if3 .left), lt-ltb _ _ (c .before .before .before .before .before .if4 .left), rows-compared (c .before .before .before .before .before .before .before .before .before .before .before .before .before .args .words) (c .before .before .before .before .stand .ensures) (c .before .before .before .row-of .ensures) (c .before .before .stage-row .ensures) (c .before .same-row .ensures) ∙ not-false _ (c .if5 .left), c .before .before .before .before .stand .ensures)
+returns-6 c =
+    let stood = c .before .before .before .before in
+    let branch = stood .before .before .before .before .before in
+    simp (
+      sym (branch .before .before .before .narrow .ensures) ∙ not-false _ (branch .before .before .if1 .left),
+      le-leb _ _ (branch .if2 .left),
+      le-leb _ _ (stood .before .before .before .if3 .left),
+      lt-ltb _ _ (stood .before .if4 .left),
+      rows-compared (branch .before .before .before .before .args .words) (stood .stand .ensures) (c .before .before .before .row-of .ensures)
+          (c .before .before .stage-row .ensures) (c .before .same-row .ensures) ∙ not-false _ (c .if5 .left),
+      stood .stand .ensures,
+    )
 
 pub decode-spec : {M : Type 1} → statement M
 decode-spec =

@@ -51,7 +51,11 @@ returns-9 c = rw (c .match .keys9)
 
 returns-10 : tie.Need-returns-10
 unfolding stageOf
-returns-10 c = let e : c .before .before .before .args .row .stage ≡ 40 = let h = past (past (past (past (past (past (past (past (past (c .before .before .before .pre .0) (c .match .rest .0 .0 .0 .0 .0 .0 .0 .0 .1)) (c .match .rest .0 .0 .0 .0 .0 .0 .0 .1)) (c .match .rest .0 .0 .0 .0 .0 .0 .1)) (c .match .rest .0 .0 .0 .0 .0 .1)) (c .match .rest .0 .0 .0 .0 .1)) (c .match .rest .0 .0 .0 .1)) (c .match .rest .0 .0 .1)) (c .match .rest .0 .1)) (c .match .rest .1) in omega arith in rw e
+returns-10 c = let e : c .before .before .before .args .row .stage ≡ 40 =
+    let h = past (past (past (past (past (past (past (past (past (c .before .before .before .pre .0) (c .match .rest .0 .0 .0 .0 .0 .0 .0 .0 .1))
+    (c .match .rest .0 .0 .0 .0 .0 .0 .0 .1)) (c .match .rest .0 .0 .0 .0 .0 .0 .1)) (c .match .rest .0 .0 .0 .0 .0 .1))
+    (c .match .rest .0 .0 .0 .0 .1)) (c .match .rest .0 .0 .0 .1)) (c .match .rest .0 .0 .1)) (c .match .rest .0 .1)) (c .match .rest .1) in
+    omega arith in rw e
 
 pub outcome-of-spec : {M : Type 1} → statement M
 outcome-of-spec =

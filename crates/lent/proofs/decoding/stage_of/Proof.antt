@@ -14,7 +14,12 @@ cast-t8 : tie.Need-cast-t8
 cast-t8 c = search needs
 
 phase-of-requires : tie.Need-phase-of-requires
-phase-of-requires c κs = let h : 0 ≤ c .before .args .row .stage = omega arith in (past (past (past (past (past (past (past h (c .match .rest .0 .0 .0 .0 .0 .0 .1)) (c .match .rest .0 .0 .0 .0 .0 .1)) (c .match .rest .0 .0 .0 .0 .1)) (c .match .rest .0 .0 .0 .1)) (c .match .rest .0 .0 .1)) (c .match .rest .0 .1)) (c .match .rest .1), search needs, search needs)
+phase-of-requires c κs = let h : 0 ≤ c .before .args .row .stage = omega arith in (
+  past (past (past (past (past (past (past h (c .match .rest .0 .0 .0 .0 .0 .0 .1)) (c .match .rest .0 .0 .0 .0 .0 .1))
+      (c .match .rest .0 .0 .0 .0 .1)) (c .match .rest .0 .0 .0 .1)) (c .match .rest .0 .0 .1)) (c .match .rest .0 .1)) (c .match .rest .1),
+  search needs,
+  search needs,
+)
 
 returns : tie.Need-returns
 unfolding stageOf

@@ -11,7 +11,9 @@ row-of-requires : tie.Need-row-of-requires
 row-of-requires c κs = search needs
 
 stage-of-requires : tie.Need-stage-of-requires
-stage-of-requires c κs = rw (c .row-of .ensures) (c .before .before .before .before .pre .0, c .before .before .before .before .pre .1 .row)
+stage-of-requires c κs =
+    let entry = c .before .before .before .before in
+    rw (c .row-of .ensures) (entry .pre .0, entry .pre .1 .row)
 
 cast-t9 : tie.Need-cast-t9
 cast-t9 c = search needs

@@ -34,10 +34,11 @@ cast-t17 c = search needs
 returns : tie.Need-returns
 unfolding coded
 returns c =
+    let at-bit = c .before .before .before .before .before in
     simp (
-      c .before .before .before .before .before .before .before .before .before .stage-row .ensures,
-      c .before .before .before .before .before .before .bit .ensures,
-      c .before .before .before .before .before .bit2 .ensures,
+      at-bit .before .before .before .before .stage-row .ensures,
+      at-bit .before .bit .ensures,
+      at-bit .bit2 .ensures,
     )
 
 pub encode-spec : {M : Type 1} → statement M

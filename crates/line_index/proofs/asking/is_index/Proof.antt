@@ -22,10 +22,16 @@ same-starts-requires : tie.Need-same-starts-requires
 same-starts-requires c κs = search needs
 
 returns-2 : tie.Need-returns-2
-returns-2 c = index-bad (now (c .before .before .before .before .before .before .args .text)) (now (c .before .before .before .before .before .before .args .index)) (c .before .before .before .if1 .left) (sym (c .before .before .first-bad .ensures) ∙ c .enum-told .given .1)
+returns-2 c =
+    let entry = c .before .before .before .before .before .before in
+    index-bad (now (entry .args .text))
+    (now (entry .args .index)) (c .before .before .before .if1 .left) (sym (c .before .before .first-bad .ensures) ∙ c .enum-told .given .1)
 
 returns-3 : tie.Need-returns-3
-returns-3 c = index-good (now (c .before .before .before .before .before .before .before .args .text)) (now (c .before .before .before .before .before .before .before .args .index)) (c .before .before .before .before .if1 .left) (sym (c .before .before .before .first-bad .ensures) ∙ c .before .enum-told2 .given .1) (c .same-starts .ensures)
+returns-3 c =
+    let entry = c .before .before .before .before .before .before .before in
+    index-good (now (entry .args .text)) (now (entry .args .index)) (c .before .before .before .before .if1 .left)
+    (sym (c .before .before .before .first-bad .ensures) ∙ c .before .enum-told2 .given .1) (c .same-starts .ensures)
 
 pub is-index-spec : {M : Type 1} → statement M
 is-index-spec =

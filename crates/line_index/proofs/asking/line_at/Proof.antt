@@ -50,7 +50,10 @@ loop-again-2 : tie.Need-loop-again-2 Inv-loop μ-loop
 loop-again-2 c = let v = c .before .before .before .before .loop .inv in (omega arith, omega arith, v .2, λ h. omega (arith, c .before .wide .ensures))
 
 returns : tie.Need-returns Inv-loop μ-loop
-returns c = let l = c .before .loop in let v = l .inv in let e : l .high ≡ l .low + 1 = omega arith in (omega arith, v .2, line-found (now (c .before .before .before .args .index)) (c .before .before .before .args .place) (l .low) (c .before .before .before .pre) (omega arith) (v .2) (rw e at (v .3)))
+returns c =
+    let entry = c .before .before .before in
+    let l = c .before .loop in let v = l .inv in let e : l .high ≡ l .low + 1 = omega arith in
+    (omega arith, v .2, line-found (now (entry .args .index)) (entry .args .place) (l .low) (entry .pre) (omega arith) (v .2) (rw e at (v .3)))
 
 pub line-at-spec : {M : Type 1} → statement M
 line-at-spec =

@@ -13,7 +13,8 @@ place-at-requires : tie.Need-place-at-requires
 place-at-requires c κs = sym (c .before .is-index .ensures) ∙ c .if1 .taken
 
 returns : tie.Need-returns
-returns c = let a = c .before .before .before .before .before .args in locates (now (a .text)) (now (a .index)) (a .place) (sym (c .before .before .is-index .ensures) ∙ c .before .if1 .taken) (c .place-at .ensures)
+returns c = let a = c .before .before .before .before .before .args in
+    locates (now (a .text)) (now (a .index)) (a .place) (sym (c .before .before .is-index .ensures) ∙ c .before .if1 .taken) (c .place-at .ensures)
 
 returns-2 : tie.Need-returns-2
 returns-2 c = let a = c .before .before .before .before .args in locates-other (now (a .text)) (now (a .index)) (a .place) (sym (c .before .is-index .ensures) ∙ c .if1 .left)

@@ -29,8 +29,10 @@ same-length c = search needs
 
 returns-2 : tie.Need-returns-2
 returns-2 c =
+    let branch = c .before .before .before .before in
     let a = c .before .before .before .before .before .before .before .before .before .before .before .args in
-    all-served (now (a .text)) (now (a .index)) (now (a .places)) (now (a .found)) (sym (c .before .before .before .before .before .before .is-index .ensures) ∙ c .before .before .before .before .before .if1 .taken) (c .before .before .before .before .if2 .left) (c .before .before .put-answers .ensures)
+    all-served (now (a .text)) (now (a .index)) (now (a .places)) (now (a .found))
+    (sym (branch .before .before .is-index .ensures) ∙ branch .before .if1 .taken) (branch .if2 .left) (c .before .before .put-answers .ensures)
 
 returns-3 : tie.Need-returns-3
 returns-3 c =

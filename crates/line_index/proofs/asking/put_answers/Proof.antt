@@ -12,7 +12,8 @@ use Rattle.line_index.proofs.asking.put_answers.Statement.{statement}
 use Rattle.line_index.proofs.asking.put_answers.Tie as tie
 
 abbrev Inv-loop : tie.InvT-loop
-Inv-loop text index places found₀ at₀ k₀ found at k = (k ≤ length places) × (at ≡ 2 * k) × (length found ≡ length found₀) × (stored 0 (answers text index places) found₀ ≡ stored at (answers text index (drop k places)) found)
+Inv-loop text index places found₀ at₀ k₀ found at k = (k ≤ length places) × (at ≡ 2 * k)
+    × (length found ≡ length found₀) × (stored 0 (answers text index places) found₀ ≡ stored at (answers text index (drop k places)) found)
 
 abbrev μ-loop : tie.MeasureT-loop
 μ-loop text index places found₀ at₀ k₀ found at k = length places - k
@@ -51,7 +52,9 @@ mul-found-2 : tie.Need-mul-found-2 Inv-loop μ-loop
 mul-found-2 c = omega arith
 
 slice-write-found-2 : tie.Need-slice-write-found-2 Inv-loop μ-loop
-slice-write-found-2 c = omega (arith, length-set (c .before .before .before .before .before .before .loop .found) (c .before .before .before .before .before .before .loop .at) (c .before .line-word .result))
+slice-write-found-2 c =
+    let turn = c .before .before .before .before .before .before in
+    omega (arith, length-set (turn .loop .found) (turn .loop .at) (c .before .line-word .result))
 
 add-at : tie.Need-add-at Inv-loop μ-loop
 add-at c = omega arith
@@ -66,7 +69,8 @@ loop-again : tie.Need-loop-again Inv-loop μ-loop
 loop-again c =
     let a = c .before .before .before .before .before .before .before .before .before .before .before .args in
     let l = c .before .before .before .before .before .before .loop in
-    let r = locates (now (a .text)) (now (a .index)) (c .before .before .before .wide .result) (c .before .before .before .before .before .before .before .before .before .before .before .pre .0) (c .before .before .place-at .ensures) in (
+    let r = locates (now (a .text)) (now (a .index)) (c .before .before .before .wide .result)
+    (c .before .before .before .before .before .before .before .before .before .before .before .pre .0) (c .before .before .place-at .ensures) in (
       omega arith,
       omega arith,
       length-set (set (l .found) (l .at) (c .before .line-word .result)) (l .at + 1) (c .column-word .result)
@@ -81,7 +85,8 @@ same-length : tie.Need-same-length Inv-loop μ-loop
 same-length c = c .before .loop .inv .2
 
 returns : tie.Need-returns Inv-loop μ-loop
-returns c = let a = c .before .before .before .before .before .before .args in let l = c .before .loop in answers-all (now (a .text)) (now (a .index)) (now (a .places)) (now (a .found)) (l .k) (l .at) (c .before .before .before .before .before .before .pre .1) (c .loop-test .left) (l .inv .3)
+returns c = let a = c .before .before .before .before .before .before .args in let l = c .before .loop in answers-all (now (a .text)) (now (a .index))
+    (now (a .places)) (now (a .found)) (l .k) (l .at) (c .before .before .before .before .before .before .pre .1) (c .loop-test .left) (l .inv .3)
 
 pub put-answers-spec : {M : Type 1} → statement M
 put-answers-spec =

@@ -30,10 +30,13 @@ same-length c = search needs
 
 returns-2 : tie.Need-returns-2
 returns-2 c =
+    let written = c .before .before in
     let a = c .before .before .before .before .before .before .before .before .before .before .before .args in
-    let room = starts-most (now (a .text)) (c .before .before .before .before .if2 .taken) in
-    let fits : c .before .before .put .result ≤ length (now (a .index)) = omega (arith, room, c .before .before .put .ensures .0) in
-    builds-all (now (a .text)) (now (a .index)) (c .before .before .before .before .before .before .before .before .if1 .left) (sym (c .before .before .before .before .before .before .before .first-bad .ensures) ∙ c .before .before .before .before .before .enum-told .given .1) (c .before .before .put .ensures .0) fits (c .before .before .put .ensures .1)
+    let room = starts-most (now (a .text)) (written .before .before .if2 .taken) in
+    let fits : written .put .result ≤ length (now (a .index)) = omega (arith, room, written .put .ensures .0) in
+    builds-all (now (a .text)) (now (a .index)) (written .before .before .before .before .before .before .if1 .left)
+    (sym (written .before .before .before .before .before .first-bad .ensures) ∙ written .before .before .before .enum-told .given .1)
+    (written .put .ensures .0) fits (written .put .ensures .1)
 
 count-requires : tie.Need-count-requires
 count-requires c κs = search needs
@@ -41,21 +44,29 @@ count-requires c κs = search needs
 returns-3 : tie.Need-returns-3
 returns-3 c =
     let a = c .before .before .before .before .before .before .before .before .before .args in
-    builds-short (now (a .text)) (now (a .index)) (c .before .before .before .before .before .before .if1 .left) (sym (c .before .before .before .before .before .first-bad .ensures) ∙ c .before .before .before .enum-told .given .1) (c .before .count .ensures) (c .if3 .taken)
+    builds-short (now (a .text)) (now (a .index)) (c .before .before .before .before .before .before .if1 .left)
+    (sym (c .before .before .before .before .before .first-bad .ensures) ∙ c .before .before .before .enum-told .given .1)
+    (c .before .count .ensures) (c .if3 .taken)
 
 put-requires-2 : tie.Need-put-requires-2
 put-requires-2 c κs = search needs
 
 returns-4 : tie.Need-returns-4
-returns-4 c = builds-bad (now (c .before .before .before .before .before .before .before .args .text)) (now (c .before .before .before .before .before .before .before .args .index)) (c .before .before .before .before .if1 .left) (sym (c .before .before .before .first-bad .ensures) ∙ c .before .at .given .1)
+returns-4 c =
+    let entry = c .before .before .before .before .before .before .before in
+    builds-bad (now (entry .args .text)) (now (entry .args .index))
+    (c .before .before .before .before .if1 .left) (sym (c .before .before .before .first-bad .ensures) ∙ c .before .at .given .1)
 
 same-length-2 : tie.Need-same-length-2
 same-length-2 c = search needs
 
 returns-5 : tie.Need-returns-5
 returns-5 c =
+    let branch = c .before .before .before .before in
     let a = c .before .before .before .before .before .before .before .before .before .before .before .before .before .args in
-    builds-all (now (a .text)) (now (a .index)) (c .before .before .before .before .before .before .before .before .before .before .if1 .left) (sym (c .before .before .before .before .before .before .before .before .before .first-bad .ensures) ∙ c .before .before .before .before .before .before .before .enum-told .given .1) (c .before .before .before .before .before .count .ensures) (c .before .before .before .before .if3 .left) (c .before .before .put2 .ensures .1)
+    builds-all (now (a .text)) (now (a .index)) (branch .before .before .before .before .before .before .if1 .left)
+    (sym (branch .before .before .before .before .before .first-bad .ensures) ∙ branch .before .before .before .enum-told .given .1)
+    (branch .before .count .ensures) (branch .if3 .left) (c .before .before .put2 .ensures .1)
 
 pub build-spec : {M : Type 1} → statement M
 build-spec =

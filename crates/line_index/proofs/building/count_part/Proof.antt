@@ -29,7 +29,11 @@ if-newline-requires : tie.Need-if-newline-requires Inv-loop μ-loop
 if-newline-requires c κs = search needs
 
 add-n : tie.Need-add-n Inv-loop μ-loop
-add-n c = let l = c .before .before .before .loop in let v = counted-next (now (c .before .before .before .before .before .args .text)) (c .before .before .before .before .before .args .at) (l .j) (l .n) (omega arith) (c .if-newline .ensures) (l .inv .2) in omega (arith, v .0)
+add-n c =
+    let entry = c .before .before .before .before .before in
+    let l = c .before .before .before .loop in
+    let v = counted-next (now (entry .args .text)) (entry .args .at) (l .j) (l .n) (omega arith) (c .if-newline .ensures) (l .inv .2) in
+    omega (arith, v .0)
 
 add-j : tie.Need-add-j Inv-loop μ-loop
 add-j c = omega arith
@@ -38,10 +42,17 @@ loop-less : tie.Need-loop-less Inv-loop μ-loop
 loop-less c = omega arith
 
 loop-again : tie.Need-loop-again Inv-loop μ-loop
-loop-again c = let l = c .before .before .before .loop in let v = counted-next (now (c .before .before .before .before .before .args .text)) (c .before .before .before .before .before .args .at) (l .j) (l .n) (omega arith) (c .if-newline .ensures) (l .inv .2) in (omega arith, omega (arith, v .0), v .1)
+loop-again c =
+    let entry = c .before .before .before .before .before in
+    let l = c .before .before .before .loop in
+    let v = counted-next (now (entry .args .text)) (entry .args .at) (l .j) (l .n) (omega arith) (c .if-newline .ensures) (l .inv .2) in
+    (omega arith, omega (arith, v .0), v .1)
 
 returns : tie.Need-returns Inv-loop μ-loop
-returns c = let l = c .before .loop in let e : l .j ≡ c .before .before .before .args .bytes = omega arith in (omega arith, l .inv .2 ∙ ap (λ (j : ℕ). l .n + length (left (now (c .before .before .before .args .text)) (c .before .before .before .args .at + j))) e)
+returns c =
+    let entry = c .before .before .before in
+    let l = c .before .loop in let e : l .j ≡ entry .args .bytes = omega arith in
+    (omega arith, l .inv .2 ∙ ap (λ (j : ℕ). l .n + length (left (now (entry .args .text)) (entry .args .at + j))) e)
 
 pub count-part-spec : {M : Type 1} → statement M
 count-part-spec =

@@ -41,7 +41,10 @@ loop-again c =
     (omega arith, λ n. ⊎-elim (λ t. absurd (true≢false (sym (t .1) ∙ n))) (λ t. none-next (now (a .text)) (a .at) (l .j) h (l .inv .1 (sym (t .1) ∙ n)) (t .0 .left)) (c .if1 .came))
 
 returns : tie.Need-returns Inv-loop μ-loop
-returns c = let l = c .before .loop in let e : l .j ≡ block = omega arith in subst (λ (j : ℕ). l .found ≡ false → left (now (c .before .before .args .text)) (c .before .before .args .at) ≡ left (now (c .before .before .args .text)) (c .before .before .args .at + j)) e (l .inv .1)
+returns c =
+    let entry = c .before .before in
+    let l = c .before .loop in let e : l .j ≡ block = omega arith in subst (λ (j : ℕ). l .found ≡ false
+    → left (now (entry .args .text)) (entry .args .at) ≡ left (now (entry .args .text)) (entry .args .at + j)) e (l .inv .1)
 
 pub has-newline-spec : {M : Type 1} → statement M
 has-newline-spec = tie.close (tie.spec Inv-loop μ-loop loop-holds add-if1 shared-slice-read-if1 add-j loop-less loop-again returns)

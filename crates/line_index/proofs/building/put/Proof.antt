@@ -25,7 +25,14 @@ sub-loop : tie.Need-sub-loop Inv-loop μ-loop
 sub-loop c = omega arith
 
 put-block-requires : tie.Need-put-block-requires Inv-loop μ-loop
-put-block-requires c κs = (omega arith, c .before .before .before .before .before .pre .0, storing-fits (now (c .before .before .before .before .before .args .text)) (set (now (c .before .before .before .before .before .args .index)) 0 0) 1 0 (c .before .before .loop .n) (c .before .before .loop .i) (c .before .before .loop .inv .1) (first-fits (now (c .before .before .before .before .before .args .text)) (now (c .before .before .before .before .before .args .index)) (c .before .before .before .before .before .pre .1)))
+put-block-requires c κs =
+    let turn = c .before .before in
+    let entry = turn .before .before .before in (
+      omega arith,
+      entry .pre .0,
+      storing-fits (now (entry .args .text)) (set (now (entry .args .index)) 0 0) 1 0
+          (turn .loop .n) (turn .loop .i) (turn .loop .inv .1) (first-fits (now (entry .args .text)) (now (entry .args .index)) (entry .pre .1)),
+    )
 
 add-i : tie.Need-add-i Inv-loop μ-loop
 add-i c = omega arith
@@ -34,20 +41,37 @@ loop-less : tie.Need-loop-less Inv-loop μ-loop
 loop-less c = omega arith
 
 loop-again : tie.Need-loop-again Inv-loop μ-loop
-loop-again c = (omega arith, storing-then (now (c .before .before .before .before .before .before .before .before .args .text)) (c .before .before .before .before .before .loop .inv .1) (c .before .before .put-block .ensures))
+loop-again c = (
+  omega arith,
+  storing-then (now (c .before .before .before .before .before .before .before .before .args .text))
+      (c .before .before .before .before .before .loop .inv .1) (c .before .before .put-block .ensures),
+)
 
 put-bytes-requires : tie.Need-put-bytes-requires Inv-loop μ-loop
-put-bytes-requires c κs = (c .before .before .loop .inv .0, omega arith, c .before .before .before .before .before .pre .0, storing-fits (now (c .before .before .before .before .before .args .text)) (set (now (c .before .before .before .before .before .args .index)) 0 0) 1 0 (c .before .before .loop .n) (c .before .before .loop .i) (c .before .before .loop .inv .1) (first-fits (now (c .before .before .before .before .before .args .text)) (now (c .before .before .before .before .before .args .index)) (c .before .before .before .before .before .pre .1)))
+put-bytes-requires c κs =
+    let turn = c .before .before in
+    let entry = turn .before .before .before in (
+      turn .loop .inv .0,
+      omega arith,
+      entry .pre .0,
+      storing-fits (now (entry .args .text)) (set (now (entry .args .index)) 0 0) 1 0
+          (turn .loop .n) (turn .loop .i) (turn .loop .inv .1) (first-fits (now (entry .args .text)) (now (entry .args .index)) (entry .pre .1)),
+    )
 
 same-length : tie.Need-same-length Inv-loop μ-loop
-same-length c = c .before .before .put-bytes .ensures .size ∙ c .before .before .before .before .before .loop .inv .1 .size ∙ length-set (now (c .before .before .before .before .before .before .before .before .args .index)) 0 0
+same-length c = c .before .before .put-bytes .ensures .size ∙ c .before .before .before .before .before .loop .inv .1 .size
+    ∙ length-set (now (c .before .before .before .before .before .before .before .before .args .index)) 0 0
 
 returns : tie.Need-returns Inv-loop μ-loop
 returns c =
+    let written = c .before .before in
     let a = c .before .before .before .before .before .before .before .before .args in
-    let g = storing-then (now (a .text)) (c .before .before .before .before .before .loop .inv .1) (c .before .before .put-bytes .ensures) in
-    let h : length (now (a .text)) ≤ length (now (a .text)) = omega arith in
-    (stored-count (now (a .text)) (set (now (a .index)) 0 0) (c .before .before .put-bytes .result) (length (now (a .text))) h g, stored-all (now (a .text)) (now (a .index)) (c .before .before .put-bytes .result) (length (now (a .text))) (c .before .before .before .before .before .before .before .before .pre .1) h g)
+    let g = storing-then (now (a .text)) (written .before .before .before .loop .inv .1) (written .put-bytes .ensures) in
+    let h : length (now (a .text)) ≤ length (now (a .text)) = omega arith in (
+      stored-count (now (a .text)) (set (now (a .index)) 0 0) (written .put-bytes .result) (length (now (a .text))) h g,
+      stored-all (now (a .text)) (now (a .index))
+          (written .put-bytes .result) (length (now (a .text))) (written .before .before .before .before .before .before .pre .1) h g,
+    )
 
 pub put-spec : {M : Type 1} → statement M
 put-spec =

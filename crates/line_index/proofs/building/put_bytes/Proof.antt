@@ -47,7 +47,8 @@ loop-less : tie.Need-loop-less Inv-loop μ-loop
 loop-less c = omega arith
 
 loop-again : tie.Need-loop-again Inv-loop μ-loop
-loop-again c = let a = c .before .before .before .before .args in let l = c .before .before .before .loop in (omega arith, storing-hit (now (a .text)) (now (a .index)) (a .n) (a .from) (l .k) (l .i) (l .inv .1) (omega arith) (c .if1 .taken))
+loop-again c = let a = c .before .before .before .before .args in let l = c .before .before .before .loop in
+    (omega arith, storing-hit (now (a .text)) (now (a .index)) (a .n) (a .from) (l .k) (l .i) (l .inv .1) (omega arith) (c .if1 .taken))
 
 add-i-2 : tie.Need-add-i-2 Inv-loop μ-loop
 add-i-2 c = omega arith
@@ -56,13 +57,17 @@ loop-less-2 : tie.Need-loop-less-2 Inv-loop μ-loop
 loop-less-2 c = omega arith
 
 loop-again-2 : tie.Need-loop-again-2 Inv-loop μ-loop
-loop-again-2 c = let a = c .before .before .before .before .args in let l = c .before .before .before .loop in (omega arith, storing-miss (now (a .text)) (now (a .index)) (a .n) (a .from) (l .k) (l .i) (l .inv .1) (omega arith) (c .if1 .left))
+loop-again-2 c = let a = c .before .before .before .before .args in let l = c .before .before .before .loop in
+    (omega arith, storing-miss (now (a .text)) (now (a .index)) (a .n) (a .from) (l .k) (l .i) (l .inv .1) (omega arith) (c .if1 .left))
 
 same-length : tie.Need-same-length Inv-loop μ-loop
 same-length c = c .before .loop .inv .1 .size
 
 returns : tie.Need-returns Inv-loop μ-loop
-returns c = let l = c .before .loop in let e : l .i ≡ c .before .before .args .to = omega arith in subst (λ (i : ℕ). Storing (now (c .before .before .args .text)) (now (c .before .before .args .index)) (c .before .before .args .n) (c .before .before .args .from) (l .index) (l .k) i) e (l .inv .1)
+returns c =
+    let entry = c .before .before in
+    let l = c .before .loop in let e : l .i ≡ entry .args .to = omega arith in subst
+    (λ (i : ℕ). Storing (now (entry .args .text)) (now (entry .args .index)) (entry .args .n) (entry .args .from) (l .index) (l .k) i) e (l .inv .1)
 
 pub put-bytes-spec : {M : Type 1} → statement M
 put-bytes-spec =

@@ -22,10 +22,20 @@ enum-known--error-2 : tie.Need-enum-known--error-2
 enum-known--error-2 c = search needs
 
 failing-at-requires : tie.Need-failing-at-requires
-failing-at-requires c κs = (failing-within (c .before .before .before .before .before .before .before .args .report) (c .before .before .before .before .before .before .before .args .raw .now) (sym (ap (characterOf (c .before .before .before .before .before .before .before .args .report)) (c .before .before .before .before .before .rest .ensures)) ∙ sym (c .before .before .before .before .character .ensures) ∙ c .before .before .-error2 .given .1), c .before .before .before .before .before .before .before .pre)
+failing-at-requires c κs =
+    let entry = c .before .before .before .before .before .before .before in (
+      failing-within (entry .args .report)
+          (entry .args .raw .now) (sym (ap (characterOf (entry .args .report)) (c .before .before .before .before .before .rest .ensures))
+          ∙ sym (c .before .before .before .before .character .ensures) ∙ c .before .before .-error2 .given .1),
+      entry .pre,
+    )
 
 returns : tie.Need-returns
-returns c = rw (sym (c .before .before .before .before .before .before .rest .ensures), sym (c .before .before .before .before .before .character .ensures) ∙ c .before .before .before .-error2 .given .1, c .before .if1 .taken) (c .failing-at .ensures)
+returns c = rw (
+  sym (c .before .before .before .before .before .before .rest .ensures),
+  sym (c .before .before .before .before .before .character .ensures) ∙ c .before .before .before .-error2 .given .1,
+  c .before .if1 .taken,
+) (c .failing-at .ensures)
 
 returns-2 : tie.Need-returns-2
 returns-2 c = rw (sym (c .before .before .before .before .rest .ensures), sym (c .before .before .before .character .ensures) ∙ c .before .-c .given .1)

@@ -27,7 +27,19 @@ cast-t11 : tie.Need-cast-t11
 cast-t11 c = search needs
 
 cast-t12 : tie.Need-cast-t12
-cast-t12 c = omega (arith, c .past-failing .ensures, past-within (c .before .before .before .before .args .detail) (c .before .before .before .before .args .start + 2 + c .before .before .before .before .args .at) (c .before .rest2 .result .now) .1, ap length (c .before .rest2 .ensures), length-drop (c .before .before .before .before .args .at) (c .before .before .rest .result .now), ap length (c .before .before .rest .ensures), length-drop 2 (c .before .before .before .before .args .raw .now), c .before .before .before .before .pre .0, c .before .before .before .before .pre .1)
+cast-t12 c =
+    let entry = c .before .before .before .before in
+    omega (
+      arith,
+      c .past-failing .ensures,
+      past-within (entry .args .detail) (entry .args .start + 2 + entry .args .at) (c .before .rest2 .result .now) .1,
+      ap length (c .before .rest2 .ensures),
+      length-drop (entry .args .at) (c .before .before .rest .result .now),
+      ap length (c .before .before .rest .ensures),
+      length-drop 2 (entry .args .raw .now),
+      entry .pre .0,
+      entry .pre .1,
+    )
 
 returns : tie.Need-returns
 returns c = simp (c .past-failing .ensures, c .before .rest2 .ensures, c .before .before .rest .ensures)

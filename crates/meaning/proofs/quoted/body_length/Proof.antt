@@ -18,7 +18,9 @@ rest-requires-3 : tie.Need-rest-requires-3
 rest-requires-3 c κs = search needs
 
 returns : tie.Need-returns
-returns c = body-after (now (c .before .before .before .before .before .args .raw)) (now (c .before .before .before .rest .result)) (now (c .before .rest2 .result)) (now (c .rest3 .result)) (c .before .before .here-line .result) (c .before .before .before .rest .ensures) (c .before .before .here-line .ensures) (c .before .rest2 .ensures) (c .rest3 .ensures)
+returns c = body-after (now (c .before .before .before .before .before .args .raw))
+    (now (c .before .before .before .rest .result)) (now (c .before .rest2 .result)) (now (c .rest3 .result)) (c .before .before .here-line .result)
+    (c .before .before .before .rest .ensures) (c .before .before .here-line .ensures) (c .before .rest2 .ensures) (c .rest3 .ensures)
 
 pub body-length-spec : {M : Type 1} → statement M
 body-length-spec =

@@ -18,11 +18,19 @@ between-requires c κs = search needs
 
 returns : tie.Need-returns
 unfolding linedText
-returns c = simp (sym (c .before .before .before .before .has-escape .ensures) ∙ c .before .before .before .if1 .taken, sym (c .before .before .decoded-length .ensures), c .before .if2 .taken) (c .between .ensures)
+returns c = simp (
+  sym (c .before .before .before .before .has-escape .ensures) ∙ c .before .before .before .if1 .taken,
+  sym (c .before .before .decoded-length .ensures),
+  c .before .if2 .taken,
+) (c .between .ensures)
 
 returns-2 : tie.Need-returns-2
 unfolding linedText
-returns-2 c = simp (sym (c .before .before .before .has-escape .ensures) ∙ c .before .before .if1 .taken, sym (c .before .decoded-length .ensures), lt-ltb 0 (c .before .decoded-length .result) (omega arith))
+returns-2 c = simp (
+  sym (c .before .before .before .has-escape .ensures) ∙ c .before .before .if1 .taken,
+  sym (c .before .decoded-length .ensures),
+  lt-ltb 0 (c .before .decoded-length .result) (omega arith),
+)
 
 between-requires-2 : tie.Need-between-requires-2
 between-requires-2 c κs = search needs

@@ -51,11 +51,13 @@ loop-less c = search needs
 
 loop-again : tie.Need-loop-again Inv-loop μ-loop
 loop-again c =
+    let turn = c .before .before .before .before in
     let a = c .before .before .before .before .before .before .before .before .before .args in
     let i = c .before .before .before .before .loop .i in
-    agree-eight (now (a .s)) (now (a .t)) (λ j. omega (arith, c .before .before .before .before .before .before .before .before .shared-slice-known .given j)) (λ j. omega (arith, c .before .before .before .before .before .before .before .shared-slice-known2 .given j)) i i (omega arith)
+    agree-eight (now (a .s)) (now (a .t)) (λ j. omega (arith, turn .before .before .before .before .shared-slice-known .given j))
+    (λ j. omega (arith, turn .before .before .before .shared-slice-known2 .given j)) i i (omega arith)
     (sym (c .before .before .eight .ensures) ∙ c .if3 .left ∙ c .before .eight2 .ensures)
-    (c .before .before .before .before .loop .inv)
+    (turn .loop .inv)
 
 eight-requires-3 : tie.Need-eight-requires-3 Inv-loop μ-loop
 eight-requires-3 c κs = omega (arith, c .before .before .if2 .left)
@@ -65,12 +67,15 @@ eight-requires-4 c κs = omega (arith, c .before .before .before .if2 .left, c .
 
 returns-4 : tie.Need-returns-4 Inv-loop μ-loop
 returns-4 c =
-    let s = now (c .before .before .before .before .before .before .before .before .args .s) in
-    let t = now (c .before .before .before .before .before .before .before .before .args .t) in
+    let branch = c .before .before .before .before in
+    let entry = branch .before .before .before .before in
+    let s = now (entry .args .s) in
+    let t = now (entry .args .t) in
     let last = length s - 8 in
-    same-by (λ (x : List ℕ). eightAt x last) s t (c .before .before .before .before .before .if1 .left)
-    (λ e j h. agree-eight s t (λ j. omega (arith, c .before .before .before .before .before .before .before .shared-slice-known .given j)) (λ j. omega (arith, c .before .before .before .before .before .before .shared-slice-known2 .given j)) last (c .before .before .before .loop .i)
-    (omega (arith, c .before .before .loop-test .left)) e (c .before .before .before .loop .inv) j (omega (arith, h, c .before .before .before .before .if2 .left)))
+    same-by (λ (x : List ℕ). eightAt x last) s t (branch .before .if1 .left)
+    (λ e j h. agree-eight s t (λ j. omega (arith, branch .before .before .before .shared-slice-known .given j))
+    (λ j. omega (arith, branch .before .before .shared-slice-known2 .given j)) last (c .before .before .before .loop .i)
+    (omega (arith, c .before .before .loop-test .left)) e (c .before .before .before .loop .inv) j (omega (arith, h, branch .if2 .left)))
     (c .before .eight3 .ensures)
     (c .eight4 .ensures)
 

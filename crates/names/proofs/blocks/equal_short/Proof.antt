@@ -37,12 +37,16 @@ four-requires-4 c κs = search needs
 
 returns-3 : tie.Need-returns-3
 returns-3 c =
-    let s = now (c .before .before .before .before .before .before .before .before .args .s) in
-    let t = now (c .before .before .before .before .before .before .before .before .args .t) in
-    let more = agree-four s t (λ j. omega (arith, c .before .before .before .before .before .before .before .shared-slice-known .given j)) (λ j. omega (arith, c .before .before .before .before .before .before .shared-slice-known2 .given j)) in
-    let first = sym (c .before .before .before .before .four .ensures .0) ∙ c .before .before .if2 .left ∙ c .before .before .before .four2 .ensures .0 in
-    same-by (λ (x : List ℕ). fourAt x (length s - 4)) s t (c .before .before .before .before .before .before .before .before .pre .0)
-    (λ e j h. more (length s - 4) (0 + 4) (omega (arith, c .before .before .before .before .before .before .before .before .pre .1)) e (more 0 0 (omega arith) first (λ k l. absurd (omega (arith, l)))) j (omega (arith, h, c .before .before .before .before .before .if1 .left)))
+    let at-four = c .before .before .before .before in
+    let entry = at-four .before .before .before .before in
+    let s = now (entry .args .s) in
+    let t = now (entry .args .t) in
+    let more = agree-four s t (λ j. omega (arith, at-four .before .before .before .shared-slice-known .given j))
+    (λ j. omega (arith, at-four .before .before .shared-slice-known2 .given j)) in
+    let first = sym (at-four .four .ensures .0) ∙ c .before .before .if2 .left ∙ c .before .before .before .four2 .ensures .0 in
+    same-by (λ (x : List ℕ). fourAt x (length s - 4)) s t (entry .pre .0)
+    (λ e j h. more (length s - 4) (0 + 4) (omega (arith, entry .pre .1)) e
+    (more 0 0 (omega arith) first (λ k l. absurd (omega (arith, l)))) j (omega (arith, h, at-four .before .if1 .left)))
     (c .before .four3 .ensures .0)
     (c .four4 .ensures .0)
 

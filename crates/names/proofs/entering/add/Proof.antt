@@ -37,30 +37,71 @@ word-requires-2 : tie.Need-word-requires-2
 word-requires-2 c κs = search needs
 
 sub-if2 : tie.Need-sub-if2
-sub-if2 c = omega (arith, used-of (now (c .before .before .before .before .before .before .before .before .args .words)) (now (c .before .before .before .before .before .before .before .before .args .bytes)) (c .before .before .before .before .before .before .before .before .args .party) (now (c .before .before .before .before .before .before .before .before .args .name)) (c .before .before .before .word .ensures) (c .word2 .ensures), c .before .before .before .before .before .before .before .before .pre .1 .1 .1 .1 .1 .1)
+sub-if2 c =
+    let entry = c .before .before .before .before .before .before .before .before in
+    omega (
+      arith,
+      used-of (now (entry .args .words))
+          (now (entry .args .bytes)) (entry .args .party) (now (entry .args .name)) (c .before .before .before .word .ensures) (c .word2 .ensures),
+      entry .pre .1 .1 .1 .1 .1 .1,
+    )
 
 same-length-2 : tie.Need-same-length-2
 same-length-2 c = search needs
 
 returns-2 : tie.Need-returns-2
-returns-2 c = new-long _ _ _ _ (c .before .before .before .before .word .ensures) (c .before .before .before .if1 .left) (c .before .word2 .ensures) (c .before .before .before .before .before .before .before .before .before .pre .1 .1 .1 .1 .1 .1) (c .if2 .taken)
+returns-2 c = new-long _ _ _ _ (c .before .before .before .before .word .ensures) (c .before .before .before .if1 .left)
+    (c .before .word2 .ensures) (c .before .before .before .before .before .before .before .before .before .pre .1 .1 .1 .1 .1 .1) (c .if2 .taken)
 
 put-requires : tie.Need-put-requires
 put-requires c κs =
+    let at-word = c .before .before .before .before .before in
+    let entry = at-word .before .before .before .before .before in
     let q = c .before .before .before .before .before .before .before .before .before .before .pre in
-    let u = used-of (now (c .before .before .before .before .before .before .before .before .before .before .args .words)) (now (c .before .before .before .before .before .before .before .before .before .before .args .bytes)) (c .before .before .before .before .before .before .before .before .before .before .args .party) (now (c .before .before .before .before .before .before .before .before .before .before .args .name)) (c .before .before .before .before .before .word .ensures) (c .before .before .word2 .ensures) in
-    (q .1 .1 .0, (q .1 .1 .1 .1 .0, (rw (q .0) (free-small (now (c .before .before .before .before .before .before .before .before .before .before .args .words)) (now (c .before .before .before .before .before .before .before .before .before .before .args .bytes)) (now (c .before .before .before .before .before .before .before .before .before .before .args .name)) (c .before .before .before .before .before .before .before .before .before .before .args .party) looks (slotOf (now (c .before .before .before .before .before .before .before .before .before .before .args .name))) (slot-small _)), (rw (q .1 .0) (mod-lt _ (omega arith)), (c .before .before .before .before .before .word .ensures, (u, (c .before .before .before .before .if1 .left, omega (arith, u, q .1 .1 .1 .1 .1 .1, c .before .if2 .left))))))))
+    let u = used-of (now (entry .args .words))
+    (now (entry .args .bytes)) (entry .args .party) (now (entry .args .name)) (at-word .word .ensures) (c .before .before .word2 .ensures) in (
+      q .1 .1 .0,
+      (
+        q .1 .1 .1 .1 .0,
+        (
+          rw (q .0) (free-small (now (entry .args .words))
+              (now (entry .args .bytes)) (now (entry .args .name)) (entry .args .party) looks (slotOf (now (entry .args .name))) (slot-small _)),
+          (
+            rw (q .1 .0) (mod-lt _ (omega arith)),
+            (at-word .word .ensures, (u, (c .before .before .before .before .if1 .left, omega (arith, u, q .1 .1 .1 .1 .1 .1, c .before .if2 .left)))),
+          ),
+        ),
+      ),
+    )
 
 mul-copy : tie.Need-mul-copy
 mul-copy c = search needs
 
 add-copy : tie.Need-add-copy
-add-copy c = omega (arith, used-of (now (c .before .before .before .before .before .before .before .before .before .before .before .before .before .before .args .words)) (now (c .before .before .before .before .before .before .before .before .before .before .before .before .before .before .args .bytes)) (c .before .before .before .before .before .before .before .before .before .before .before .before .before .before .args .party) (now (c .before .before .before .before .before .before .before .before .before .before .before .before .before .before .args .name)) (c .before .before .before .before .before .before .before .before .before .word .ensures) (c .before .before .before .before .before .before .word2 .ensures), c .before .before .before .before .before .before .before .before .before .before .before .before .before .before .pre .1 .1 .1 .1 .1 .1)
+add-copy c =
+    let entry = c .before .before .before .before .before .before .before .before .before .before .before .before .before .before in
+    omega (
+      arith,
+      used-of (now (entry .args .words)) (now (entry .args .bytes)) (entry .args .party) (now (entry .args .name))
+          (c .before .before .before .before .before .before .before .before .before .word .ensures)
+          (c .before .before .before .before .before .before .word2 .ensures),
+      entry .pre .1 .1 .1 .1 .1 .1,
+    )
 
 copy-requires : tie.Need-copy-requires
 copy-requires c κs =
+    let branch = c .before .before .before .before .before in
+    let entry = branch .before .before .before .before .before .before .before .before .before in
     let q = c .before .before .before .before .before .before .before .before .before .before .before .before .before .before .pre in
-    omega (arith, used-of (now (c .before .before .before .before .before .before .before .before .before .before .before .before .before .before .args .words)) (now (c .before .before .before .before .before .before .before .before .before .before .before .before .before .before .args .bytes)) (c .before .before .before .before .before .before .before .before .before .before .before .before .before .before .args .party) (now (c .before .before .before .before .before .before .before .before .before .before .before .before .before .before .args .name)) (c .before .before .before .before .before .before .before .before .before .word .ensures) (c .before .before .before .before .before .before .word2 .ensures), q .1 .1 .1 .1 .1 .1, q .1 .1 .1 .0, q .1 .1 .1 .1 .0, c .before .before .before .before .before .if2 .left)
+    omega (
+      arith,
+      used-of (now (entry .args .words)) (now (entry .args .bytes))
+          (entry .args .party) (now (entry .args .name)) (branch .before .before .before .before .word .ensures) (branch .before .word2 .ensures),
+      q .1 .1 .1 .1 .1 .1,
+      q .1 .1 .1 .0,
+      q .1 .1 .1 .1 .0,
+      branch .if2 .left,
+    )
 
 mul-t16 : tie.Need-mul-t16
 mul-t16 c = search needs
@@ -79,9 +120,14 @@ same-length-4 c = search needs
 
 returns-3 : tie.Need-returns-3
 returns-3 c =
+    let written = c .before .before .before .before .before .before in
+    let entry = written .before .before .before .before .before .before .before .before .before .before .before in
     let q = c .before .before .before .before .before .before .before .before .before .before .before .before .before .before .before .before .before .pre in
-    new-put _ _ _ _ (c .before .before .before .before .before .before .before .before .before .before .before .before .word .ensures) (c .before .before .before .before .before .before .before .before .before .before .before .if1 .left) (c .before .before .before .before .before .before .before .before .before .word2 .ensures) (q .1 .1 .1 .1 .1 .1) (c .before .before .before .before .before .before .before .before .if2 .left) (q .0)
-    (c .before .before .before .before .before .before .put .ensures ∙ ap (λ (t : ℕ). newWords (now (c .before .before .before .before .before .before .before .before .before .before .before .before .before .before .before .before .before .args .words)) (c .before .before .before .before .before .before .before .before .before .before .before .before .before .before .before .before .before .args .party) (c .before .before .before .before .before .before .before .before .before .before .before .before .before .before .before .before .before .args .slot) t (length (now (c .before .before .before .before .before .before .before .before .before .before .before .before .before .before .before .before .before .args .name)))) (q .1 .0))
+    new-put _ _ _ _
+    (written .before .before .before .before .before .before .word .ensures) (written .before .before .before .before .before .if1 .left)
+    (written .before .before .before .word2 .ensures) (q .1 .1 .1 .1 .1 .1) (written .before .before .if2 .left) (q .0)
+    (written .put .ensures
+    ∙ ap (λ (t : ℕ). newWords (now (entry .args .words)) (entry .args .party) (entry .args .slot) t (length (now (entry .args .name)))) (q .1 .0))
     (c .before .before .copy .ensures)
 
 pub add-spec : {M : Type 1} → statement M

@@ -27,7 +27,10 @@ add-bytes : tie.Need-add-bytes Inv-loop μ-loop
 add-bytes c = search needs
 
 slice-write-bytes : tie.Need-slice-write-bytes Inv-loop μ-loop
-slice-write-bytes c = rw (c .before .before .loop .inv .1) (rw (length-paste (c .before .before .before .args .bytes .now) (c .before .before .before .args .at) (c .before .before .before .args .name .now) (c .before .before .loop .i) (omega arith) (omega arith)) (omega arith))
+slice-write-bytes c =
+    let entry = c .before .before .before in
+    rw (c .before .before .loop .inv .1) (rw (length-paste (entry .args .bytes .now)
+    (entry .args .at) (entry .args .name .now) (c .before .before .loop .i) (omega arith) (omega arith)) (omega arith))
 
 add-i : tie.Need-add-i Inv-loop μ-loop
 add-i c = search needs
@@ -36,13 +39,23 @@ loop-less : tie.Need-loop-less Inv-loop μ-loop
 loop-less c = search needs
 
 loop-again : tie.Need-loop-again Inv-loop μ-loop
-loop-again c = (omega arith, rw (c .before .before .loop .inv .1, add-one) (paste-suc (c .before .before .before .args .bytes .now) (c .before .before .before .args .at) (c .before .before .before .args .name .now) (c .before .before .loop .i) 0 (omega arith) (omega arith)))
+loop-again c =
+    let entry = c .before .before .before in (
+      omega arith,
+      rw (c .before .before .loop .inv .1, add-one)
+          (paste-suc (entry .args .bytes .now) (entry .args .at) (entry .args .name .now) (c .before .before .loop .i) 0 (omega arith) (omega arith)),
+    )
 
 same-length : tie.Need-same-length Inv-loop μ-loop
-same-length c = ap length (c .before .loop .inv .1) ∙ length-paste (c .before .before .args .bytes .now) (c .before .before .args .at) (c .before .before .args .name .now) (c .before .loop .i) (omega arith) (omega arith)
+same-length c =
+    let entry = c .before .before in
+    ap length (c .before .loop .inv .1)
+    ∙ length-paste (entry .args .bytes .now) (entry .args .at) (entry .args .name .now) (c .before .loop .i) (omega arith) (omega arith)
 
 returns : tie.Need-returns Inv-loop μ-loop
-returns c = laid-all (c .before .before .args .bytes .now) (c .before .before .args .at) (c .before .before .args .name .now) (c .before .loop .i) (c .before .loop .inv .1) (omega arith)
+returns c =
+    let entry = c .before .before in
+    laid-all (entry .args .bytes .now) (entry .args .at) (entry .args .name .now) (c .before .loop .i) (c .before .loop .inv .1) (omega arith)
 
 pub copy-spec : {M : Type 1} → statement M
 copy-spec =

@@ -41,7 +41,13 @@ enum-known-number : tie.Need-enum-known-number
 enum-known-number c = search needs
 
 cast-t22 : tie.Need-cast-t22
-cast-t22 c = omega (arith, number-small _ _ _ (bounds _ _ (sym (c .before .before .before .before .before .before .before .before .before .in-bounds .ensures) ∙ not-false _ (c .before .before .before .before .before .before .before .before .if1 .left)) .few) (find-in _ _ _ _ (c .before .before .before .before .before .before .before .if2 .left) (sym (c .before .before .before .find .ensures .0) ∙ c .before .number .given .1)))
+cast-t22 c =
+    let branch = c .before .before .before .before .before .before .before in
+    omega (
+      arith,
+      number-small _ _ _ (bounds _ _ (sym (branch .before .before .in-bounds .ensures) ∙ not-false _ (branch .before .if1 .left)) .few)
+          (find-in _ _ _ _ (branch .if2 .left) (sym (c .before .before .before .find .ensures .0) ∙ c .before .number .given .1)),
+    )
 
 enum-told : tie.Need-enum-told
 enum-told c = search needs
@@ -51,9 +57,13 @@ tag-of-requires c κs = search needs
 
 add-requires : tie.Need-add-requires
 add-requires c κs =
-    let B = bounds _ _ (sym (c .before .before .before .before .before .before .before .before .before .before .before .in-bounds .ensures) ∙ not-false _ (c .before .before .before .before .before .before .before .before .before .before .if1 .left)) in
-    let two = c .before .before .before .before .before .before .before .before .before .if2 .left in
-    (c .before .before .before .before .before .find .ensures .1, (c .tag-of .ensures ∙ rw (c .before .before .before .before .before .before .before .before .hash .ensures), (B .words, (B .bytes, (two, (B .few _ two, B .short _ two))))))
+    let found = c .before .before .before .before .before in
+    let B = bounds _ _ (sym (found .before .before .before .before .before .before .in-bounds .ensures)
+    ∙ not-false _ (found .before .before .before .before .before .if1 .left)) in
+    let two = c .before .before .before .before .before .before .before .before .before .if2 .left in (
+      found .find .ensures .1,
+      (c .tag-of .ensures ∙ rw (found .before .before .before .hash .ensures), (B .words, (B .bytes, (two, (B .few _ two, B .short _ two))))),
+    )
 
 same-length-5 : tie.Need-same-length-5
 same-length-5 c = search needs
@@ -62,7 +72,10 @@ same-length-6 : tie.Need-same-length-6
 same-length-6 c = search needs
 
 returns-3 : tie.Need-returns-3
-returns-3 c = enter-there _ _ _ _ (sym (c .before .before .before .before .before .before .before .before .before .in-bounds .ensures) ∙ not-false _ (c .before .before .before .before .before .before .before .before .if1 .left)) (c .before .before .before .before .before .before .before .if2 .left) (sym (c .before .before .before .find .ensures .0) ∙ c .before .number .given .1)
+returns-3 c =
+    let branch = c .before .before .before .before .before .before .before in
+    enter-there _ _ _ _ (sym (branch .before .before .in-bounds .ensures) ∙ not-false _ (branch .before .if1 .left))
+    (branch .if2 .left) (sym (c .before .before .before .find .ensures .0) ∙ c .before .number .given .1)
 
 same-length-7 : tie.Need-same-length-7
 same-length-7 c = search needs
@@ -71,7 +84,12 @@ same-length-8 : tie.Need-same-length-8
 same-length-8 c = search needs
 
 returns-4 : tie.Need-returns-4
-returns-4 c = enter-new _ _ _ _ (sym (c .before .before .before .before .before .before .before .before .before .before .before .before .before .before .before .before .in-bounds .ensures) ∙ not-false _ (c .before .before .before .before .before .before .before .before .before .before .before .before .before .before .before .if1 .left)) (c .before .before .before .before .before .before .before .before .before .before .before .before .before .before .if2 .left) (sym (c .before .before .before .before .before .before .before .before .before .before .find .ensures .0) ∙ c .before .before .before .before .before .before .before .before .enum-told .given .1) (c .before .before .before .before .add .ensures)
+returns-4 c =
+    let added = c .before .before .before .before in
+    let told = added .before .before .before .before in
+    let branch = told .before .before .before .before .before .before in
+    enter-new _ _ _ _ (sym (branch .before .before .in-bounds .ensures) ∙ not-false _ (branch .before .if1 .left))
+    (branch .if2 .left) (sym (told .before .before .find .ensures .0) ∙ told .enum-told .given .1) (added .add .ensures)
 
 pub enter-spec : {M : Type 1} → statement M
 enter-spec =

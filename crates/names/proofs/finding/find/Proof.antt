@@ -38,9 +38,14 @@ lookup-requires c κs =
 
 returns : tie.Need-returns Inv-loop μ-loop
 returns c =
+    let entry = c .before .before .before .before .before .before in
     ⊎-elim
     (λ e. absurd (c .if1 .taken e))
-    (λ e. (find-other (now (c .before .before .before .before .before .before .args .words)) (now (c .before .before .before .before .before .before .args .bytes)) (c .before .before .before .before .before .before .args .party) (now (c .before .before .before .before .before .before .args .name)) (e .1) (c .before .lookup .ensures .0 ∙ rw (e .0)), e .2))
+    (λ e. (
+      find-other (now (entry .args .words))
+          (now (entry .args .bytes)) (entry .args .party) (now (entry .args .name)) (e .1) (c .before .lookup .ensures .0 ∙ rw (e .0)),
+      e .2,
+    ))
     (c .before .before .loop .inv)
 
 enum-told : tie.Need-enum-told Inv-loop μ-loop
@@ -48,9 +53,13 @@ enum-told c = search needs
 
 returns-2 : tie.Need-returns-2 Inv-loop μ-loop
 returns-2 c =
+    let entry = c .before .before .before .before .before .before .before .before in
     let e = c .before .before .if1 .left in
-    let said = c .before .before .before .lookup .ensures in
-    (find-own (now (c .before .before .before .before .before .before .before .before .args .words)) (now (c .before .before .before .before .before .before .before .before .args .bytes)) (c .before .before .before .before .before .before .before .before .args .party) (now (c .before .before .before .before .before .before .before .before .args .name)) (c .enum-told .given .1) (said .0 ∙ rw e), said .1 ∙ rw e)
+    let said = c .before .before .before .lookup .ensures in (
+      find-own (now (entry .args .words))
+          (now (entry .args .bytes)) (entry .args .party) (now (entry .args .name)) (c .enum-told .given .1) (said .0 ∙ rw e),
+      said .1 ∙ rw e,
+    )
 
 enum-told-2 : tie.Need-enum-told-2 Inv-loop μ-loop
 enum-told-2 c = search needs

@@ -34,13 +34,22 @@ loop-less : tie.Need-loop-less Inv-loop μ-loop
 loop-less c = search needs
 
 loop-again : tie.Need-loop-again Inv-loop μ-loop
-loop-again c = (omega (arith, c .before .before .loop-test .taken), c .turn .ensures .1, c .before .before .before .loop .inv .2 ∙ mix-more (c .before .before .before .loop .h) (c .before .before .before .before .before .args .name .now) (c .before .before .before .loop .i) (omega (arith, c .before .before .loop-test .taken)) ∙ rw (c .turn .ensures .0, c .before .four .ensures .0))
+loop-again c =
+    let turn = c .before .before .before in (
+      omega (arith, c .before .before .loop-test .taken),
+      c .turn .ensures .1,
+      turn .loop .inv .2 ∙ mix-more (turn .loop .h) (turn .before .before .args .name .now)
+          (turn .loop .i) (omega (arith, c .before .before .loop-test .taken)) ∙ rw (c .turn .ensures .0, c .before .four .ensures .0),
+    )
 
 rest-requires : tie.Need-rest-requires Inv-loop μ-loop
 rest-requires c κs = (c .before .loop .inv .0, c .before .loop .inv .1)
 
 returns : tie.Need-returns Inv-loop μ-loop
-returns c = c .rest .ensures ∙ sym (c .before .before .loop .inv .2 ∙ mix-rest (c .before .before .loop .h) (c .before .before .before .before .args .name .now) (c .before .before .loop .i) (omega (arith, c .before .loop-test .left)))
+returns c =
+    let turn = c .before .before in
+    c .rest .ensures ∙ sym (turn .loop .inv .2
+    ∙ mix-rest (turn .loop .h) (turn .before .before .args .name .now) (turn .loop .i) (omega (arith, c .before .loop-test .left)))
 
 pub hash-spec : {M : Type 1} → statement M
 hash-spec =

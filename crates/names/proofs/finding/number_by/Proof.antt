@@ -16,7 +16,14 @@ mul-t8 : tie.Need-mul-t8
 mul-t8 c = search needs
 
 add-t9 : tie.Need-add-t9
-add-t9 c = omega (arith, bears-in (now (c .before .before .before .before .before .before .args .words)) (now (c .before .before .before .before .before .before .args .bytes)) (c .before .before .before .before .before .before .args .party) (now (c .before .before .before .before .before .before .args .name)) _ (probe-in (now (c .before .before .before .before .before .before .args .words)) (now (c .before .before .before .before .before .before .args .bytes)) (c .before .before .before .before .before .before .args .party) (now (c .before .before .before .before .before .before .args .name)) looks _ (sym (c .before .before .before .before .before .before .pre .0) ∙ c .before .x .given .1)))
+add-t9 c =
+    let entry = c .before .before .before .before .before .before in
+    omega (
+      arith,
+      bears-in
+          (now (entry .args .words)) (now (entry .args .bytes)) (entry .args .party) (now (entry .args .name)) _ (probe-in (now (entry .args .words))
+          (now (entry .args .bytes)) (entry .args .party) (now (entry .args .name)) looks _ (sym (entry .pre .0) ∙ c .before .x .given .1)),
+    )
 
 enum-told : tie.Need-enum-told
 enum-told c = search needs
@@ -28,13 +35,22 @@ scan-requires : tie.Need-scan-requires
 scan-requires c κs = search needs
 
 returns : tie.Need-returns
-returns c = lookup-entry (now (c .before .before .before .before .before .before .args .words)) (now (c .before .before .before .before .before .before .args .bytes)) (c .before .before .before .before .before .before .args .party) (now (c .before .before .before .before .before .before .args .name)) _ (sym (c .before .before .before .before .before .before .pre .0) ∙ c .before .x .given .1)
+returns c =
+    let entry = c .before .before .before .before .before .before in
+    lookup-entry (now (entry .args .words))
+    (now (entry .args .bytes)) (entry .args .party) (now (entry .args .name)) _ (sym (entry .pre .0) ∙ c .before .x .given .1)
 
 returns-2 : tie.Need-returns-2
-returns-2 c = lookup-free (now (c .before .before .before .before .before .args .words)) (now (c .before .before .before .before .before .args .bytes)) (c .before .before .before .before .before .args .party) (now (c .before .before .before .before .before .args .name)) _ (sym (c .before .before .before .before .before .pre .0) ∙ c .enum-told .given .1)
+returns-2 c =
+    let entry = c .before .before .before .before .before in
+    lookup-free (now (entry .args .words))
+    (now (entry .args .bytes)) (entry .args .party) (now (entry .args .name)) _ (sym (entry .pre .0) ∙ c .enum-told .given .1)
 
 returns-3 : tie.Need-returns-3
-returns-3 c = lookup-full (now (c .before .before .before .before .before .before .args .words)) (now (c .before .before .before .before .before .before .args .bytes)) (c .before .before .before .before .before .before .args .party) (now (c .before .before .before .before .before .before .args .name)) (sym (c .before .before .before .before .before .before .pre .0) ∙ c .before .enum-told2 .given .1) (c .scan .ensures)
+returns-3 c =
+    let entry = c .before .before .before .before .before .before in
+    lookup-full (now (entry .args .words)) (now (entry .args .bytes))
+    (entry .args .party) (now (entry .args .name)) (sym (entry .pre .0) ∙ c .before .enum-told2 .given .1) (c .scan .ensures)
 
 pub number-by-spec : {M : Type 1} → statement M
 number-by-spec =

@@ -29,7 +29,9 @@ slot-of-requires : tie.Need-slot-of-requires Inv-loop μ-loop
 slot-of-requires c κs = rw (c .before .before .before .before .pre .0) (hash-small _)
 
 loop-holds : tie.Need-loop-holds Inv-loop μ-loop
-loop-holds c = (rw (c .slot-of .ensures, c .before .before .before .before .before .pre .0) (slot-small _), c .before .tag-of .ensures ∙ rw (c .before .before .before .before .before .pre .0), rw (c .slot-of .ensures, c .before .before .before .before .before .pre .0))
+loop-holds c =
+    let entry = c .before .before .before .before .before in
+    (rw (c .slot-of .ensures, entry .pre .0) (slot-small _), c .before .tag-of .ensures ∙ rw (entry .pre .0), rw (c .slot-of .ensures, entry .pre .0))
 
 add-word : tie.Need-add-word Inv-loop μ-loop
 add-word c = search needs
@@ -38,16 +40,29 @@ word-requires : tie.Need-word-requires Inv-loop μ-loop
 word-requires c κs = search needs
 
 returns : tie.Need-returns Inv-loop μ-loop
-returns c = probe-free (now (c .before .before .before .before .before .before .before .before .before .args .words)) (now (c .before .before .before .before .before .before .before .before .before .args .bytes)) (c .before .before .before .before .before .before .before .before .before .args .party) (now (c .before .before .before .before .before .before .before .before .before .args .name)) (c .before .before .before .loop .left) (c .before .before .before .loop .s) (c .before .word .ensures) (c .before .before .loop-test .taken) (c .if1 .taken) ∙ c .before .before .before .loop .inv .2
+returns c =
+    let turn = c .before .before .before in
+    let entry = turn .before .before .before .before .before .before in
+    probe-free (now (entry .args .words)) (now (entry .args .bytes)) (entry .args .party) (now (entry .args .name))
+    (turn .loop .left) (turn .loop .s) (c .before .word .ensures) (c .before .before .loop-test .taken) (c .if1 .taken) ∙ turn .loop .inv .2
 
 proposes-requires : tie.Need-proposes-requires Inv-loop μ-loop
-proposes-requires c κs = (c .before .before .before .loop .inv .1, (omega (arith, c .if1 .left), (c .before .before .before .before .before .before .before .before .before .pre .1 .0, (c .before .before .before .before .before .before .before .before .before .pre .1 .1 .0, (c .before .before .before .before .before .before .before .before .before .pre .1 .1 .1 .0, c .before .before .before .before .before .before .before .before .before .pre .1 .1 .1 .1)))))
+proposes-requires c κs =
+    let entry = c .before .before .before .before .before .before .before .before .before in (
+      c .before .before .before .loop .inv .1,
+      (omega (arith, c .if1 .left), (entry .pre .1 .0, (entry .pre .1 .1 .0, (entry .pre .1 .1 .1 .0, entry .pre .1 .1 .1 .1)))),
+    )
 
 sub-t15 : tie.Need-sub-t15 Inv-loop μ-loop
 sub-t15 c = omega (arith, c .before .before .if1 .left)
 
 returns-2 : tie.Need-returns-2 Inv-loop μ-loop
-returns-2 c = probe-hit (now (c .before .before .before .before .before .before .before .before .before .before .before .args .words)) (now (c .before .before .before .before .before .before .before .before .before .before .before .args .bytes)) (c .before .before .before .before .before .before .before .before .before .before .before .args .party) (now (c .before .before .before .before .before .before .before .before .before .before .before .args .name)) (c .before .before .before .before .before .loop .left) (c .before .before .before .before .before .loop .s) (c .before .before .before .word .ensures) (c .before .before .before .before .loop-test .taken) (c .before .before .if1 .left) (sym (c .before .proposes .ensures) ∙ c .if2 .taken) ∙ c .before .before .before .before .before .loop .inv .2
+returns-2 c =
+    let turn = c .before .before .before .before .before in
+    let entry = turn .before .before .before .before .before .before in
+    probe-hit (now (entry .args .words)) (now (entry .args .bytes)) (entry .args .party) (now (entry .args .name))
+    (turn .loop .left) (turn .loop .s) (c .before .before .before .word .ensures) (c .before .before .before .before .loop-test .taken)
+    (c .before .before .if1 .left) (sym (c .before .proposes .ensures) ∙ c .if2 .taken) ∙ turn .loop .inv .2
 
 add-s : tie.Need-add-s Inv-loop μ-loop
 add-s c = search needs
@@ -59,10 +74,21 @@ loop-less : tie.Need-loop-less Inv-loop μ-loop
 loop-less c = search needs
 
 loop-again : tie.Need-loop-again Inv-loop μ-loop
-loop-again c = (next-small _, c .before .before .before .before .before .loop .inv .1, probe-miss (now (c .before .before .before .before .before .before .before .before .before .before .before .args .words)) (now (c .before .before .before .before .before .before .before .before .before .before .before .args .bytes)) (c .before .before .before .before .before .before .before .before .before .before .before .args .party) (now (c .before .before .before .before .before .before .before .before .before .before .before .args .name)) (c .before .before .before .before .before .loop .left) (c .before .before .before .before .before .loop .s) (c .before .before .before .word .ensures) (c .before .before .before .before .loop-test .taken) (c .before .before .if1 .left) (sym (c .before .proposes .ensures) ∙ c .if2 .left) ∙ c .before .before .before .before .before .loop .inv .2)
+loop-again c =
+    let turn = c .before .before .before .before .before in
+    let entry = turn .before .before .before .before .before .before in (
+      next-small _,
+      turn .loop .inv .1,
+      probe-miss (now (entry .args .words)) (now (entry .args .bytes)) (entry .args .party) (now (entry .args .name))
+          (turn .loop .left) (turn .loop .s) (c .before .before .before .word .ensures) (c .before .before .before .before .loop-test .taken)
+          (c .before .before .if1 .left) (sym (c .before .proposes .ensures) ∙ c .if2 .left) ∙ turn .loop .inv .2,
+    )
 
 returns-3 : tie.Need-returns-3 Inv-loop μ-loop
-returns-3 c = probe-end (now (c .before .before .before .before .before .before .before .args .words)) (now (c .before .before .before .before .before .before .before .args .bytes)) (c .before .before .before .before .before .before .before .args .party) (now (c .before .before .before .before .before .before .before .args .name)) (c .before .loop .left) (c .before .loop .s) (omega arith) ∙ c .before .loop .inv .2
+returns-3 c =
+    let entry = c .before .before .before .before .before .before .before in
+    probe-end (now (entry .args .words)) (now (entry .args .bytes))
+    (entry .args .party) (now (entry .args .name)) (c .before .loop .left) (c .before .loop .s) (omega arith) ∙ c .before .loop .inv .2
 
 pub probe-spec : {M : Type 1} → statement M
 probe-spec =

@@ -31,7 +31,11 @@ loop-less : tie.Need-loop-less Inv-loop μ-loop
 loop-less c = search needs
 
 loop-again : tie.Need-loop-again Inv-loop μ-loop
-loop-again c = (omega arith, c .turn .ensures .1, c .before .before .before .loop .inv .2 ∙ rest-more _ _ _ (c .before .before .loop-test .taken) ∙ rw (c .turn .ensures .0, c .before .byte .ensures .0))
+loop-again c = (
+  omega arith,
+  c .turn .ensures .1,
+  c .before .before .before .loop .inv .2 ∙ rest-more _ _ _ (c .before .before .loop-test .taken) ∙ rw (c .turn .ensures .0, c .before .byte .ensures .0),
+)
 
 returns : tie.Need-returns Inv-loop μ-loop
 returns c = sym (c .before .loop .inv .2 ∙ rest-all _ _ _ (c .loop-test .left))

@@ -22,7 +22,9 @@ word-requires : tie.Need-word-requires Inv-loop μ-loop
 word-requires c κs = search needs
 
 loop-holds : tie.Need-loop-holds Inv-loop μ-loop
-loop-holds c = (omega arith, scan-start (now (c .before .before .before .before .args .words)) (now (c .before .before .before .before .args .bytes)) (c .before .before .before .before .args .party) (now (c .before .before .before .before .args .name)) (c .word .ensures))
+loop-holds c =
+    let entry = c .before .before .before .before in
+    (omega arith, scan-start (now (entry .args .words)) (now (entry .args .bytes)) (entry .args .party) (now (entry .args .name)) (c .word .ensures))
 
 bears-requires : tie.Need-bears-requires Inv-loop μ-loop
 bears-requires c κs = search needs
@@ -34,7 +36,11 @@ add-t11 : tie.Need-add-t11 Inv-loop μ-loop
 add-t11 c = omega (arith, c .before .before .before .before .word .ensures)
 
 returns : tie.Need-returns Inv-loop μ-loop
-returns c = scan-hit (now (c .before .before .before .before .before .before .before .before .args .words)) (now (c .before .before .before .before .before .before .before .before .args .bytes)) (c .before .before .before .before .before .before .before .before .args .party) (now (c .before .before .before .before .before .before .before .before .args .name)) (c .before .before .before .before .word .result) (c .before .before .before .loop .k) (c .before .before .loop-test .taken) (sym (c .before .bears .ensures) ∙ c .if1 .taken) ∙ c .before .before .before .loop .inv .1
+returns c =
+    let entry = c .before .before .before .before .before .before .before .before in
+    scan-hit (now (entry .args .words)) (now (entry .args .bytes))
+    (entry .args .party) (now (entry .args .name)) (c .before .before .before .before .word .result) (c .before .before .before .loop .k)
+    (c .before .before .loop-test .taken) (sym (c .before .bears .ensures) ∙ c .if1 .taken) ∙ c .before .before .before .loop .inv .1
 
 add-k : tie.Need-add-k Inv-loop μ-loop
 add-k c = search needs
@@ -43,10 +49,19 @@ loop-less : tie.Need-loop-less Inv-loop μ-loop
 loop-less c = search needs
 
 loop-again : tie.Need-loop-again Inv-loop μ-loop
-loop-again c = (omega arith, scan-miss (now (c .before .before .before .before .before .before .before .before .args .words)) (now (c .before .before .before .before .before .before .before .before .args .bytes)) (c .before .before .before .before .before .before .before .before .args .party) (now (c .before .before .before .before .before .before .before .before .args .name)) (c .before .before .before .before .word .result) (c .before .before .before .loop .k) (c .before .before .loop-test .taken) (sym (c .before .bears .ensures) ∙ c .if1 .left) ∙ c .before .before .before .loop .inv .1)
+loop-again c =
+    let entry = c .before .before .before .before .before .before .before .before in (
+      omega arith,
+      scan-miss (now (entry .args .words)) (now (entry .args .bytes))
+          (entry .args .party) (now (entry .args .name)) (c .before .before .before .before .word .result) (c .before .before .before .loop .k)
+          (c .before .before .loop-test .taken) (sym (c .before .bears .ensures) ∙ c .if1 .left) ∙ c .before .before .before .loop .inv .1,
+    )
 
 returns-2 : tie.Need-returns-2 Inv-loop μ-loop
-returns-2 c = scan-end (now (c .before .before .before .before .before .before .args .words)) (now (c .before .before .before .before .before .before .args .bytes)) (c .before .before .before .before .before .before .args .party) (now (c .before .before .before .before .before .before .args .name)) (c .before .before .word .result) (c .before .loop .k) (c .loop-test .left) ∙ c .before .loop .inv .1
+returns-2 c =
+    let entry = c .before .before .before .before .before .before in
+    scan-end (now (entry .args .words)) (now (entry .args .bytes)) (entry .args .party)
+    (now (entry .args .name)) (c .before .before .word .result) (c .before .loop .k) (c .loop-test .left) ∙ c .before .loop .inv .1
 
 pub scan-spec : {M : Type 1} → statement M
 scan-spec =

@@ -23,11 +23,14 @@ half-in-bounds-requires-2 c κs = search needs
 
 returns-3 : tie.Need-returns-3
 unfolding inBounds
-returns-3 c = if-yes _ _ _ (le-leb _ _ (c .before .before .before .before .if1 .left)) (if-yes _ _ _ (le-leb _ _ (c .before .before .before .if2 .left)) (if-yes _ _ _ (sym (c .before .before .half-in-bounds .ensures) ∙ c .before .if3 .taken) (c .half-in-bounds2 .ensures)))
+returns-3 c =
+    if-yes _ _ _ (le-leb _ _ (c .before .before .before .before .if1 .left)) (if-yes _ _ _ (le-leb _ _ (c .before .before .before .if2 .left))
+    (if-yes _ _ _ (sym (c .before .before .half-in-bounds .ensures) ∙ c .before .if3 .taken) (c .half-in-bounds2 .ensures)))
 
 returns-4 : tie.Need-returns-4
 unfolding inBounds
-returns-4 c = if-yes _ _ _ (le-leb _ _ (c .before .before .before .if1 .left)) (if-yes _ _ _ (le-leb _ _ (c .before .before .if2 .left)) (if-no _ _ _ (sym (c .before .half-in-bounds .ensures) ∙ c .if3 .left) refl))
+returns-4 c = if-yes _ _ _ (le-leb _ _ (c .before .before .before .if1 .left))
+    (if-yes _ _ _ (le-leb _ _ (c .before .before .if2 .left)) (if-no _ _ _ (sym (c .before .half-in-bounds .ensures) ∙ c .if3 .left) refl))
 
 pub in-bounds-spec : {M : Type 1} → statement M
 in-bounds-spec =

@@ -13,13 +13,22 @@ place-at-requires : tie.Need-place-at-requires
 place-at-requires c κs = search needs
 
 sub-result : tie.Need-sub-result
-sub-result c = rw (c .place-at .ensures) (let q = place-within (now (c .before .before .before .args .words)) (c .before .before .before .args .party) (c .before .before .before .args .k) (c .before .before .before .pre .1 .1 .0) in let f = q .forth in let s = q .short in omega (arith, c .before .before .before .pre .1 .0))
+sub-result c =
+    let entry = c .before .before .before in
+    rw (c .place-at .ensures) (let q = place-within (now (entry .args .words)) (entry .args .party) (entry .args .k) (entry .pre .1 .1 .0) in
+    let f = q .forth in let s = q .short in omega (arith, entry .pre .1 .0))
 
 part-result-start : tie.Need-part-result-start
-part-result-start c = rw (c .place-at .ensures) (let q = place-within (now (c .before .before .before .args .words)) (c .before .before .before .args .party) (c .before .before .before .args .k) (c .before .before .before .pre .1 .1 .0) in let f = q .forth in let s = q .short in omega (arith, c .before .before .before .pre .1 .0))
+part-result-start c =
+    let entry = c .before .before .before in
+    rw (c .place-at .ensures) (let q = place-within (now (entry .args .words)) (entry .args .party) (entry .args .k) (entry .pre .1 .1 .0) in
+    let f = q .forth in let s = q .short in omega (arith, entry .pre .1 .0))
 
 part-result-end : tie.Need-part-result-end
-part-result-end c = rw (c .place-at .ensures) (let q = place-within (now (c .before .before .before .args .words)) (c .before .before .before .args .party) (c .before .before .before .args .k) (c .before .before .before .pre .1 .1 .0) in let f = q .forth in let s = q .short in omega (arith, c .before .before .before .pre .1 .0))
+part-result-end c =
+    let entry = c .before .before .before in
+    rw (c .place-at .ensures) (let q = place-within (now (entry .args .words)) (entry .args .party) (entry .args .k) (entry .pre .1 .1 .0) in
+    let f = q .forth in let s = q .short in omega (arith, entry .pre .1 .0))
 
 returns : tie.Need-returns
 unfolding nameAt

@@ -36,7 +36,8 @@ nowhere-requires-2 : tie.Need-nowhere-requires-2
 nowhere-requires-2 c κs = search needs
 
 returns-2 : tie.Need-returns-2
-returns-2 c = c .nowhere2 .ensures ∙ place-past _ _ _ (c .before .before .before .before .word .ensures) (c .before .before .before .word2 .ensures) (c .before .before .if1 .left) (c .before .if2 .taken)
+returns-2 c = c .nowhere2 .ensures ∙ place-past _ _ _ (c .before .before .before .before .word .ensures)
+    (c .before .before .before .word2 .ensures) (c .before .before .if1 .left) (c .before .if2 .taken)
 
 mul-start : tie.Need-mul-start
 mul-start c = search needs

@@ -23,10 +23,12 @@ word-requires : tie.Need-word-requires
 word-requires c κs = omega (arith, bounds _ _ (sym (c .before .before .in-bounds .ensures) ∙ not-false _ (c .before .if1 .left)) .words, party-of _ (c .if2 .left))
 
 returns-3 : tie.Need-returns-3
-returns-3 c = mark-none _ _ _ (sym (c .before .before .before .before .in-bounds .ensures) ∙ not-false _ (c .before .before .before .if1 .left)) (c .before .before .if2 .left) (c .before .word .ensures) (c .if3 .taken)
+returns-3 c = mark-none _ _ _ (sym (c .before .before .before .before .in-bounds .ensures) ∙ not-false _ (c .before .before .before .if1 .left))
+    (c .before .before .if2 .left) (c .before .word .ensures) (c .if3 .taken)
 
 returns-4 : tie.Need-returns-4
-returns-4 c = mark-there _ _ _ (sym (c .before .before .before .before .in-bounds .ensures) ∙ not-false _ (c .before .before .before .if1 .left)) (c .before .before .if2 .left) (c .before .word .ensures) (c .if3 .left)
+returns-4 c = mark-there _ _ _ (sym (c .before .before .before .before .in-bounds .ensures) ∙ not-false _ (c .before .before .before .if1 .left))
+    (c .before .before .if2 .left) (c .before .word .ensures) (c .if3 .left)
 
 pub name-mark-spec : {M : Type 1} → statement M
 name-mark-spec =

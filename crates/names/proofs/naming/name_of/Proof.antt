@@ -14,13 +14,22 @@ place-of-requires : tie.Need-place-of-requires
 place-of-requires c κs = search needs
 
 sub-result : tie.Need-sub-result
-sub-result c = rw (c .place-of .ensures) (let q = place-inside (now (c .before .before .before .args .words)) (now (c .before .before .before .args .bytes)) (c .before .before .before .args .number) in let f = q .forth in let s = q .short in omega arith)
+sub-result c =
+    let entry = c .before .before .before in
+    rw (c .place-of .ensures) (let q = place-inside (now (entry .args .words)) (now (entry .args .bytes)) (entry .args .number) in
+    let f = q .forth in let s = q .short in omega arith)
 
 part-result-start : tie.Need-part-result-start
-part-result-start c = rw (c .place-of .ensures) (let q = place-inside (now (c .before .before .before .args .words)) (now (c .before .before .before .args .bytes)) (c .before .before .before .args .number) in let f = q .forth in let s = q .short in omega arith)
+part-result-start c =
+    let entry = c .before .before .before in
+    rw (c .place-of .ensures) (let q = place-inside (now (entry .args .words)) (now (entry .args .bytes)) (entry .args .number) in
+    let f = q .forth in let s = q .short in omega arith)
 
 part-result-end : tie.Need-part-result-end
-part-result-end c = rw (c .place-of .ensures) (let q = place-inside (now (c .before .before .before .args .words)) (now (c .before .before .before .args .bytes)) (c .before .before .before .args .number) in let f = q .forth in let s = q .short in omega arith)
+part-result-end c =
+    let entry = c .before .before .before in
+    rw (c .place-of .ensures) (let q = place-inside (now (entry .args .words)) (now (entry .args .bytes)) (entry .args .number) in
+    let f = q .forth in let s = q .short in omega arith)
 
 returns : tie.Need-returns
 unfolding nameOf

@@ -41,8 +41,9 @@ returns-2 c =
 
 returns-3 : tie.Need-returns-3
 returns-3 c =
-    rectangular-pair _ _ _ (c .before .before .before .before .before .before .before .if1 .left) _
-    (c .before .before .before .before .before .is-marker .ensures) _ (c .before .before .before .before .to-sign .ensures)
+    let at-to-sign = c .before .before .before .before in
+    rectangular-pair _ _ _ (at-to-sign .before .before .before .if1 .left) _
+    (at-to-sign .before .is-marker .ensures) _ (at-to-sign .to-sign .ensures)
     (c .before .before .before .if2 .taken) _ (c .before .before .to-sign2 .ensures) _ (c .before .if3 .left) (c .pair .ensures)
 
 returns-4 : tie.Need-returns-4

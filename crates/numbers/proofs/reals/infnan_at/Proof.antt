@@ -33,9 +33,10 @@ equal-from-requires-3 c κs = search needs
 
 returns-3 : tie.Need-returns-3
 returns-3 c =
+    let compared = c .before .before .before .before in
     infnan-3 _
-    (sym (c .before .before .before .before .before .before .if1 .left) ∙ c .before .before .before .before .before .before .before .equal-from .ensures)
-    (sym (c .before .before .before .if2 .left) ∙ c .before .before .before .before .equal-from2 .ensures)
+    (sym (compared .before .before .if1 .left) ∙ compared .before .before .before .equal-from .ensures)
+    (sym (c .before .before .before .if2 .left) ∙ compared .equal-from2 .ensures)
     (sym (c .if3 .taken) ∙ c .before .equal-from3 .ensures)
 
 slice-aggregate-equal-from-4 : tie.Need-slice-aggregate-equal-from-4
@@ -46,18 +47,20 @@ equal-from-requires-4 c κs = search needs
 
 returns-4 : tie.Need-returns-4
 returns-4 c =
+    let compared = c .before .before .before .before in
     infnan-4 _
-    (sym (c .before .before .before .before .before .before .before .before .before .if1 .left) ∙ c .before .before .before .before .before .before .before .before .before .before .equal-from .ensures)
-    (sym (c .before .before .before .before .before .before .if2 .left) ∙ c .before .before .before .before .before .before .before .equal-from2 .ensures)
-    (sym (c .before .before .before .if3 .left) ∙ c .before .before .before .before .equal-from3 .ensures)
+    (sym (compared .before .before .before .before .before .if1 .left) ∙ compared .before .before .before .before .before .before .equal-from .ensures)
+    (sym (compared .before .before .if2 .left) ∙ compared .before .before .before .equal-from2 .ensures)
+    (sym (c .before .before .before .if3 .left) ∙ compared .equal-from3 .ensures)
     (sym (c .if4 .taken) ∙ c .before .equal-from4 .ensures)
 
 returns-5 : tie.Need-returns-5
 returns-5 c =
+    let compared = c .before .before .before .before in
     infnan-none _
-    (sym (c .before .before .before .before .before .before .before .before .before .if1 .left) ∙ c .before .before .before .before .before .before .before .before .before .before .equal-from .ensures)
-    (sym (c .before .before .before .before .before .before .if2 .left) ∙ c .before .before .before .before .before .before .before .equal-from2 .ensures)
-    (sym (c .before .before .before .if3 .left) ∙ c .before .before .before .before .equal-from3 .ensures)
+    (sym (compared .before .before .before .before .before .if1 .left) ∙ compared .before .before .before .before .before .before .equal-from .ensures)
+    (sym (compared .before .before .if2 .left) ∙ compared .before .before .before .equal-from2 .ensures)
+    (sym (c .before .before .before .if3 .left) ∙ compared .equal-from3 .ensures)
     (sym (c .if4 .left) ∙ c .before .equal-from4 .ensures)
 
 pub infnan-at-spec : {M : Type 1} → statement M

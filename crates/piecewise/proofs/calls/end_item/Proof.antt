@@ -20,19 +20,30 @@ at-end-requires : tie.Need-at-end-requires
 at-end-requires c κs = search needs
 
 returns : tie.Need-returns
-returns c = reply-no (now (c .before .before .before .before .before .before .args .text)) (eqb (c .before .before .before .before .before .before .args .m .part .count) 0) _ _ (ne-eqb _ _ (c .before .before .if1 .taken)) (rw (c .at-end .ensures, c .before .stop .ensures) (refl, refl))
+returns c =
+    let entry = c .before .before .before .before .before .before in
+    reply-no (now (entry .args .text)) (eqb (entry .args .m .part .count) 0) _ _
+    (ne-eqb _ _ (c .before .before .if1 .taken)) (rw (c .at-end .ensures, c .before .stop .ensures) (refl, refl))
 
 slice-reshare-prefix-finish : tie.Need-slice-reshare-prefix-finish
 slice-reshare-prefix-finish c = omega arith
 
 slice-aggregate-finish : tie.Need-slice-aggregate-finish
-slice-aggregate-finish c = sym (length-take-le (c .before .before .before .before .before .args .m .len) (now (c .before .before .before .before .before .args .buf)) (omega arith))
+slice-aggregate-finish c =
+    let entry = c .before .before .before .before .before in
+    sym (length-take-le (entry .args .m .len) (now (entry .args .buf)) (omega arith))
 
 finish-requires : tie.Need-finish-requires
 finish-requires c κs = search needs
 
 ends-requires : tie.Need-ends-requires
-ends-requires c κs = (c .before .before .before .before .before .before .before .before .pre .0, subst OutcomeFits (sym (c .before .before .finish .ensures)) (finish-fits (stateOf (c .before .before .before .before .before .before .before .before .args .m) (now (c .before .before .before .before .before .before .before .before .args .buf))) (c .before .before .before .before .before .before .before .before .pre .0 .full) (c .before .before .before .before .before .before .before .before .pre .0 .small) (c .before .before .before .before .before .before .before .before .pre .0 .some) (c .before .before .before .before .before .before .before .before .args .phase) (c .before .before .before .before .before .before .before .before .pre .1)), tt)
+ends-requires c κs =
+    let entry = c .before .before .before .before .before .before .before .before in (
+      entry .pre .0,
+      subst OutcomeFits (sym (c .before .before .finish .ensures)) (finish-fits (stateOf (entry .args .m) (now (entry .args .buf)))
+          (entry .pre .0 .full) (entry .pre .0 .small) (entry .pre .0 .some) (entry .args .phase) (entry .pre .1)),
+      tt,
+    )
 
 at-end-requires-2 : tie.Need-at-end-requires-2
 at-end-requires-2 c κs = search needs
@@ -44,7 +55,13 @@ same-length-2 : tie.Need-same-length-2
 same-length-2 c = search needs
 
 returns-2 : tie.Need-returns-2
-returns-2 c = reply-yes (now (c .before .before .before .before .before .before .before .before .before .before .before .before .before .before .args .text)) (eqb (c .before .before .before .before .before .before .before .before .before .before .before .before .before .before .args .m .part .count) 0) _ _ (eq-eqb _ _ (c .before .before .before .before .before .before .before .before .before .before .if1 .left)) (let g = rw (c .before .before .before .before .before .before .before .before .finish .ensures) at (c .before .before .before .before .before .ends .ensures) in rw (c .at-end2 .ensures) (end-turn _ _ _ (now (c .before .before .before .before .before .before .before .before .before .before .before .before .before .before .args .text)) (c .before .before .before .before .before .ends .result .got) _ (g .0) (g .1)))
+returns-2 c =
+    let ended = c .before .before .before .before .before in
+    let entry = ended .before .before .before .before .before .before .before .before .before in
+    reply-yes (now (entry .args .text))
+    (eqb (entry .args .m .part .count) 0) _ _ (eq-eqb _ _ (ended .before .before .before .before .before .if1 .left))
+    (let g = rw (ended .before .before .before .finish .ensures) at (ended .ends .ensures) in
+    rw (c .at-end2 .ensures) (end-turn _ _ _ (now (entry .args .text)) (ended .ends .result .got) _ (g .0) (g .1)))
 
 pub end-item-spec : {M : Type 1} → statement M
 end-item-spec =

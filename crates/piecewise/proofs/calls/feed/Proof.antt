@@ -35,23 +35,52 @@ ahead-requires c κs =
     let k = sane (stateOf (l .marks) (l .buf)) (l .inv .1 .bounded) (l .inv .1 .calm) in (k .numbers .small, omega (arith, k .numbers .far))
 
 add-at : tie.Need-add-at Inv-loop μ-loop
-add-at c = omega (arith, run-within (kept (c .before .before .loop .marks .stage)) (now (c .before .before .before .before .before .before .args .piece)) (c .before .before .loop .i) (c .ahead .result) (c .before .before .loop .inv .0) (c .ahead .ensures .0))
+add-at c =
+    let turn = c .before .before in
+    omega (
+      arith,
+      run-within (kept (turn .loop .marks .stage))
+          (now (turn .before .before .before .before .args .piece)) (turn .loop .i) (c .ahead .result) (turn .loop .inv .0) (c .ahead .ensures .0),
+    )
 
 sub-pass : tie.Need-sub-pass Inv-loop μ-loop
 sub-pass c = omega arith
 
 part-pass-start : tie.Need-part-pass-start Inv-loop μ-loop
-part-pass-start c = omega (arith, run-within (kept (c .before .before .before .loop .marks .stage)) (now (c .before .before .before .before .before .before .before .args .piece)) (c .before .before .before .loop .i) (c .before .ahead .result) (c .before .before .before .loop .inv .0) (c .before .ahead .ensures .0))
+part-pass-start c =
+    let turn = c .before .before .before in
+    omega (
+      arith,
+      run-within (kept (turn .loop .marks .stage)) (now (turn .before .before .before .before .args .piece))
+          (turn .loop .i) (c .before .ahead .result) (turn .loop .inv .0) (c .before .ahead .ensures .0),
+    )
 
 part-pass-end : tie.Need-part-pass-end Inv-loop μ-loop
-part-pass-end c = omega (arith, run-within (kept (c .before .before .before .loop .marks .stage)) (now (c .before .before .before .before .before .before .before .args .piece)) (c .before .before .before .loop .i) (c .before .ahead .result) (c .before .before .before .loop .inv .0) (c .before .ahead .ensures .0))
+part-pass-end c =
+    let turn = c .before .before .before in
+    omega (
+      arith,
+      run-within (kept (turn .loop .marks .stage)) (now (turn .before .before .before .before .args .piece))
+          (turn .loop .i) (c .before .ahead .result) (turn .loop .inv .0) (c .before .ahead .ensures .0),
+    )
 
 pass-requires : tie.Need-pass-requires Inv-loop μ-loop
-pass-requires c κs = (
-  c .before .before .before .before .loop .inv .1 .full,
-  omega (arith, c .before .before .ahead .ensures .1, length-take (c .before .before .before .before .loop .i + c .before .before .ahead .result - c .before .before .before .before .loop .i) (drop (c .before .before .before .before .loop .i) (now (c .before .before .before .before .before .before .before .before .args .piece)))),
-  omega (arith, c .before .before .ahead .ensures .2, length-take (c .before .before .before .before .loop .i + c .before .before .ahead .result - c .before .before .before .before .loop .i) (drop (c .before .before .before .before .loop .i) (now (c .before .before .before .before .before .before .before .before .args .piece)))),
-)
+pass-requires c κs =
+    let looked = c .before .before in
+    let turn = looked .before .before in
+    let entry = turn .before .before .before .before in (
+      turn .loop .inv .1 .full,
+      omega (
+        arith,
+        looked .ahead .ensures .1,
+        length-take (turn .loop .i + looked .ahead .result - turn .loop .i) (drop (turn .loop .i) (now (entry .args .piece))),
+      ),
+      omega (
+        arith,
+        looked .ahead .ensures .2,
+        length-take (turn .loop .i + looked .ahead .result - turn .loop .i) (drop (turn .loop .i) (now (entry .args .piece))),
+      ),
+    )
 
 same-length : tie.Need-same-length Inv-loop μ-loop
 same-length c = search needs
@@ -61,48 +90,94 @@ same-length-2 c = ap length (c .before .before .before .before .before .before .
 
 returns : tie.Need-returns Inv-loop μ-loop
 returns c =
+    let looked = c .before .before .before .before .before .before in
+    let entry = looked .before .before .before .before .before .before in
     let l = c .before .before .before .before .before .before .before .before .loop in
-    let there = passes (l .marks) (l .buf) (l .text) (now (c .before .before .before .before .before .before .before .before .before .before .before .before .args .piece)) (l .i) (c .before .before .before .before .before .before .ahead .result) (l .inv .1) (c .before .before .before .before .before .before .ahead .ensures) _ _ (c .before .before .before .pass .ensures) in
-    answers _ _ _ _ _ (fed-all _ (now (c .before .before .before .before .before .before .before .before .before .before .before .before .args .piece)) (l .i + c .before .before .before .before .before .before .ahead .result) (omega arith) ∙ there .1 ∙ l .inv .3) refl (l .inv .2)
+    let there = passes (l .marks) (l .buf) (l .text)
+    (now (entry .args .piece)) (l .i) (looked .ahead .result) (l .inv .1) (looked .ahead .ensures) _ _ (c .before .before .before .pass .ensures) in
+    answers _ _ _ _ _ (fed-all _ (now (entry .args .piece)) (l .i + looked .ahead .result) (omega arith) ∙ there .1 ∙ l .inv .3) refl (l .inv .2)
 
 add-taken : tie.Need-add-taken Inv-loop μ-loop
-add-taken c = omega (arith, run-within (kept (c .before .before .before .before .before .before .before .before .loop .marks .stage)) (now (c .before .before .before .before .before .before .before .before .before .before .before .before .args .piece)) (c .before .before .before .before .before .before .before .before .loop .i) (c .before .before .before .before .before .before .ahead .result) (c .before .before .before .before .before .before .before .before .loop .inv .0) (c .before .before .before .before .before .before .ahead .ensures .0))
+add-taken c =
+    let looked = c .before .before .before .before .before .before in
+    let turn = looked .before .before in
+    omega (
+      arith,
+      run-within (kept (turn .loop .marks .stage)) (now (turn .before .before .before .before .args .piece))
+          (turn .loop .i) (looked .ahead .result) (turn .loop .inv .0) (looked .ahead .ensures .0),
+    )
 
 shared-slice-read-turn : tie.Need-shared-slice-read-turn Inv-loop μ-loop
-shared-slice-read-turn c = omega (arith, run-within (kept (c .before .before .before .before .before .before .before .before .before .before .before .loop .marks .stage)) (now (c .before .before .before .before .before .before .before .before .before .before .before .before .before .before .before .args .piece)) (c .before .before .before .before .before .before .before .before .before .before .before .loop .i) (c .before .before .before .before .before .before .before .before .before .ahead .result) (c .before .before .before .before .before .before .before .before .before .before .before .loop .inv .0) (c .before .before .before .before .before .before .before .before .before .ahead .ensures .0))
+shared-slice-read-turn c =
+    let looked = c .before .before .before .before .before .before .before .before .before in
+    let turn = looked .before .before in
+    omega (
+      arith,
+      run-within (kept (turn .loop .marks .stage)) (now (turn .before .before .before .before .args .piece))
+          (turn .loop .i) (looked .ahead .result) (turn .loop .inv .0) (looked .ahead .ensures .0),
+    )
 
 turn-requires : tie.Need-turn-requires Inv-loop μ-loop
 turn-requires c κs =
+    let looked = c .before .before .before .before .before .before .before .before .before in
     let l = c .before .before .before .before .before .before .before .before .before .before .before .loop in
-    let there = passes (l .marks) (l .buf) (l .text) (now (c .before .before .before .before .before .before .before .before .before .before .before .before .before .before .before .args .piece)) (l .i) (c .before .before .before .before .before .before .before .before .before .ahead .result) (l .inv .1) (c .before .before .before .before .before .before .before .before .before .ahead .ensures) _ _ (c .before .before .before .before .before .before .pass .ensures) in
+    let there = passes (l .marks) (l .buf) (l .text) (now (looked .before .before .before .before .before .before .args .piece))
+    (l .i) (looked .ahead .result) (l .inv .1) (looked .ahead .ensures) _ _ (c .before .before .before .before .before .before .pass .ensures) in
     there .0
 
 is-more-requires : tie.Need-is-more-requires Inv-loop μ-loop
 is-more-requires c κs = search needs
 
 same-length-3 : tie.Need-same-length-3 Inv-loop μ-loop
-same-length-3 c = c .before .before .before .before .before .before .before .turn .kept .1 .0 ∙ c .before .before .before .before .before .before .before .before .before .before .before .before .before .before .pass .kept .1 .0 ∙ c .before .before .before .before .before .before .before .before .before .before .before .before .before .before .before .before .before .before .before .loop .inv .1 .full ∙ sym (c .before .before .before .before .before .before .before .before .before .before .before .before .before .before .before .before .before .before .before .before .before .before .before .pre .full)
+same-length-3 c =
+    let turned = c .before .before .before .before .before .before .before in
+    let passed = turned .before .before .before .before .before .before .before in
+    turned .turn .kept .1 .0 ∙ passed .pass .kept .1 .0 ∙ passed .before .before .before .before .before .loop .inv .1 .full
+    ∙ sym (passed .before .before .before .before .before .before .before .before .before .pre .full)
 
 same-length-4 : tie.Need-same-length-4 Inv-loop μ-loop
-same-length-4 c = c .before .before .before .before .before .before .before .turn .kept .1 .1 .0 ∙ ap length (c .before .before .before .before .before .before .before .before .before .before .before .before .before .before .before .before .before .before .before .loop .inv .2)
+same-length-4 c = c .before .before .before .before .before .before .before .turn .kept .1 .1 .0 ∙ ap length
+    (c .before .before .before .before .before .before .before .before .before .before .before .before .before .before .before .before .before .before .before .loop .inv .2)
 
 returns-2 : tie.Need-returns-2 Inv-loop μ-loop
 returns-2 c =
+    let turned = c .before .before .before .before .before .before .before in
+    let looked = turned .before .before .before .before .before .before .before .before .before .before in
+    let turn = looked .before .before in
+    let entry = turn .before .before .before .before in
     let l = c .before .before .before .before .before .before .before .before .before .before .before .before .before .before .before .before .before .before .before .loop in
-    let there = passes (l .marks) (l .buf) (l .text) (now (c .before .before .before .before .before .before .before .before .before .before .before .before .before .before .before .before .before .before .before .before .before .before .before .args .piece)) (l .i) (c .before .before .before .before .before .before .before .before .before .before .before .before .before .before .before .before .before .ahead .result) (l .inv .1) (c .before .before .before .before .before .before .before .before .before .before .before .before .before .before .before .before .before .ahead .ensures) _ _ (c .before .before .before .before .before .before .before .before .before .before .before .before .before .before .pass .ensures) in
-    let inside = run-within (kept (c .before .before .before .before .before .before .before .before .before .before .before .before .before .before .before .before .before .before .before .loop .marks .stage)) (now (c .before .before .before .before .before .before .before .before .before .before .before .before .before .before .before .before .before .before .before .before .before .before .before .args .piece)) (c .before .before .before .before .before .before .before .before .before .before .before .before .before .before .before .before .before .before .before .loop .i) (c .before .before .before .before .before .before .before .before .before .before .before .before .before .before .before .before .before .ahead .result) (c .before .before .before .before .before .before .before .before .before .before .before .before .before .before .before .before .before .before .before .loop .inv .0) (c .before .before .before .before .before .before .before .before .before .before .before .before .before .before .before .before .before .ahead .ensures .0) in
-    let f = fed-off _ (now (c .before .before .before .before .before .before .before .before .before .before .before .before .before .before .before .before .before .before .before .before .before .before .before .args .piece)) (l .i + c .before .before .before .before .before .before .before .before .before .before .before .before .before .before .before .before .before .ahead .result) (omega arith) _ _ _ (l .text) (c .before .before .before .before .before .before .before .turn .result .got) (sym (c .before .is-more .ensures) ∙ not-true _ (c .if2 .taken)) (c .before .before .before .before .before .before .before .turn .ensures .0) (c .before .before .before .before .before .before .before .turn .ensures .1) in
+    let there = passes (l .marks) (l .buf) (l .text) (now (entry .args .piece)) (l .i) (looked .ahead .result)
+    (l .inv .1) (looked .ahead .ensures) _ _ (turned .before .before .before .before .before .before .before .pass .ensures) in
+    let inside = run-within (kept (turn .loop .marks .stage))
+    (now (entry .args .piece)) (turn .loop .i) (looked .ahead .result) (turn .loop .inv .0) (looked .ahead .ensures .0) in
+    let f = fed-off _ (now (entry .args .piece)) (l .i + looked .ahead .result) (omega arith) _ _ _ (l .text) (turned .turn .result .got)
+    (sym (c .before .is-more .ensures) ∙ not-true _ (c .if2 .taken)) (turned .turn .ensures .0) (turned .turn .ensures .1) in
     answers _ _ _ _ _ (f .0 ∙ there .1 ∙ l .inv .3) (f .1) (l .inv .2)
 
 loop-less : tie.Need-loop-less Inv-loop μ-loop
-loop-less c = omega (arith, run-within (kept (c .before .before .before .before .before .before .before .before .before .before .before .before .before .before .before .before .before .before .before .loop .marks .stage)) (now (c .before .before .before .before .before .before .before .before .before .before .before .before .before .before .before .before .before .before .before .before .before .before .before .args .piece)) (c .before .before .before .before .before .before .before .before .before .before .before .before .before .before .before .before .before .before .before .loop .i) (c .before .before .before .before .before .before .before .before .before .before .before .before .before .before .before .before .before .ahead .result) (c .before .before .before .before .before .before .before .before .before .before .before .before .before .before .before .before .before .before .before .loop .inv .0) (c .before .before .before .before .before .before .before .before .before .before .before .before .before .before .before .before .before .ahead .ensures .0))
+loop-less c =
+    let looked =
+    c .before .before .before .before .before .before .before .before .before .before .before .before .before .before .before .before .before in
+    let turn = looked .before .before in
+    omega (
+      arith,
+      run-within (kept (turn .loop .marks .stage)) (now (turn .before .before .before .before .args .piece))
+          (turn .loop .i) (looked .ahead .result) (turn .loop .inv .0) (looked .ahead .ensures .0),
+    )
 
 loop-again : tie.Need-loop-again Inv-loop μ-loop
 loop-again c =
+    let turned = c .before .before .before .before .before .before .before in
+    let looked = turned .before .before .before .before .before .before .before .before .before .before in
+    let turn = looked .before .before in
+    let entry = turn .before .before .before .before in
     let l = c .before .before .before .before .before .before .before .before .before .before .before .before .before .before .before .before .before .before .before .loop in
-    let there = passes (l .marks) (l .buf) (l .text) (now (c .before .before .before .before .before .before .before .before .before .before .before .before .before .before .before .before .before .before .before .before .before .before .before .args .piece)) (l .i) (c .before .before .before .before .before .before .before .before .before .before .before .before .before .before .before .before .before .ahead .result) (l .inv .1) (c .before .before .before .before .before .before .before .before .before .before .before .before .before .before .before .before .before .ahead .ensures) _ _ (c .before .before .before .before .before .before .before .before .before .before .before .before .before .before .pass .ensures) in
-    let inside = run-within (kept (c .before .before .before .before .before .before .before .before .before .before .before .before .before .before .before .before .before .before .before .loop .marks .stage)) (now (c .before .before .before .before .before .before .before .before .before .before .before .before .before .before .before .before .before .before .before .before .before .before .before .args .piece)) (c .before .before .before .before .before .before .before .before .before .before .before .before .before .before .before .before .before .before .before .loop .i) (c .before .before .before .before .before .before .before .before .before .before .before .before .before .before .before .before .before .ahead .result) (c .before .before .before .before .before .before .before .before .before .before .before .before .before .before .before .before .before .before .before .loop .inv .0) (c .before .before .before .before .before .before .before .before .before .before .before .before .before .before .before .before .before .ahead .ensures .0) in
-    let f = fed-on _ (now (c .before .before .before .before .before .before .before .before .before .before .before .before .before .before .before .before .before .before .before .before .before .before .before .args .piece)) (l .i + c .before .before .before .before .before .before .before .before .before .before .before .before .before .before .before .before .before .ahead .result) (omega arith) _ _ _ (l .text) (c .before .before .before .before .before .before .before .turn .result .got) (sym (c .before .is-more .ensures) ∙ not-false _ (c .if2 .left)) (c .before .before .before .before .before .before .before .turn .ensures .0) (c .before .before .before .before .before .before .before .turn .ensures .1) in
+    let there = passes (l .marks) (l .buf) (l .text) (now (entry .args .piece)) (l .i) (looked .ahead .result)
+    (l .inv .1) (looked .ahead .ensures) _ _ (turned .before .before .before .before .before .before .before .pass .ensures) in
+    let inside = run-within (kept (turn .loop .marks .stage))
+    (now (entry .args .piece)) (turn .loop .i) (looked .ahead .result) (turn .loop .inv .0) (looked .ahead .ensures .0) in
+    let f = fed-on _ (now (entry .args .piece)) (l .i + looked .ahead .result) (omega arith) _ _ _ (l .text) (turned .turn .result .got)
+    (sym (c .before .is-more .ensures) ∙ not-false _ (c .if2 .left)) (turned .turn .ensures .0) (turned .turn .ensures .1) in
     (omega arith, subst (Sound _ _) (sym (f .2)) (turn-sound _ _ _ (there .0) _ _ _ (f .0)), f .2 ∙ l .inv .2, f .1 ∙ there .1 ∙ l .inv .3)
 
 same-length-5 : tie.Need-same-length-5 Inv-loop μ-loop
@@ -112,7 +187,9 @@ same-length-6 : tie.Need-same-length-6 Inv-loop μ-loop
 same-length-6 c = search needs
 
 returns-3 : tie.Need-returns-3 Inv-loop μ-loop
-returns-3 c = answers _ _ _ _ _ (fed-all (stateOf (c .before .loop .marks) (c .before .loop .buf)) (now (c .before .before .before .before .before .args .piece)) (c .before .loop .i) (c .loop-test .left) ∙ c .before .loop .inv .3) refl (c .before .loop .inv .2)
+returns-3 c = answers _ _ _ _ _
+    (fed-all (stateOf (c .before .loop .marks) (c .before .loop .buf)) (now (c .before .before .before .before .before .args .piece))
+    (c .before .loop .i) (c .loop-test .left) ∙ c .before .loop .inv .3) refl (c .before .loop .inv .2)
 
 pub feed-spec : {M : Type 1} → statement M
 feed-spec =

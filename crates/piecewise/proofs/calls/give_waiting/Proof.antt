@@ -12,7 +12,9 @@ extent-requires : tie.Need-extent-requires
 extent-requires c κs = (omega arith, omega arith)
 
 beyond-requires : tie.Need-beyond-requires
-beyond-requires c κs = (c .before .before .before .before .before .before .before .before .before .pre .0 .full, c .before .before .before .before .before .before .before .before .before .pre .1)
+beyond-requires c κs =
+    let entry = c .before .before .before .before .before .before .before .before .before in
+    (entry .pre .0 .full, entry .pre .1)
 
 same-length : tie.Need-same-length
 same-length c = search needs
@@ -21,7 +23,11 @@ same-length-2 : tie.Need-same-length-2
 same-length-2 c = search needs
 
 returns : tie.Need-returns
-returns c = (reply-both 0 (c .before .before .before .before .before .before .before .give-second .ensures .0) (rw (c .before .before .before .extent .ensures) at (c .before .before .beyond .ensures)), c .before .before .before .before .before .before .before .give-second .ensures .1)
+returns c =
+    let handed = c .before .before .before .before .before .before .before in (
+      reply-both 0 (handed .give-second .ensures .0) (rw (c .before .before .before .extent .ensures) at (c .before .before .beyond .ensures)),
+      handed .give-second .ensures .1,
+    )
 
 pub give-waiting-spec : {M : Type 1} → statement M
 give-waiting-spec =

@@ -14,7 +14,10 @@ refuse-requires : tie.Need-refuse-requires
 refuse-requires c κs = search needs
 
 returns : tie.Need-returns
-returns c = reply-no (now (c .before .before .before .before .before .args .text)) (eqb (length (now (c .before .before .before .before .before .args .buf))) longest) _ _ (ne-eqb _ _ (c .before .if1 .taken)) (rw (c .refuse .ensures) (refl, refl))
+returns c =
+    let entry = c .before .before .before .before .before in
+    reply-no (now (entry .args .text))
+    (eqb (length (now (entry .args .buf))) longest) _ _ (ne-eqb _ _ (c .before .if1 .taken)) (rw (c .refuse .ensures) (refl, refl))
 
 read-piece-requires : tie.Need-read-piece-requires
 read-piece-requires c κs = search needs
@@ -26,7 +29,10 @@ same-length-2 : tie.Need-same-length-2
 same-length-2 c = search needs
 
 returns-2 : tie.Need-returns-2
-returns-2 c = reply-yes (now (c .before .before .before .before .before .before .before .before .before .before .before .args .text)) (eqb (length (now (c .before .before .before .before .before .before .before .before .before .before .before .args .buf))) longest) _ _ (eq-eqb _ _ (c .before .before .before .before .before .before .before .if1 .left)) (c .before .before .before .before .read-piece .ensures)
+returns-2 c =
+    let entry = c .before .before .before .before .before .before .before .before .before .before .before in
+    reply-yes (now (entry .args .text)) (eqb (length (now (entry .args .buf))) longest) _ _
+    (eq-eqb _ _ (c .before .before .before .before .before .before .before .if1 .left)) (c .before .before .before .before .read-piece .ensures)
 
 pub piece-call-spec : {M : Type 1} → statement M
 piece-call-spec =

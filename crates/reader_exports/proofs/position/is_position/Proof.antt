@@ -12,7 +12,10 @@ returns-2 : tie.Need-returns-2
 returns-2 c = not-narrow _ (c .before .before .before .before .before .if1 .left) (c .before .are-narrow .ensures) (not-true _ (c .if2 .taken))
 
 returns-3 : tie.Need-returns-3
-returns-3 c = by-flags _ (c .before .before .before .before .before .before .before .before .before .if1 .left) (c .before .before .before .before .before .are-narrow .ensures) (not-false _ (c .before .before .before .before .if2 .left)) (c .are-flags .ensures)
+returns-3 c =
+    let branch = c .before .before .before .before in
+    by-flags _ (branch .before .before .before .before .before .if1 .left)
+    (branch .before .are-narrow .ensures) (not-false _ (branch .if2 .left)) (c .are-flags .ensures)
 
 pub is-position-spec : {M : Type 1} → statement M
 is-position-spec =

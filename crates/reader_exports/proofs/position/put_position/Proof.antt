@@ -10,9 +10,13 @@ use Rattle.reader_exports.proofs.position.put_position.Tie as tie
 
 returns : tie.Need-returns
 returns c =
+    let flagged = c .before .before .before .before in
+    let at-flag-of = flagged .before in
+    let entry = at-flag-of .before .before in
     let p = c .before .before .before .before .before .before .before .args .p in
-    all-written p (c .before .before .before .before .before .before .before .args .words .now) (c .before .before .before .before .before .flag-of .ensures) (c .before .before .before .before .flag-of2 .ensures) (c .before .before .before .flag-of3 .ensures)
-    (sets-eq (p .spot .at ∷ p .spot .last .from ∷ p .spot .last .to ∷ c .before .before .before .before .before .flag-of .result ∷ c .before .before .before .before .flag-of2 .result ∷ c .before .before .before .flag-of3 .result ∷ p .depth ∷ []) (c .before .before .before .before .before .before .before .args .words .now) 0 (omega arith))
+    all-written p (entry .args .words .now) (at-flag-of .flag-of .ensures) (flagged .flag-of2 .ensures) (c .before .before .before .flag-of3 .ensures)
+    (sets-eq (p .spot .at ∷ p .spot .last .from ∷ p .spot .last .to ∷ at-flag-of .flag-of .result
+    ∷ flagged .flag-of2 .result ∷ c .before .before .before .flag-of3 .result ∷ p .depth ∷ []) (entry .args .words .now) 0 (omega arith))
 
 pub put-position-spec : {M : Type 1} → statement M
 put-position-spec =

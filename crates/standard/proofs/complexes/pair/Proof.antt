@@ -33,8 +33,9 @@ complex-requires c κs = search needs
 
 returns : tie.Need-returns
 returns c =
-    pair-is _ _ _ _ (c .before .before .before .before .before .before .before .before .pre .2) _ _ _
-    (sym (c .before .before .before .before .before .if1 .taken) ∙ c .before .before .before .before .before .before .ends-i .ensures)
+    let branch = c .before .before .before .before .before in
+    pair-is _ _ _ _ (branch .before .before .before .pre .2) _ _ _
+    (sym (branch .if1 .taken) ∙ branch .before .ends-i .ensures)
     (c .before .before .before .real-at .ensures) (c .before .imaginary-at .ensures) (c .complex .ensures)
 
 returns-2 : tie.Need-returns-2

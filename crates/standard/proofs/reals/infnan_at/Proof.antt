@@ -32,9 +32,11 @@ spells-from-requires-3 : tie.Need-spells-from-requires-3
 spells-from-requires-3 c κs = search needs
 
 returns-3 : tie.Need-returns-3
-returns-3 c = infnan-is _ (infnan-3 _
-    (sym (c .before .before .before .before .before .before .if1 .left) ∙ c .before .before .before .before .before .before .before .spells-from .ensures)
-    (sym (c .before .before .before .if2 .left) ∙ c .before .before .before .before .spells-from2 .ensures)
+returns-3 c =
+    let spelled = c .before .before .before .before in
+    infnan-is _ (infnan-3 _
+    (sym (spelled .before .before .if1 .left) ∙ spelled .before .before .before .spells-from .ensures)
+    (sym (c .before .before .before .if2 .left) ∙ spelled .spells-from2 .ensures)
     (sym (c .if3 .taken) ∙ c .before .spells-from3 .ensures))
 
 slice-aggregate-spells-from-4 : tie.Need-slice-aggregate-spells-from-4
@@ -44,17 +46,21 @@ spells-from-requires-4 : tie.Need-spells-from-requires-4
 spells-from-requires-4 c κs = search needs
 
 returns-4 : tie.Need-returns-4
-returns-4 c = infnan-is _ (infnan-4 _
-    (sym (c .before .before .before .before .before .before .before .before .before .if1 .left) ∙ c .before .before .before .before .before .before .before .before .before .before .spells-from .ensures)
-    (sym (c .before .before .before .before .before .before .if2 .left) ∙ c .before .before .before .before .before .before .before .spells-from2 .ensures)
-    (sym (c .before .before .before .if3 .left) ∙ c .before .before .before .before .spells-from3 .ensures)
+returns-4 c =
+    let spelled = c .before .before .before .before in
+    infnan-is _ (infnan-4 _
+    (sym (spelled .before .before .before .before .before .if1 .left) ∙ spelled .before .before .before .before .before .before .spells-from .ensures)
+    (sym (spelled .before .before .if2 .left) ∙ spelled .before .before .before .spells-from2 .ensures)
+    (sym (c .before .before .before .if3 .left) ∙ spelled .spells-from3 .ensures)
     (sym (c .if4 .taken) ∙ c .before .spells-from4 .ensures))
 
 returns-5 : tie.Need-returns-5
-returns-5 c = infnan-is _ (infnan-none _
-    (sym (c .before .before .before .before .before .before .before .before .before .if1 .left) ∙ c .before .before .before .before .before .before .before .before .before .before .spells-from .ensures)
-    (sym (c .before .before .before .before .before .before .if2 .left) ∙ c .before .before .before .before .before .before .before .spells-from2 .ensures)
-    (sym (c .before .before .before .if3 .left) ∙ c .before .before .before .before .spells-from3 .ensures)
+returns-5 c =
+    let spelled = c .before .before .before .before in
+    infnan-is _ (infnan-none _
+    (sym (spelled .before .before .before .before .before .if1 .left) ∙ spelled .before .before .before .before .before .before .spells-from .ensures)
+    (sym (spelled .before .before .if2 .left) ∙ spelled .before .before .before .spells-from2 .ensures)
+    (sym (c .before .before .before .if3 .left) ∙ spelled .spells-from3 .ensures)
     (sym (c .if4 .left) ∙ c .before .spells-from4 .ensures))
 
 pub infnan-at-spec : {M : Type 1} → statement M

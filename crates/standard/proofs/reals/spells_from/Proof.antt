@@ -34,8 +34,9 @@ shared-slice-read-if2 c = omega arith
 
 returns-2 : tie.Need-returns-2 Inv-loop μ-loop
 returns-2 c =
-    spells-not _ _ _ _ (c .before .before .before .before .if1 .left) (c .before .before .before .before .before .loop-test .taken) _
-    (c .before .before .lower-case .ensures) (c .if2 .taken) ∙ sym (c .before .before .before .before .before .before .loop .inv)
+    let branch = c .before .before .before .before in
+    spells-not _ _ _ _ (branch .if1 .left) (branch .before .loop-test .taken) _
+    (c .before .before .lower-case .ensures) (c .if2 .taken) ∙ sym (branch .before .before .loop .inv)
 
 add-i : tie.Need-add-i Inv-loop μ-loop
 add-i c = omega arith
@@ -48,8 +49,9 @@ loop-less c = omega arith
 
 loop-again : tie.Need-loop-again Inv-loop μ-loop
 loop-again c =
-    c .before .before .before .before .before .before .loop .inv
-    ∙ spells-more _ _ _ _ (c .before .before .before .before .if1 .left) (c .before .before .before .before .before .loop-test .taken) _
+    let branch = c .before .before .before .before in
+    branch .before .before .loop .inv
+    ∙ spells-more _ _ _ _ (branch .if1 .left) (branch .before .loop-test .taken) _
     (c .before .before .lower-case .ensures) (c .if2 .left)
 
 returns-3 : tie.Need-returns-3 Inv-loop μ-loop

@@ -35,7 +35,21 @@ returns-6 c = rw (c .match .keys6)
 
 returns-7 : tie.Need-returns-7
 unfolding afterHash
-returns-7 c = simp (ne-eqb _ _ (λ h. c .before .match .rest .0 .0 .0 .0 .0 .1 (inl h)), ne-eqb _ _ (λ h. c .before .match .rest .0 .0 .0 .0 .0 .1 (inr (inl h))), ne-eqb _ _ (λ h. c .before .match .rest .0 .0 .0 .0 .0 .1 (inr (inr (inl h)))), ne-eqb _ _ (λ h. c .before .match .rest .0 .0 .0 .0 .0 .1 (inr (inr (inr h)))), ne-eqb _ _ (λ h. c .before .match .rest .0 .0 .0 .0 .1 (inl h)), ne-eqb _ _ (λ h. c .before .match .rest .0 .0 .0 .0 .1 (inr (inl h))), ne-eqb _ _ (λ h. c .before .match .rest .0 .0 .0 .0 .1 (inr (inr (inl h)))), ne-eqb _ _ (λ h. c .before .match .rest .0 .0 .0 .0 .1 (inr (inr (inr h)))), ne-eqb _ _ (c .before .match .rest .0 .0 .0 .1), ne-eqb _ _ (c .before .match .rest .0 .0 .1), ne-eqb _ _ (c .before .match .rest .0 .1), ne-eqb _ _ (c .before .match .rest .1), c .read-hash-value .ensures)
+returns-7 c = simp (
+  ne-eqb _ _ (λ h. c .before .match .rest .0 .0 .0 .0 .0 .1 (inl h)),
+  ne-eqb _ _ (λ h. c .before .match .rest .0 .0 .0 .0 .0 .1 (inr (inl h))),
+  ne-eqb _ _ (λ h. c .before .match .rest .0 .0 .0 .0 .0 .1 (inr (inr (inl h)))),
+  ne-eqb _ _ (λ h. c .before .match .rest .0 .0 .0 .0 .0 .1 (inr (inr (inr h)))),
+  ne-eqb _ _ (λ h. c .before .match .rest .0 .0 .0 .0 .1 (inl h)),
+  ne-eqb _ _ (λ h. c .before .match .rest .0 .0 .0 .0 .1 (inr (inl h))),
+  ne-eqb _ _ (λ h. c .before .match .rest .0 .0 .0 .0 .1 (inr (inr (inl h)))),
+  ne-eqb _ _ (λ h. c .before .match .rest .0 .0 .0 .0 .1 (inr (inr (inr h)))),
+  ne-eqb _ _ (c .before .match .rest .0 .0 .0 .1),
+  ne-eqb _ _ (c .before .match .rest .0 .0 .1),
+  ne-eqb _ _ (c .before .match .rest .0 .1),
+  ne-eqb _ _ (c .before .match .rest .1),
+  c .read-hash-value .ensures,
+)
 
 pub after-hash-spec : {M : Type 1} → statement M
 after-hash-spec =

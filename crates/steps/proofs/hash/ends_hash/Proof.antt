@@ -19,7 +19,13 @@ returns-2 c = ⊎-elim (λ h. rw h) (λ h. rw h) (c .match .keys2)
 
 returns-3 : tie.Need-returns-3
 unfolding endsHash
-returns-3 c = simp (ne-eqb _ _ (λ h. c .before .match .rest .0 .1 (inl h)), ne-eqb _ _ (λ h. c .before .match .rest .0 .1 (inr h)), ne-eqb _ _ (λ h. c .before .match .rest .1 (inl h)), ne-eqb _ _ (λ h. c .before .match .rest .1 (inr h)), c .is-blank .ensures)
+returns-3 c = simp (
+  ne-eqb _ _ (λ h. c .before .match .rest .0 .1 (inl h)),
+  ne-eqb _ _ (λ h. c .before .match .rest .0 .1 (inr h)),
+  ne-eqb _ _ (λ h. c .before .match .rest .1 (inl h)),
+  ne-eqb _ _ (λ h. c .before .match .rest .1 (inr h)),
+  c .is-blank .ensures,
+)
 
 pub ends-hash-spec : {M : Type 1} → statement M
 ends-hash-spec =

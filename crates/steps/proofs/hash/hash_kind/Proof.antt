@@ -21,7 +21,13 @@ or-else-requires-2 c κs = search needs
 
 returns : tie.Need-returns
 unfolding hashKind
-returns c = simp (c .or-else2 .ensures, c .before .or-else .ensures, c .before .before .form-kind .ensures, c .before .before .before .quote-kind .ensures, c .before .before .before .before .bool-kind .ensures)
+returns c = simp (
+  c .or-else2 .ensures,
+  c .before .or-else .ensures,
+  c .before .before .form-kind .ensures,
+  c .before .before .before .quote-kind .ensures,
+  c .before .before .before .before .bool-kind .ensures,
+)
 
 pub hash-kind-spec : {M : Type 1} → statement M
 hash-kind-spec =

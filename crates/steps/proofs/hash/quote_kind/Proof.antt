@@ -30,7 +30,11 @@ decided-requires-2 c κs = search needs
 
 returns-2 : tie.Need-returns-2
 unfolding quoteKind bytesOf utf8
-returns-2 c = simp (sym (c .before .before .before .before .before .equal .ensures) ∙ c .before .before .before .before .if1 .left, sym (c .before .before .equal2 .ensures) ∙ c .before .if2 .taken, c .decided2 .ensures)
+returns-2 c = simp (
+  sym (c .before .before .before .before .before .equal .ensures) ∙ c .before .before .before .before .if1 .left,
+  sym (c .before .before .equal2 .ensures) ∙ c .before .if2 .taken,
+  c .decided2 .ensures,
+)
 
 slice-aggregate-equal-3 : tie.Need-slice-aggregate-equal-3
 slice-aggregate-equal-3 c = search needs
@@ -43,7 +47,14 @@ decided-requires-3 c κs = search needs
 
 returns-3 : tie.Need-returns-3
 unfolding quoteKind bytesOf utf8
-returns-3 c = simp (sym (c .before .before .before .before .before .before .before .before .equal .ensures) ∙ c .before .before .before .before .before .before .before .if1 .left, sym (c .before .before .before .before .before .equal2 .ensures) ∙ c .before .before .before .before .if2 .left, sym (c .before .before .equal3 .ensures) ∙ c .before .if3 .taken, c .decided3 .ensures)
+returns-3 c =
+    let branch = c .before .before .before .before in
+    simp (
+      sym (branch .before .before .before .before .equal .ensures) ∙ branch .before .before .before .if1 .left,
+      sym (branch .before .equal2 .ensures) ∙ branch .if2 .left,
+      sym (c .before .before .equal3 .ensures) ∙ c .before .if3 .taken,
+      c .decided3 .ensures,
+    )
 
 slice-aggregate-equal-4 : tie.Need-slice-aggregate-equal-4
 slice-aggregate-equal-4 c = search needs
@@ -56,11 +67,27 @@ decided-requires-4 c κs = search needs
 
 returns-4 : tie.Need-returns-4
 unfolding quoteKind bytesOf utf8
-returns-4 c = simp (sym (c .before .before .before .before .before .before .before .before .before .before .before .equal .ensures) ∙ c .before .before .before .before .before .before .before .before .before .before .if1 .left, sym (c .before .before .before .before .before .before .before .before .equal2 .ensures) ∙ c .before .before .before .before .before .before .before .if2 .left, sym (c .before .before .before .before .before .equal3 .ensures) ∙ c .before .before .before .before .if3 .left, sym (c .before .before .equal4 .ensures) ∙ c .before .if4 .taken, c .decided4 .ensures)
+returns-4 c =
+    let branch = c .before .before .before .before in
+    let compared = branch .before .before .before .before in
+    simp (
+      sym (compared .before .before .before .equal .ensures) ∙ compared .before .before .if1 .left,
+      sym (compared .equal2 .ensures) ∙ branch .before .before .before .if2 .left,
+      sym (branch .before .equal3 .ensures) ∙ branch .if3 .left,
+      sym (c .before .before .equal4 .ensures) ∙ c .before .if4 .taken,
+      c .decided4 .ensures,
+    )
 
 returns-5 : tie.Need-returns-5
 unfolding quoteKind bytesOf utf8
-returns-5 c = simp (sym (c .before .before .before .before .before .before .before .before .before .before .equal .ensures) ∙ c .before .before .before .before .before .before .before .before .before .if1 .left, sym (c .before .before .before .before .before .before .before .equal2 .ensures) ∙ c .before .before .before .before .before .before .if2 .left, sym (c .before .before .before .before .equal3 .ensures) ∙ c .before .before .before .if3 .left, sym (c .before .equal4 .ensures) ∙ c .if4 .left)
+returns-5 c =
+    let compared = c .before .before .before .before in
+    simp (
+      sym (compared .before .before .before .before .before .before .equal .ensures) ∙ compared .before .before .before .before .before .if1 .left,
+      sym (compared .before .before .before .equal2 .ensures) ∙ compared .before .before .if2 .left,
+      sym (compared .equal3 .ensures) ∙ c .before .before .before .if3 .left,
+      sym (c .before .equal4 .ensures) ∙ c .if4 .left,
+    )
 
 pub quote-kind-spec : {M : Type 1} → statement M
 quote-kind-spec =

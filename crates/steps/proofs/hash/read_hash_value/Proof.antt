@@ -18,7 +18,17 @@ hash-then-requires c κs = search needs
 
 returns : tie.Need-returns
 unfolding inHash
-returns c = simp (ne-eqb _ _ (c .before .before .before .before .match .rest .0 .0 .1), ne-eqb _ _ (λ h. c .before .before .before .before .match .rest .0 .1 (inl h)), ne-eqb _ _ (λ h. c .before .before .before .before .match .rest .0 .1 (inr h)), ne-eqb _ _ (c .before .before .before .before .match .rest .1), sym (c .before .before .before .ends-hash .ensures) ∙ c .before .before .if1 .taken, c .hash-then .ensures, c .before .hash-kind .ensures)
+returns c =
+    let matched = c .before .before .before .before in
+    simp (
+      ne-eqb _ _ (matched .match .rest .0 .0 .1),
+      ne-eqb _ _ (λ h. matched .match .rest .0 .1 (inl h)),
+      ne-eqb _ _ (λ h. matched .match .rest .0 .1 (inr h)),
+      ne-eqb _ _ (matched .match .rest .1),
+      sym (c .before .before .before .ends-hash .ensures) ∙ c .before .before .if1 .taken,
+      c .hash-then .ensures,
+      c .before .hash-kind .ensures,
+    )
 
 returns-2 : tie.Need-returns-2
 unfolding inHash
@@ -34,7 +44,15 @@ returns-4 c = rw (c .match .keys3)
 
 returns-5 : tie.Need-returns-5
 unfolding inHash
-returns-5 c = simp (ne-eqb _ _ (c .before .before .match .rest .0 .0 .1), ne-eqb _ _ (λ h. c .before .before .match .rest .0 .1 (inl h)), ne-eqb _ _ (λ h. c .before .before .match .rest .0 .1 (inr h)), ne-eqb _ _ (c .before .before .match .rest .1), sym (c .before .ends-hash .ensures) ∙ c .if1 .left)
+returns-5 c =
+    let matched = c .before .before in
+    simp (
+      ne-eqb _ _ (matched .match .rest .0 .0 .1),
+      ne-eqb _ _ (λ h. matched .match .rest .0 .1 (inl h)),
+      ne-eqb _ _ (λ h. matched .match .rest .0 .1 (inr h)),
+      ne-eqb _ _ (matched .match .rest .1),
+      sym (c .before .ends-hash .ensures) ∙ c .if1 .left,
+    )
 
 pub read-hash-value-spec : {M : Type 1} → statement M
 read-hash-value-spec =

@@ -32,7 +32,13 @@ loop-less : tie.Need-loop-less Inv-loop μ-loop
 loop-less c = search needs
 
 loop-again : tie.Need-loop-again Inv-loop μ-loop
-loop-again c = (omega arith, c .before .before .before .loop .inv .1 ∙ ap (λ (l : List ℕ). begins l (drop (c .before .before .before .loop .j) (now (c .before .before .before .before .args .text)))) (unreturned-skip _ _ (c .before .before .loop-test .taken) (c .if1 .taken)), omega arith)
+loop-again c = (
+  omega arith,
+  c .before .before .before .loop .inv .1
+      ∙ ap (λ (l : List ℕ). begins l (drop (c .before .before .before .loop .j) (now (c .before .before .before .before .args .text))))
+      (unreturned-skip _ _ (c .before .before .loop-test .taken) (c .if1 .taken)),
+  omega arith,
+)
 
 returns : tie.Need-returns Inv-loop μ-loop
 returns c = sym (c .before .before .before .before .loop .inv .1 ∙ line-short _ _ _ _ (c .before .before .before .loop-test .taken) (c .before .if1 .left) (c .if2 .taken))
@@ -44,7 +50,10 @@ shared-slice-read-if3-2 : tie.Need-shared-slice-read-if3-2 Inv-loop μ-loop
 shared-slice-read-if3-2 c = search needs
 
 returns-2 : tie.Need-returns-2 Inv-loop μ-loop
-returns-2 c = sym (c .before .before .before .before .before .before .before .loop .inv .1 ∙ line-differ _ _ _ _ (c .before .before .before .before .before .before .loop-test .taken) (c .before .before .before .before .if1 .left) (c .before .before .before .if2 .left) (c .if3 .taken))
+returns-2 c =
+    let branch = c .before .before .before .before in
+    sym (branch .before .before .before .loop .inv .1
+    ∙ line-differ _ _ _ _ (branch .before .before .loop-test .taken) (branch .if1 .left) (c .before .before .before .if2 .left) (c .if3 .taken))
 
 add-i-2 : tie.Need-add-i-2 Inv-loop μ-loop
 add-i-2 c = search needs
@@ -56,7 +65,13 @@ loop-less-2 : tie.Need-loop-less-2 Inv-loop μ-loop
 loop-less-2 c = search needs
 
 loop-again-2 : tie.Need-loop-again-2 Inv-loop μ-loop
-loop-again-2 c = (omega arith, c .before .before .before .before .before .before .before .loop .inv .1 ∙ line-more _ _ _ _ (c .before .before .before .before .before .before .loop-test .taken) (c .before .before .before .before .if1 .left) (c .before .before .before .if2 .left) (c .if3 .left), omega arith)
+loop-again-2 c =
+    let branch = c .before .before .before .before in (
+      omega arith,
+      branch .before .before .before .loop .inv .1
+          ∙ line-more _ _ _ _ (branch .before .before .loop-test .taken) (branch .if1 .left) (c .before .before .before .if2 .left) (c .if3 .left),
+      omega arith,
+    )
 
 returns-3 : tie.Need-returns-3 Inv-loop μ-loop
 returns-3 c = sym (c .before .loop .inv .1 ∙ line-all _ (now (c .before .before .args .text)) _ (c .before .loop .j) (c .loop-test .left))

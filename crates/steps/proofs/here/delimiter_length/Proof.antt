@@ -18,7 +18,12 @@ sub-unreturned-length : tie.Need-sub-unreturned-length
 sub-unreturned-length c = omega (arith, c .find .ensures, before-le (code "\n") (drop 3 (now (c .before .before .before .args .raw))), length-drop 3 (now (c .before .before .before .args .raw)))
 
 part-unreturned-length-start : tie.Need-part-unreturned-length-start
-part-unreturned-length-start c = omega (arith, c .find .ensures, before-le (code "\n") (drop 3 (now (c .before .before .before .args .raw))), length-drop 3 (now (c .before .before .before .args .raw)))
+part-unreturned-length-start c = omega (
+  arith,
+  c .find .ensures,
+  before-le (code "\n") (drop 3 (now (c .before .before .before .args .raw))),
+  length-drop 3 (now (c .before .before .before .args .raw)),
+)
 
 part-unreturned-length-end : tie.Need-part-unreturned-length-end
 part-unreturned-length-end c = omega (arith, c .find .ensures, before-le (code "\n") (drop 3 (now (c .before .before .before .args .raw))), length-drop 3 (now (c .before .before .before .args .raw)))

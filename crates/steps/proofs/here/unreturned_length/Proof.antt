@@ -30,7 +30,12 @@ loop-less : tie.Need-loop-less Inv-loop μ-loop
 loop-less c = search needs
 
 loop-again : tie.Need-loop-again Inv-loop μ-loop
-loop-again c = (omega arith, c .before .before .before .loop .inv .1 ∙ ap (λ (l : List ℕ). c .before .before .before .loop .n + length l) (unreturned-skip _ _ (c .before .before .loop-test .taken) (c .if1 .taken)), omega arith)
+loop-again c = (
+  omega arith,
+  c .before .before .before .loop .inv .1 ∙ ap (λ (l : List ℕ). c .before .before .before .loop .n + length l)
+      (unreturned-skip _ _ (c .before .before .loop-test .taken) (c .if1 .taken)),
+  omega arith,
+)
 
 add-n : tie.Need-add-n Inv-loop μ-loop
 add-n c = omega arith

@@ -36,7 +36,28 @@ is-digit-requires c κs = search needs
 
 returns : tie.Need-returns
 unfolding firstOf startsRun
-returns c = simp (ne-eqb _ _ (c .before .before .match .rest .0 .0 .0 .0 .0 .0 .0 .0 .0 .0 .0 .0 .0 .0 .0 .1), ne-eqb _ _ (c .before .before .match .rest .0 .0 .0 .0 .0 .0 .0 .0 .0 .0 .0 .0 .0 .0 .1), ne-eqb _ _ (c .before .before .match .rest .0 .0 .0 .0 .0 .0 .0 .0 .0 .0 .0 .0 .0 .1), ne-eqb _ _ (c .before .before .match .rest .0 .0 .0 .0 .0 .0 .0 .0 .0 .0 .0 .0 .1), ne-eqb _ _ (c .before .before .match .rest .0 .0 .0 .0 .0 .0 .0 .0 .0 .0 .0 .1), ne-eqb _ _ (c .before .before .match .rest .0 .0 .0 .0 .0 .0 .0 .0 .0 .0 .1), ne-eqb _ _ (c .before .before .match .rest .0 .0 .0 .0 .0 .0 .0 .0 .0 .1), ne-eqb _ _ (c .before .before .match .rest .0 .0 .0 .0 .0 .0 .0 .0 .1), ne-eqb _ _ (c .before .before .match .rest .0 .0 .0 .0 .0 .0 .0 .1), ne-eqb _ _ (c .before .before .match .rest .0 .0 .0 .0 .0 .0 .1), ne-eqb _ _ (c .before .before .match .rest .0 .0 .0 .0 .0 .1), ne-eqb _ _ (c .before .before .match .rest .0 .0 .0 .0 .1), ne-eqb _ _ (λ h. c .before .before .match .rest .0 .0 .0 .1 (inl h)), ne-eqb _ _ (λ h. c .before .before .match .rest .0 .0 .0 .1 (inr h)), ne-eqb _ _ (c .before .before .match .rest .0 .0 .1), ne-eqb _ _ (c .before .before .match .rest .0 .1), ne-eqb _ _ (c .before .before .match .rest .1), sym (c .before .is-digit .ensures) ∙ c .if1 .taken)
+returns c =
+    let matched = c .before .before in
+    simp (
+      ne-eqb _ _ (matched .match .rest .0 .0 .0 .0 .0 .0 .0 .0 .0 .0 .0 .0 .0 .0 .0 .1),
+      ne-eqb _ _ (matched .match .rest .0 .0 .0 .0 .0 .0 .0 .0 .0 .0 .0 .0 .0 .0 .1),
+      ne-eqb _ _ (matched .match .rest .0 .0 .0 .0 .0 .0 .0 .0 .0 .0 .0 .0 .0 .1),
+      ne-eqb _ _ (matched .match .rest .0 .0 .0 .0 .0 .0 .0 .0 .0 .0 .0 .0 .1),
+      ne-eqb _ _ (matched .match .rest .0 .0 .0 .0 .0 .0 .0 .0 .0 .0 .0 .1),
+      ne-eqb _ _ (matched .match .rest .0 .0 .0 .0 .0 .0 .0 .0 .0 .0 .1),
+      ne-eqb _ _ (matched .match .rest .0 .0 .0 .0 .0 .0 .0 .0 .0 .1),
+      ne-eqb _ _ (matched .match .rest .0 .0 .0 .0 .0 .0 .0 .0 .1),
+      ne-eqb _ _ (matched .match .rest .0 .0 .0 .0 .0 .0 .0 .1),
+      ne-eqb _ _ (matched .match .rest .0 .0 .0 .0 .0 .0 .1),
+      ne-eqb _ _ (matched .match .rest .0 .0 .0 .0 .0 .1),
+      ne-eqb _ _ (matched .match .rest .0 .0 .0 .0 .1),
+      ne-eqb _ _ (λ h. matched .match .rest .0 .0 .0 .1 (inl h)),
+      ne-eqb _ _ (λ h. matched .match .rest .0 .0 .0 .1 (inr h)),
+      ne-eqb _ _ (matched .match .rest .0 .0 .1),
+      ne-eqb _ _ (matched .match .rest .0 .1),
+      ne-eqb _ _ (matched .match .rest .1),
+      sym (c .before .is-digit .ensures) ∙ c .if1 .taken,
+    )
 
 returns-2 : tie.Need-returns-2
 unfolding firstOf startsRun
@@ -104,7 +125,28 @@ returns-17 c = rw (c .match .keys16)
 
 returns-18 : tie.Need-returns-18
 unfolding firstOf startsRun
-returns-18 c = simp (ne-eqb _ _ (c .before .before .match .rest .0 .0 .0 .0 .0 .0 .0 .0 .0 .0 .0 .0 .0 .0 .0 .1), ne-eqb _ _ (c .before .before .match .rest .0 .0 .0 .0 .0 .0 .0 .0 .0 .0 .0 .0 .0 .0 .1), ne-eqb _ _ (c .before .before .match .rest .0 .0 .0 .0 .0 .0 .0 .0 .0 .0 .0 .0 .0 .1), ne-eqb _ _ (c .before .before .match .rest .0 .0 .0 .0 .0 .0 .0 .0 .0 .0 .0 .0 .1), ne-eqb _ _ (c .before .before .match .rest .0 .0 .0 .0 .0 .0 .0 .0 .0 .0 .0 .1), ne-eqb _ _ (c .before .before .match .rest .0 .0 .0 .0 .0 .0 .0 .0 .0 .0 .1), ne-eqb _ _ (c .before .before .match .rest .0 .0 .0 .0 .0 .0 .0 .0 .0 .1), ne-eqb _ _ (c .before .before .match .rest .0 .0 .0 .0 .0 .0 .0 .0 .1), ne-eqb _ _ (c .before .before .match .rest .0 .0 .0 .0 .0 .0 .0 .1), ne-eqb _ _ (c .before .before .match .rest .0 .0 .0 .0 .0 .0 .1), ne-eqb _ _ (c .before .before .match .rest .0 .0 .0 .0 .0 .1), ne-eqb _ _ (c .before .before .match .rest .0 .0 .0 .0 .1), ne-eqb _ _ (λ h. c .before .before .match .rest .0 .0 .0 .1 (inl h)), ne-eqb _ _ (λ h. c .before .before .match .rest .0 .0 .0 .1 (inr h)), ne-eqb _ _ (c .before .before .match .rest .0 .0 .1), ne-eqb _ _ (c .before .before .match .rest .0 .1), ne-eqb _ _ (c .before .before .match .rest .1), sym (c .before .is-digit .ensures) ∙ c .if1 .left)
+returns-18 c =
+    let matched = c .before .before in
+    simp (
+      ne-eqb _ _ (matched .match .rest .0 .0 .0 .0 .0 .0 .0 .0 .0 .0 .0 .0 .0 .0 .0 .1),
+      ne-eqb _ _ (matched .match .rest .0 .0 .0 .0 .0 .0 .0 .0 .0 .0 .0 .0 .0 .0 .1),
+      ne-eqb _ _ (matched .match .rest .0 .0 .0 .0 .0 .0 .0 .0 .0 .0 .0 .0 .0 .1),
+      ne-eqb _ _ (matched .match .rest .0 .0 .0 .0 .0 .0 .0 .0 .0 .0 .0 .0 .1),
+      ne-eqb _ _ (matched .match .rest .0 .0 .0 .0 .0 .0 .0 .0 .0 .0 .0 .1),
+      ne-eqb _ _ (matched .match .rest .0 .0 .0 .0 .0 .0 .0 .0 .0 .0 .1),
+      ne-eqb _ _ (matched .match .rest .0 .0 .0 .0 .0 .0 .0 .0 .0 .1),
+      ne-eqb _ _ (matched .match .rest .0 .0 .0 .0 .0 .0 .0 .0 .1),
+      ne-eqb _ _ (matched .match .rest .0 .0 .0 .0 .0 .0 .0 .1),
+      ne-eqb _ _ (matched .match .rest .0 .0 .0 .0 .0 .0 .1),
+      ne-eqb _ _ (matched .match .rest .0 .0 .0 .0 .0 .1),
+      ne-eqb _ _ (matched .match .rest .0 .0 .0 .0 .1),
+      ne-eqb _ _ (λ h. matched .match .rest .0 .0 .0 .1 (inl h)),
+      ne-eqb _ _ (λ h. matched .match .rest .0 .0 .0 .1 (inr h)),
+      ne-eqb _ _ (matched .match .rest .0 .0 .1),
+      ne-eqb _ _ (matched .match .rest .0 .1),
+      ne-eqb _ _ (matched .match .rest .1),
+      sym (c .before .is-digit .ensures) ∙ c .if1 .left,
+    )
 
 pub first-phase-spec : {M : Type 1} → statement M
 first-phase-spec =

@@ -87,7 +87,8 @@ loop-again c =
       k .inside,
       omega (arith, k .on, turn .loop .inv .1, run .ensures .0),
       turn-deep s (entry .args .report) (entry .args .start) (turn .loop .phase) at code next k _ (omega (arith, turn .loop .inv .2, run .ensures .0)) e,
-      turn .loop .inv .3 ∙ run .ensures .2 (entry .args .report) (entry .args .start) (turn .loop .inv .1) ∙ turn-eat s (entry .args .report) (entry .args .start) (turn .loop .phase) at code next k _ (omega (arith, turn .loop .inv .1, run .ensures .0)) e,
+      turn .loop .inv .3 ∙ run .ensures .2 (entry .args .report) (entry .args .start) (turn .loop .inv .1) ∙ turn-eat s
+          (entry .args .report) (entry .args .start) (turn .loop .phase) at code next k _ (omega (arith, turn .loop .inv .1, run .ensures .0)) e,
     )
 
 enum-known-what : tie.Need-enum-known-what Inv-loop μ-loop
@@ -105,7 +106,8 @@ returns c =
     let next = read .code .given .0 .1 .0 in
     let k = char-at s at code next (sym (read .code .given .1) ∙ read .before .before .decode-at .ensures) (run .ensures .1) in
     let e = sym (c .before .before .before .step .ensures) ∙ c .before .what .given .1 in
-    sym (turn .loop .inv .3 ∙ run .ensures .2 (entry .args .report) (entry .args .start) (turn .loop .inv .1) ∙ turn-stop s (entry .args .report) (entry .args .start) (turn .loop .phase) at code next k _ e)
+    sym (turn .loop .inv .3 ∙ run .ensures .2 (entry .args .report) (entry .args .start) (turn .loop .inv .1)
+    ∙ turn-stop s (entry .args .report) (entry .args .start) (turn .loop .phase) at code next k _ e)
 
 enum-told : tie.Need-enum-told Inv-loop μ-loop
 enum-told c = search needs
@@ -121,7 +123,8 @@ returns-2 c =
     let s = now (entry .args .s) in
     let at = run .result in
     let none = none-bad s at (sym (c .before .enum-told .given .1) ∙ c .before .before .before .decode-at .ensures) in
-    c .scan-end .ensures ∙ sym (turn .loop .inv .3 ∙ run .ensures .2 (entry .args .report) (entry .args .start) (turn .loop .inv .1) ∙ turn-last s (entry .args .report) (entry .args .start) (turn .loop .phase) at none)
+    c .scan-end .ensures ∙ sym (turn .loop .inv .3 ∙ run .ensures .2 (entry .args .report) (entry .args .start) (turn .loop .inv .1)
+    ∙ turn-last s (entry .args .report) (entry .args .start) (turn .loop .phase) at none)
 
 enum-told-2 : tie.Need-enum-told-2 Inv-loop μ-loop
 enum-told-2 c = search needs
@@ -137,7 +140,8 @@ returns-3 c =
     let s = now (entry .args .s) in
     let at = run .result in
     let none = none-cut s at (sym (c .before .enum-told2 .given .1) ∙ c .before .before .before .decode-at .ensures) in
-    c .scan-end2 .ensures ∙ sym (turn .loop .inv .3 ∙ run .ensures .2 (entry .args .report) (entry .args .start) (turn .loop .inv .1) ∙ turn-last s (entry .args .report) (entry .args .start) (turn .loop .phase) at none)
+    c .scan-end2 .ensures ∙ sym (turn .loop .inv .3 ∙ run .ensures .2 (entry .args .report) (entry .args .start) (turn .loop .inv .1)
+    ∙ turn-last s (entry .args .report) (entry .args .start) (turn .loop .phase) at none)
 
 enum-told-3 : tie.Need-enum-told-3 Inv-loop μ-loop
 enum-told-3 c = search needs
@@ -153,7 +157,8 @@ returns-4 c =
     let s = now (entry .args .s) in
     let at = run .result in
     let none = none-end s at (sym (c .before .enum-told3 .given .1) ∙ c .before .before .before .decode-at .ensures) in
-    c .scan-end3 .ensures ∙ sym (turn .loop .inv .3 ∙ run .ensures .2 (entry .args .report) (entry .args .start) (turn .loop .inv .1) ∙ turn-last s (entry .args .report) (entry .args .start) (turn .loop .phase) at none)
+    c .scan-end3 .ensures ∙ sym (turn .loop .inv .3 ∙ run .ensures .2 (entry .args .report) (entry .args .start) (turn .loop .inv .1)
+    ∙ turn-last s (entry .args .report) (entry .args .start) (turn .loop .phase) at none)
 
 scan-end-requires-4 : tie.Need-scan-end-requires-4 Inv-loop μ-loop
 scan-end-requires-4 c κs = search needs

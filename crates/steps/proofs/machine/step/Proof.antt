@@ -100,7 +100,9 @@ enum-known-phase-3 : tie.Need-enum-known-phase-3
 enum-known-phase-3 c = search needs
 
 nest-sharp-requires : tie.Need-nest-sharp-requires
-nest-sharp-requires c κs = let h = rw (c .before .phase3 .given .1) at (c .before .before .before .before .pre .1) in omega (arith, wide (c .before .before .before .before .args .c))
+nest-sharp-requires c κs =
+    let entry = c .before .before .before .before in
+    let h = rw (c .before .phase3 .given .1) at (entry .pre .1) in omega (arith, wide (entry .args .c))
 
 enum-known-phase-4 : tie.Need-enum-known-phase-4
 enum-known-phase-4 c = search needs

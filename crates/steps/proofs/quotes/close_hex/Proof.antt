@@ -35,19 +35,41 @@ rest-requires-2 : tie.Need-rest-requires-2
 rest-requires-2 c κs = search needs
 
 sub-failing-at : tie.Need-sub-failing-at
-sub-failing-at c = omega (arith, c .before .before .before .before .before .before .before .before .pre .0, ap length (c .rest2 .ensures), ap length (c .before .before .before .before .before .before .rest .ensures), length-drop (c .before .before .error2 .given .0 .1 .1 .0) (c .before .before .before .before .before .before .rest .result .now), length-drop (c .before .before .before .before .before .before .before .before .args .n) (c .before .before .before .before .before .before .before .before .args .raw .now))
+sub-failing-at c =
+    let at-rest = c .before .before .before .before .before .before in
+    let entry = at-rest .before .before in
+    omega (
+      arith,
+      entry .pre .0,
+      ap length (c .rest2 .ensures),
+      ap length (at-rest .rest .ensures),
+      length-drop (c .before .before .error2 .given .0 .1 .1 .0) (at-rest .rest .result .now),
+      length-drop (entry .args .n) (entry .args .raw .now),
+    )
 
 failing-at-requires : tie.Need-failing-at-requires
 failing-at-requires c κs = search needs
 
 returns : tie.Need-returns
-returns c = rw (sym (ap (λ (t : List ℕ). scalarOf (hexValue t)) (c .before .before .before .before .rest .ensures)) ∙ sym (ap scalarOf (c .before .before .before .hex-value .ensures)) ∙ sym (c .before .before .scalar-of .ensures) ∙ c .enum-told .given .1)
+returns c = rw (sym (ap (λ (t : List ℕ). scalarOf (hexValue t)) (c .before .before .before .before .rest .ensures))
+    ∙ sym (ap scalarOf (c .before .before .before .hex-value .ensures)) ∙ sym (c .before .before .scalar-of .ensures) ∙ c .enum-told .given .1)
 
 returns-2 : tie.Need-returns-2
-returns-2 c = rw (sym (ap (λ (t : List ℕ). scalarOf (hexValue t)) (c .before .before .before .before .before .before .rest .ensures)) ∙ sym (ap scalarOf (c .before .before .before .before .before .hex-value .ensures)) ∙ sym (c .before .before .before .before .scalar-of .ensures) ∙ c .before .before .error .given .1) (c .broken .ensures)
+returns-2 c =
+    let scalar = c .before .before .before .before in
+    rw (sym (ap (λ (t : List ℕ). scalarOf (hexValue t)) (scalar .before .before .rest .ensures))
+    ∙ sym (ap scalarOf (scalar .before .hex-value .ensures)) ∙ sym (scalar .scalar-of .ensures) ∙ c .before .before .error .given .1)
+    (c .broken .ensures)
 
 returns-3 : tie.Need-returns-3
-returns-3 c = rw ((sym (ap (λ (t : List ℕ). scalarOf (hexValue t)) (c .before .before .before .before .before .before .before .rest .ensures)) ∙ sym (ap scalarOf (c .before .before .before .before .before .before .hex-value .ensures)) ∙ sym (c .before .before .before .before .before .scalar-of .ensures) ∙ c .before .before .before .error2 .given .1), sym (c .before .rest2 .ensures ∙ ap (drop (c .before .before .before .error2 .given .0 .1 .1 .0)) (c .before .before .before .before .before .before .before .rest .ensures))) (c .failing-at .ensures)
+returns-3 c =
+    let at-rest = c .before .before .before .before .before .before .before in
+    rw (
+      (sym (ap (λ (t : List ℕ). scalarOf (hexValue t)) (at-rest .rest .ensures))
+          ∙ sym (ap scalarOf (c .before .before .before .before .before .before .hex-value .ensures))
+          ∙ sym (c .before .before .before .before .before .scalar-of .ensures) ∙ c .before .before .before .error2 .given .1),
+      sym (c .before .rest2 .ensures ∙ ap (drop (c .before .before .before .error2 .given .0 .1 .1 .0)) (at-rest .rest .ensures)),
+    ) (c .failing-at .ensures)
 
 pub close-hex-spec : {M : Type 1} → statement M
 close-hex-spec =

@@ -27,10 +27,18 @@ broken-requires : tie.Need-broken-requires
 broken-requires c κs = search needs
 
 returns-2 : tie.Need-returns-2
-returns-2 c = simp (hex-breaks (c .before .before .before .before .before .before .args .k) _ (c .before .before .before .before .before .before .args .c) (ne-eqb _ _ (c .before .before .before .if1 .left)) (sym (c .before .before .breaks-hex .ensures) ∙ c .before .if2 .taken), c .broken .ensures)
+returns-2 c =
+    let entry = c .before .before .before .before .before .before in
+    simp (
+      hex-breaks (entry .args .k) _
+          (entry .args .c) (ne-eqb _ _ (c .before .before .before .if1 .left)) (sym (c .before .before .breaks-hex .ensures) ∙ c .before .if2 .taken),
+      c .broken .ensures,
+    )
 
 returns-3 : tie.Need-returns-3
-returns-3 c = simp (hex-goes (c .before .before .before .before .before .args .k) _ (c .before .before .before .before .before .args .c) (ne-eqb _ _ (c .before .before .if1 .left)) (sym (c .before .breaks-hex .ensures) ∙ c .if2 .left))
+returns-3 c =
+    let entry = c .before .before .before .before .before in
+    simp (hex-goes (entry .args .k) _ (entry .args .c) (ne-eqb _ _ (c .before .before .if1 .left)) (sym (c .before .breaks-hex .ensures) ∙ c .if2 .left))
 
 pub hex-digits-spec : {M : Type 1} → statement M
 hex-digits-spec =

@@ -31,11 +31,21 @@ shared-slice-read-if4 c = search needs
 
 returns-4 : tie.Need-returns-4
 unfolding linedOf
-returns-4 c = simp (lt-leb _ _ (c .before .before .before .before .before .before .if1 .left), ne-eqb _ _ (c .before .before .before .before .if2 .left), eq-eqb _ _ (c .before .before .if3 .left), eq-eqb _ _ (c .if4 .taken))
+returns-4 c = simp (
+  lt-leb _ _ (c .before .before .before .before .before .before .if1 .left),
+  ne-eqb _ _ (c .before .before .before .before .if2 .left),
+  eq-eqb _ _ (c .before .before .if3 .left),
+  eq-eqb _ _ (c .if4 .taken),
+)
 
 returns-5 : tie.Need-returns-5
 unfolding linedOf
-returns-5 c = simp (lt-leb _ _ (c .before .before .before .before .before .before .if1 .left), ne-eqb _ _ (c .before .before .before .before .if2 .left), eq-eqb _ _ (c .before .before .if3 .left), ne-eqb _ _ (c .if4 .left))
+returns-5 c = simp (
+  lt-leb _ _ (c .before .before .before .before .before .before .if1 .left),
+  ne-eqb _ _ (c .before .before .before .before .if2 .left),
+  eq-eqb _ _ (c .before .before .if3 .left),
+  ne-eqb _ _ (c .if4 .left),
+)
 
 pub lined-of-spec : {M : Type 1} → statement M
 lined-of-spec =

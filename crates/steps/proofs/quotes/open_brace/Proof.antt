@@ -40,10 +40,22 @@ broken-requires : tie.Need-broken-requires
 broken-requires c κs = search needs
 
 returns-3 : tie.Need-returns-3
-returns-3 c = simp (ne-eqb _ _ (c .before .before .before .before .if1 .left), hex-breaks (c .before .before .before .before .before .before .args .k) _ (c .before .before .before .before .before .before .args .c) (ne-eqb _ _ (c .before .before .before .if2 .left)) (sym (c .before .before .breaks-hex .ensures) ∙ c .before .if3 .taken), c .broken .ensures)
+returns-3 c =
+    let entry = c .before .before .before .before .before .before in
+    simp (
+      ne-eqb _ _ (c .before .before .before .before .if1 .left),
+      hex-breaks (entry .args .k) _
+          (entry .args .c) (ne-eqb _ _ (c .before .before .before .if2 .left)) (sym (c .before .before .breaks-hex .ensures) ∙ c .before .if3 .taken),
+      c .broken .ensures,
+    )
 
 returns-4 : tie.Need-returns-4
-returns-4 c = simp (ne-eqb _ _ (c .before .before .before .if1 .left), hex-goes (c .before .before .before .before .before .args .k) _ (c .before .before .before .before .before .args .c) (ne-eqb _ _ (c .before .before .if2 .left)) (sym (c .before .breaks-hex .ensures) ∙ c .if3 .left))
+returns-4 c =
+    let entry = c .before .before .before .before .before in
+    simp (
+      ne-eqb _ _ (c .before .before .before .if1 .left),
+      hex-goes (entry .args .k) _ (entry .args .c) (ne-eqb _ _ (c .before .before .if2 .left)) (sym (c .before .breaks-hex .ensures) ∙ c .if3 .left),
+    )
 
 pub open-brace-spec : {M : Type 1} → statement M
 open-brace-spec =

@@ -51,7 +51,23 @@ returns-7 c = rw (c .match .keys7)
 
 returns-8 : tie.Need-returns-8
 unfolding afterBackslash
-returns-8 c = simp (ne-eqb _ _ (λ h. c .before .match .rest .0 .0 .0 .0 .0 .0 .1 (inl h)), ne-eqb _ _ (λ h. c .before .match .rest .0 .0 .0 .0 .0 .0 .1 (inr (inl h))), ne-eqb _ _ (λ h. c .before .match .rest .0 .0 .0 .0 .0 .0 .1 (inr (inr h))), ne-eqb _ _ (λ h. c .before .match .rest .0 .0 .0 .0 .0 .1 (inl h)), ne-eqb _ _ (λ h. c .before .match .rest .0 .0 .0 .0 .0 .1 (inr (inl h))), ne-eqb _ _ (λ h. c .before .match .rest .0 .0 .0 .0 .0 .1 (inr (inr (inl h)))), ne-eqb _ _ (λ h. c .before .match .rest .0 .0 .0 .0 .0 .1 (inr (inr (inr h)))), ne-eqb _ _ (λ h. c .before .match .rest .0 .0 .0 .0 .1 (inl h)), ne-eqb _ _ (λ h. c .before .match .rest .0 .0 .0 .0 .1 (inr h)), ne-eqb _ _ (c .before .match .rest .0 .0 .0 .1), ne-eqb _ _ (c .before .match .rest .0 .0 .1), ne-eqb _ _ (λ h. c .before .match .rest .0 .1 (inl h)), ne-eqb _ _ (λ h. c .before .match .rest .0 .1 (inr h)), ne-eqb _ _ (c .before .match .rest .1), c .char-width2 .ensures)
+returns-8 c = simp (
+  ne-eqb _ _ (λ h. c .before .match .rest .0 .0 .0 .0 .0 .0 .1 (inl h)),
+  ne-eqb _ _ (λ h. c .before .match .rest .0 .0 .0 .0 .0 .0 .1 (inr (inl h))),
+  ne-eqb _ _ (λ h. c .before .match .rest .0 .0 .0 .0 .0 .0 .1 (inr (inr h))),
+  ne-eqb _ _ (λ h. c .before .match .rest .0 .0 .0 .0 .0 .1 (inl h)),
+  ne-eqb _ _ (λ h. c .before .match .rest .0 .0 .0 .0 .0 .1 (inr (inl h))),
+  ne-eqb _ _ (λ h. c .before .match .rest .0 .0 .0 .0 .0 .1 (inr (inr (inl h)))),
+  ne-eqb _ _ (λ h. c .before .match .rest .0 .0 .0 .0 .0 .1 (inr (inr (inr h)))),
+  ne-eqb _ _ (λ h. c .before .match .rest .0 .0 .0 .0 .1 (inl h)),
+  ne-eqb _ _ (λ h. c .before .match .rest .0 .0 .0 .0 .1 (inr h)),
+  ne-eqb _ _ (c .before .match .rest .0 .0 .0 .1),
+  ne-eqb _ _ (c .before .match .rest .0 .0 .1),
+  ne-eqb _ _ (λ h. c .before .match .rest .0 .1 (inl h)),
+  ne-eqb _ _ (λ h. c .before .match .rest .0 .1 (inr h)),
+  ne-eqb _ _ (c .before .match .rest .1),
+  c .char-width2 .ensures,
+)
 
 pub read-string-escape-spec : {M : Type 1} → statement M
 read-string-escape-spec =

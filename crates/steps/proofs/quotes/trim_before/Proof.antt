@@ -23,7 +23,12 @@ returns-2 c = λ raw. rw (c .match .keys2)
 
 returns-3 : tie.Need-returns-3
 unfolding inTrim
-returns-3 c = λ raw. simp (ne-eqb _ _ (λ h. c .before .match .rest .0 .1 (inl h)), ne-eqb _ _ (λ h. c .before .match .rest .0 .1 (inr h)), ne-eqb _ _ (c .before .match .rest .1), c .char-width .ensures)
+returns-3 c = λ raw. simp (
+  ne-eqb _ _ (λ h. c .before .match .rest .0 .1 (inl h)),
+  ne-eqb _ _ (λ h. c .before .match .rest .0 .1 (inr h)),
+  ne-eqb _ _ (c .before .match .rest .1),
+  c .char-width .ensures,
+)
 
 pub trim-before-spec : {M : Type 1} → statement M
 trim-before-spec =

@@ -23,7 +23,20 @@ returns-3 c = ⊎-elim (λ h. rw h) (⊎-elim (λ h. rw h) (⊎-elim (λ h. rw h
 
 returns-4 : tie.Need-returns-4
 unfolding breaksWord
-returns-4 c = simp (ne-eqb _ _ (λ h. c .before .match .rest .0 .0 .1 (inl h)), ne-eqb _ _ (λ h. c .before .match .rest .0 .0 .1 (inr (inl h))), ne-eqb _ _ (λ h. c .before .match .rest .0 .0 .1 (inr (inr h))), ne-eqb _ _ (λ h. c .before .match .rest .0 .1 (inl h)), ne-eqb _ _ (λ h. c .before .match .rest .0 .1 (inr (inl h))), ne-eqb _ _ (λ h. c .before .match .rest .0 .1 (inr (inr h))), ne-eqb _ _ (λ h. c .before .match .rest .1 (inl h)), ne-eqb _ _ (λ h. c .before .match .rest .1 (inr (inl h))), ne-eqb _ _ (λ h. c .before .match .rest .1 (inr (inr (inl h)))), ne-eqb _ _ (λ h. c .before .match .rest .1 (inr (inr (inr (inl h))))), ne-eqb _ _ (λ h. c .before .match .rest .1 (inr (inr (inr (inr h))))), c .is-blank .ensures)
+returns-4 c = simp (
+  ne-eqb _ _ (λ h. c .before .match .rest .0 .0 .1 (inl h)),
+  ne-eqb _ _ (λ h. c .before .match .rest .0 .0 .1 (inr (inl h))),
+  ne-eqb _ _ (λ h. c .before .match .rest .0 .0 .1 (inr (inr h))),
+  ne-eqb _ _ (λ h. c .before .match .rest .0 .1 (inl h)),
+  ne-eqb _ _ (λ h. c .before .match .rest .0 .1 (inr (inl h))),
+  ne-eqb _ _ (λ h. c .before .match .rest .0 .1 (inr (inr h))),
+  ne-eqb _ _ (λ h. c .before .match .rest .1 (inl h)),
+  ne-eqb _ _ (λ h. c .before .match .rest .1 (inr (inl h))),
+  ne-eqb _ _ (λ h. c .before .match .rest .1 (inr (inr (inl h)))),
+  ne-eqb _ _ (λ h. c .before .match .rest .1 (inr (inr (inr (inl h))))),
+  ne-eqb _ _ (λ h. c .before .match .rest .1 (inr (inr (inr (inr h))))),
+  c .is-blank .ensures,
+)
 
 pub breaks-word-spec : {M : Type 1} → statement M
 breaks-word-spec =

@@ -24,7 +24,11 @@ enter-word-requires c κs = search needs
 
 returns-3 : tie.Need-returns-3
 unfolding inRun
-returns-3 c = simp (sym (c .before .before .before .before .stays-run .ensures) ∙ c .before .before .before .if1 .left, sym (c .before .before .ends-run .ensures) ∙ c .before .if2 .left, c .enter-word .ensures)
+returns-3 c = simp (
+  sym (c .before .before .before .before .stays-run .ensures) ∙ c .before .before .before .if1 .left,
+  sym (c .before .before .ends-run .ensures) ∙ c .before .if2 .left,
+  c .enter-word .ensures,
+)
 
 pub read-number-spec : {M : Type 1} → statement M
 read-number-spec =

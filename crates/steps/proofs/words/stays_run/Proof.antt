@@ -47,7 +47,28 @@ returns-9 c = ⊎-elim (λ h. rw h) (λ h. rw h) (c .match .keys9)
 
 returns-10 : tie.Need-returns-10
 unfolding staysRun
-returns-10 c = simp (ne-eqb _ _ (λ h. c .before .match .rest .0 .0 .0 .0 .0 .0 .0 .0 .1 (inl h)), ne-eqb _ _ (λ h. c .before .match .rest .0 .0 .0 .0 .0 .0 .0 .0 .1 (inr (inl h))), ne-eqb _ _ (λ h. c .before .match .rest .0 .0 .0 .0 .0 .0 .0 .0 .1 (inr (inr h))), ne-eqb _ _ (λ h. c .before .match .rest .0 .0 .0 .0 .0 .0 .0 .1 (inl h)), ne-eqb _ _ (λ h. c .before .match .rest .0 .0 .0 .0 .0 .0 .0 .1 (inr h)), ne-eqb _ _ (λ h. c .before .match .rest .0 .0 .0 .0 .0 .0 .1 (inl h)), ne-eqb _ _ (λ h. c .before .match .rest .0 .0 .0 .0 .0 .0 .1 (inr h)), ne-eqb _ _ (λ h. c .before .match .rest .0 .0 .0 .0 .0 .1 (inl h)), ne-eqb _ _ (λ h. c .before .match .rest .0 .0 .0 .0 .0 .1 (inr h)), ne-eqb _ _ (λ h. c .before .match .rest .0 .0 .0 .0 .1 (inl h)), ne-eqb _ _ (λ h. c .before .match .rest .0 .0 .0 .0 .1 (inr h)), ne-eqb _ _ (λ h. c .before .match .rest .0 .0 .0 .1 (inl h)), ne-eqb _ _ (λ h. c .before .match .rest .0 .0 .0 .1 (inr h)), ne-eqb _ _ (λ h. c .before .match .rest .0 .0 .1 (inl h)), ne-eqb _ _ (λ h. c .before .match .rest .0 .0 .1 (inr h)), ne-eqb _ _ (λ h. c .before .match .rest .0 .1 (inl h)), ne-eqb _ _ (λ h. c .before .match .rest .0 .1 (inr h)), ne-eqb _ _ (λ h. c .before .match .rest .1 (inl h)), ne-eqb _ _ (λ h. c .before .match .rest .1 (inr h)), c .is-digit .ensures)
+returns-10 c = simp (
+  ne-eqb _ _ (λ h. c .before .match .rest .0 .0 .0 .0 .0 .0 .0 .0 .1 (inl h)),
+  ne-eqb _ _ (λ h. c .before .match .rest .0 .0 .0 .0 .0 .0 .0 .0 .1 (inr (inl h))),
+  ne-eqb _ _ (λ h. c .before .match .rest .0 .0 .0 .0 .0 .0 .0 .0 .1 (inr (inr h))),
+  ne-eqb _ _ (λ h. c .before .match .rest .0 .0 .0 .0 .0 .0 .0 .1 (inl h)),
+  ne-eqb _ _ (λ h. c .before .match .rest .0 .0 .0 .0 .0 .0 .0 .1 (inr h)),
+  ne-eqb _ _ (λ h. c .before .match .rest .0 .0 .0 .0 .0 .0 .1 (inl h)),
+  ne-eqb _ _ (λ h. c .before .match .rest .0 .0 .0 .0 .0 .0 .1 (inr h)),
+  ne-eqb _ _ (λ h. c .before .match .rest .0 .0 .0 .0 .0 .1 (inl h)),
+  ne-eqb _ _ (λ h. c .before .match .rest .0 .0 .0 .0 .0 .1 (inr h)),
+  ne-eqb _ _ (λ h. c .before .match .rest .0 .0 .0 .0 .1 (inl h)),
+  ne-eqb _ _ (λ h. c .before .match .rest .0 .0 .0 .0 .1 (inr h)),
+  ne-eqb _ _ (λ h. c .before .match .rest .0 .0 .0 .1 (inl h)),
+  ne-eqb _ _ (λ h. c .before .match .rest .0 .0 .0 .1 (inr h)),
+  ne-eqb _ _ (λ h. c .before .match .rest .0 .0 .1 (inl h)),
+  ne-eqb _ _ (λ h. c .before .match .rest .0 .0 .1 (inr h)),
+  ne-eqb _ _ (λ h. c .before .match .rest .0 .1 (inl h)),
+  ne-eqb _ _ (λ h. c .before .match .rest .0 .1 (inr h)),
+  ne-eqb _ _ (λ h. c .before .match .rest .1 (inl h)),
+  ne-eqb _ _ (λ h. c .before .match .rest .1 (inr h)),
+  c .is-digit .ensures,
+)
 
 pub stays-run-spec : {M : Type 1} → statement M
 stays-run-spec =

@@ -63,12 +63,14 @@ loop2-less c = omega arith
 loop2-again : tie.Need-loop2-again Inv-loop μ-loop Inv-loop2 μ-loop2
 loop2-again c =
     let l = c .before .before .before .before in
-    sym (span-hit blank (now (l .before .before .before .before .before .args .t)) (l .loop2 .i) (c .before .before .before .loop2-test .taken) (sym (c .before .is-blank .ensures) ∙ c .if2 .taken)) ∙ l .loop2 .inv
+    sym (span-hit blank (now (l .before .before .before .before .before .args .t))
+    (l .loop2 .i) (c .before .before .before .loop2-test .taken) (sym (c .before .is-blank .ensures) ∙ c .if2 .taken)) ∙ l .loop2 .inv
 
 returns : tie.Need-returns Inv-loop μ-loop Inv-loop2 μ-loop2
 returns c =
     let l = c .before .before .before .before in
-    sym (span-stop blank (now (l .before .before .before .before .before .args .t)) (l .loop2 .i) (c .before .before .before .loop2-test .taken) (sym (c .before .is-blank .ensures) ∙ c .if2 .left)) ∙ l .loop2 .inv
+    sym (span-stop blank (now (l .before .before .before .before .before .args .t))
+    (l .loop2 .i) (c .before .before .before .loop2-test .taken) (sym (c .before .is-blank .ensures) ∙ c .if2 .left)) ∙ l .loop2 .inv
 
 returns-2 : tie.Need-returns-2 Inv-loop μ-loop Inv-loop2 μ-loop2
 returns-2 c =

@@ -28,7 +28,10 @@ abbrev μ-loop2 : tie.MeasureT-loop2
 
 -- a block that passed its test is within the text
 room : (c : tie.Then1 Inv-loop μ-loop Inv-loop2 μ-loop2) → c .before .before .loop .i + block ≤ length (now (c .before .before .before .before .args .t))
-room c = block-room (other (c .before .before .before .before .args .b)) (now (c .before .before .before .before .args .t)) (c .before .before .loop .i) block (c .before .other-block .ensures) (c .if1 .taken) (omega arith)
+room c =
+    let entry = c .before .before .before .before in
+    block-room
+    (other (entry .args .b)) (now (entry .args .t)) (c .before .before .loop .i) block (c .before .other-block .ensures) (c .if1 .taken) (omega arith)
 
 loop-holds : tie.Need-loop-holds Inv-loop μ-loop Inv-loop2 μ-loop2
 loop-holds c = refl
@@ -44,7 +47,8 @@ loop-less c = omega (arith, room c)
 
 loop-again : tie.Need-loop-again Inv-loop μ-loop Inv-loop2 μ-loop2
 loop-again c =
-    block-on (other (c .before .before .before .before .args .b)) (now (c .before .before .before .before .args .t)) (c .before .before .loop .i) block (c .before .other-block .ensures) (c .if1 .taken)
+    let entry = c .before .before .before .before in
+    block-on (other (entry .args .b)) (now (entry .args .t)) (c .before .before .loop .i) block (c .before .other-block .ensures) (c .if1 .taken)
     ∙ c .before .before .loop .inv
 
 loop2-holds : tie.Need-loop2-holds Inv-loop μ-loop Inv-loop2 μ-loop2
@@ -56,7 +60,9 @@ shared-slice-read-if2 c = omega arith
 returns : tie.Need-returns Inv-loop μ-loop Inv-loop2 μ-loop2
 returns c =
     let l = c .before .before .before in
-    sym (span-stop (other (c .before .before .before .before .before .before .before .before .args .b)) (now (l .before .before .before .before .before .args .t)) (l .loop2 .i) (c .before .before .loop2-test .taken) (ap not (eq-eqb _ _ (c .if2 .taken)))) ∙ l .loop2 .inv
+    sym (span-stop (other (c .before .before .before .before .before .before .before .before .args .b))
+    (now (l .before .before .before .before .before .args .t))
+    (l .loop2 .i) (c .before .before .loop2-test .taken) (ap not (eq-eqb _ _ (c .if2 .taken)))) ∙ l .loop2 .inv
 
 add-i-2 : tie.Need-add-i-2 Inv-loop μ-loop Inv-loop2 μ-loop2
 add-i-2 c = omega arith
@@ -67,7 +73,9 @@ loop2-less c = omega arith
 loop2-again : tie.Need-loop2-again Inv-loop μ-loop Inv-loop2 μ-loop2
 loop2-again c =
     let l = c .before .before .before in
-    sym (span-hit (other (c .before .before .before .before .before .before .before .before .args .b)) (now (l .before .before .before .before .before .args .t)) (l .loop2 .i) (c .before .before .loop2-test .taken) (ap not (ne-eqb _ _ (c .if2 .left)))) ∙ l .loop2 .inv
+    sym (span-hit (other (c .before .before .before .before .before .before .before .before .args .b))
+    (now (l .before .before .before .before .before .args .t))
+    (l .loop2 .i) (c .before .before .loop2-test .taken) (ap not (ne-eqb _ _ (c .if2 .left)))) ∙ l .loop2 .inv
 
 returns-2 : tie.Need-returns-2 Inv-loop μ-loop Inv-loop2 μ-loop2
 returns-2 c =

@@ -32,10 +32,17 @@ loop-holds c =
     (omega arith, sym (le-leb 0 (span (other (a .b)) (drop (a .at) (now (a .t)))) (omega arith)))
 
 add-both : tie.Need-add-both Inv-loop μ-loop
-add-both c = omega (arith, room (now (c .before .before .before .before .before .args .t)) (c .before .before .before .before .before .args .at) (c .before .before .before .has-block .ensures) (c .before .before .if1 .left))
+add-both c =
+    let entry = c .before .before .before .before .before in
+    omega (arith, room (now (entry .args .t)) (entry .args .at) (c .before .before .before .has-block .ensures) (c .before .before .if1 .left))
 
 shared-slice-read-both : tie.Need-shared-slice-read-both Inv-loop μ-loop
-shared-slice-read-both c = omega (arith, room (now (c .before .before .before .before .before .before .args .t)) (c .before .before .before .before .before .before .args .at) (c .before .before .before .before .has-block .ensures) (c .before .before .before .if1 .left))
+shared-slice-read-both c =
+    let entry = c .before .before .before .before .before .before in
+    omega (
+      arith,
+      room (now (entry .args .t)) (entry .args .at) (c .before .before .before .before .has-block .ensures) (c .before .before .before .if1 .left),
+    )
 
 both-requires : tie.Need-both-requires Inv-loop μ-loop
 both-requires c κs = search needs
@@ -48,11 +55,16 @@ loop-less c = omega arith
 
 loop-again : tie.Need-loop-again Inv-loop μ-loop
 loop-again c =
+    let entry = c .before .before .before .before .before .before .before in
     let a = c .before .before .before .before .before .before .before .args in
     let l = c .before .before .before .loop in (
       omega arith,
       c .both .ensures
-          ∙ block-next (other (a .b)) (now (a .t)) (a .at) (l .j) (l .all) (omega (arith, room (now (c .before .before .before .before .before .before .before .args .t)) (c .before .before .before .before .before .before .before .args .at) (c .before .before .before .before .before .has-block .ensures) (c .before .before .before .before .if1 .left))) (l .inv .1),
+          ∙ block-next (other (a .b)) (now (a .t)) (a .at) (l .j) (l .all) (omega (
+            arith,
+            room (now (entry .args .t))
+                (entry .args .at) (c .before .before .before .before .before .has-block .ensures) (c .before .before .before .before .if1 .left),
+          )) (l .inv .1),
     )
 
 returns-2 : tie.Need-returns-2 Inv-loop μ-loop

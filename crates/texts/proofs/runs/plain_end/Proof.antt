@@ -26,7 +26,10 @@ abbrev μ-loop2 : tie.MeasureT-loop2
 
 -- a block that passed its test is within the text
 room : (c : tie.Then1 Inv-loop μ-loop Inv-loop2 μ-loop2) → c .before .before .loop .i + block ≤ length (now (c .before .before .before .before .args .t))
-room c = block-room (plain (c .before .before .before .before .args .a) (c .before .before .before .before .args .b)) (now (c .before .before .before .before .args .t)) (c .before .before .loop .i) block (c .before .plain-block .ensures) (c .if1 .taken) (omega arith)
+room c =
+    let entry = c .before .before .before .before in
+    block-room (plain (entry .args .a) (entry .args .b))
+    (now (entry .args .t)) (c .before .before .loop .i) block (c .before .plain-block .ensures) (c .if1 .taken) (omega arith)
 
 loop-holds : tie.Need-loop-holds Inv-loop μ-loop Inv-loop2 μ-loop2
 loop-holds c = refl
@@ -42,7 +45,9 @@ loop-less c = omega (arith, room c)
 
 loop-again : tie.Need-loop-again Inv-loop μ-loop Inv-loop2 μ-loop2
 loop-again c =
-    block-on (plain (c .before .before .before .before .args .a) (c .before .before .before .before .args .b)) (now (c .before .before .before .before .args .t)) (c .before .before .loop .i) block (c .before .plain-block .ensures) (c .if1 .taken)
+    let entry = c .before .before .before .before in
+    block-on (plain (entry .args .a) (entry .args .b))
+    (now (entry .args .t)) (c .before .before .loop .i) block (c .before .plain-block .ensures) (c .if1 .taken)
     ∙ c .before .before .loop .inv
 
 loop2-holds : tie.Need-loop2-holds Inv-loop μ-loop Inv-loop2 μ-loop2
@@ -62,18 +67,24 @@ loop2-less c = omega arith
 
 loop2-again : tie.Need-loop2-again Inv-loop μ-loop Inv-loop2 μ-loop2
 loop2-again c =
+    let entry = c .before .before .before .before .before .before .before .before .before in
     let l = c .before .before .before .before in
-    sym (span-hit (plain (c .before .before .before .before .before .before .before .before .before .args .a) (c .before .before .before .before .before .before .before .before .before .args .b)) (now (l .before .before .before .before .before .args .t)) (l .loop2 .i) (c .before .before .before .loop2-test .taken) (sym (c .before .is-plain .ensures) ∙ c .if2 .taken)) ∙ l .loop2 .inv
+    sym (span-hit (plain (entry .args .a) (entry .args .b)) (now (l .before .before .before .before .before .args .t))
+    (l .loop2 .i) (c .before .before .before .loop2-test .taken) (sym (c .before .is-plain .ensures) ∙ c .if2 .taken)) ∙ l .loop2 .inv
 
 returns : tie.Need-returns Inv-loop μ-loop Inv-loop2 μ-loop2
 returns c =
+    let entry = c .before .before .before .before .before .before .before .before .before in
     let l = c .before .before .before .before in
-    sym (span-stop (plain (c .before .before .before .before .before .before .before .before .before .args .a) (c .before .before .before .before .before .before .before .before .before .args .b)) (now (l .before .before .before .before .before .args .t)) (l .loop2 .i) (c .before .before .before .loop2-test .taken) (sym (c .before .is-plain .ensures) ∙ c .if2 .left)) ∙ l .loop2 .inv
+    sym (span-stop (plain (entry .args .a) (entry .args .b)) (now (l .before .before .before .before .before .args .t))
+    (l .loop2 .i) (c .before .before .before .loop2-test .taken) (sym (c .before .is-plain .ensures) ∙ c .if2 .left)) ∙ l .loop2 .inv
 
 returns-2 : tie.Need-returns-2 Inv-loop μ-loop Inv-loop2 μ-loop2
 returns-2 c =
+    let entry = c .before .before .before .before .before .before in
     let l = c .before in
-    sym (span-end (plain (c .before .before .before .before .before .before .args .a) (c .before .before .before .before .before .before .args .b)) (now (l .before .before .before .before .before .args .t)) (l .loop2 .i) (c .loop2-test .left)) ∙ l .loop2 .inv
+    sym (span-end (plain (entry .args .a) (entry .args .b))
+    (now (l .before .before .before .before .before .args .t)) (l .loop2 .i) (c .loop2-test .left)) ∙ l .loop2 .inv
 
 pub plain-end-spec : {M : Type 1} → statement M
 plain-end-spec =

@@ -17,7 +17,9 @@ state-both : {m n : Marks} {b d : List ℕ} → m ≡ n → b ≡ d → stateOf 
 state-both e f = cc
 
 returns : tie.Need-returns
-returns c = passed-none (stateOf (c .before .before .before .args .m) (now (c .before .before .before .args .buf))) (now (c .before .before .before .args .run)) (omega arith)
+returns c =
+    let entry = c .before .before .before in
+    passed-none (stateOf (entry .args .m) (now (entry .args .buf))) (now (entry .args .run)) (omega arith)
 
 enum-told : tie.Need-enum-told
 enum-told c = search needs
@@ -68,18 +70,25 @@ enum-known-stage-3 : tie.Need-enum-known-stage-3
 enum-known-stage-3 c = search needs
 
 returns-2 : tie.Need-returns-2
-returns-2 c = passed-some (stateOf (c .before .before .before .before .before .args .m) (now (c .before .before .before .before .before .args .buf))) (now (c .before .before .before .before .before .args .run)) (omega arith) _ (c .enum-told .given .1)
+returns-2 c =
+    let entry = c .before .before .before .before .before in
+    passed-some (stateOf (entry .args .m) (now (entry .args .buf))) (now (entry .args .run)) (omega arith) _ (c .enum-told .given .1)
 
 returns-3 : tie.Need-returns-3
-returns-3 c = passed-some (stateOf (c .before .before .before .before .before .args .m) (now (c .before .before .before .before .before .args .buf))) (now (c .before .before .before .before .before .args .run)) (omega arith) _ (c .enum-told2 .given .1)
+returns-3 c =
+    let entry = c .before .before .before .before .before in
+    passed-some (stateOf (entry .args .m) (now (entry .args .buf))) (now (entry .args .run)) (omega arith) _ (c .enum-told2 .given .1)
 
 returns-4 : tie.Need-returns-4
-returns-4 c = passed-some (stateOf (c .before .before .before .before .before .args .m) (now (c .before .before .before .before .before .args .buf))) (now (c .before .before .before .before .before .args .run)) (omega arith) _ (c .enum-told3 .given .1)
+returns-4 c =
+    let entry = c .before .before .before .before .before in
+    passed-some (stateOf (entry .args .m) (now (entry .args .buf))) (now (entry .args .run)) (omega arith) _ (c .enum-told3 .given .1)
 
 returns-5 : tie.Need-returns-5
 returns-5 c =
-    ap (λ (x : Marks). stateOf x (now (c .before .before .before .before .before .before .before .args .buf))) (c .marks-at .ensures)
-    ∙ passed-some (stateOf (c .before .before .before .before .before .before .before .args .m) (now (c .before .before .before .before .before .before .before .args .buf))) (now (c .before .before .before .before .before .before .before .args .run)) (omega arith) _ (c .before .before .enum-told4 .given .1)
+    let entry = c .before .before .before .before .before .before .before in
+    ap (λ (x : Marks). stateOf x (now (entry .args .buf))) (c .marks-at .ensures)
+    ∙ passed-some (stateOf (entry .args .m) (now (entry .args .buf))) (now (entry .args .run)) (omega arith) _ (c .before .before .enum-told4 .given .1)
 
 same-length : tie.Need-same-length
 same-length c = search needs
@@ -91,10 +100,14 @@ returns-6 c =
     ∙ passed-some (stateOf (f .m) (now (f .buf))) (now (f .run)) (omega arith) _ (c .before .before .before .before .before .before .before .stage .given .1)
 
 returns-7 : tie.Need-returns-7
-returns-7 c = passed-some (stateOf (c .before .before .before .before .before .before .args .m) (now (c .before .before .before .before .before .before .args .buf))) (now (c .before .before .before .before .before .before .args .run)) (omega arith) _ (c .before .stage2 .given .1)
+returns-7 c =
+    let entry = c .before .before .before .before .before .before in
+    passed-some (stateOf (entry .args .m) (now (entry .args .buf))) (now (entry .args .run)) (omega arith) _ (c .before .stage2 .given .1)
 
 returns-8 : tie.Need-returns-8
-returns-8 c = passed-some (stateOf (c .before .before .before .before .before .before .args .m) (now (c .before .before .before .before .before .before .args .buf))) (now (c .before .before .before .before .before .before .args .run)) (omega arith) _ (c .before .stage3 .given .1)
+returns-8 c =
+    let entry = c .before .before .before .before .before .before in
+    passed-some (stateOf (entry .args .m) (now (entry .args .buf))) (now (entry .args .run)) (omega arith) _ (c .before .stage3 .given .1)
 
 pub pass-spec : {M : Type 1} → statement M
 pass-spec =

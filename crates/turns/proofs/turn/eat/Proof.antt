@@ -18,10 +18,14 @@ stop-requires : tie.Need-stop-requires
 stop-requires c κs = search needs
 
 returns : tie.Need-returns
-returns c = λ text. simp (lt-ltb 4096 (c .before .before .before .before .args .m .len + width (c .before .before .before .before .args .c)) (omega (arith, c .before .before .char-width .ensures)), c .stop .ensures)
+returns c =
+    let entry = c .before .before .before .before in
+    λ text. simp (lt-ltb 4096 (entry .args .m .len + width (entry .args .c)) (omega (arith, c .before .before .char-width .ensures)), c .stop .ensures)
 
 lay-requires : tie.Need-lay-requires
-lay-requires c κs = (c .before .before .before .before .pre .0, omega (arith, c .before .before .char-width .ensures), c .before .before .before .before .pre .2 .small)
+lay-requires c κs =
+    let entry = c .before .before .before .before in
+    (entry .pre .0, omega (arith, c .before .before .char-width .ensures), entry .pre .2 .small)
 
 add-marks-at : tie.Need-add-marks-at
 add-marks-at c = omega (arith, c .before .before .before .before .before .before .char-width .ensures, width-le (c .before .before .before .before .before .before .before .before .args .c))
@@ -39,7 +43,15 @@ same-length : tie.Need-same-length
 same-length c = search needs
 
 returns-2 : tie.Need-returns-2
-returns-2 c = λ text. simp (le-ltb 4096 (c .before .before .before .before .before .before .before .before .before .before .args .m .len + width (c .before .before .before .before .before .before .before .before .before .before .args .c)) (omega (arith, c .before .before .before .before .before .before .before .before .char-width .ensures)), c .go-on .ensures, c .before .marks-at .ensures, c .before .before .before .before .before .lay .ensures, c .before .before .before .before .before .before .before .before .char-width .ensures)
+returns-2 c = λ text. simp (
+  le-ltb 4096 (c .before .before .before .before .before .before .before .before .before .before .args .m .len
+      + width (c .before .before .before .before .before .before .before .before .before .before .args .c))
+      (omega (arith, c .before .before .before .before .before .before .before .before .char-width .ensures)),
+  c .go-on .ensures,
+  c .before .marks-at .ensures,
+  c .before .before .before .before .before .lay .ensures,
+  c .before .before .before .before .before .before .before .before .char-width .ensures,
+)
 
 pub eat-spec : {M : Type 1} → statement M
 eat-spec =

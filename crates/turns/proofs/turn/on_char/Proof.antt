@@ -14,7 +14,9 @@ enum-told : tie.Need-enum-told
 enum-told c = search needs
 
 on-first-requires : tie.Need-on-first-requires
-on-first-requires c κs = (c .before .before .before .before .before .pre .0 .full, c .before .before .before .before .before .pre .1)
+on-first-requires c κs =
+    let entry = c .before .before .before .before .before in
+    (entry .pre .0 .full, entry .pre .1)
 
 go-on-requires : tie.Need-go-on-requires
 go-on-requires c κs = search needs
@@ -23,13 +25,21 @@ enum-told-2 : tie.Need-enum-told-2
 enum-told-2 c = search needs
 
 on-pound-requires : tie.Need-on-pound-requires
-on-pound-requires c κs = (held-pound (stateOf (c .before .before .before .before .before .before .args .m) (now (c .before .before .before .before .before .before .args .buf))) (now (c .before .before .before .before .before .before .args .text)) (c .before .before .before .before .before .before .pre .0 .full) (c .before .before .before .before .before .before .pre .0 .room) (sane (stateOf (c .before .before .before .before .before .before .args .m) (now (c .before .before .before .before .before .before .args .buf))) (c .before .before .before .before .before .before .pre .0 .bounded) (c .before .before .before .before .before .before .pre .0 .calm)) (c .before .before .enum-told2 .given .1), c .before .before .before .before .before .before .pre .1)
+on-pound-requires c κs =
+    let entry = c .before .before .before .before .before .before in (
+      held-pound (stateOf (entry .args .m) (now (entry .args .buf))) (now (entry .args .text)) (entry .pre .0 .full)
+          (entry .pre .0 .room) (sane (stateOf (entry .args .m) (now (entry .args .buf))) (entry .pre .0 .bounded) (entry .pre .0 .calm))
+          (c .before .before .enum-told2 .given .1),
+      entry .pre .1,
+    )
 
 enum-told-3 : tie.Need-enum-told-3
 enum-told-3 c = search needs
 
 on-line-requires : tie.Need-on-line-requires
-on-line-requires c κs = (c .before .before .before .before .before .pre .0 .full, c .before .before .before .before .before .pre .1)
+on-line-requires c κs =
+    let entry = c .before .before .before .before .before in
+    (entry .pre .0 .full, entry .pre .1)
 
 go-on-requires-2 : tie.Need-go-on-requires-2
 go-on-requires-2 c κs = search needs
@@ -38,7 +48,9 @@ enum-told-4 : tie.Need-enum-told-4
 enum-told-4 c = search needs
 
 begin-requires : tie.Need-begin-requires
-begin-requires c κs = (c .before .before .before .before .before .pre .0 .full, c .before .before .before .before .before .pre .1)
+begin-requires c κs =
+    let entry = c .before .before .before .before .before in
+    (entry .pre .0 .full, entry .pre .1)
 
 go-on-requires-3 : tie.Need-go-on-requires-3
 go-on-requires-3 c κs = search needs
@@ -47,7 +59,11 @@ enum-known-stage : tie.Need-enum-known-stage
 enum-known-stage c = search needs
 
 on-item-requires : tie.Need-on-item-requires
-on-item-requires c κs = let h = held-busy (stateOf (c .before .before .before .before .before .before .before .args .m) (now (c .before .before .before .before .before .before .before .args .buf))) (now (c .before .before .before .before .before .before .before .args .text)) (c .before .before .before .before .before .before .before .pre .0 .full) (c .before .before .before .before .before .before .before .pre .0 .room) (sane (stateOf (c .before .before .before .before .before .before .before .args .m) (now (c .before .before .before .before .before .before .before .args .buf))) (c .before .before .before .before .before .before .before .pre .0 .bounded) (c .before .before .before .before .before .before .before .pre .0 .calm)) _ _ (c .before .before .before .stage .given .1) in (h .0, c .before .before .before .before .before .before .before .pre .1, h .1)
+on-item-requires c κs =
+    let entry = c .before .before .before .before .before .before .before in
+    let h = held-busy (stateOf (entry .args .m) (now (entry .args .buf))) (now (entry .args .text)) (entry .pre .0 .full)
+    (entry .pre .0 .room) (sane (stateOf (entry .args .m) (now (entry .args .buf))) (entry .pre .0 .bounded) (entry .pre .0 .calm)) _ _
+    (c .before .before .before .stage .given .1) in (h .0, entry .pre .1, h .1)
 
 enum-known-stage-2 : tie.Need-enum-known-stage-2
 enum-known-stage-2 c = search needs
@@ -65,7 +81,10 @@ same-length : tie.Need-same-length
 same-length c = search needs
 
 returns : tie.Need-returns
-returns c = on-stage (stateOf (c .before .before .before .before .before .before .before .before .before .args .m) (now (c .before .before .before .before .before .before .before .before .before .args .buf))) (c .before .before .before .before .before .before .before .before .before .args .c) (now (c .before .before .before .before .before .before .before .before .before .args .text)) (c .before .before .before .before .before .before .before .before .before .args .m .stage) _ (c .before .before .before .before .before .enum-told .given .1) (rw (c .go-on .ensures) (c .before .before .before .on-first .ensures, refl))
+returns c =
+    let entry = c .before .before .before .before .before .before .before .before .before in
+    on-stage (stateOf (entry .args .m) (now (entry .args .buf))) (entry .args .c) (now (entry .args .text)) (entry .args .m .stage) _
+    (c .before .before .before .before .before .enum-told .given .1) (rw (c .go-on .ensures) (c .before .before .before .on-first .ensures, refl))
 
 same-length-2 : tie.Need-same-length-2
 same-length-2 c = search needs
@@ -74,19 +93,29 @@ same-length-3 : tie.Need-same-length-3
 same-length-3 c = search needs
 
 returns-2 : tie.Need-returns-2
-returns-2 c = on-stage (stateOf (c .before .before .before .before .before .before .before .before .before .before .before .args .m) (now (c .before .before .before .before .before .before .before .before .before .before .before .args .buf))) (c .before .before .before .before .before .before .before .before .before .before .before .args .c) (now (c .before .before .before .before .before .before .before .before .before .before .before .args .text)) (c .before .before .before .before .before .before .before .before .before .before .before .args .m .stage) _ (c .before .before .before .before .before .before .before .enum-told2 .given .1) (c .before .before .before .before .on-pound .ensures)
+returns-2 c =
+    let entry = c .before .before .before .before .before .before .before .before .before .before .before in
+    on-stage (stateOf (entry .args .m) (now (entry .args .buf))) (entry .args .c) (now (entry .args .text)) (entry .args .m .stage) _
+    (c .before .before .before .before .before .before .before .enum-told2 .given .1) (c .before .before .before .before .on-pound .ensures)
 
 same-length-4 : tie.Need-same-length-4
 same-length-4 c = search needs
 
 returns-3 : tie.Need-returns-3
-returns-3 c = on-stage (stateOf (c .before .before .before .before .before .before .before .before .before .args .m) (now (c .before .before .before .before .before .before .before .before .before .args .buf))) (c .before .before .before .before .before .before .before .before .before .args .c) (now (c .before .before .before .before .before .before .before .before .before .args .text)) (c .before .before .before .before .before .before .before .before .before .args .m .stage) _ (c .before .before .before .before .before .enum-told3 .given .1) (rw (c .go-on2 .ensures) (c .before .before .before .on-line .ensures, refl))
+returns-3 c =
+    let entry = c .before .before .before .before .before .before .before .before .before in
+    on-stage (stateOf (entry .args .m) (now (entry .args .buf))) (entry .args .c) (now (entry .args .text)) (entry .args .m .stage) _
+    (c .before .before .before .before .before .enum-told3 .given .1) (rw (c .go-on2 .ensures) (c .before .before .before .on-line .ensures, refl))
 
 same-length-5 : tie.Need-same-length-5
 same-length-5 c = search needs
 
 returns-4 : tie.Need-returns-4
-returns-4 c = on-stage (stateOf (c .before .before .before .before .before .before .before .before .before .args .m) (now (c .before .before .before .before .before .before .before .before .before .args .buf))) (c .before .before .before .before .before .before .before .before .before .args .c) (now (c .before .before .before .before .before .before .before .before .before .args .text)) (c .before .before .before .before .before .before .before .before .before .args .m .stage) _ (c .before .before .before .before .before .enum-told4 .given .1) (rw (c .go-on3 .ensures) (ap on (c .before .before .before .begin .ensures), refl))
+returns-4 c =
+    let entry = c .before .before .before .before .before .before .before .before .before in
+    on-stage (stateOf (entry .args .m) (now (entry .args .buf)))
+    (entry .args .c) (now (entry .args .text)) (entry .args .m .stage) _ (c .before .before .before .before .before .enum-told4 .given .1)
+    (rw (c .go-on3 .ensures) (ap on (c .before .before .before .begin .ensures), refl))
 
 same-length-6 : tie.Need-same-length-6
 same-length-6 c = search needs
@@ -95,13 +124,22 @@ same-length-7 : tie.Need-same-length-7
 same-length-7 c = search needs
 
 returns-5 : tie.Need-returns-5
-returns-5 c = on-stage (stateOf (c .before .before .before .before .before .before .before .before .before .before .before .before .args .m) (now (c .before .before .before .before .before .before .before .before .before .before .before .before .args .buf))) (c .before .before .before .before .before .before .before .before .before .before .before .before .args .c) (now (c .before .before .before .before .before .before .before .before .before .before .before .before .args .text)) (c .before .before .before .before .before .before .before .before .before .before .before .before .args .m .stage) _ (c .before .before .before .before .before .before .before .before .stage .given .1) (c .before .before .before .before .on-item .ensures)
+returns-5 c =
+    let entry = c .before .before .before .before .before .before .before .before .before .before .before .before in
+    on-stage (stateOf (entry .args .m) (now (entry .args .buf))) (entry .args .c) (now (entry .args .text)) (entry .args .m .stage) _
+    (c .before .before .before .before .before .before .before .before .stage .given .1) (c .before .before .before .before .on-item .ensures)
 
 returns-6 : tie.Need-returns-6
-returns-6 c = on-stage (stateOf (c .before .before .before .before .before .before .args .m) (now (c .before .before .before .before .before .before .args .buf))) (c .before .before .before .before .before .before .args .c) (now (c .before .before .before .before .before .before .args .text)) (c .before .before .before .before .before .before .args .m .stage) _ (c .before .before .stage2 .given .1) (rw (c .go-on4 .ensures) (refl, refl))
+returns-6 c =
+    let entry = c .before .before .before .before .before .before in
+    on-stage (stateOf (entry .args .m) (now (entry .args .buf)))
+    (entry .args .c) (now (entry .args .text)) (entry .args .m .stage) _ (c .before .before .stage2 .given .1) (rw (c .go-on4 .ensures) (refl, refl))
 
 returns-7 : tie.Need-returns-7
-returns-7 c = on-stage (stateOf (c .before .before .before .before .before .before .args .m) (now (c .before .before .before .before .before .before .args .buf))) (c .before .before .before .before .before .before .args .c) (now (c .before .before .before .before .before .before .args .text)) (c .before .before .before .before .before .before .args .m .stage) _ (c .before .before .stage3 .given .1) (rw (c .go-on5 .ensures) (refl, refl))
+returns-7 c =
+    let entry = c .before .before .before .before .before .before in
+    on-stage (stateOf (entry .args .m) (now (entry .args .buf)))
+    (entry .args .c) (now (entry .args .text)) (entry .args .m .stage) _ (c .before .before .stage3 .given .1) (rw (c .go-on5 .ensures) (refl, refl))
 
 pub on-char-spec : {M : Type 1} → statement M
 on-char-spec =

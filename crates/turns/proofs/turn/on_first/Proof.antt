@@ -12,7 +12,9 @@ char-width-requires : tie.Need-char-width-requires
 char-width-requires c κs = search needs
 
 lay-requires : tie.Need-lay-requires
-lay-requires c κs = (c .before .before .before .before .pre .0, omega (arith, width-le (c .before .before .before .before .args .c)), c .before .before .before .before .pre .1 .small)
+lay-requires c κs =
+    let entry = c .before .before .before .before in
+    (entry .pre .0, omega (arith, width-le (entry .args .c)), entry .pre .1 .small)
 
 add-marks-at : tie.Need-add-marks-at
 add-marks-at c = omega (arith, c .before .before .before .before .before .char-width .ensures)
@@ -24,7 +26,9 @@ same-length : tie.Need-same-length
 same-length c = search needs
 
 returns : tie.Need-returns
-returns c = simp (eq-eqb _ _ (c .before .before .before .before .before .before .before .if1 .taken), c .marks-at .ensures, c .before .before .before .before .lay .ensures, c .before .before .before .before .before .before .char-width .ensures)
+returns c =
+    let laid = c .before .before .before .before in
+    simp (eq-eqb _ _ (laid .before .before .before .if1 .taken), c .marks-at .ensures, laid .lay .ensures, laid .before .before .char-width .ensures)
 
 begin-requires : tie.Need-begin-requires
 begin-requires c κs = c .before .before .before .pre

@@ -22,7 +22,9 @@ returns : tie.Need-returns
 returns c = rw (eq-eqb _ _ (c .before .before .before .before .if1 .taken), c .go-on .ensures, c .before .marks-at .ensures, c .before .before .before .char-width .ensures) (refl, refl)
 
 on-item-requires : tie.Need-on-item-requires
-on-item-requires c κs = (c .before .before .before .before .before .pre .0, c .before .before .before .before .before .pre .1, refl)
+on-item-requires c κs =
+    let entry = c .before .before .before .before .before in
+    (entry .pre .0, entry .pre .1, refl)
 
 same-length : tie.Need-same-length
 same-length c = search needs
