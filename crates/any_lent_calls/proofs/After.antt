@@ -2,7 +2,7 @@
 -- up to, with the state lent; and what crate `any_calls` says of these holds of them.
 use Rattle.laws.specs.Choice.{if_then_else_}
 use Rattle.items.specs.Whole.{inReport}
-use Rattle.pieces.specs.declared.State.{State as Held}
+use Rattle.pieces.specs.declared.State.{State as ByValue}
 use Rattle.pieces.specs.Calls.{finished, refused}
 use Rattle.pieces.specs.Expected.{expected, longest}
 use Rattle.pieces.specs.Expected as word
@@ -24,7 +24,7 @@ use lib.Dec.{leb}
 abbrev pub lends : value.Sum → Sum
 lends h = record { taken = h .taken; items = h .items; ended = h .ended; state = lend (h .state) }
 
-same-said : (s : Held) → Produced s → (c : Call) → saidTo (lend s) c ≡ worded (replyTo s c)
+same-said : (s : ByValue) → Produced s → (c : Call) → saidTo (lend s) c ≡ worded (replyTo s c)
 same-said s made (piece bs room) = same-piece made bs room
 same-said s made (end room) = same-end made room
 

@@ -9,7 +9,7 @@
 // and a letter that makes the state one outside the bounds of docs/STATE.md: m its mode, a its place, t its range, b its character begun,
 // l its item's length, k the start of its item, x its stop, d its depth.
 use crate::standing;
-use chars::State as Begun;
+use chars::Begun;
 use cuttings::part;
 use edge_cases::files::MOST;
 use edge_cases::files::ROOM;

@@ -10,7 +10,7 @@ use Rattle.chars.specs.Encode.{isScalar, utf8, width, encode, bytesOf, spelled,
 use Rattle.chars.specs.Blank.{isBlank}
 use Rattle.chars.specs.Machine.{start, step}
 use Rattle.chars.specs.Utf8.{more, first, rest, front, placed, sequences, firstBad}
-use Rattle.chars.specs.declared.State.{State}
+use Rattle.chars.specs.declared.Begun.{Begun}
 use Rattle.chars.specs.declared.Step.the-variants as steps
 use Rattle.chars.specs.declared.Decoded.{Decoded}
 use Rattle.chars.specs.declared.Decoded.the-variants as decoded
@@ -26,7 +26,7 @@ abbrev decodedAt : List ℕ → ℕ → Decoded
 decodedAt s at = placed at (front (drop at s))
 
 -- the byte machine after a first byte: n bytes are to follow, the next of them one of lo..hi
-abbrev within-one : ℕ → ℕ → ℕ → ℕ → State
+abbrev within-one : ℕ → ℕ → ℕ → ℕ → Begun
 within-one n lo hi c = record { need = n; low = lo; high = hi; code = c }
 
 -- `put_char` into n bytes of lent memory: the count that it answers, and the memory after it

@@ -11,7 +11,7 @@ use lib.Seq.{drop-cons}
 use lib.Dec.{eqb·suc-zero}
 use borrow.Author.Tests.{le-leb, ne-eqb}
 use Rattle.laws.specs.Choice.{if_then_else_}
-use Rattle.chars.specs.declared.State.{State}
+use Rattle.chars.specs.declared.Begun.{Begun}
 use Rattle.chars.specs.declared.Step.{Step}
 use Rattle.chars.specs.declared.Step.the-variants as steps
 use Rattle.chars.specs.declared.Decoded.the-variants as decoded
@@ -32,7 +32,7 @@ small-top (suc zero) c h = omega arith
 small-top (suc (suc zero)) c h = omega arith
 small-top (suc (suc (suc n))) c h = absurd h
 
-abbrev pub at-state : ℕ → ℕ → ℕ → ℕ → State
+abbrev pub at-state : ℕ → ℕ → ℕ → ℕ → Begun
 at-state n lo hi c = record { need = n; low = lo; high = hi; code = c }
 
 -- after a byte within its range n bytes are still to come
@@ -82,7 +82,7 @@ reads-front at b s = go (first b) (first-fine b)
     go steps.Bad h = refl
 
 -- the machine at place i of a text, where the byte does o
-pub reads-at : (s : List ℕ) (t : State) (i : ℕ) {o : Step} → i < length s → o ≡ step t (getD s i 0)
+pub reads-at : (s : List ℕ) (t : Begun) (i : ℕ) {o : Step} → i < length s → o ≡ step t (getD s i 0)
     → reads t i (drop i s) ≡ told o (λ u. reads u (i + 1) (drop (i + 1) s)) (λ c. decoded.Char c (i + 1)) decoded.Bad
 unfolding reads
 reads-at s t i h e = rw (drop-cons s i 0 h, e, add-one)

@@ -1,6 +1,6 @@
 // Characters out of bytes: RFC 3629, section 4.
+use crate::Begun;
 use crate::Decoded;
-use crate::State;
 use crate::Step;
 use crate::Utf8;
 ghost use mathlib.Core.Path.{_≡_};
@@ -37,7 +37,7 @@ const BLOCK: usize = 16;
 fn more(need: u8, low: u8, high: u8, code: u8) -> Step
     ensures { λ r. ⌜ r ≡ Step.More (record { need = need; low = low; high = high; code = code }) ⌝ }
 {
-    Step::More(State {
+    Step::More(Begun {
         need,
         low,
         high,
@@ -83,7 +83,7 @@ fn first_byte(b: u8) -> Step
 }
 
 // One byte more of a text that comes a byte at a time. It is bad at the first byte after which no valid text can follow.
-pub fn byte_step(t: State, b: u8) -> Step
+pub fn byte_step(t: Begun, b: u8) -> Step
     ensures { λ r. ⌜ r ≡ step t b ⌝ }
 {
     if t.need == 0 {
@@ -102,7 +102,7 @@ pub fn byte_step(t: State, b: u8) -> Step
     if t.need == 1 {
         return Step::Char(code);
     }
-    Step::More(State {
+    Step::More(Begun {
         need: t.need - 1,
         low: TAIL_LOW,
         high: TAIL_HIGH,
@@ -117,7 +117,7 @@ fn decode_bytes(s: &[u8], at: usize) -> Decoded
     if s.len() <= at {
         return Decoded::End;
     }
-    let mut t = State {
+    let mut t = Begun {
         need: 0,
         low: 0,
         high: 0,

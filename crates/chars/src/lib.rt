@@ -3,7 +3,7 @@
 
 // Where the byte machine stands within a character: how many bytes it still wants, the range of the next of them, and the code so far.
 // At need 0 it stands between two characters.
-pub struct State {
+pub struct Begun {
     pub need: u8,
     pub low: u8,
     pub high: u8,
@@ -13,7 +13,7 @@ pub struct State {
 // What one byte does.
 pub enum Step {
     // The character wants more bytes: CE, the first byte of λ.
-    More(State),
+    More(Begun),
     // The character is whole: BB after CE.
     Char(u32),
     // No valid text goes on with this byte: FF anywhere, 28 after CE.

@@ -10,7 +10,7 @@ use Rattle.pieces.specs.declared.Beyond.the-variants.{Char}
 use Rattle.pieces.specs.declared.Marks.{Marks}
 use Rattle.pieces.specs.declared.State.{State}
 use Rattle.pieces.specs.Calls.{What, off}
-use Rattle.giving.specs.Inner.{Held, CharFits, BeyondFits}
+use Rattle.giving.specs.Inner.{HoldsItem, CharFits, BeyondFits}
 
 pub off-both : {s t : State} {w v : What} → s ≡ t → w ≡ v → off s w ≡ off t v
 off-both e f = cc
@@ -18,6 +18,6 @@ off-both e f = cc
 pub beyond-fits : (b : Beyond) (c at : ℕ) → b ≡ Char c → BeyondFits b at → CharFits c at
 beyond-fits b c at e h = subst (λ (x : Beyond). BeyondFits x at) e h
 
-pub ends-at : (m : Marks) (buf text : List ℕ) (start : ℕ) → Held m buf text start → start + length (take (m .len) buf) ≡ m .at
+pub ends-at : (m : Marks) (buf text : List ℕ) (start : ℕ) → HoldsItem m buf text start → start + length (take (m .len) buf) ≡ m .at
 ends-at m buf text start h =
     let l : length (take (m .len) buf) ≡ m .len = length-take-le (m .len) buf (omega (arith, h .small, h .full)) in omega (arith, h .ends)

@@ -14,7 +14,7 @@ use Rattle.pieces.specs.declared.Marks.{Marks}
 use Rattle.pieces.specs.Expected.{longest}
 
 -- an item that starts at `start` is held, and everything lies within the longest text
-pub record Held (m : Marks) (buf text : List ℕ) (start : ℕ) : Type 0 where
+pub record HoldsItem (m : Marks) (buf text : List ℕ) (start : ℕ) : Type 0 where
   pub full : length buf ≡ longest
   pub room : longest ≤ length text
   pub some : 1 ≤ m .len

@@ -36,7 +36,7 @@ ghost use Rattle.meaning.specs.Places.{placeIn, rangeOf};
 ghost use Rattle.pieces.specs.Calls as calls;
 ghost use Rattle.giving.specs.Answers.{stateOf, whatOf, turnIn, textTurned, goesOn, lastIn};
 ghost use Rattle.giving.specs.Copied.{oneGiven, pairGiven};
-ghost use Rattle.giving.specs.Inner.{Held, OutcomeFits, CharFits, BeyondFits};
+ghost use Rattle.giving.specs.Inner.{HoldsItem, OutcomeFits, CharFits, BeyondFits};
 
 // A plus is one byte.
 const PLUS: usize = 1;
@@ -152,7 +152,7 @@ fn give_one(
     one: Means,
     b: Beyond,
 ) -> Turned
-    requires { ⌜ Held m (now buf) (now text) start × BeyondFits b (m .at) ⌝ }
+    requires { ⌜ HoldsItem m (now buf) (now text) start × BeyondFits b (m .at) ⌝ }
     ensures { λ r. ⌜ (turnIn r (now (buf .exit)) (now (text .exit)) ≡ oneGiven (stateOf m (now (buf .entry))) start (placeIn shown) (placeIn last) b one)
         × (now (text .exit) ≡ textTurned (oneGiven (stateOf m (now (buf .entry))) start (placeIn shown) (placeIn last) b one) (now (text .entry))) ⌝ }
 {
@@ -187,7 +187,7 @@ fn give_pair(
     one: Means,
     b: Beyond,
 ) -> Turned
-    requires { ⌜ Held m (now buf) (now text) start ⌝ }
+    requires { ⌜ HoldsItem m (now buf) (now text) start ⌝ }
     ensures { λ r. ⌜ (turnIn r (now (buf .exit)) (now (text .exit)) ≡ pairGiven (stateOf m (now (buf .entry))) start (placeIn shown) (placeIn last) b one)
         × (now (text .exit) ≡ textTurned (pairGiven (stateOf m (now (buf .entry))) start (placeIn shown) (placeIn last) b one) (now (text .entry))) ⌝ }
 {
@@ -224,7 +224,7 @@ pub fn ends(
     what: Outcome,
     b: Beyond,
 ) -> Turned
-    requires { ⌜ Held m (now buf) (now text) start × OutcomeFits what × BeyondFits b (m .at) ⌝ }
+    requires { ⌜ HoldsItem m (now buf) (now text) start × OutcomeFits what × BeyondFits b (m .at) ⌝ }
     ensures { λ r. ⌜ (turnIn r (now (buf .exit)) (now (text .exit)) ≡ calls.ends (stateOf m (now (buf .entry))) start what b)
         × (now (text .exit) ≡ textTurned (calls.ends (stateOf m (now (buf .entry))) start what b) (now (text .entry))) ⌝ }
 {
@@ -239,7 +239,7 @@ pub fn ends(
 
 // The second item of the pair that starts at `start`: what is left of its word after the plus.
 pub fn give_second(m: Marks, buf: &[u8], text: &mut [u8], start: usize) -> Record
-    requires { ⌜ Held m (now buf) (now text) start ⌝ }
+    requires { ⌜ HoldsItem m (now buf) (now text) start ⌝ }
     ensures { λ r. ⌜ (whatOf (Got.Item r) (now (text .exit)) ≡ calls.item (calls.second (stateOf m (now (buf .entry))) start))
         × (now (text .exit) ≡ written (calls.second (stateOf m (now (buf .entry))) start .text) (now (text .entry))) ⌝ }
 {

@@ -1,5 +1,5 @@
 // The marks of a state as they become others.
-use chars::State as Begun;
+use chars::Begun;
 use meaning::records::depth_after;
 use pieces::Marks;
 use pieces::Part;

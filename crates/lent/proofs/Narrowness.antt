@@ -1,6 +1,6 @@
 -- Every state that the calls produced has words that are a code: its stage's numbers and those of a character begun stay narrow, whatever
 -- bytes come. So the lent calls never refuse what they themselves left.
-use Rattle.chars.specs.declared.State.{State as Begun}
+use Rattle.chars.specs.declared.Begun.{Begun}
 use Rattle.chars.specs.declared.Step.{Step}
 use Rattle.chars.specs.declared.Step.the-variants as steps
 use Rattle.chars.specs.Blank.{isBlank}

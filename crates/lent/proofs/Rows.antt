@@ -8,7 +8,7 @@ use Rattle.items.specs.declared.Quotes.the-variants.{Double, Lines}
 use Rattle.pieces.specs.declared.Beyond.the-variants.{End, Char}
 use Rattle.pieces.specs.declared.Stage.{Stage}
 use Rattle.pieces.specs.declared.Stage.the-variants.{Opening, Pound, FirstLine, Idle, Busy, Waiting, Stopped}
-use Rattle.pieces.specs.declared.State.{State as Held}
+use Rattle.pieces.specs.declared.State.{State as ByValue}
 use Rattle.pieces.proofs.Kept.{both}
 use Rattle.lent.specs.Coding.{coded, narrow, isCode, stageRow, phaseRow, outcomeRow, quotesCode, Narrow}
 use Rattle.lent.proofs.Back.{coded-is-code}
@@ -73,7 +73,7 @@ stage-narrow (Waiting st End) h = record { which = omega arith; detail = omega a
 stage-narrow (Waiting st (Char c)) h = record { which = omega arith; detail = h }
 stage-narrow (Stopped n p) h = record { which = h; detail = omega arith }
 
-pub lean-is-code : (s : Held) → Lean s → isCode (coded (s .marks)) ≡ true
+pub lean-is-code : (s : ByValue) → Lean s → isCode (coded (s .marks)) ≡ true
 unfolding coded narrow
 lean-is-code s h =
     let r : Narrow (stageRow (s .marks .stage)) = stage-narrow (s .marks .stage) (h .stage) in

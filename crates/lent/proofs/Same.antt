@@ -3,7 +3,7 @@
 use Rattle.laws.specs.Choice.{if_then_else_}
 use Rattle.items.specs.Whole.{inReport}
 use Rattle.pieces.specs.declared.Marks.{Marks}
-use Rattle.pieces.specs.declared.State.{State as Held}
+use Rattle.pieces.specs.declared.State.{State as ByValue}
 use Rattle.pieces.specs.Bounds.{inBounds}
 use Rattle.pieces.specs.Calls.{refused, Reply, openOf, pieceOf, endOf}
 use Rattle.pieces.specs.Drive.{heed, unlessTaken, pieceCalls, endCalls, handOver, drive, joined}
@@ -26,7 +26,7 @@ use mathlib.Core.List.{List, [], _∷_}
 use lib.ListN.{length, drop}
 use borrow.Author.Tests.{eq-eqb}
 
-safe-full : {s : Held} → Safe s → length (s .buf) ≡ longest
+safe-full : {s : ByValue} → Safe s → length (s .buf) ≡ longest
 safe-full (goes e h) = h .kept .full
 safe-full (waits e h) = h .kept .full
 safe-full (halted n p h) = h .kept .full
@@ -37,7 +37,7 @@ pub same-open : (mode : ℕ) (skip : Bool) (buf : List ℕ) → length buf ≡ l
 unfolding openFor
 same-open mode skip buf h = rw (eq-eqb (length buf) longest h)
 
-module _ {t : Held} (p : by.Produced t) where
+module _ {t : ByValue} (p : by.Produced t) where
   pub is-code : isCode (coded (t .marks)) ≡ true
   is-code = lean-is-code t (lean p)
 
@@ -62,7 +62,7 @@ module _ {t : Held} (p : by.Produced t) where
 
 -- a state by value that was produced, lent
 pub record Stood (s : State) : Type 0 where
-  pub state : Held
+  pub state : ByValue
   pub produced : by.Produced state
   pub is : s ≡ lend state
 
@@ -108,8 +108,8 @@ unless-same [] e h = e
 unless-same (x ∷ left) e h = h (x ∷ left)
 
 module _ (room : ℕ) where
-  piece-calls-same : (calls : ℕ) {t : Held} → by.Produced t → (bs : List ℕ) (lentNext : State → Expected) (next : Held → Expected)
-      → ((u : Held) → by.Produced u → lentNext (lend u) ≡ next u) → pieceCallsFor room calls (lend t) bs lentNext ≡ pieceCalls room calls t bs next
+  piece-calls-same : (calls : ℕ) {t : ByValue} → by.Produced t → (bs : List ℕ) (lentNext : State → Expected) (next : ByValue → Expected)
+      → ((u : ByValue) → by.Produced u → lentNext (lend u) ≡ next u) → pieceCallsFor room calls (lend t) bs lentNext ≡ pieceCalls room calls t bs next
   unfolding pieceCallsFor pieceCalls
   piece-calls-same zero p bs lentNext next h = refl
   piece-calls-same (suc calls) {t} p bs lentNext next h =
@@ -120,14 +120,14 @@ module _ (room : ℕ) where
       ∙ ap (heed (r .what))
       (unless-same (drop (r .taken) bs) (h (r .state) made) (λ left. piece-calls-same calls made left lentNext next h))
 
-  end-calls-same : (calls : ℕ) {t : Held} → by.Produced t → endCallsFor room calls (lend t) ≡ endCalls room calls t
+  end-calls-same : (calls : ℕ) {t : ByValue} → by.Produced t → endCallsFor room calls (lend t) ≡ endCalls room calls t
   unfolding endCallsFor endCalls
   end-calls-same zero p = refl
   end-calls-same (suc calls) {t} p =
       let r : Reply = endOf t room in
       ap (λ (u : Said). heed (u .what) (endCallsFor room calls (u .state))) (same-end p room) ∙ ap (heed (r .what)) (end-calls-same calls (by.ended p room))
 
-  hand-over-same : (ps : List (List ℕ)) {t : Held} → by.Produced t → handOverFor room (lend t) ps ≡ handOver room t ps
+  hand-over-same : (ps : List (List ℕ)) {t : ByValue} → by.Produced t → handOverFor room (lend t) ps ≡ handOver room t ps
   unfolding handOverFor handOver
   hand-over-same [] p = end-calls-same 4 p
   hand-over-same (q ∷ ps) p =

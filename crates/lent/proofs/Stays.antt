@@ -20,7 +20,7 @@ use Rattle.pieces.specs.declared.Beyond.the-variants.{End, Char}
 use Rattle.pieces.specs.declared.Marks.{Marks}
 use Rattle.pieces.specs.declared.Stage.{Stage}
 use Rattle.pieces.specs.declared.Stage.the-variants.{Opening, Pound, FirstLine, Idle, Busy, Waiting, Stopped}
-use Rattle.pieces.specs.declared.State.{State as Held}
+use Rattle.pieces.specs.declared.State.{State as ByValue}
 use Rattle.pieces.specs.Bounds.{inBounds}
 use Rattle.pieces.specs.Expected.{longest}
 use Rattle.pieces.specs.Calls.{What, item, more, finished, refused, Turn, on, off, Reply, reply, lastOf, itemSoFar, stopped, gives, report, ends, onNext}
@@ -55,7 +55,7 @@ TurnStops (off s w) = Stopping w
 abbrev ReplyStops : Reply → Type 0
 ReplyStops r = Stopping (r .what)
 
-module _ (s : Held) where
+module _ (s : ByValue) where
   gives-stops : (st : ℕ) (last : Place) (b : Beyond) (is : List Item) → TurnStops (gives s st last b is)
   gives-stops st last b [] = tt
   gives-stops st last b (i ∷ []) = if-all TurnStops (s .marks .skip && eqb (i .kind) kind.Comment) tt tt
@@ -87,11 +87,11 @@ module _ (s : Held) where
   unfolding turnOf
   turn-stops b = if-all TurnStops (leb limit (s .marks .at + s .marks .part .count)) (inl refl) (told-stops (step (s .marks .part .state) b))
 
-after-stops : (t : Turn) → TurnStops t → (go : Held → Reply) → ((u : Held) → ReplyStops (go u)) → (n : ℕ) → ReplyStops (after t go n)
+after-stops : (t : Turn) → TurnStops t → (go : ByValue → Reply) → ((u : ByValue) → ReplyStops (go u)) → (n : ℕ) → ReplyStops (after t go n)
 after-stops (on s) h go f n = f s
 after-stops (off s w) h go f n = h
 
-feed-stops : (bs : List ℕ) (s : Held) (n : ℕ) → ReplyStops (feedOf s bs n)
+feed-stops : (bs : List ℕ) (s : ByValue) (n : ℕ) → ReplyStops (feedOf s bs n)
 unfolding feedOf
 feed-stops [] s n = tt
 feed-stops (b ∷ bs) s n = after-stops (turnOf s b) (turn-stops s b) (λ t. feedOf t bs (n + 1)) (λ u. feed-stops bs u (n + 1)) (n + 1)
@@ -102,17 +102,17 @@ replied-stops (off s w) h = h
 
 -- ---- a reply that is refused with another number leaves the state s
 
-abbrev Rests : Held → Reply → Type 0
+abbrev Rests : ByValue → Reply → Type 0
 Rests s r = (n p : ℕ) → r .what ≡ refused n p → (Stops n → ⊥) → r ≡ reply 0 (refused n p) s
 
 -- a refusal that leaves the state
-as-it-was : (s : Held) (m o : ℕ) → Rests s (reply 0 (refused m o) s)
+as-it-was : (s : ByValue) (m o : ℕ) → Rests s (reply 0 (refused m o) s)
 as-it-was s m o n p e z = ap (λ (w : What). reply 0 w s) e
 
-no-other : (s : Held) (r : Reply) → ReplyStops r → Rests s r
+no-other : (s : ByValue) (r : Reply) → ReplyStops r → Rests s r
 no-other s r h n p e z = absurd (z (subst Stopping e h))
 
-module _ (s : Held) where
+module _ (s : ByValue) where
   rests-work : (bs : List ℕ) (g : Stage) → Rests s (pieceStage s g bs)
   rests-work bs (Stopped n p) = as-it-was s n p
   rests-work bs (Waiting st b) = if-all (Rests s) (s .marks .ended) (as-it-was s 26 0) (no-other s _ tt)
@@ -127,10 +127,10 @@ module _ (s : Held) where
   rests-piece bs room =
       if-all (Rests s) (inBounds s) (if-all (Rests s) (ltb room longest) (as-it-was s 24 0) (rests-work bs (s .marks .stage))) (as-it-was s 27 0)
 
-  uncut-stops : (t : Held) (r : Reply) → ReplyStops r → ReplyStops (unlessCut t r)
+  uncut-stops : (t : ByValue) (r : Reply) → ReplyStops r → ReplyStops (unlessCut t r)
   uncut-stops t r h = if-all ReplyStops (eqb (t .marks .part .count) 0) h (inr (inl refl))
 
-  finish-stops : (t : Held) (st : ℕ) (o : Outcome) → ReplyStops (unlessCut t (replied (ends t st o End)))
+  finish-stops : (t : ByValue) (st : ℕ) (o : Outcome) → ReplyStops (unlessCut t (replied (ends t st o End)))
   finish-stops t st o = uncut-stops t (replied (ends t st o End)) (replied-stops (ends t st o End) (ends-stops t st o End))
 
   rests-last : (g : Stage) → Rests s (endUnlessStopped s g)
@@ -167,12 +167,12 @@ pub refused-stays : (s : State) (bs : List ℕ) (room n p : ℕ) → pieceFor s 
     → pieceFor s bs room ≡ record { taken = 0; what = refused n p; state = s }
 unfolding pieceFor
 refused-stays s bs room =
-    let t : Held = stateOf (standing (s .words)) (s .buf) in
+    let t : ByValue = stateOf (standing (s .words)) (s .buf) in
     for-rests s (λ m. pieceIn m (s .buf) bs room) (if-all (Rests t) (eqb (length (s .buf)) longest) (rests-piece t bs room) (as-it-was t 27 0))
 
 pub end-refused-stays : (s : State) (room n p : ℕ) → endFor s room .what ≡ refused n p → (Stops n → ⊥)
     → endFor s room ≡ record { taken = 0; what = refused n p; state = s }
 unfolding endFor
 end-refused-stays s room =
-    let t : Held = stateOf (standing (s .words)) (s .buf) in
+    let t : ByValue = stateOf (standing (s .words)) (s .buf) in
     for-rests s (λ m. endIn m (s .buf) room) (if-all (Rests t) (eqb (length (s .buf)) longest) (rests-end t room) (as-it-was t 27 0))

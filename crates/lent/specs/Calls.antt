@@ -8,7 +8,7 @@ use lib.Dec.{eqb}
 use Rattle.laws.specs.Choice.{if_then_else_}
 use Rattle.refusal.specs.Refusals as refusal
 use Rattle.pieces.specs.declared.Marks.{Marks}
-use Rattle.pieces.specs.declared.State.{State as Held}
+use Rattle.pieces.specs.declared.State.{State as ByValue}
 use Rattle.pieces.specs.declared.Pieced.{Pieced}
 use Rattle.pieces.specs.Calls.{What, refused, Reply, fresh, openOf}
 use Rattle.pieces.specs.Expected.{longest}
@@ -30,7 +30,7 @@ abbrev pub lent : Words → List ℕ → State
 lent w buf = record { buf = buf; words = w }
 
 -- a state by value of crate `pieces`, as numbers
-abbrev pub lend : Held → State
+abbrev pub lend : ByValue → State
 lend t = lent (coded (t .marks)) (t .buf)
 
 -- a reply of crate `pieces`, its state as words

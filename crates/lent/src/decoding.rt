@@ -4,7 +4,7 @@ use crate::Seen;
 use crate::Words;
 use crate::codes::*;
 use crate::encoding::stage_row;
-use chars::State as Begun;
+use chars::Begun;
 use items::Outcome;
 use items::Phase;
 use items::Quotes;

@@ -1,6 +1,6 @@
 // The index of a text that comes in pieces, byte by byte: opening, a piece, the declared end, with the state by value. No piece is refused:
 // every refusal comes with the declared end. What the calls do is the crate lines, specs/Pieces.
-use chars::State as Begun;
+use chars::Begun;
 use chars::Step;
 use lines::Answer;
 use lines::State;

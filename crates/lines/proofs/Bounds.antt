@@ -10,7 +10,7 @@ use lib.Dec.{eqb, leb, ltb}
 use borrow.Author.Tests.{lt-ltb, le-ltb, lt-leb, eq-eqb, ne-eqb}
 use Rattle.chars.specs.Utf8.{ascii, first, Front, char, bad, cut, none, after, front, onward, Sequence, read, broken, short, sequences, verdict, firstBad}
 use Rattle.chars.specs.Machine.{step, start, told, run}
-use Rattle.chars.specs.declared.State.{State}
+use Rattle.chars.specs.declared.Begun.{Begun}
 use Rattle.chars.specs.declared.Step.{Step}
 use Rattle.chars.specs.declared.Step.the-variants as steps
 use Rattle.chars.specs.declared.Utf8.the-variants.{Good, Bad}
@@ -22,7 +22,7 @@ use Rattle.lines.specs.Place.{since}
 use Rattle.lines.proofs.Tests.{by-equal}
 
 -- within a character the next byte is no ASCII
-abbrev Low : State → Type 0
+abbrev Low : Begun → Type 0
 Low t = (t .need ≡ 0) ⊎ (128 ≤ t .low)
 
 abbrev After : Step → Type 0
@@ -43,14 +43,14 @@ first-low b =
     (if-all After (within 0xF1 0xF3 b) (omega arith)
     (if-all After (within 0xF4 0xF4 b) (omega arith) tt))))))))
 
-step-low : (t : State) (b : ℕ) → After (step t b)
+step-low : (t : Begun) (b : ℕ) → After (step t b)
 unfolding step
 step-low t b =
     if-all After (eqb (t .need) 0) (first-low b)
     (if-all After (within (t .low) (t .high) b && leb (t .code) 0x7FFF) (if-all After (eqb (t .need) 1) tt (omega arith)) tt)
 
 -- a newline byte is a character by itself, or it is bad
-step-newline : (t : State) → Low t → (step t newline ≡ steps.Char newline) ⊎ (step t newline ≡ steps.Bad)
+step-newline : (t : Begun) → Low t → (step t newline ≡ steps.Char newline) ⊎ (step t newline ≡ steps.Bad)
 unfolding step first within
 step-newline t l =
     by-equal (t .need) 0 (λ e. inl (rw (eq-eqb (t .need) 0 e))) (λ n.
@@ -65,7 +65,7 @@ abbrev Split : List Sequence → ℕ → List ℕ → Type 0
 Split l a s = (pre : List Sequence) × (l ≡ pre ++ sequences 0 a s) × Early a pre
 
 abbrev Splitting : List ℕ → Type 0
-Splitting s = (t : State) (f at i : ℕ) → f ≤ at → Low t → verdict (run t f at s) ≡ Good → i < length s → getD s i 0 ≡ newline
+Splitting s = (t : Begun) (f at i : ℕ) → f ≤ at → Low t → verdict (run t f at s) ≡ Good → i < length s → getD s i 0 ≡ newline
     → Split (run t f at s) (at + suc i) (drop (suc i) s)
 
 turns : (o : Step) (b : ℕ) (s : List ℕ) (f at i : ℕ) → Splitting s → f ≤ at → After o → i < length s → getD s i 0 ≡ newline

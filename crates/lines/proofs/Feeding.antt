@@ -10,7 +10,7 @@ use lib.Seq.{drop-cons}
 use lib.Dec.{eqb, ltb}
 use borrow.Author.Tests.{lt-ltb, le-ltb, eq-eqb, ne-eqb}
 use Rattle.chars.specs.Machine.{step, start, told}
-use Rattle.chars.specs.declared.State as begun
+use Rattle.chars.specs.declared.Begun as begun
 use Rattle.chars.specs.declared.Step.{Step}
 use Rattle.chars.specs.declared.Step.the-variants as steps
 use Rattle.laws.specs.Choice.{if_then_else_}
@@ -45,7 +45,7 @@ module _ (t : State) (b : ℕ) where
       step-did k e = rw (ne-eqb (t .stop) tooLong n, ne-eqb (t .at) limit m, ne-eqb (t .stop) notUtf8 k, e)
 
 -- a byte leaves no more newline bytes than bytes
-moved-low : (t : State) (b : ℕ) (u : begun.State) (f : ℕ) → t .lines ≤ t .at → movedOf t b u f .lines ≤ t .at + 1
+moved-low : (t : State) (b : ℕ) (u : begun.Begun) (f : ℕ) → t .lines ≤ t .at → movedOf t b u f .lines ≤ t .at + 1
 moved-low t b u f h = by-equal b newline (λ e. rw (eq-eqb b newline e) (omega arith)) (λ e. rw (ne-eqb b newline e) (omega arith))
 
 told-low : (t : State) (b : ℕ) (o : Step) → t .lines ≤ t .at

@@ -13,7 +13,7 @@ use Rattle.chars.specs.Utf8.{Sequence, read, broken, short, sequences, verdict,
 use Rattle.chars.specs.declared.Utf8.{Utf8}
 use Rattle.chars.specs.declared.Utf8.the-variants.{Good, Bad}
 use Rattle.chars.specs.Machine.{step, start, told, run}
-use Rattle.chars.specs.declared.State as begun
+use Rattle.chars.specs.declared.Begun as begun
 use Rattle.chars.specs.declared.Step.{Step}
 use Rattle.chars.specs.declared.Step.the-variants as steps
 use Rattle.chars.proofs.Run.{run-sequences}
@@ -64,12 +64,12 @@ after-bad (b ∷ s) t m e =
     (λ q. ap (λ (f : Fed). f .memory) (fed-cons t b s m (step-counts t b z q e))
     ∙ after-bad s (stoppedOf t (t .at + 1) notUtf8) (noted t (stoppedOf t (t .at + 1) notUtf8) m) refl ∙ rw (le-ltb (t .lines) (t .lines) n))
 
-shown-past : (s : List ℕ) (u : begun.State) (f at : ℕ) → at ≤ shown (run u f at s) (at + length s)
+shown-past : (s : List ℕ) (u : begun.Begun) (f at : ℕ) → at ≤ shown (run u f at s) (at + length s)
 unfolding run shown
 shown-past [] u f at = by-bool (eqb (u .need) 0) (λ e. rw e (omega arith)) (λ e. rw e (omega arith))
 shown-past (b ∷ s) u f at = go (step u b) (λ v g. shown-past s v g (at + 1))
   where
-    go : (o : Step) → ((v : begun.State) (g : ℕ) → at + 1 ≤ shown (run v g (at + 1) s) (at + 1 + length s))
+    go : (o : Step) → ((v : begun.Begun) (g : ℕ) → at + 1 ≤ shown (run v g (at + 1) s) (at + 1 + length s))
         → at ≤ shown (told o (λ v. run v f (at + 1) s) (λ c. read c f (at + 1) ∷ run start (at + 1) (at + 1) s) (broken f (at + 1) ∷ [])) (at + suc (length s))
     go (steps.More v) ih = let y : at + suc (length s) ≡ at + 1 + length s = omega arith in rw y (omega (arith, ih v f))
     go (steps.Char c) ih = let y : at + suc (length s) ≡ at + 1 + length s = omega arith in rw y (omega (arith, ih start (at + 1)))
@@ -87,7 +87,7 @@ from-cons l at b s h k =
     rw (y, a, c)
 
 -- a byte that moves on, with the starts done so far
-moved-memory : (t : State) (b : ℕ) (u : begun.State) (f : ℕ) (done m rest : List ℕ) → length done ≡ t .lines + 1
+moved-memory : (t : State) (b : ℕ) (u : begun.Begun) (f : ℕ) (done m rest : List ℕ) → length done ≡ t .lines + 1
     → (l : List ℕ) × (noted t (movedOf t b u f) (laid done m) ≡ laid l m) × (length l ≡ movedOf t b u f .lines + 1) × (done ++ startsFrom (t .at) (b ∷ rest) ≡ l ++ startsFrom (t .at + 1) rest)
 unfolding startsFrom
 moved-memory t b u f done m rest h = by-equal b newline
@@ -107,7 +107,7 @@ abbrev Holds : List ℕ → Type 0
 Holds s = (t : State) (done m : List ℕ) → t .lines ≤ t .at → t .at ≤ limit → t .stop ≡ 0 → length done ≡ t .lines + 1
     → fedOf t s (laid done m) .memory ≡ laid (done ++ startsFrom (t .at) (from (run (t .begun) (t .from) (t .at) s) (t .at) s)) m
 
-moves : (t : State) (b : ℕ) (s : List ℕ) (u : begun.State) (f : ℕ) (done m : List ℕ) → Holds s → t .lines ≤ t .at → t .at ≤ limit → (t .at ≡ limit → ⊥) → length done ≡ t .lines + 1
+moves : (t : State) (b : ℕ) (s : List ℕ) (u : begun.Begun) (f : ℕ) (done m : List ℕ) → Holds s → t .lines ≤ t .at → t .at ≤ limit → (t .at ≡ limit → ⊥) → length done ≡ t .lines + 1
     → fedOf (movedOf t b u f) s (noted t (movedOf t b u f) (laid done m)) .memory ≡ laid (done ++ startsFrom (t .at) (from (run u f (t .at + 1) s) (t .at) (b ∷ s))) m
 moves t b s u f done m ih h a q k =
     let rest = from (run u f (t .at + 1) s) (t .at + 1) s in

@@ -12,7 +12,7 @@ use lib.Dec.{eqb, ltb}
 use borrow.Author.Tests.{lt-ltb, le-ltb, eq-eqb, ne-eqb}
 use Rattle.chars.specs.Utf8.{Sequence, read, broken, short, verdict, firstBad}
 use Rattle.chars.specs.Machine.{step, start, told, run}
-use Rattle.chars.specs.declared.State as begun
+use Rattle.chars.specs.declared.Begun as begun
 use Rattle.chars.specs.declared.Step.{Step}
 use Rattle.chars.specs.declared.Step.the-variants as steps
 use Rattle.chars.specs.declared.Utf8.{Utf8}
@@ -131,11 +131,11 @@ counts (b ∷ s) t m n h a e =
     ∙ rw y)
 
 -- a newline byte is a start more
-more-lines : (t : State) (b : ℕ) (s : List ℕ) (u : begun.State) (f : ℕ) → movedOf t b u f .lines + 1 + length (startsFrom (t .at + 1) s) ≡ t .lines + 1 + length (startsFrom (t .at) (b ∷ s))
+more-lines : (t : State) (b : ℕ) (s : List ℕ) (u : begun.Begun) (f : ℕ) → movedOf t b u f .lines + 1 + length (startsFrom (t .at + 1) s) ≡ t .lines + 1 + length (startsFrom (t .at) (b ∷ s))
 unfolding startsFrom
 more-lines t b s u f = by-equal b newline (λ e. rw (eq-eqb b newline e) (omega arith)) (λ e. rw (ne-eqb b newline e))
 
-pub moved-low : (t : State) (b : ℕ) (u : begun.State) (f : ℕ) → t .lines ≤ t .at → movedOf t b u f .lines ≤ t .at + 1
+pub moved-low : (t : State) (b : ℕ) (u : begun.Begun) (f : ℕ) → t .lines ≤ t .at → movedOf t b u f .lines ≤ t .at + 1
 moved-low t b u f h = by-equal b newline (λ e. rw (eq-eqb b newline e) (omega arith)) (λ e. rw (ne-eqb b newline e) (omega arith))
 
 abbrev Answers : List ℕ → Type 0

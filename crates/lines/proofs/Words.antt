@@ -15,7 +15,7 @@ use Rattle.laws.proofs.Choice.{if-all}
 use Rattle.refusal.specs.Refusals.{tooLong, notUtf8}
 use Rattle.chars.specs.Utf8.{ascii, first}
 use Rattle.chars.specs.Machine.{step, start, told}
-use Rattle.chars.specs.declared.State as begun
+use Rattle.chars.specs.declared.Begun as begun
 use Rattle.chars.specs.declared.Step.{Step}
 use Rattle.chars.specs.declared.Step.the-variants as steps
 use Rattle.items.specs.Whole.{limit}
@@ -28,7 +28,7 @@ use Rattle.lines.specs.Words.{stateWords, listed, stateIn, isState, Left
 
 -- ---- the states that calls produce have bytes where the words ask for bytes
 
-abbrev Slim : begun.State → Type 0
+abbrev Slim : begun.Begun → Type 0
 Slim u = (u .need ≤ 255) × (u .low ≤ 255) × (u .high ≤ 255)
 
 abbrev After : Step → Type 0
@@ -49,7 +49,7 @@ first-slim b =
     (if-all After (within 0xF1 0xF3 b) (omega arith, omega arith, omega arith)
     (if-all After (within 0xF4 0xF4 b) (omega arith, omega arith, omega arith) tt))))))))
 
-byte-slim : (u : begun.State) (b : ℕ) → Slim u → After (step u b)
+byte-slim : (u : begun.Begun) (b : ℕ) → Slim u → After (step u b)
 unfolding step
 byte-slim u b h =
     if-all After (eqb (u .need) 0) (first-slim b)

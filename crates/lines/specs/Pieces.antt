@@ -8,7 +8,7 @@ use Rattle.laws.specs.Choice.{if_then_else_}
 use Rattle.refusal.specs.Refusals.{tooLong, notUtf8, outOfBounds, linesNoRoom}
 use Rattle.chars.specs.Utf8.{Sequence, read, broken, short, sequences}
 use Rattle.chars.specs.Machine.{step, start, told}
-use Rattle.chars.specs.declared.State as begun
+use Rattle.chars.specs.declared.Begun as begun
 use Rattle.items.specs.Whole.{limit}
 use Rattle.lines.specs.Starts.{newline}
 use Rattle.lines.specs.declared.State.{State}
@@ -32,7 +32,7 @@ abbrev pub openOf : List ℕ → Fed
 openOf m = fed fresh (set m 0 0)
 
 -- after a byte of a text that can go on
-abbrev pub movedOf : State → ℕ → begun.State → ℕ → State
+abbrev pub movedOf : State → ℕ → begun.Begun → ℕ → State
 movedOf t b u f = record { begun = u; from = f; at = t .at + 1; lines = (if eqb b newline then t .lines + 1 else t .lines); stop = 0 }
 
 -- after a byte that showed a refusal, or one after it

@@ -2,7 +2,7 @@
 // that answers a byte place. Lines and columns count from 1, columns in characters.
 //
 // Here are the types, what the calls answer (specs/) and the theorems about it (proofs/); the calls themselves are the crate line_index.
-use chars::State as Begun;
+use chars::Begun;
 
 // Served with a count, or refused with document 01's number and what comes with it.
 pub enum Answer {

@@ -2,7 +2,7 @@
 // and writes anew. The state is numbers alone, so it can stand in the memory of a program in any language.
 //
 // The crate lines, specs/Words, says which words stand for which state and what the calls leave; docs/STATE.md lists the words.
-use chars::State as Begun;
+use chars::Begun;
 use lines::Answer;
 use lines::State;
 use refusal::OUT_OF_BOUNDS;

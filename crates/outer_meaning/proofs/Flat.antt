@@ -16,7 +16,7 @@ use Rattle.laws.proofs.Choice.{and-true}
 use Rattle.chars.specs.Encode.{lay}
 use Rattle.items.specs.Items.{recordWords}
 use Rattle.items.specs.Whole.{inReport}
-use Rattle.pieces.specs.declared.State.{State as Held}
+use Rattle.pieces.specs.declared.State.{State as ByValue}
 use Rattle.pieces.specs.Calls.{What, item, more, finished, refused, Reply, textAfter, openOf, pieceOf, endOf}
 use Rattle.pieces.specs.Drive.{heed, unlessTaken, pieceCalls, endCalls, handOver, drive, joined}
 use Rattle.pieces.specs.Expected.{Expected, expected, longest}
@@ -89,14 +89,14 @@ values-length a b old h = ap length (laid-two a b old h) ∙ omega (arith, h, le
 -- ---- one call
 
 -- a memory with room that holds a state, which the calls by value produced; `room` is the length of its text memory
-record Ready (room : ℕ) (t : Held) (m : Memory) : Type 0 where
+record Ready (room : ℕ) (t : ByValue) (m : Memory) : Type 0 where
   produced : by.Produced t
   holds : Holds m (lend t)
   roomy : isRoom (length (m .item)) (length (m .values)) ≡ true
   text : length (m .text) ≡ room
 
 -- a call that answers u by value
-module _ (room : ℕ) (t : Held) (m : Memory) (r : Ready room t m) (wide : longest ≤ room) (call : State → Said) (u : Reply) (same : call (lend t) ≡ worded u)
+module _ (room : ℕ) (t : ByValue) (m : Memory) (r : Ready room t m) (wide : longest ≤ room) (call : State → Said) (u : Reply) (same : call (lend t) ≡ worded u)
     (made : by.Produced (u .state)) (tells : Tells (u .what)) (fits : (g : Given) → u .what ≡ item g → length (g .text) ≤ longest) where
   two : 2 ≤ length (m .values)
   two = room-values (length (m .item)) (length (m .values)) (r .roomy)
@@ -136,15 +136,15 @@ unless-same [] e h = e
 unless-same (x ∷ rest) e h = h (x ∷ rest)
 
 module _ (room : ℕ) (wide : longest ≤ room) where
-  module _ {t : Held} {m : Memory} (r : Ready room t m) where
+  module _ {t : ByValue} {m : Memory} (r : Ready room t m) where
     piece-same : (bs : List ℕ) → pieceFor (lend t) bs (length (m .text)) ≡ worded (pieceOf t bs room)
     piece-same bs = same-piece (r .produced) bs (length (m .text)) ∙ ap (λ (n : ℕ). worded (pieceOf t bs n)) (r .text)
 
     end-same : endFor (lend t) (length (m .text)) ≡ worded (endOf t room)
     end-same = same-end (r .produced) (length (m .text)) ∙ ap (λ (n : ℕ). worded (endOf t n)) (r .text)
 
-  piece-calls-in : (calls : ℕ) {t : Held} {m : Memory} → Ready room t m → (bs : List ℕ) (nextIn : Memory → Expected) (next : Held → Expected)
-      → ((u : Held) (n : Memory) → Ready room u n → nextIn n ≡ next u) → pieceCallsIn calls m bs nextIn ≡ pieceCalls room calls t bs next
+  piece-calls-in : (calls : ℕ) {t : ByValue} {m : Memory} → Ready room t m → (bs : List ℕ) (nextIn : Memory → Expected) (next : ByValue → Expected)
+      → ((u : ByValue) (n : Memory) → Ready room u n → nextIn n ≡ next u) → pieceCallsIn calls m bs nextIn ≡ pieceCalls room calls t bs next
   unfolding pieceCallsIn pieceCalls
   piece-calls-in zero r bs nextIn next h = refl
   piece-calls-in (suc calls) {t} {m} r bs nextIn next h =
@@ -160,7 +160,7 @@ module _ (room : ℕ) (wide : longest ≤ room) where
       ∙ ap (heed (u .what))
       (unless-same (drop (u .taken) bs) (h (u .state) (l .memory) ready) (λ rest. piece-calls-in calls ready rest nextIn next h))
 
-  end-calls-in : (calls : ℕ) {t : Held} {m : Memory} → Ready room t m → endCallsIn calls m ≡ endCalls room calls t
+  end-calls-in : (calls : ℕ) {t : ByValue} {m : Memory} → Ready room t m → endCallsIn calls m ≡ endCalls room calls t
   unfolding endCallsIn endCalls
   end-calls-in zero r = refl
   end-calls-in (suc calls) {t} {m} r =
@@ -172,7 +172,7 @@ module _ (room : ℕ) (wide : longest ≤ room) where
       ∙ ap (heed (u .what))
       (end-calls-in calls (ready-so room t m r wide call u (end-same r) (by.ended (r .produced) room) (end-call-tells t room) (end-text-fits t room)))
 
-  hand-over-in : (ps : List (List ℕ)) {t : Held} {m : Memory} → Ready room t m → handOverIn m ps ≡ handOver room t ps
+  hand-over-in : (ps : List (List ℕ)) {t : ByValue} {m : Memory} → Ready room t m → handOverIn m ps ≡ handOver room t ps
   unfolding handOverIn handOver
   hand-over-in [] r = end-calls-in 4 r
   hand-over-in (p ∷ ps) r =

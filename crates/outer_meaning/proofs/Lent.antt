@@ -8,7 +8,7 @@ use lib.ListN.{length, take}
 use borrow.Author.Tests.{lt-ltb}
 use Rattle.laws.specs.Choice.{if_then_else_}
 use Rattle.items.specs.Whole.{inReport}
-use Rattle.pieces.specs.declared.State.{State as Held}
+use Rattle.pieces.specs.declared.State.{State as ByValue}
 use Rattle.pieces.specs.Calls.{What, more, finished, refused, Reply, fresh, openOf, pieceOf, endOf}
 use Rattle.pieces.specs.Due.{pieceAnswer, endAnswer, lateAnswer}
 use Rattle.pieces.specs.Expected.{longest}
@@ -30,21 +30,21 @@ use Rattle.outer_meaning.specs.Lent.{Reading, begins, reads, Closing, re
 
 -- a reading by the calls by value, its state lent
 record Read (mode : ℕ) (skip : Bool) (taken : List ℕ) (gs : List Given) (s : State) : Type 0 where
-  state : Held
+  state : ByValue
   produced : by.Produced state
   reading : by.Reading mode skip taken gs state
   is : s ≡ lend state
 
 record Closed (mode : ℕ) (skip : Bool) (taken : List ℕ) (e : Bool) (gs : List Given) (s : State) : Type 0 where
-  state : Held
+  state : ByValue
   produced : by.Produced state
   closing : by.Closing mode skip taken e gs state
   is : s ≡ lend state
 
-piece-said : {s : State} {t : Held} → by.Produced t → s ≡ lend t → (bs : List ℕ) (room : ℕ) → pieceFor s bs room ≡ worded (pieceOf t bs room)
+piece-said : {s : State} {t : ByValue} → by.Produced t → s ≡ lend t → (bs : List ℕ) (room : ℕ) → pieceFor s bs room ≡ worded (pieceOf t bs room)
 piece-said p e bs room = ap (λ (u : State). pieceFor u bs room) e ∙ same-piece p bs room
 
-end-said : {s : State} {t : Held} → by.Produced t → s ≡ lend t → (room : ℕ) → endFor s room ≡ worded (endOf t room)
+end-said : {s : State} {t : ByValue} → by.Produced t → s ≡ lend t → (room : ℕ) → endFor s room ≡ worded (endOf t room)
 end-said p e room = ap (λ (u : State). endFor u room) e ∙ same-end p room
 
 fresh-is : (mode : ℕ) (skip : Bool) → mode < 2 → openOf mode skip .state ≡ fresh mode skip
@@ -109,7 +109,7 @@ RepeatsLent n p t =
     (bs : List ℕ) (room : ℕ) → longest ≤ room
     → (pieceFor t bs room ≡ record { taken = 0; what = refused n p; state = t }) × (endFor t room ≡ record { taken = 0; what = refused n p; state = t })
 
-repeats-lent : (n p : ℕ) {t : Held} → by.Produced t → stands.Repeats n p t → RepeatsLent n p (lend t)
+repeats-lent : (n p : ℕ) {t : ByValue} → by.Produced t → stands.Repeats n p t → RepeatsLent n p (lend t)
 repeats-lent n p made h bs room wide =
     (same-piece made bs room ∙ ap worded (h bs room wide .0), same-end made room ∙ ap worded (h bs room wide .1))
 

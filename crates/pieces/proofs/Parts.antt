@@ -1,6 +1,6 @@
 -- A character begun: which bytes of it were taken, that its numbers stay within their bounds, and that the bytes of a character that
 -- became whole are its encoding.
-use Rattle.chars.specs.declared.State.{State}
+use Rattle.chars.specs.declared.Begun.{Begun}
 use Rattle.chars.specs.declared.Step.{Step}
 use Rattle.chars.specs.declared.Step.the-variants as steps
 use Rattle.chars.specs.declared.Decoded.the-variants as decoded
@@ -100,7 +100,7 @@ first-wants b =
     if-is P (within 0xF4 0xF4 b) (λ e. let h = within-true 0xF4 0xF4 b e in ((omega arith, (omega arith, omega arith)), omega arith)) (λ _. tt)))))))))
 
 -- within a character: the arm that a state with bytes to come takes
-within-wants : (k : ℕ) (t : State) (b : ℕ) → (t .need ≡ 0 → ⊥)
+within-wants : (k : ℕ) (t : Begun) (b : ℕ) → (t .need ≡ 0 → ⊥)
     → ((t .need ≡ 1 → ⊥) → Wants (k + 1) (t .need - 1) (t .code * 64 + b % 64)) → Wanted k (step t b)
 unfolding step
 within-wants k t b some on =
@@ -110,7 +110,7 @@ within-wants k t b some on =
     (λ _. if-is P (eqb (t .need) 1) (λ _. tt) (λ e. (on (eqb-false (t .need) 1 e), omega arith)))
     (λ _. tt))
 
-pub wants-on : (k : ℕ) (t : State) (b : ℕ) → Wants k (t .need) (t .code) → Wanted k (step t b)
+pub wants-on : (k : ℕ) (t : Begun) (b : ℕ) → Wants k (t .need) (t .code) → Wanted k (step t b)
 unfolding step
 wants-on zero t b h = rw h (first-wants b)
 wants-on (suc zero) t b h =

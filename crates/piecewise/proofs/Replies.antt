@@ -28,7 +28,7 @@ use Rattle.pieces.specs.Bounds.{isPlace, beyondBounds, heldBounds, stageBounds,
 use Rattle.pieces.specs.Calls.{What, Reply, reply, Turn, on, off, textAfter, turnOf, after, feedOf, pieceStage, replied, endStage, endUnlessStopped}
 use Rattle.giving.specs.Answers.{whatOf, stateOf, turnBy, textTurned}
 use Rattle.piecewise.specs.Answers.{isMore, endDeclared}
-use Rattle.giving.specs.Inner.{Held, CharFits, BeyondFits}
+use Rattle.giving.specs.Inner.{HoldsItem, CharFits, BeyondFits}
 use Rattle.bounds.proofs.Bounded.{Numbers, numbers}
 use Rattle.turns.proofs.Told.{told-numbers, told-held}
 
@@ -109,7 +109,7 @@ module _ (n : Marks) (buf now old : List ℕ) where
 pub idle-quiet : (s : State) (old : List ℕ) → old ≡ textAfter (endStage s Idle .what) old
 idle-quiet s old = if-all (λ (r : Reply). old ≡ textAfter (r .what) old) (eqb (s .marks .part .count) 0) refl refl
 
-pub held-declared : (m : Marks) (buf text : List ℕ) (start : ℕ) → Held m buf text start → Held (endDeclared m) buf text start
+pub held-declared : (m : Marks) (buf text : List ℕ) (start : ℕ) → HoldsItem m buf text start → HoldsItem (endDeclared m) buf text start
 held-declared m buf text start h = record {
   full = h .full;
   room = h .room;
@@ -133,7 +133,7 @@ beyond-bounded (Char c) at h =
     record { far = leb-true (at + width c) limit (f .1); small = scalar-small c (f .0) }
 
 pub held-waiting : (s : State) (text : List ℕ) → inBounds s ≡ true → length (s .buf) ≡ longest → longest ≤ length text
-    → (st : ℕ) (b : Beyond) → s .marks .stage ≡ Waiting st b → Held (s .marks) (s .buf) text st × BeyondFits b (s .marks .at)
+    → (st : ℕ) (b : Beyond) → s .marks .stage ≡ Waiting st b → HoldsItem (s .marks) (s .buf) text st × BeyondFits b (s .marks .at)
 held-waiting s text bounded full room st b e =
     let t = told-numbers s bounded in
     let n = numbers (s .marks) (t .0) in

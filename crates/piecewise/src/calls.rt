@@ -32,7 +32,7 @@ ghost use Rattle.pieces.specs.Bounds.{phaseBounds};
 ghost use Rattle.pieces.specs.Calls as calls;
 ghost use Rattle.giving.specs.Answers.{stateOf};
 ghost use Rattle.piecewise.specs.Answers.{isMore, pieced, refuses, endsWith, endDeclared, answered, pieceIn, endIn};
-ghost use Rattle.giving.specs.Inner.{Held, BeyondFits};
+ghost use Rattle.giving.specs.Inner.{HoldsItem, BeyondFits};
 ghost use Rattle.turns.specs.Inner.{Sound};
 
 // Whether nothing is given yet.
@@ -101,7 +101,7 @@ fn feed(m: Marks, buf: &mut [u8], piece: &[u8], text: &mut [u8]) -> Pieced
 
 // The second item of the pair that starts at `start`, and what stands beyond the pair.
 fn give_waiting(m: Marks, buf: &mut [u8], text: &mut [u8], start: usize, b: Beyond) -> Pieced
-    requires { ⌜ Held m (now buf) (now text) start × BeyondFits b (m .at) ⌝ }
+    requires { ⌜ HoldsItem m (now buf) (now text) start × BeyondFits b (m .at) ⌝ }
     ensures { λ r. ⌜ (pieced r (now (buf .exit)) (now (text .exit)) ≡ calls.endStage (stateOf m (now (buf .entry))) (Stage.Waiting start b))
         × (now (text .exit) ≡ calls.textAfter (calls.endStage (stateOf m (now (buf .entry))) (Stage.Waiting start b) .what) (now (text .entry))) ⌝ }
 {
@@ -123,7 +123,7 @@ fn piece_waiting(
     start: usize,
     b: Beyond,
 ) -> Pieced
-    requires { ⌜ Held m (now buf) (now text) start × BeyondFits b (m .at) ⌝ }
+    requires { ⌜ HoldsItem m (now buf) (now text) start × BeyondFits b (m .at) ⌝ }
     ensures { λ r. ⌜ (pieced r (now (buf .exit)) (now (text .exit)) ≡ calls.pieceStage (stateOf m (now (buf .entry))) (Stage.Waiting start b) (now (piece .entry)))
         × (now (text .exit) ≡ calls.textAfter (calls.pieceStage (stateOf m (now (buf .entry))) (Stage.Waiting start b) (now (piece .entry)) .what) (now (text .entry))) ⌝ }
 {
@@ -234,7 +234,7 @@ fn end_idle(m: Marks) -> Pieced
 
 // The end in the item that starts at `start`, unless it cuts a character.
 fn end_item(m: Marks, buf: &mut [u8], text: &mut [u8], start: usize, phase: Phase) -> Pieced
-    requires { ⌜ Held m (now buf) (now text) start × (phaseBounds phase (m .len) ≡ true) ⌝ }
+    requires { ⌜ HoldsItem m (now buf) (now text) start × (phaseBounds phase (m .len) ≡ true) ⌝ }
     ensures { λ r. ⌜ (pieced r (now (buf .exit)) (now (text .exit)) ≡ calls.endStage (stateOf m (now (buf .entry))) (Stage.Busy start phase))
         × (now (text .exit) ≡ calls.textAfter (calls.endStage (stateOf m (now (buf .entry))) (Stage.Busy start phase) .what) (now (text .entry))) ⌝ }
 {

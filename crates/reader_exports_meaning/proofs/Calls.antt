@@ -61,18 +61,18 @@ told-length a b values h = rw (le-ltb (length values) 2 h) (length-written (a �
 
 module _ (s : List ℕ) (short : length s ≤ limit) where
   -- words that hold a position of the source
-  pub record Held (p : Position) (w : List ℕ) : Type 0 where
+  pub record HoldsPosition (p : Position) (w : List ℕ) : Type 0 where
     pub words : w ≡ listed p
     pub within : Within s (p .spot)
     pub depth : p .depth ≤ limit
 
   -- no such position is 27
-  pub never-27 : (p : Position) (w : List ℕ) → Held p w → isPosition w ≡ true
+  pub never-27 : (p : Position) (w : List ℕ) → HoldsPosition p w → isPosition w ≡ true
   never-27 p w h =
       ap isPosition (h .words)
       ∙ fits-is p (omega (arith, h .within .0, h .within .1)) (omega (arith, h .within .1)) (h .depth)
 
-  module _ (p : Position) (m : Memory) (h : Held p (m .words)) where
+  module _ (p : Position) (m : Memory) (h : HoldsPosition p (m .words)) where
     abbrev room : Bool
     room = isRoom (length (m .item)) (length (m .values))
 
@@ -114,7 +114,7 @@ module _ (s : List ℕ) (short : length s ≤ limit) where
       call-gives : room ≡ true → enough ≡ true → nextLeft s m ≡ left 10 then
       call-gives b f = call-at b ∙ ap (given m) (reply-gives f)
 
-      held-then : Held to (written (listed to) (m .words))
+      held-then : HoldsPosition to (written (listed to) (m .words))
       held-then = record {
         words = ap (written (listed to)) (h .words);
         within = next-within s (p .spot) q i (h .within) e;
@@ -124,22 +124,22 @@ module _ (s : List ℕ) (short : length s ≤ limit) where
     call-ends : room ≡ true → nextAt s (p .spot) ≡ ends → nextLeft s m ≡ left 12 (memory (m .words) (m .text) (m .item) (told 0 0 (m .values)))
     call-ends b e = call-at b ∙ ap (given m) (reply-ends e)
 
-    same : {w : List ℕ} → w ≡ m .words → (q : Position) × Held q w
+    same : {w : List ℕ} → w ≡ m .words → (q : Position) × HoldsPosition q w
     same e = (p, record { words = e ∙ h .words; within = h .within; depth = h .depth })
 
     -- whatever memory a call is lent, it leaves the words of a position of the source
-    pub held-on : (q : Position) × Held q (nextLeft s m .memory .words)
+    pub held-on : (q : Position) × HoldsPosition q (nextLeft s m .memory .words)
     held-on = by-bool room (λ b. go b (nextAt s (p .spot)) refl) (λ b. same (no-room b))
       where
-        go : room ≡ true → (t : Turn) → nextAt s (p .spot) ≡ t → (q : Position) × Held q (nextLeft s m .memory .words)
+        go : room ≡ true → (t : Turn) → nextAt s (p .spot) ≡ t → (q : Position) × HoldsPosition q (nextLeft s m .memory .words)
         go b ends e = same (ap (λ (l : Left). l .memory .words) (call-ends b e))
         go b (gives i q) e = by-bool (enough i q e)
-            (λ f. (to i q e, subst (Held (to i q e)) (sym (ap (λ (l : Left). l .memory .words) (call-gives i q e b f))) (held-then i q e)))
+            (λ f. (to i q e, subst (HoldsPosition (to i q e)) (sym (ap (λ (l : Left). l .memory .words) (call-gives i q e b f))) (held-then i q e)))
             (λ f. same (ap (λ (l : Left). l .memory .words) (call-at b ∙ ap (given m) (reply-stays i q e f))))
 
   -- memory that holds a position, with room for an item's text, its record and the values
   pub record Ready (p : Position) (m : Memory) : Type 0 where
-    pub held : Held p (m .words)
+    pub held : HoldsPosition p (m .words)
     pub text : length s ≤ length (m .text)
     pub item : recordWords ≤ length (m .item)
     pub values : 2 ≤ length (m .values)
@@ -193,7 +193,7 @@ module _ (s : List ℕ) (short : length s ≤ limit) where
         rw (eq-eqb (length words) readerWords seven, lt-ltb mode 2 mode-is, le-ltb limit (length s) short)
         (ap (λ (u : Utf8). opens (ifUtf8 u start) words first .words) good ∙ rw (drop-of-length-le words all))
 
-    pub open-held : Held start (openLeft s mode skip words first .words)
+    pub open-held : HoldsPosition start (openLeft s mode skip words first .words)
     open-held = record { words = open-words; within = (omega arith, omega arith); depth = omega arith }
 
     -- and it is read to its end with memory for one item

@@ -12,7 +12,7 @@ use Rattle.laws.specs.Quoted as quoted
 use Rattle.laws.proofs.Choice.{if-all, if-is}
 use Rattle.laws.specs.Lent.{written}
 use Rattle.laws.proofs.Lent.{length-written}
-use Rattle.chars.specs.declared.State as chars
+use Rattle.chars.specs.declared.Begun as chars
 use Rattle.chars.specs.declared.Step.{Step}
 use Rattle.chars.specs.declared.Step.the-variants as steps
 use Rattle.laws.specs.Quoted.{within}
@@ -44,7 +44,7 @@ use Rattle.pieces.specs.Expected.{longest}
 use Rattle.pieces.specs.Bounds.{phaseBounds}
 use Rattle.pieces.specs.Calls.{Turn, on, off, marks, becomes, lastOf, itemSoFar, laidAt, stopped, begin, gives, report, ends, onNext, onStage, partly, turnOf}
 use Rattle.giving.specs.Answers.{stateOf}
-use Rattle.giving.specs.Inner.{Held, OutcomeFits, CharFits}
+use Rattle.giving.specs.Inner.{HoldsItem, OutcomeFits, CharFits}
 use Rattle.turns.specs.Inner.{Sound}
 use Rattle.pieces.proofs.Parts.{Wants, Wanted, wants-on}
 use Rattle.pieces.proofs.Phases.{Ranges, Goes, goes-on, first-sized, finish-ranges}
@@ -98,7 +98,7 @@ first-whole b =
     if-all P (within 0xC2 0xDF b) tt (if-all P (within 0xE0 0xE0 b) tt (if-all P (within 0xE1 0xEC b) tt (if-all P (within 0xED 0xED b) tt
     (if-all P (within 0xEE 0xEF b) tt (if-all P (within 0xF0 0xF0 b) tt (if-all P (within 0xF1 0xF3 b) tt (if-all P (within 0xF4 0xF4 b) tt tt))))))))
 
-within-whole : (k : ℕ) (t : chars.State) (b : ℕ) → (t .need ≡ 0 → ⊥) → (t .need ≡ 1 → Whole k (steps.Char (t .code * 64 + b % 64))) → Whole k (step t b)
+within-whole : (k : ℕ) (t : chars.Begun) (b : ℕ) → (t .need ≡ 0 → ⊥) → (t .need ≡ 1 → Whole k (steps.Char (t .code * 64 + b % 64))) → Whole k (step t b)
 unfolding step
 within-whole k t b some is =
     let P : Step → Type 0 = Whole k in
@@ -107,7 +107,7 @@ within-whole k t b some is =
     (if-is P (eqb (t .need) 1) (λ e. is (eqb-true (t .need) 1 e)) (λ _. tt))
     tt)
 
-whole : (k : ℕ) (t : chars.State) (b : ℕ) → Wants k (t .need) (t .code) → Whole k (step t b)
+whole : (k : ℕ) (t : chars.Begun) (b : ℕ) → Wants k (t .need) (t .code) → Whole k (step t b)
 unfolding step
 whole zero t b h = rw h (first-whole b)
 whole (suc zero) t b h =
@@ -129,7 +129,7 @@ char-fits s k b c far e =
 
 module _ (s : State) (text : List ℕ) (full : length (s .buf) ≡ longest) (room : longest ≤ length text) (k : Sane s) where
   pub held-busy : (st : ℕ) (p : Phase) → s .marks .stage ≡ Busy st p
-      → Held (s .marks) (s .buf) text st × (phaseBounds p (s .marks .len) ≡ true)
+      → HoldsItem (s .marks) (s .buf) text st × (phaseBounds p (s .marks .len) ≡ true)
   held-busy st p e =
       let h = subst (Stood (s .marks)) e (k .stood) in (
         record {
@@ -145,7 +145,7 @@ module _ (s : State) (text : List ℕ) (full : length (s .buf) ≡ longest) (roo
         phase-bounded (s .marks .len) p (h .1),
       )
 
-  pub held-pound : s .marks .stage ≡ Pound → Held (s .marks) (s .buf) text 0
+  pub held-pound : s .marks .stage ≡ Pound → HoldsItem (s .marks) (s .buf) text 0
   held-pound e =
       let h = subst (Stood (s .marks)) e (k .stood) in
       record {

@@ -30,7 +30,7 @@ ghost use lib.ListN.{length};
 ghost use Rattle.pieces.specs.Bounds.{phaseBounds};
 ghost use Rattle.pieces.specs.Calls as calls;
 ghost use Rattle.giving.specs.Answers.{stateOf, turnIn, textTurned, goesOn, stops};
-ghost use Rattle.giving.specs.Inner.{Held, CharFits};
+ghost use Rattle.giving.specs.Inner.{HoldsItem, CharFits};
 ghost use Rattle.turns.specs.Inner.{Sound};
 
 const HASH: u32 = b'#' as u32;
@@ -72,7 +72,7 @@ fn eat(m: Marks, buf: &mut [u8], start: usize, c: u32, phase: Phase) -> Turned
 
 // A character in the item that starts at `start`: it belongs to it, or the item ended before it.
 fn on_item(m: Marks, buf: &mut [u8], text: &mut [u8], start: usize, phase: Phase, c: u32) -> Turned
-    requires { ⌜ Held m (now buf) (now text) start × CharFits c (m .at) × (phaseBounds phase (m .len) ≡ true) ⌝ }
+    requires { ⌜ HoldsItem m (now buf) (now text) start × CharFits c (m .at) × (phaseBounds phase (m .len) ≡ true) ⌝ }
     ensures { λ r. ⌜ (turnIn r (now (buf .exit)) (now (text .exit)) ≡ calls.onStage (stateOf m (now (buf .entry))) (Stage.Busy start phase) c)
         × (now (text .exit) ≡ textTurned (calls.onStage (stateOf m (now (buf .entry))) (Stage.Busy start phase) c) (now (text .entry))) ⌝ }
 {
@@ -98,7 +98,7 @@ fn on_first(m: Marks, buf: &mut [u8], c: u32) -> Marks
 
 // A character after a # at the start of the text: an exclamation mark makes it a line that is passed over.
 fn on_pound(m: Marks, buf: &mut [u8], text: &mut [u8], c: u32) -> Turned
-    requires { ⌜ Held m (now buf) (now text) 0 × CharFits c (m .at) ⌝ }
+    requires { ⌜ HoldsItem m (now buf) (now text) 0 × CharFits c (m .at) ⌝ }
     ensures { λ r. ⌜ (turnIn r (now (buf .exit)) (now (text .exit)) ≡ calls.onStage (stateOf m (now (buf .entry))) Stage.Pound c)
         × (now (text .exit) ≡ textTurned (calls.onStage (stateOf m (now (buf .entry))) Stage.Pound c) (now (text .entry))) ⌝ }
 {

@@ -10,7 +10,7 @@ use Rattle.giving.specs.Answers.{stateOf}
 use Rattle.pieces.specs.Bounds.{inBounds}
 use Rattle.pieces.specs.Calls.{declared, endOf}
 use Rattle.pieces.specs.Expected.{longest}
-use Rattle.giving.specs.Inner.{Held}
+use Rattle.giving.specs.Inner.{HoldsItem}
 use Rattle.turns.specs.Inner.{readsOn}
 use Rattle.piecewise.proofs.Replies.{reply-yes, reply-no, end-stage, idle-quiet, held-declared, held-waiting}
 use Rattle.turns.proofs.Sounds.{held-busy, held-pound}
@@ -62,7 +62,7 @@ end-item-requires : tie.Need-end-item-requires
 end-item-requires c κs =
     let branch = c .before .before .before .before .before in
     let entry = branch .before .before .before .before .before in (
-      subst (λ (x : Marks). Held x (now (entry .args .buf)) (now (entry .args .text)) (0))
+      subst (λ (x : Marks). HoldsItem x (now (entry .args .buf)) (now (entry .args .text)) (0))
           (sym (c .before .before .declare2 .ensures)) (held-declared _ _ _ _ (held-pound (stateOf (entry .args .m) (now (entry .args .buf)))
           (now (entry .args .text)) (entry .pre) (branch .if2 .left) (sane (stateOf (entry .args .m) (now (entry .args .buf)))
           (sym (branch .before .before .in-bounds .ensures (now (entry .args .buf))) ∙ not-false _ (branch .before .if1 .left))
@@ -102,7 +102,7 @@ end-item-requires-2 c κs =
     (now (entry .args .text)) (entry .pre) (staged .before .before .if2 .left) (sane (stateOf (entry .args .m) (now (entry .args .buf)))
     (sym (staged .before .before .before .before .in-bounds .ensures (now (entry .args .buf)))
     ∙ not-false _ (staged .before .before .before .if1 .left)) (ap readsOn (staged .stage .given .1))) _ _ (staged .stage .given .1) in (
-      subst (λ (x : Marks). Held x (now (entry .args .buf)) (now (entry .args .text)) (staged .stage .given .0 .0))
+      subst (λ (x : Marks). HoldsItem x (now (entry .args .buf)) (now (entry .args .text)) (staged .stage .given .0 .0))
           (sym (c .before .before .declare5 .ensures)) (held-declared _ _ _ _ (h .0)),
       rw (c .before .before .declare5 .ensures) (h .1),
     )
@@ -120,7 +120,7 @@ give-waiting-requires c κs =
     let h = held-waiting (stateOf (entry .args .m) (now (entry .args .buf)))
     (now (entry .args .text)) (sym (staged .before .before .before .before .in-bounds .ensures (now (entry .args .buf)))
     ∙ not-false _ (staged .before .before .before .if1 .left)) (entry .pre) (staged .before .before .if2 .left) _ _ (staged .stage2 .given .1) in (
-      subst (λ (x : Marks). Held x (now (entry .args .buf)) (now (entry .args .text)) (staged .stage2 .given .0 .0))
+      subst (λ (x : Marks). HoldsItem x (now (entry .args .buf)) (now (entry .args .text)) (staged .stage2 .given .0 .0))
           (sym (c .before .before .declare6 .ensures)) (held-declared _ _ _ _ (h .0)),
       rw (c .before .before .declare6 .ensures) (h .1),
     )
