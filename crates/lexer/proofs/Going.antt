@@ -4,6 +4,7 @@ use Rattle.items.specs.declared.Nine.{Nine}
 use Rattle.meaning.specs.Records.{packed}
 use Rattle.lexer.specs.Reading.{gives, sizeOf, nextAt, allFrom, allItems, foundOf}
 use Rattle.lexer.specs.Inner.{freeAfter, neededOf}
+use Rattle.lexer.specs.Writing.{Going}
 use Rattle.lexer.specs.declared.Spot.{Spot}
 use Rattle.lexer.specs.declared.Needed.{Needed}
 use Rattle.lexer.specs.declared.Found.the-variants.{One, End}
@@ -11,21 +12,13 @@ use Rattle.lexer.proofs.All.{all-gives, all-ends}
 use Rattle.lexer.proofs.Moves.{Moved}
 use Rattle.lexer.proofs.Nexts.{found-gives, found-ends, next-moved}
 use Rattle.lexer.proofs.Memory.{free-packed, texts-more}
-use Prim.Native.Nat.{ℕ, zero, suc, _+_, _*_, _≤_, _<_}
+use Prim.Native.Nat.{ℕ, zero, suc, _+_, _*_, _≤_}
 use mathlib.Core.Bool.{Bool, true, false}
 use Rattle.laws.specs.Choice.{if_then_else_}
 use mathlib.Core.Path.{_≡_, refl, sym, ap, _∙_}
 use mathlib.Core.List.{List, [], _∷_, _++_, append-assoc, append-nil}
 use lib.ListN.{length, length-append}
 use native.Mathlib.Omega.{arith}
-
-pub record Going (s : List ℕ) (start p : Spot) (free : ℕ) (done : List Item) : Type 0 where
-  pub left : ℕ
-  pub enough : sizeOf s p < left
-  pub few : length done + sizeOf s p ≤ sizeOf s start
-  pub behind : free ≤ p .at
-  pub bytes : length (texts done) ≡ free
-  pub items : allItems s start ≡ done ++ allFrom left s p
 
 pub going : (s : List ℕ) (start : Spot) → Going s start start 0 []
 unfolding allItems texts

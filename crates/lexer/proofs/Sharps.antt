@@ -21,7 +21,7 @@ use Rattle.steps.proofs.Turn.{turn-eat, turn-stop}
 use Rattle.meaning.specs.Meant.{means}
 use Rattle.meaning.specs.declared.Means.{Means}
 use Rattle.meaning.specs.declared.Text.the-variants.{Nowhere}
-use Rattle.lexer.specs.Glance.{Begins, Sharp, Spells, GlanceAt, SkimAt}
+use Rattle.lexer.specs.Glance.{Begins, Sharp, Spells, Glanced, GlanceAt, SkimAt}
 use Rattle.lexer.specs.declared.Quick.{Quick}
 use Rattle.lexer.specs.declared.Quick.the-variants as quick
 use Rattle.lexer.proofs.Glances as glances
@@ -76,31 +76,29 @@ module _ (s : List ℕ) (at : ℕ) (S : Sharp s at) where
 
   -- an item without text of two bytes
   two-told : (report skip : Bool) (k d : ℕ) → record { what = Token k d; end = at + 2 } ≡ answer s report at ph.AfterHash (at + 1)
-      → k < kind.firstError → eqb k kind.Comment ≡ false → GlanceAt s report skip at (quick.Item (means k d Nowhere) at (at + 2))
-  two-told report skip k d h fine other = (
-    refl,
-    fine,
-    record {
-      what = Token k d;
-      phase = ph.AfterHash;
-      begins = sign-begins;
-      scan = h;
-      quiet = λ last i. refl;
-      alone = record { means = λ r. refl; undecoded = tt };
-      kept = and-false skip (eqb k kind.Comment) other;
-    },
-  )
+      → eqb k kind.Comment ≡ false → Glanced s report skip at (at + 2) (means k d Nowhere)
+  two-told report skip k d h other = record {
+    what = Token k d;
+    phase = ph.AfterHash;
+    begins = sign-begins;
+    scan = h;
+    quiet = λ last i. refl;
+    alone = record { means = λ r. refl; undecoded = tt };
+    kept = and-false skip (eqb k kind.Comment) other;
+  }
 
   pub vector-told : (report skip : Bool) → at + 1 < length s → getD s (at + 1) 0 ≡ code "("
-      → GlanceAt s report skip at (quick.Item (means kind.OpenParen kind.Vector Nowhere) at (at + 1 + 1))
+      → GlanceAt s report skip at (quick.Bracket (means kind.OpenParen kind.Vector Nowhere) at (at + 1 + 1))
   vector-told report skip m e =
       let n : at + 1 + 1 ≡ at + 2 = omega arith in
       let o = Token kind.OpenParen kind.Vector in
       let k : CharAt s (at + 1) (code "(") (at + 2) = subst (CharAt s (at + 1) (code "(")) n (ascii-at s (at + 1) (code "(") m e (omega arith)) in
-      rw n
-      (two-told report skip kind.OpenParen kind.Vector
-      (sym (turn-eat s report at ph.AfterHash (at + 1) (code "(") (at + 2) k (ph.Done o) (omega arith) (vector-opens report (part s at (at + 1)) (at + 1) sign-part) ∙ sym (done-scan report o _ _)))
-      (omega arith) refl)
+      rw n (
+        refl,
+        omega arith,
+        two-told report skip kind.OpenParen kind.Vector
+            (sym (turn-eat s report at ph.AfterHash (at + 1) (code "(") (at + 2) k (ph.Done o) (omega arith) (vector-opens report (part s at (at + 1)) (at + 1) sign-part) ∙ sym (done-scan report o _ _))) refl,
+      )
 
 pub boolean-told : (s : List ℕ) (at v : ℕ) → Spells s at v → (report skip : Bool) → at + 2 < length s → (c : ℕ) → getD s (at + 2) 0 ≡ c → (c < 0x80) × (inHash c ≡ stopsHash)
     → GlanceAt s report skip at (quick.Item (means kind.BooleanLiteral v Nowhere) at (at + 2))
@@ -108,11 +106,17 @@ boolean-told s at v B report skip m c e stop =
     let n : at + 1 + 1 ≡ at + 2 = omega arith in
     let o = Token kind.BooleanLiteral v in
     let k : CharAt s (at + 1) (B .letter) (at + 2) = subst (CharAt s (at + 1) (B .letter)) n (ascii-at s (at + 1) (B .letter) (B .more) (B .stands) (B .small)) in
-    let l = ascii-at s (at + 2) c m e (stop .0) in
-    two-told s at (B .sign) report skip kind.BooleanLiteral v
-    (sym (turn-eat s report at ph.AfterHash (at + 1) (B .letter) (at + 2) k ph.InHash (omega arith) (B .stays (part s at (at + 1))) ∙ turn-stop s report at ph.InHash (at + 2) c (at + 2 + 1) l o (boolean-ends report (part s at (at + 2)) (at + 2) c o (ap hashKind (letter-part s at (B .sign) (B .letter) (B .more) (B .stands)) ∙ B .boolean) (stop .1))))
-    (omega arith) refl
+    let l = ascii-at s (at + 2) c m e (stop .0) in (
+      refl,
+      omega arith,
+      two-told s at (B .sign) report skip kind.BooleanLiteral v
+          (sym (turn-eat s report at ph.AfterHash (at + 1) (B .letter) (at + 2) k ph.InHash (omega arith) (B .stays (part s at (at + 1))) ∙ turn-stop s report at ph.InHash (at + 2) c (at + 2 + 1) l o (boolean-ends report (part s at (at + 2)) (at + 2) c o (ap hashKind (letter-part s at (B .sign) (B .letter) (B .more) (B .stands)) ∙ B .boolean) (stop .1)))) refl,
+      λ depth. refl,
+    )
 
 -- where only its end is asked for
 pub hash-skims : (s : List ℕ) (report skip : Bool) (at : ℕ) (q : Quick) → GlanceAt s report skip at q → (m : Means) (a e : ℕ) → q ≡ quick.Item m a e → SkimAt s report skip at (ending.At e)
 hash-skims s report skip at q g m a e h = let t = subst (GlanceAt s report skip at) h g in (m, t .2)
+
+pub bracket-skims : (s : List ℕ) (report skip : Bool) (at : ℕ) (q : Quick) → GlanceAt s report skip at q → (m : Means) (a e : ℕ) → q ≡ quick.Bracket m a e → SkimAt s report skip at (ending.At e)
+bracket-skims s report skip at q g m a e h = let t = subst (GlanceAt s report skip at) h g in (m, t .2)

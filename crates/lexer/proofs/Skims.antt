@@ -3,7 +3,7 @@
 use Rattle.chars.specs.Utf8.{chars}
 use Rattle.items.specs.Kinds as kind
 use Rattle.items.specs.Readers.{SoFar, comment, firstIs}
-use Rattle.items.specs.Meaning.{Row, lookup, words, wordKind, runMeans, escaped}
+use Rattle.items.specs.Meaning.{wordKind, runMeans, escaped}
 use Rattle.items.specs.Items.{Item, Place, range, rangeAfter}
 use Rattle.items.specs.Whole.{limit}
 use Rattle.items.specs.declared.Outcome.{Outcome}
@@ -13,7 +13,6 @@ use Rattle.items.specs.declared.Phase.the-variants as ph
 use Rattle.items.specs.declared.Quotes.the-variants.{Double}
 use Rattle.items.specs.declared.Nine.{Nine}
 use Rattle.laws.specs.Quoted.{code}
-use Rattle.laws.specs.Texts.{same}
 use Rattle.laws.proofs.Choice.{by-bool}
 use Rattle.numbers.specs.Grammar.{parseNumber}
 use Rattle.numbers.specs.declared.Parsed.{Parsed}
@@ -28,56 +27,24 @@ use Rattle.meaning.specs.declared.Text.the-variants.{Nowhere, Source}
 use Rattle.meaning.specs.Places.{rangeOf}
 use Rattle.meaning.specs.Records.{nineFor}
 use Rattle.lexer.specs.Glance.{Begins, Alone, Glanced, SkimAt, SkimFrom}
+use Rattle.lexer.specs.Writing.{Going}
 use Rattle.lexer.specs.Reading.{startFrom}
 use Rattle.lexer.specs.declared.Spot.{Spot}
 use Rattle.lexer.specs.Reading.{nextAt, sizeOf, foundOf}
 use Rattle.lexer.specs.declared.Found.the-variants.{One}
 use Rattle.lexer.proofs.Glances.{next-told, toldPlace, bare-nine}
-use Rattle.lexer.proofs.Going.{Going, going-on, it, it-moved}
+use Rattle.lexer.proofs.Going.{going-on, it, it-moved}
 use Rattle.lexer.proofs.Quickly.{here}
 use Rattle.lexer.proofs.Tells.{and-false, spans, ends-here, line-told, string-tells, identifier-tells, word-tells, run-tells}
 use Prim.Native.Nat.{ℕ, _+_, _-_, _≤_, _<_}
 use mathlib.Core.Path.{_≡_, refl, sym, ap, _∙_, subst}
-use mathlib.Core.Bool.{Bool, true, false, not, _&&_}
+use mathlib.Core.Bool.{Bool, false}
 use mathlib.Core.List.{List, [], _∷_, _++_}
-use lib.Dec.{eqb, ltb}
+use lib.Dec.{eqb}
 use lib.ListN.{length, getD, drop}
 use lib.Seq.{getD-take, getD-drop}
 use native.Mathlib.Omega.{arith}
-use borrow.Author.Tests.{ltb-true, eqb-true, ne-eqb, not-true}
-
--- ---- the kinds of words
-
-both-first : (x y : Bool) → (x && y) ≡ true → x ≡ true
-both-first true y e = refl
-both-first false y e = e
-
-both-second : (x y : Bool) → (x && y) ≡ true → y ≡ true
-both-second true y e = e
-both-second false y e = let z : _≡_ {A = ℕ} 0 1 = cc in absurd (omega arith)
-
--- no error, and no comment
-abbrev plainKind : ℕ → Bool
-plainKind k = ltb k kind.firstError && not (eqb k kind.Comment)
-
-abbrev allPlain : List Row → Bool
-allPlain [] = true
-allPlain (r ∷ rs) = plainKind (r .number) && allPlain rs
-
-row-plain : (raw : List ℕ) (n : ℕ) (rs : List Row) → allPlain rs ≡ true → plainKind n ≡ true → plainKind (lookup rs raw n) ≡ true
-unfolding lookup
-row-plain raw n [] h k = k
-row-plain raw n (r ∷ rs) h k = by-bool (same raw (r .text))
-    (λ b. rw b (both-first (plainKind (r .number)) (allPlain rs) h))
-    (λ b. rw b (row-plain raw n rs (both-second (plainKind (r .number)) (allPlain rs) h) k))
-
-words-plain : allPlain words ≡ true
-unfolding words
-words-plain = refl
-
-kind-plain : (raw : List ℕ) → plainKind (wordKind raw) ≡ true
-unfolding wordKind
-kind-plain raw = row-plain raw kind.Identifier words words-plain refl
+use borrow.Author.Tests.{eqb-true, ne-eqb}
 
 -- ---- what is skimmed
 
@@ -95,11 +62,10 @@ Sole what at raw = (m : Means) × (Alone what at raw m × (eqb (m .kind) kind.Co
 module _ (at : ℕ) (raw : List ℕ) (n : firstIs (code "+") raw ≡ false) where
   word-sole : Sole Word at raw
   word-sole =
-      let k = kind-plain raw in
       by-bool (eqb (wordKind raw) kind.Identifier)
       (λ b. let t = identifier-tells at (at + length raw) raw refl n (eqb-true (wordKind raw) kind.Identifier b) in
       (means kind.Identifier 0 (Source at (at + length raw)), (t .4, t .2)))
-      (λ b. let t = word-tells at (at + length raw) raw refl (wordKind raw) refl b (ltb-true (wordKind raw) kind.firstError (both-first _ _ k)) (not-true (eqb (wordKind raw) kind.Comment) (both-second (ltb (wordKind raw) kind.firstError) _ k)) in
+      (λ b. let t = word-tells at (at + length raw) raw refl (wordKind raw) refl b in
       (means (wordKind raw) 0 Nowhere, (t .4, t .2)))
 
   run-sole : (p : Parsed) → parseNumber raw ≡ p → Sole Run at raw

@@ -26,12 +26,13 @@ use Rattle.meaning.specs.Meant.{means}
 use Rattle.meaning.specs.declared.Means.{Means}
 use Rattle.meaning.specs.declared.Text.the-variants.{Nowhere, Source}
 use Rattle.lexer.specs.Inner.{ExtentFits}
-use Rattle.lexer.specs.Glance.{Begins, Alone, Tells, Glanced, GlanceAt, GlanceFrom}
+use Rattle.lexer.specs.Glance.{Begins, Alone, Level, Tells, Glanced, GlanceAt, Told, GlanceFrom}
 use Rattle.lexer.specs.Reading.{startFrom}
 use Rattle.lexer.specs.declared.Quick.{Quick}
-use Rattle.lexer.specs.declared.Quick.the-variants.{Item, Other}
+use Rattle.lexer.specs.declared.Quick.the-variants.{Item, Bracket, Other}
 use Rattle.lexer.proofs.Scans.{inside, scan-fits, end-inside}
 use Rattle.lexer.proofs.Glances.{begins}
+use Rattle.lexer.proofs.WordKinds.{kind-fine, kind-level, kind-kept}
 use Prim.Native.Nat.{ℕ, _+_, _-_, _^_, _≤_, _<_}
 use mathlib.Core.Path.{_≡_, refl, sym, ap, _∙_, subst}
 use mathlib.Core.Bool.{Bool, true, false, _&&_}
@@ -83,21 +84,16 @@ module _ (c : ℕ) (low : code "0" ≤ c) (high : c ≤ code "9") where
 -- ---- a character that is an item of its own
 
 pub single-told : (s : List ℕ) (report skip : Bool) (at c k d : ℕ) → at < length s → getD s at 0 ≡ c → c < 0x80 → isBlank c ≡ false
-    → onFirst (firstOf c) ≡ ph.Done (Token k d) → k < kind.firstError → eqb k kind.Comment ≡ false
-    → GlanceAt s report skip at (Item (means k d Nowhere) at (at + 1))
-single-told s report skip at c k d h e l b f fine other = (
-  refl,
-  fine,
-  record {
-    what = Token k d;
-    phase = ph.Done (Token k d);
-    begins = begins s at c (ph.Done (Token k d)) h e l b f;
-    scan = done-scan report (Token k d) (soFar (part s at (at + 1)) (at + 1)) (chars (drop (at + 1) s));
-    quiet = λ last i. refl;
-    alone = record { means = λ r. refl; undecoded = tt };
-    kept = and-false skip (eqb k kind.Comment) other;
-  },
-)
+    → onFirst (firstOf c) ≡ ph.Done (Token k d) → eqb k kind.Comment ≡ false → Glanced s report skip at (at + 1) (means k d Nowhere)
+single-told s report skip at c k d h e l b f other = record {
+  what = Token k d;
+  phase = ph.Done (Token k d);
+  begins = begins s at c (ph.Done (Token k d)) h e l b f;
+  scan = done-scan report (Token k d) (soFar (part s at (at + 1)) (at + 1)) (chars (drop (at + 1) s));
+  quiet = λ last i. refl;
+  alone = record { means = λ r. refl; undecoded = tt };
+  kept = and-false skip (eqb k kind.Comment) other;
+}
 
 -- ---- an item that ends where its run does
 
@@ -129,6 +125,7 @@ module _ (s : List ℕ) (report : Bool) (at e : ℕ) (o : Outcome) (p : Phase) (
   pub ended-told : length s ≤ limit → ((last : Place) (i : SoFar) → rangeAfter report last at o i ≡ last) → (q : Quick) → Tells o at (part s at e) q
       → (skip : Bool) → GlanceAt s report skip at q
   ended-told short quiet Other t skip = tt
+  ended-told short quiet (Bracket m a f) t skip = absurd t
   ended-told short quiet (Item m a f) t skip =
       let there : f ≡ e = t .1 ∙ spans short .long in (
         t .0,
@@ -142,6 +139,7 @@ module _ (s : List ℕ) (report : Bool) (at e : ℕ) (o : Outcome) (p : Phase) (
           alone = t .4;
           kept = and-false skip (eqb (m .kind) kind.Comment) (t .2);
         }),
+        t .5,
       )
 
 -- a comment, where comments are kept
@@ -159,6 +157,7 @@ line-told s report skip at e k B h = (
     alone = record { means = λ r. refl; undecoded = tt };
     kept = rw k;
   },
+  λ depth. refl,
 )
 
 -- past blanks
@@ -166,25 +165,33 @@ pub from-there : (s : List ℕ) (report skip : Bool) (from at : ℕ) → startFr
     → (q : Quick) → GlanceAt s report skip at q → GlanceFrom s report skip from q
 from-there s report skip from at w Other t = tt
 from-there s report skip from at w (Item m a e) t =
-    subst (λ (x : ℕ). (startFrom x (chars (drop x s)) ≡ startFrom from (chars (drop from s))) × (m .kind < kind.firstError) × Glanced s report skip x e m) (sym (t .0)) (w, t .1, t .2)
+    (subst (λ (x : ℕ). Told s report skip from x e m) (sym (t .0)) (record { starts = w; fine = t .1; item = t .2 }), t .3)
+from-there s report skip from at w (Bracket m a e) t =
+    subst (λ (x : ℕ). Told s report skip from x e m) (sym (t .0)) (record { starts = w; fine = t .1; item = t .2 })
 
 -- ---- what the bytes of an extent tell
 
 module _ (at e : ℕ) (raw : List ℕ) (long : e ≡ at + length raw) where
   pub string-tells : escaped raw ≡ false → Tells Str at raw (Item (means kind.StringLiteral 0 (Source (at + 1) (e - 1))) at e)
   unfolding stringText
-  string-tells f = (refl, long, refl, omega arith, record { means = λ r. rw (long, f); undecoded = tt })
+  string-tells f = (refl, long, refl, omega arith, record { means = λ r. rw (long, f); undecoded = tt }, λ depth. refl)
 
   pub run-tells : (p : Parts) → parseNumber raw ≡ parsed.Is p → Tells Run at raw (Item (means kind.Number 0 Nowhere) at e)
   unfolding runMeans
-  run-tells p f = (refl, long, refl, omega arith, record { means = λ r. rw f; undecoded = tt })
+  run-tells p f = (refl, long, refl, omega arith, record { means = λ r. rw f; undecoded = tt }, λ depth. refl)
 
   pub identifier-tells : firstIs (code "+") raw ≡ false → wordKind raw ≡ kind.Identifier
       → Tells Word at raw (Item (means kind.Identifier 0 (Source at e)) at e)
   unfolding wordMeans
-  identifier-tells f k = (refl, long, refl, omega arith, record { means = λ r. rw (long, k, f); undecoded = tt })
+  identifier-tells f k = (refl, long, refl, omega arith, record { means = λ r. rw (long, k, f); undecoded = tt }, λ depth. refl)
 
-  pub word-tells : (k : ℕ) → wordKind raw ≡ k → eqb k kind.Identifier ≡ false → k < kind.firstError → eqb k kind.Comment ≡ false
-      → Tells Word at raw (Item (means k 0 Nowhere) at e)
+  pub word-tells : (k : ℕ) → wordKind raw ≡ k → eqb k kind.Identifier ≡ false → Tells Word at raw (Item (means k 0 Nowhere) at e)
   unfolding wordMeans
-  word-tells k f i fine other = (refl, long, other, fine, record { means = λ r. rw (f, i); undecoded = tt })
+  word-tells k f i = (
+    refl,
+    long,
+    subst (λ (x : ℕ). eqb x kind.Comment ≡ false) f (kind-kept raw),
+    subst (λ (x : ℕ). x < kind.firstError) f (kind-fine raw),
+    record { means = λ r. rw (f, i); undecoded = tt },
+    subst Level f (kind-level raw),
+  )

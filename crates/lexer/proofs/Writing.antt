@@ -7,25 +7,18 @@ use Rattle.items.proofs.Fit.{records-length}
 use Rattle.meaning.specs.Records.{packed}
 use Rattle.lexer.specs.Reading.{nextAt, allFrom, allItems, foundOf}
 use Rattle.lexer.specs.Inner.{bytesFor, freeAfter, deepAt, neededOf}
+use Rattle.lexer.specs.Writing.{Going, Writing, Roomy}
 use Rattle.lexer.specs.declared.Spot.{Spot}
 use Rattle.lexer.specs.declared.Found.the-variants.{One, End}
 use Rattle.lexer.proofs.Moves.{Moved, Whole}
 use Rattle.lexer.proofs.Memory.{record-packed, bytes-packed, texts-join, texts-more, records-more, past-more}
-use Rattle.lexer.proofs.Going.{Going, going, going-end, counted, going-on, it, it-packed, it-moved}
-use Prim.Native.Nat.{ℕ, _+_, _-_, _*_, _/_, _≤_, _<_}
+use Rattle.lexer.proofs.Going.{going, going-end, counted, going-on, it, it-packed, it-moved}
+use Prim.Native.Nat.{ℕ, _+_, _-_, _/_, _≤_, _<_}
 use mathlib.Core.Path.{_≡_, refl, sym, ap, _∙_, subst}
 use mathlib.Core.List.{List, [], _∷_, _++_, append-nil}
 use lib.ListN.{length, length-append, take, drop}
 use native.Mathlib.Omega.{arith}
 use borrow.Rule.Slice.PartMut.{putMid}
-
-pub record Writing (s : List ℕ) (start : Spot) (recs₀ text₀ recs text : List ℕ) (p : Spot) (free depth w : ℕ) : Type 0 where
-  pub done : List Item
-  pub going : Going s start p free done
-  pub deep : depthPast 0 done ≡ depth
-  pub count : length (records 0 0 done) ≡ w
-  pub rows : recs ≡ written (records 0 0 done) recs₀
-  pub bytes : text ≡ written (texts done) text₀
 
 -- what an item's nine words say of its text, for the decoder
 pub nine-fits : (s : List ℕ) (free n : ℕ) (r : Nine) (i : Item) → r ≡ packed free i → Whole s i → length (memoryOf (i .text)) ≤ n
@@ -34,8 +27,7 @@ nine-fits s free n r i e w h =
     subst (λ (x : Nine). (x .start < x .end) × (x .end ≤ length s) × (length (bytesFor s x) ≤ n)) (sym e)
     (w .some, w .ends, omega (arith, ap length (bytes-packed s free i w)))
 
-module _ (s : List ℕ) (start : Spot) (recs₀ text₀ : List ℕ) (fr : recordWords * length (allItems s start) ≤ length recs₀)
-    (ft : length (texts (allItems s start)) ≤ length text₀) where
+module _ (s : List ℕ) (start : Spot) (recs₀ text₀ : List ℕ) (roomy : Roomy s start recs₀ text₀) where
   pub writing : Writing s start recs₀ text₀ recs₀ text₀ start 0 0 0
   unfolding records texts depthPast
   writing = record { done = []; going = going s start; deep = refl; count = refl; rows = refl; bytes = refl }
@@ -48,7 +40,7 @@ module _ (s : List ℕ) (start : Spot) (recs₀ text₀ : List ℕ) (fr : record
       let a : length (allItems s start) ≡ length done + length rest = ap length (g .items) ∙ length-append done rest in
       let b : length (texts (allItems s start)) ≡ length (texts done) + length (texts rest) =
       ap (λ (l : List Item). length (texts l)) (g .items) ∙ ap length (texts-join done rest) ∙ length-append (texts done) (texts rest) in
-      (omega (arith, records-length 0 0 done), omega arith)
+      (omega (arith, roomy .rows, records-length 0 0 done), omega (arith, roomy .bytes))
 
   module _ {recs text : List ℕ} {p : Spot} {free depth w : ℕ} (g : Writing s start recs₀ text₀ recs text p free depth w) where
     pub recs-length : length recs ≡ length recs₀

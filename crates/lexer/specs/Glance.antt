@@ -12,7 +12,7 @@ use Rattle.items.specs.Classes.{firstOf, afterHash}
 use Rattle.items.specs.Machine.{onFirst, onAfterHash}
 use Rattle.items.specs.Readers.{SoFar, hashKind}
 use Rattle.items.specs.Meaning.{meaningOf}
-use Rattle.items.specs.Items.{Place, rangeAfter}
+use Rattle.items.specs.Items.{Place, rangeAfter, depthAfter}
 use Rattle.items.specs.declared.HashKind.the-variants.{Decided}
 use Rattle.items.specs.declared.Next.the-variants.{Eat}
 use Rattle.items.specs.declared.Outcome.{Outcome}
@@ -29,7 +29,7 @@ use Rattle.meaning.specs.declared.Means.{Means}
 use Rattle.lexer.specs.Inner.{First}
 use Rattle.lexer.specs.Reading.{startFrom}
 use Rattle.lexer.specs.declared.Quick.{Quick}
-use Rattle.lexer.specs.declared.Quick.the-variants.{Item, Other}
+use Rattle.lexer.specs.declared.Quick.the-variants.{Item, Bracket, Other}
 
 -- an item starts at a place with one byte, which leaves it in a phase
 pub record Begins (s : List ℕ) (at : ℕ) (p : Phase) : Type 0 where
@@ -63,9 +63,14 @@ pub record Alone (what : Outcome) (at : ℕ) (raw : List ℕ) (m : Means) : Type
   pub means : (report : Bool) → m ∷ [] ≡ sizedAll (meaningOf report what at (at + length raw) raw)
   pub undecoded : Undecoded (m .text)
 
--- what the outcome and the bytes of an extent that is no comment and no error tell quickly
+-- a kind that leaves the depth as it is: that of no bracket
+abbrev pub Level : ℕ → Type 0
+Level k = (depth : ℕ) → depthAfter k depth ≡ depth
+
+-- what the outcome and the bytes of an extent that is no comment, no error and no bracket tell quickly
 abbrev pub Tells : Outcome → ℕ → List ℕ → Quick → Type 0
-Tells what at raw (Item m a e) = (a ≡ at) × (e ≡ at + length raw) × (eqb (m .kind) kind.Comment ≡ false) × (m .kind < kind.firstError) × Alone what at raw m
+Tells what at raw (Item m a e) = (a ≡ at) × (e ≡ at + length raw) × (eqb (m .kind) kind.Comment ≡ false) × (m .kind < kind.firstError) × Alone what at raw m × Level (m .kind)
+Tells what at raw (Bracket m a e) = ⊥
 Tells what at raw Other = Unit
 
 -- from the place a to the place e stands an item with the meaning m, which is not skipped
@@ -80,13 +85,19 @@ pub record Glanced (s : List ℕ) (report skip : Bool) (a e : ℕ) (m : Means) :
 
 -- such an item, and no error
 abbrev pub GlanceAt : List ℕ → Bool → Bool → ℕ → Quick → Type 0
-GlanceAt s report skip at (Item m a e) = (a ≡ at) × (m .kind < kind.firstError) × Glanced s report skip at e m
+GlanceAt s report skip at (Item m a e) = (a ≡ at) × (m .kind < kind.firstError) × Glanced s report skip at e m × Level (m .kind)
+GlanceAt s report skip at (Bracket m a e) = (a ≡ at) × (m .kind < kind.firstError) × Glanced s report skip at e m
 GlanceAt s report skip at Other = Unit
 
 -- the same past the blanks from a place on
+pub record Told (s : List ℕ) (report skip : Bool) (from a e : ℕ) (m : Means) : Type 0 where
+  pub starts : startFrom a (chars (drop a s)) ≡ startFrom from (chars (drop from s))
+  pub fine : m .kind < kind.firstError
+  pub item : Glanced s report skip a e m
+
 abbrev pub GlanceFrom : List ℕ → Bool → Bool → ℕ → Quick → Type 0
-GlanceFrom s report skip from (Item m a e) =
-    (startFrom a (chars (drop a s)) ≡ startFrom from (chars (drop from s))) × (m .kind < kind.firstError) × Glanced s report skip a e m
+GlanceFrom s report skip from (Item m a e) = Told s report skip from a e m × Level (m .kind)
+GlanceFrom s report skip from (Bracket m a e) = Told s report skip from a e m
 GlanceFrom s report skip from Other = Unit
 
 -- ---- where an item ends, whatever it means

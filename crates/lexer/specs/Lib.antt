@@ -5,3 +5,4 @@ pub mod Text
 pub mod Inner
 pub mod ReadOn
 pub mod Glance
+pub mod Writing

@@ -24,7 +24,7 @@ ghost use Rattle.items.specs.declared.Phase.the-variants.{InWord, InRun, InLine
 ghost use Rattle.items.specs.declared.Quotes.the-variants.{Double};
 ghost use Rattle.meaning.specs.Meant.{means};
 ghost use Rattle.meaning.specs.declared.Text.the-variants.{Nowhere};
-ghost use Rattle.lexer.specs.declared.Quick.the-variants.{Item};
+ghost use Rattle.lexer.specs.declared.Quick.the-variants.{Item, Bracket};
 ghost use Rattle.lexer.specs.Glance.{Begins, Sharp, Spells, Tells, GlanceAt, GlanceFrom, SkimAt, SkimFrom};
 
 // How many bytes a quote is.
@@ -33,7 +33,19 @@ const QUOTE: usize = 1;
 // How many bytes a boolean of one letter is.
 const BOOLEAN: usize = 2;
 
-// An item without text.
+// A bracket.
+fn bracket(kind: u32, detail: u32, at: usize, end: usize) -> Quick
+    ensures { λ r. ⌜ r ≡ Bracket (means kind detail Nowhere) at end ⌝ }
+{
+    let m = Means {
+        kind: kind,
+        detail: detail,
+        text: Text::Nowhere,
+    };
+    Quick::Bracket(m, at, end)
+}
+
+// An item without text that is no bracket.
 fn bare(kind: u32, detail: u32, at: usize, end: usize) -> Quick
     ensures { λ r. ⌜ r ≡ Item (means kind detail Nowhere) at end ⌝ }
 {
@@ -68,12 +80,6 @@ fn tell_word(at: usize, end: usize, raw: &[u8]) -> Quick
     let kind = word_kind(raw);
     if kind == kinds::IDENTIFIER {
         return named(kinds::IDENTIFIER, at, end, at, end);
-    }
-    if kinds::FIRST_ERROR <= kind {
-        return Quick::Other;
-    }
-    if kind == kinds::COMMENT {
-        return Quick::Other;
     }
     bare(kind, kinds::NO_DETAIL, at, end)
 }
@@ -185,7 +191,7 @@ fn quick_hash(source: &[u8], at: usize) -> Quick
         return Quick::Other;
     }
     match source[next] {
-        b'(' => bare(kinds::OPEN_PAREN, kinds::VECTOR, at, next + 1),
+        b'(' => bracket(kinds::OPEN_PAREN, kinds::VECTOR, at, next + 1),
         b't' => quick_boolean(source, kinds::TRUE, at),
         b'f' => quick_boolean(source, kinds::FALSE, at),
         _ => Quick::Other,
@@ -198,12 +204,12 @@ fn quick_at(source: &[u8], report: bool, skip: bool, at: usize) -> Quick
     ensures { λ r. ⌜ GlanceAt (now (source .entry)) report skip at r ⌝ }
 {
     match source[at] {
-        b'(' => bare(kinds::OPEN_PAREN, kinds::ROUND, at, at + 1),
-        b')' => bare(kinds::CLOSE_PAREN, kinds::ROUND, at, at + 1),
-        b'[' => bare(kinds::OPEN_PAREN, kinds::SQUARE, at, at + 1),
-        b']' => bare(kinds::CLOSE_PAREN, kinds::SQUARE, at, at + 1),
-        b'{' => bare(kinds::OPEN_PAREN, kinds::CURLY, at, at + 1),
-        b'}' => bare(kinds::CLOSE_PAREN, kinds::CURLY, at, at + 1),
+        b'(' => bracket(kinds::OPEN_PAREN, kinds::ROUND, at, at + 1),
+        b')' => bracket(kinds::CLOSE_PAREN, kinds::ROUND, at, at + 1),
+        b'[' => bracket(kinds::OPEN_PAREN, kinds::SQUARE, at, at + 1),
+        b']' => bracket(kinds::CLOSE_PAREN, kinds::SQUARE, at, at + 1),
+        b'{' => bracket(kinds::OPEN_PAREN, kinds::CURLY, at, at + 1),
+        b'}' => bracket(kinds::CLOSE_PAREN, kinds::CURLY, at, at + 1),
         b'\'' => bare(kinds::QUOTE_TICK, kinds::NO_DETAIL, at, at + 1),
         b'`' => bare(kinds::QUASI_QUOTE, kinds::NO_DETAIL, at, at + 1),
         b'a'..=b'z' => quick_word(source, at),
@@ -261,6 +267,7 @@ fn skim_hash(source: &[u8], at: usize) -> Ending
 {
     match quick_hash(source, at) {
         Quick::Item(_, _, end) => Ending::At(end),
+        Quick::Bracket(_, _, end) => Ending::At(end),
         Quick::Other => Ending::Unknown,
     }
 }

@@ -58,10 +58,19 @@ pub enum Found {
 
 // What one look tells.
 pub enum Quick {
-    // an item by its meaning, and its extent
+    // an item that is no bracket, by its meaning and its extent
     Item(Means, usize, usize),
+    // a bracket, by the same
+    Bracket(Means, usize, usize),
     // anything else
     Other,
+}
+
+// How far writing got: the spot, the words that the records take, and how many brackets are open there.
+pub struct Wrote {
+    pub spot: Spot,
+    pub words: usize,
+    pub depth: u32,
 }
 
 // What the items of a text need: records, and bytes of text memory.

@@ -5,6 +5,7 @@ use crate::OpenAnswer;
 use crate::Quick;
 use crate::ReadAnswer;
 use crate::Spot;
+use crate::Wrote;
 use crate::glance::quick_item;
 use crate::glance::skim_item;
 use crate::opening::OUTSIDE;
@@ -35,6 +36,7 @@ ghost use Rattle.meaning.specs.Records.{nineFor, TextFits};
 ghost use Rattle.lexer.specs.Reading.{allItems};
 ghost use Rattle.lexer.specs.Answers.{answerOf};
 ghost use Rattle.lexer.specs.Inner.{neededOf, quotesOf, bytesFor, freeAfter, deepAt, Few};
+ghost use Rattle.lexer.specs.Writing.{Amid, Onward};
 
 // How many bytes a quote is.
 const QUOTE: usize = 1;
@@ -122,6 +124,41 @@ fn record_at(m: Means, start: usize, end: usize, free: usize, depth: u32) -> Rec
     }
 }
 
+// Writes the records of the items from a spot on, from a word of the records on, as far as one look tells each: none has a decoded text.
+fn put_told(source: &[u8], p: Spot, recs: &mut [u32], free: usize, from: usize, deep: u32) -> Wrote
+    requires { ⌜ (length (now source) ≤ limit) × Amid (now source) p (now recs) free deep from ⌝ }
+    ensures { λ r. ⌜ Onward (now (source .entry)) p (now (recs .entry)) free deep from (r .spot) (now (recs .exit)) (r .depth) (r .words) ⌝ }
+{
+    let mut at = p.at;
+    let mut second = p.second;
+    let mut depth = deep;
+    let mut w = from;
+    loop {
+        match quick_item(source, p.report, p.skip, at) {
+            Quick::Item(m, start, end) => {
+                put(&mut recs[w..], record_at(m, start, end, free, depth));
+                w += WORDS;
+                at = end;
+                second = false;
+            }
+            Quick::Bracket(m, start, end) => {
+                put(&mut recs[w..], record_at(m, start, end, free, depth));
+                depth = depth_after(m.kind, depth);
+                w += WORDS;
+                at = end;
+                second = false;
+            }
+            Quick::Other => {
+                return Wrote {
+                    spot: stand(p, at, second),
+                    words: w,
+                    depth: depth,
+                };
+            }
+        }
+    }
+}
+
 // Writes the records of the items from a spot on, and their decoded texts; answers how many records and bytes those are.
 fn write(source: &[u8], spot: Spot, recs: &mut [u32], text: &mut [u8]) -> Needed
     requires { ⌜ length (now source) ≤ limit ⌝ }
@@ -132,45 +169,32 @@ fn write(source: &[u8], spot: Spot, recs: &mut [u32], text: &mut [u8]) -> Needed
     ensures { λ _. ⌜ now (text .exit) ≡ written (texts (allItems (now (source .entry)) spot)) (now (text .entry)) ⌝ }
 {
     let mut p = spot;
-    let mut at = spot.at;
-    let mut second = spot.second;
     let mut free: usize = 0;
     let mut depth: u32 = OUTSIDE;
     let mut w: usize = 0;
     loop {
-        match quick_item(source, p.report, p.skip, at) {
-            Quick::Item(m, start, end) => {
-                let after = depth_after(m.kind, depth);
-                put(&mut recs[w..], record_at(m, start, end, free, depth));
-                depth = after;
-                w += WORDS;
-                at = end;
-                second = false;
+        let told = put_told(source, p, recs, free, w, depth);
+        w = told.words;
+        depth = told.depth;
+        match next_item(source, told.spot, free) {
+            Found::One(r, q) => {
+                let row = Record {
+                    nine: r,
+                    depth: depth,
+                };
+                put(&mut recs[w..], row);
+                put_text(source, r, &mut text[free..]);
+                depth = depth_after(r.kind, depth);
+                w = w + WORDS;
+                free = free_after(free, r);
+                p = q;
             }
-            Quick::Other => match next_item(source, stand(p, at, second), free) {
-                Found::One(r, q) => {
-                    put(
-                        &mut recs[w..],
-                        Record {
-                            nine: r,
-                            depth: depth,
-                        },
-                    );
-                    put_text(source, r, &mut text[free..]);
-                    depth = depth_after(r.kind, depth);
-                    w = w + WORDS;
-                    free = free_after(free, r);
-                    at = q.at;
-                    second = q.second;
-                    p = q;
-                }
-                Found::End => {
-                    return Needed {
-                        items: w / WORDS,
-                        text: free,
-                    };
-                }
-            },
+            Found::End => {
+                return Needed {
+                    items: w / WORDS,
+                    text: free,
+                };
+            }
         }
     }
 }

@@ -21,6 +21,42 @@ use Rattle.lexer.proofs.glance.quick_at.Tie as tie
 shared-slice-read-match : tie.Need-shared-slice-read-match
 shared-slice-read-match c = search needs
 
+add-bracket : tie.Need-add-bracket
+add-bracket c = search needs
+
+bracket-requires : tie.Need-bracket-requires
+bracket-requires c κs = search needs
+
+add-bracket-2 : tie.Need-add-bracket-2
+add-bracket-2 c = search needs
+
+bracket-requires-2 : tie.Need-bracket-requires-2
+bracket-requires-2 c κs = search needs
+
+add-bracket-3 : tie.Need-add-bracket-3
+add-bracket-3 c = search needs
+
+bracket-requires-3 : tie.Need-bracket-requires-3
+bracket-requires-3 c κs = search needs
+
+add-bracket-4 : tie.Need-add-bracket-4
+add-bracket-4 c = search needs
+
+bracket-requires-4 : tie.Need-bracket-requires-4
+bracket-requires-4 c κs = search needs
+
+add-bracket-5 : tie.Need-add-bracket-5
+add-bracket-5 c = search needs
+
+bracket-requires-5 : tie.Need-bracket-requires-5
+bracket-requires-5 c κs = search needs
+
+add-bracket-6 : tie.Need-add-bracket-6
+add-bracket-6 c = search needs
+
+bracket-requires-6 : tie.Need-bracket-requires-6
+bracket-requires-6 c κs = search needs
+
 add-bare : tie.Need-add-bare
 add-bare c = search needs
 
@@ -32,42 +68,6 @@ add-bare-2 c = search needs
 
 bare-requires-2 : tie.Need-bare-requires-2
 bare-requires-2 c κs = search needs
-
-add-bare-3 : tie.Need-add-bare-3
-add-bare-3 c = search needs
-
-bare-requires-3 : tie.Need-bare-requires-3
-bare-requires-3 c κs = search needs
-
-add-bare-4 : tie.Need-add-bare-4
-add-bare-4 c = search needs
-
-bare-requires-4 : tie.Need-bare-requires-4
-bare-requires-4 c κs = search needs
-
-add-bare-5 : tie.Need-add-bare-5
-add-bare-5 c = search needs
-
-bare-requires-5 : tie.Need-bare-requires-5
-bare-requires-5 c κs = search needs
-
-add-bare-6 : tie.Need-add-bare-6
-add-bare-6 c = search needs
-
-bare-requires-6 : tie.Need-bare-requires-6
-bare-requires-6 c κs = search needs
-
-add-bare-7 : tie.Need-add-bare-7
-add-bare-7 c = search needs
-
-bare-requires-7 : tie.Need-bare-requires-7
-bare-requires-7 c κs = search needs
-
-add-bare-8 : tie.Need-add-bare-8
-add-bare-8 c = search needs
-
-bare-requires-8 : tie.Need-bare-requires-8
-bare-requires-8 c κs = search needs
 
 quick-string-requires : tie.Need-quick-string-requires
 unfolding firstOf startsRun isBlank
@@ -101,57 +101,57 @@ returns : tie.Need-returns
 unfolding firstOf startsRun isBlank
 returns c =
     let a = c .before .before .before .before in
-    subst (λ (q : Quick). GlanceAt (now (a .args .source)) (a .args .report) (a .args .skip) (a .args .at) q) (sym (c .bare .ensures))
-    (single-told (now (a .args .source)) (a .args .report) (a .args .skip) (a .args .at) (code "(") kind.OpenParen kind.Round (a .pre .1) (c .before .match .keys1) (omega arith) refl refl (omega arith) refl)
+    subst (λ (q : Quick). GlanceAt (now (a .args .source)) (a .args .report) (a .args .skip) (a .args .at) q) (sym (c .bracket .ensures))
+    (refl, omega arith, single-told (now (a .args .source)) (a .args .report) (a .args .skip) (a .args .at) (code "(") kind.OpenParen kind.Round (a .pre .1) (c .before .match .keys1) (omega arith) refl refl refl)
 
 returns-2 : tie.Need-returns-2
 unfolding firstOf startsRun isBlank
 returns-2 c =
     let a = c .before .before .before .before in
-    subst (λ (q : Quick). GlanceAt (now (a .args .source)) (a .args .report) (a .args .skip) (a .args .at) q) (sym (c .bare2 .ensures))
-    (single-told (now (a .args .source)) (a .args .report) (a .args .skip) (a .args .at) (code ")") kind.CloseParen kind.Round (a .pre .1) (c .before .match .keys2) (omega arith) refl refl (omega arith) refl)
+    subst (λ (q : Quick). GlanceAt (now (a .args .source)) (a .args .report) (a .args .skip) (a .args .at) q) (sym (c .bracket2 .ensures))
+    (refl, omega arith, single-told (now (a .args .source)) (a .args .report) (a .args .skip) (a .args .at) (code ")") kind.CloseParen kind.Round (a .pre .1) (c .before .match .keys2) (omega arith) refl refl refl)
 
 returns-3 : tie.Need-returns-3
 unfolding firstOf startsRun isBlank
 returns-3 c =
     let a = c .before .before .before .before in
-    subst (λ (q : Quick). GlanceAt (now (a .args .source)) (a .args .report) (a .args .skip) (a .args .at) q) (sym (c .bare3 .ensures))
-    (single-told (now (a .args .source)) (a .args .report) (a .args .skip) (a .args .at) (code "[") kind.OpenParen kind.Square (a .pre .1) (c .before .match .keys3) (omega arith) refl refl (omega arith) refl)
+    subst (λ (q : Quick). GlanceAt (now (a .args .source)) (a .args .report) (a .args .skip) (a .args .at) q) (sym (c .bracket3 .ensures))
+    (refl, omega arith, single-told (now (a .args .source)) (a .args .report) (a .args .skip) (a .args .at) (code "[") kind.OpenParen kind.Square (a .pre .1) (c .before .match .keys3) (omega arith) refl refl refl)
 
 returns-4 : tie.Need-returns-4
 unfolding firstOf startsRun isBlank
 returns-4 c =
     let a = c .before .before .before .before in
-    subst (λ (q : Quick). GlanceAt (now (a .args .source)) (a .args .report) (a .args .skip) (a .args .at) q) (sym (c .bare4 .ensures))
-    (single-told (now (a .args .source)) (a .args .report) (a .args .skip) (a .args .at) (code "]") kind.CloseParen kind.Square (a .pre .1) (c .before .match .keys4) (omega arith) refl refl (omega arith) refl)
+    subst (λ (q : Quick). GlanceAt (now (a .args .source)) (a .args .report) (a .args .skip) (a .args .at) q) (sym (c .bracket4 .ensures))
+    (refl, omega arith, single-told (now (a .args .source)) (a .args .report) (a .args .skip) (a .args .at) (code "]") kind.CloseParen kind.Square (a .pre .1) (c .before .match .keys4) (omega arith) refl refl refl)
 
 returns-5 : tie.Need-returns-5
 unfolding firstOf startsRun isBlank
 returns-5 c =
     let a = c .before .before .before .before in
-    subst (λ (q : Quick). GlanceAt (now (a .args .source)) (a .args .report) (a .args .skip) (a .args .at) q) (sym (c .bare5 .ensures))
-    (single-told (now (a .args .source)) (a .args .report) (a .args .skip) (a .args .at) (code "{") kind.OpenParen kind.Curly (a .pre .1) (c .before .match .keys5) (omega arith) refl refl (omega arith) refl)
+    subst (λ (q : Quick). GlanceAt (now (a .args .source)) (a .args .report) (a .args .skip) (a .args .at) q) (sym (c .bracket5 .ensures))
+    (refl, omega arith, single-told (now (a .args .source)) (a .args .report) (a .args .skip) (a .args .at) (code "{") kind.OpenParen kind.Curly (a .pre .1) (c .before .match .keys5) (omega arith) refl refl refl)
 
 returns-6 : tie.Need-returns-6
 unfolding firstOf startsRun isBlank
 returns-6 c =
     let a = c .before .before .before .before in
-    subst (λ (q : Quick). GlanceAt (now (a .args .source)) (a .args .report) (a .args .skip) (a .args .at) q) (sym (c .bare6 .ensures))
-    (single-told (now (a .args .source)) (a .args .report) (a .args .skip) (a .args .at) (code "}") kind.CloseParen kind.Curly (a .pre .1) (c .before .match .keys6) (omega arith) refl refl (omega arith) refl)
+    subst (λ (q : Quick). GlanceAt (now (a .args .source)) (a .args .report) (a .args .skip) (a .args .at) q) (sym (c .bracket6 .ensures))
+    (refl, omega arith, single-told (now (a .args .source)) (a .args .report) (a .args .skip) (a .args .at) (code "}") kind.CloseParen kind.Curly (a .pre .1) (c .before .match .keys6) (omega arith) refl refl refl)
 
 returns-7 : tie.Need-returns-7
 unfolding firstOf startsRun isBlank
 returns-7 c =
     let a = c .before .before .before .before in
-    subst (λ (q : Quick). GlanceAt (now (a .args .source)) (a .args .report) (a .args .skip) (a .args .at) q) (sym (c .bare7 .ensures))
-    (single-told (now (a .args .source)) (a .args .report) (a .args .skip) (a .args .at) (code "'") kind.QuoteTick 0 (a .pre .1) (c .before .match .keys7) (omega arith) refl refl (omega arith) refl)
+    subst (λ (q : Quick). GlanceAt (now (a .args .source)) (a .args .report) (a .args .skip) (a .args .at) q) (sym (c .bare .ensures))
+    (refl, omega arith, single-told (now (a .args .source)) (a .args .report) (a .args .skip) (a .args .at) (code "'") kind.QuoteTick 0 (a .pre .1) (c .before .match .keys7) (omega arith) refl refl refl, λ depth. refl)
 
 returns-8 : tie.Need-returns-8
 unfolding firstOf startsRun isBlank
 returns-8 c =
     let a = c .before .before .before .before in
-    subst (λ (q : Quick). GlanceAt (now (a .args .source)) (a .args .report) (a .args .skip) (a .args .at) q) (sym (c .bare8 .ensures))
-    (single-told (now (a .args .source)) (a .args .report) (a .args .skip) (a .args .at) (code "`") kind.QuasiQuote 0 (a .pre .1) (c .before .match .keys8) (omega arith) refl refl (omega arith) refl)
+    subst (λ (q : Quick). GlanceAt (now (a .args .source)) (a .args .report) (a .args .skip) (a .args .at) q) (sym (c .bare2 .ensures))
+    (refl, omega arith, single-told (now (a .args .source)) (a .args .report) (a .args .skip) (a .args .at) (code "`") kind.QuasiQuote 0 (a .pre .1) (c .before .match .keys8) (omega arith) refl refl refl, λ depth. refl)
 
 returns-9 : tie.Need-returns-9
 returns-9 c = let a = c .before .before .before .before in c .quick-string .ensures (a .args .report) (a .args .skip)
@@ -182,22 +182,22 @@ quick-at-spec =
     tie.close
     (tie.spec
     shared-slice-read-match
+    add-bracket
+    bracket-requires
+    add-bracket-2
+    bracket-requires-2
+    add-bracket-3
+    bracket-requires-3
+    add-bracket-4
+    bracket-requires-4
+    add-bracket-5
+    bracket-requires-5
+    add-bracket-6
+    bracket-requires-6
     add-bare
     bare-requires
     add-bare-2
     bare-requires-2
-    add-bare-3
-    bare-requires-3
-    add-bare-4
-    bare-requires-4
-    add-bare-5
-    bare-requires-5
-    add-bare-6
-    bare-requires-6
-    add-bare-7
-    bare-requires-7
-    add-bare-8
-    bare-requires-8
     quick-string-requires
     quick-line-requires
     quick-hash-requires

@@ -19,11 +19,11 @@ returns c report skip = tt
 shared-slice-read-match : tie.Need-shared-slice-read-match
 shared-slice-read-match c = search needs
 
-add-bare : tie.Need-add-bare
-add-bare c = omega (arith, c .before .before .before .before .pre .0, c .before .before .if1 .left)
+add-bracket : tie.Need-add-bracket
+add-bracket c = omega (arith, c .before .before .before .before .pre .0, c .before .before .if1 .left)
 
-bare-requires : tie.Need-bare-requires
-bare-requires c κs = search needs
+bracket-requires : tie.Need-bracket-requires
+bracket-requires c κs = search needs
 
 quick-boolean-requires : tie.Need-quick-boolean-requires
 quick-boolean-requires c κs =
@@ -38,7 +38,7 @@ quick-boolean-requires-2 c κs =
 returns-2 : tie.Need-returns-2
 returns-2 c report skip =
     let a = c .before .before .before .before .before in
-    subst (λ (q : Quick). GlanceAt (now (a .args .source)) report skip (a .args .at) q) (sym (c .bare .ensures))
+    subst (λ (q : Quick). GlanceAt (now (a .args .source)) report skip (a .args .at) q) (sym (c .bracket .ensures))
     (vector-told (now (a .args .source)) (a .args .at) (a .pre .1) report skip (omega (arith, c .before .before .before .if1 .left)) (c .before .match .keys1))
 
 returns-3 : tie.Need-returns-3
@@ -57,8 +57,8 @@ quick-hash-spec =
     add-next
     returns
     shared-slice-read-match
-    add-bare
-    bare-requires
+    add-bracket
+    bracket-requires
     quick-boolean-requires
     quick-boolean-requires-2
     returns-2

@@ -68,49 +68,49 @@ returns : tie.Need-returns
 unfolding firstOf startsRun isBlank
 returns c =
     let a = c .before .before .before in
-    (means kind.OpenParen kind.Round Nowhere, single-told (now (a .args .source)) (a .args .report) (a .args .skip) (a .args .at) (code "(") kind.OpenParen kind.Round (a .pre .1) (c .match .keys1) (omega arith) refl refl (omega arith) refl .2)
+    (means kind.OpenParen kind.Round Nowhere, single-told (now (a .args .source)) (a .args .report) (a .args .skip) (a .args .at) (code "(") kind.OpenParen kind.Round (a .pre .1) (c .match .keys1) (omega arith) refl refl refl)
 
 returns-2 : tie.Need-returns-2
 unfolding firstOf startsRun isBlank
 returns-2 c =
     let a = c .before .before .before in
-    (means kind.CloseParen kind.Round Nowhere, single-told (now (a .args .source)) (a .args .report) (a .args .skip) (a .args .at) (code ")") kind.CloseParen kind.Round (a .pre .1) (c .match .keys2) (omega arith) refl refl (omega arith) refl .2)
+    (means kind.CloseParen kind.Round Nowhere, single-told (now (a .args .source)) (a .args .report) (a .args .skip) (a .args .at) (code ")") kind.CloseParen kind.Round (a .pre .1) (c .match .keys2) (omega arith) refl refl refl)
 
 returns-3 : tie.Need-returns-3
 unfolding firstOf startsRun isBlank
 returns-3 c =
     let a = c .before .before .before in
-    (means kind.OpenParen kind.Square Nowhere, single-told (now (a .args .source)) (a .args .report) (a .args .skip) (a .args .at) (code "[") kind.OpenParen kind.Square (a .pre .1) (c .match .keys3) (omega arith) refl refl (omega arith) refl .2)
+    (means kind.OpenParen kind.Square Nowhere, single-told (now (a .args .source)) (a .args .report) (a .args .skip) (a .args .at) (code "[") kind.OpenParen kind.Square (a .pre .1) (c .match .keys3) (omega arith) refl refl refl)
 
 returns-4 : tie.Need-returns-4
 unfolding firstOf startsRun isBlank
 returns-4 c =
     let a = c .before .before .before in
-    (means kind.CloseParen kind.Square Nowhere, single-told (now (a .args .source)) (a .args .report) (a .args .skip) (a .args .at) (code "]") kind.CloseParen kind.Square (a .pre .1) (c .match .keys4) (omega arith) refl refl (omega arith) refl .2)
+    (means kind.CloseParen kind.Square Nowhere, single-told (now (a .args .source)) (a .args .report) (a .args .skip) (a .args .at) (code "]") kind.CloseParen kind.Square (a .pre .1) (c .match .keys4) (omega arith) refl refl refl)
 
 returns-5 : tie.Need-returns-5
 unfolding firstOf startsRun isBlank
 returns-5 c =
     let a = c .before .before .before in
-    (means kind.OpenParen kind.Curly Nowhere, single-told (now (a .args .source)) (a .args .report) (a .args .skip) (a .args .at) (code "{") kind.OpenParen kind.Curly (a .pre .1) (c .match .keys5) (omega arith) refl refl (omega arith) refl .2)
+    (means kind.OpenParen kind.Curly Nowhere, single-told (now (a .args .source)) (a .args .report) (a .args .skip) (a .args .at) (code "{") kind.OpenParen kind.Curly (a .pre .1) (c .match .keys5) (omega arith) refl refl refl)
 
 returns-6 : tie.Need-returns-6
 unfolding firstOf startsRun isBlank
 returns-6 c =
     let a = c .before .before .before in
-    (means kind.CloseParen kind.Curly Nowhere, single-told (now (a .args .source)) (a .args .report) (a .args .skip) (a .args .at) (code "}") kind.CloseParen kind.Curly (a .pre .1) (c .match .keys6) (omega arith) refl refl (omega arith) refl .2)
+    (means kind.CloseParen kind.Curly Nowhere, single-told (now (a .args .source)) (a .args .report) (a .args .skip) (a .args .at) (code "}") kind.CloseParen kind.Curly (a .pre .1) (c .match .keys6) (omega arith) refl refl refl)
 
 returns-7 : tie.Need-returns-7
 unfolding firstOf startsRun isBlank
 returns-7 c =
     let a = c .before .before .before in
-    (means kind.QuoteTick 0 Nowhere, single-told (now (a .args .source)) (a .args .report) (a .args .skip) (a .args .at) (code "'") kind.QuoteTick 0 (a .pre .1) (c .match .keys7) (omega arith) refl refl (omega arith) refl .2)
+    (means kind.QuoteTick 0 Nowhere, single-told (now (a .args .source)) (a .args .report) (a .args .skip) (a .args .at) (code "'") kind.QuoteTick 0 (a .pre .1) (c .match .keys7) (omega arith) refl refl refl)
 
 returns-8 : tie.Need-returns-8
 unfolding firstOf startsRun isBlank
 returns-8 c =
     let a = c .before .before .before in
-    (means kind.QuasiQuote 0 Nowhere, single-told (now (a .args .source)) (a .args .report) (a .args .skip) (a .args .at) (code "`") kind.QuasiQuote 0 (a .pre .1) (c .match .keys8) (omega arith) refl refl (omega arith) refl .2)
+    (means kind.QuasiQuote 0 Nowhere, single-told (now (a .args .source)) (a .args .report) (a .args .skip) (a .args .at) (code "`") kind.QuasiQuote 0 (a .pre .1) (c .match .keys8) (omega arith) refl refl refl)
 
 returns-9 : tie.Need-returns-9
 returns-9 c = let a = c .before .before .before .before in c .skim-string .ensures (a .args .report) (a .args .skip)

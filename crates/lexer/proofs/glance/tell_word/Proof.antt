@@ -31,32 +31,15 @@ returns-2 c =
     subst (λ (q : Quick). Tells Word (a .args .at) (now (a .args .raw)) q) (sym (c .named .ensures))
     (identifier-tells (a .args .at) (a .args .end) (now (a .args .raw)) (a .pre .1) (ne-eqb (getD (now (a .args .raw)) 0 0) (code "+") (c .before .before .before .if1 .left)) (sym (c .before .before .word-kind .ensures) ∙ c .before .if2 .taken))
 
-returns-3 : tie.Need-returns-3
-returns-3 c = tt
-
-returns-4 : tie.Need-returns-4
-returns-4 c = tt
-
 bare-requires : tie.Need-bare-requires
 bare-requires c κs = search needs
 
-returns-5 : tie.Need-returns-5
-returns-5 c =
-    let a = c .before .before .before .before .before .before .before .before in
-    let k = c .before .before .before .before .word-kind in
+returns-3 : tie.Need-returns-3
+returns-3 c =
+    let a = c .before .before .before .before .before .before in
+    let k = c .before .before .word-kind in
     subst (λ (q : Quick). Tells Word (a .args .at) (now (a .args .raw)) q) (sym (c .bare .ensures))
-    (word-tells (a .args .at) (a .args .end) (now (a .args .raw)) (a .pre .1) (k .result) (sym (k .ensures)) (ne-eqb (k .result) kind.Identifier (c .before .before .before .if2 .left)) (c .before .before .if3 .left) (ne-eqb (k .result) kind.Comment (c .before .if4 .left)))
+    (word-tells (a .args .at) (a .args .end) (now (a .args .raw)) (a .pre .1) (k .result) (sym (k .ensures)) (ne-eqb (k .result) kind.Identifier (c .before .if2 .left)))
 
 pub tell-word-spec : {M : Type 1} → statement M
-tell-word-spec =
-    tie.close
-    (tie.spec
-    shared-slice-read-if1
-    returns
-    word-kind-requires
-    named-requires
-    returns-2
-    returns-3
-    returns-4
-    bare-requires
-    returns-5)
+tell-word-spec = tie.close (tie.spec shared-slice-read-if1 returns word-kind-requires named-requires returns-2 bare-requires returns-3)

@@ -9,7 +9,8 @@ use Rattle.items.specs.Items.{Item}
 use Rattle.lexer.specs.Reading.{nextAt, foundOf, sizeOf}
 use Rattle.lexer.specs.declared.Spot.{Spot}
 use Rattle.lexer.specs.declared.Found.the-variants.{One}
-use Rattle.lexer.proofs.Going.{Going, going, going-on, counted, it, it-moved, size-le}
+use Rattle.lexer.specs.Writing.{Going}
+use Rattle.lexer.proofs.Going.{going, going-on, counted, it, it-moved, size-le}
 use Rattle.lexer.proofs.Quickly.{here}
 use Rattle.lexer.proofs.Skims.{skimmed, skim-smaller, skim-on}
 use borrow.Author.Needs.{needs}

@@ -1,0 +1,47 @@
+-- Writing on: what the two lent memories hold while the items from a spot on are read, and what a function promises that writes some more.
+use Prim.Native.Nat.{ℕ, _+_, _*_, _≤_, _<_}
+use mathlib.Core.Path.{_≡_}
+use mathlib.Core.List.{List, _++_}
+use lib.ListN.{length}
+use Rattle.laws.specs.Lent.{written}
+use Rattle.items.specs.Items.{Item, depthPast, recordWords, records, texts}
+use Rattle.lexer.specs.Reading.{sizeOf, allFrom, allItems}
+use Rattle.lexer.specs.declared.Spot.{Spot}
+
+-- of the items from the spot `start` on some are done, and the others are those from the spot p on
+pub record Going (s : List ℕ) (start p : Spot) (free : ℕ) (done : List Item) : Type 0 where
+  pub left : ℕ
+  pub enough : sizeOf s p < left
+  pub few : length done + sizeOf s p ≤ sizeOf s start
+  pub behind : free ≤ p .at
+  pub bytes : length (texts done) ≡ free
+  pub items : allItems s start ≡ done ++ allFrom left s p
+
+-- the records of those that are done are written, w words, and their decoded texts, `free` bytes; `depth` is the depth there
+pub record Writing (s : List ℕ) (start : Spot) (recs₀ text₀ recs text : List ℕ) (p : Spot) (free depth w : ℕ) : Type 0 where
+  pub done : List Item
+  pub going : Going s start p free done
+  pub deep : depthPast 0 done ≡ depth
+  pub count : length (records 0 0 done) ≡ w
+  pub rows : recs ≡ written (records 0 0 done) recs₀
+  pub bytes : text ≡ written (texts done) text₀
+
+-- the lent memories have room for all items
+pub record Roomy (s : List ℕ) (start : Spot) (recs₀ text₀ : List ℕ) : Type 0 where
+  pub rows : recordWords * length (allItems s start) ≤ length recs₀
+  pub bytes : length (texts (allItems s start)) ≤ length text₀
+
+-- a writing stands at the spot p
+pub record Amid (s : List ℕ) (p : Spot) (recs : List ℕ) (free depth w : ℕ) : Type 0 where
+  pub start : Spot
+  pub recs₀ : List ℕ
+  pub text₀ : List ℕ
+  pub text : List ℕ
+  pub roomy : Roomy s start recs₀ text₀
+  pub writing : Writing s start recs₀ text₀ recs text p free depth w
+
+-- any writing that stands at the spot p goes on to the spot q by it, with no decoded text
+pub record Onward (s : List ℕ) (p : Spot) (recs : List ℕ) (free depth w : ℕ) (q : Spot) (recs' : List ℕ) (depth' w' : ℕ) : Type 0 where
+  pub ahead : sizeOf s q ≤ sizeOf s p
+  pub on : (start : Spot) (recs₀ text₀ text : List ℕ) → Roomy s start recs₀ text₀ → Writing s start recs₀ text₀ recs text p free depth w
+      → Writing s start recs₀ text₀ recs' text q free depth' w'
