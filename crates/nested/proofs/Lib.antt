@@ -4,6 +4,8 @@ pub mod Places
 pub mod Memory
 pub mod Turns
 pub mod Loops
+pub mod Runs
+pub mod Table
 pub mod Sound
 pub mod First
 pub mod InOrder

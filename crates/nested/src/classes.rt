@@ -2,12 +2,17 @@
 // layout has.
 use crate::Class;
 use crate::nodes;
+use crate::refusals::closer_of;
 use chars::is_scalar;
 use items::kinds;
 use meaning::records::WORDS;
 ghost use mathlib.Core.Path.{_≡_};
 ghost use Prim.Native.Nat.{_<_};
 ghost use Rattle.nested.specs.Items.{hasDetail, sortOf, classOf, classAt, countOf};
+ghost use Rattle.nested.specs.Said.{PlainSaid, SimpleSaid, SimpleAt, ClosesSaid};
+
+// The node's kind that no simple datum has.
+pub const NO_SIMPLE: u32 = nodes::MARK + 1;
 
 // The kind of the last error that there is.
 const LAST_ERROR: u32 = kinds::FIRST_ERROR + kinds::LAST_ERROR;
@@ -74,8 +79,63 @@ fn sort(k: u32, d: u32) -> Class
     Class::Dots
 }
 
-// What a kind and a detail are to the reader.
-fn class_of(k: u32, d: u32) -> Class
+// The node's kind of a datum whose kind has no details; NO_SIMPLE where one stands.
+fn plain_kind(kind: u32, d: u32) -> u32
+    ensures { λ r. ⌜ PlainSaid kind d r ⌝ }
+{
+    if d == kinds::NO_DETAIL {
+        kind
+    } else {
+        NO_SIMPLE
+    }
+}
+
+// The node's kind of a simple datum that is rare in plans: a word such as if, a string, a boolean, a character.
+fn rare_kind(k: u32, d: u32) -> u32
+    requires { ⌜ 9 < k ⌝ }
+    ensures { λ r. ⌜ SimpleSaid k d r ⌝ }
+{
+    if k <= kinds::REQUIRE {
+        return plain_kind(nodes::SYMBOL, d);
+    }
+    if k == kinds::STRING_LITERAL {
+        return plain_kind(nodes::STRING, d);
+    }
+    if k == kinds::BOOLEAN_LITERAL {
+        if d <= kinds::TRUE {
+            return nodes::BOOLEAN;
+        }
+        return NO_SIMPLE;
+    }
+    if k == kinds::CHARACTER_LITERAL {
+        if is_scalar(d) {
+            return nodes::CHARACTER;
+        }
+        return NO_SIMPLE;
+    }
+    NO_SIMPLE
+}
+
+// The node's kind of a simple datum; NO_SIMPLE of any other record. What ends most runs of simple data is tried first.
+fn simple_kind(k: u32, d: u32) -> u32
+    ensures { λ r. ⌜ SimpleSaid k d r ⌝ }
+{
+    if k <= kinds::UNQUOTE_SPLICE_SYNTAX {
+        return NO_SIMPLE;
+    }
+    if k == kinds::NUMBER {
+        return plain_kind(nodes::NUMBER, d);
+    }
+    if kinds::BOOLEAN_LITERAL < k {
+        if k <= kinds::KEYWORD {
+            return plain_kind(nodes::SYMBOL, d);
+        }
+    }
+    rare_kind(k, d)
+}
+
+// What a kind and a detail are to the reader, by the table.
+fn table_class(k: u32, d: u32) -> Class
     ensures { λ r. ⌜ r ≡ classOf k d ⌝ }
 {
     if k <= kinds::DOT {
@@ -93,6 +153,43 @@ fn class_of(k: u32, d: u32) -> Class
     Class::Alien
 }
 
+// What an opening bracket is to the reader.
+fn open_class(d: u32) -> Class
+    ensures { λ r. ⌜ r ≡ classOf 0 d ⌝ }
+{
+    if has_detail(kinds::OPEN_PAREN, d) {
+        return Class::Opens(d as u64);
+    }
+    Class::Alien
+}
+
+// What a closing bracket is to the reader.
+fn close_class(d: u32) -> Class
+    ensures { λ r. ⌜ r ≡ classOf 1 d ⌝ }
+{
+    if has_detail(kinds::CLOSE_PAREN, d) {
+        return Class::Closes(d as u64);
+    }
+    Class::Alien
+}
+
+// What a kind and a detail are to the reader: what is frequent in plans first, then by the table.
+fn class_of(k: u32, d: u32) -> Class
+    ensures { λ r. ⌜ r ≡ classOf k d ⌝ }
+{
+    if k == kinds::OPEN_PAREN {
+        return open_class(d);
+    }
+    if k == kinds::CLOSE_PAREN {
+        return close_class(d);
+    }
+    let m = simple_kind(k, d);
+    if m != NO_SIMPLE {
+        return Class::Simple(m);
+    }
+    table_class(k, d)
+}
+
 // What the record at a place is to the reader.
 pub fn class_at(records: &[u32], at: usize) -> Class
     requires { ⌜ at < countOf (now records) ⌝ }
@@ -100,4 +197,26 @@ pub fn class_at(records: &[u32], at: usize) -> Class
 {
     let p = at * WORDS;
     class_of(records[p], records[p + 1])
+}
+
+// The node's kind of the simple datum at a place; NO_SIMPLE of any other record.
+pub fn simple_at(records: &[u32], at: usize) -> u32
+    requires { ⌜ at < countOf (now records) ⌝ }
+    ensures { λ r. ⌜ SimpleAt (now (records .entry)) at r ⌝ }
+{
+    let p = at * WORDS;
+    simple_kind(records[p], records[p + 1])
+}
+
+// Whether the record at a place closes the bracket s.
+pub fn closes_at(records: &[u32], at: usize, s: u64) -> bool
+    ensures { λ r. ⌜ ClosesSaid (now (records .entry)) at s r ⌝ }
+{
+    if at < records.len() / WORDS {
+        let p = at * WORDS;
+        if records[p] == kinds::CLOSE_PAREN {
+            return records[p + 1] as u64 == closer_of(s);
+        }
+    }
+    false
 }

@@ -5,10 +5,9 @@ use crate::Turn;
 use crate::nodes;
 use items::kinds;
 ghost use mathlib.Core.Path.{_≡_};
-ghost use mathlib.Core.Bool.{true, false};
 ghost use Rattle.nested.specs.Grammar.{kindOf};
 ghost use Rattle.nested.specs.Reader.{pointed, nodeKind};
-ghost use Rattle.nested.specs.Said.{dropping, heldOf, tookOf, skippedOf};
+ghost use Rattle.nested.specs.Said.{begunOf, heldOf, skippedOf};
 
 // Brackets as a frame holds them.
 pub const ROUND: u64 = kinds::ROUND as u64;
@@ -46,7 +45,7 @@ pub fn held(f: Frame, p: usize, w: usize) -> Turn
 }
 
 // The kind of the node that a bracket without a dot gives.
-fn shape_kind(s: u64) -> u32
+pub fn shape_kind(s: u64) -> u32
     ensures { λ r. ⌜ r ≡ kindOf s ⌝ }
 {
     if s < VECTOR {
@@ -73,29 +72,29 @@ pub fn node_kind(f: Frame) -> u32
     }
 }
 
-// Whether `#;` opened the level.
-pub fn is_dropping(f: Frame) -> bool
-    ensures { λ r. ⌜ r ≡ dropping f ⌝ }
+// A frame without what the compiler would copy beside its parts.
+pub fn same(f: Frame) -> Frame
+    ensures { λ r. ⌜ r ≡ f ⌝ }
 {
     match f {
-        Frame::Plan => false,
-        Frame::Quoting => false,
-        Frame::Dropping => true,
-        Frame::Fresh(_s) => false,
-        Frame::Holds(_s) => false,
-        Frame::Dotted(_s) => false,
-        Frame::Tailed(_s) => false,
+        Frame::Plan => Frame::Plan,
+        Frame::Quoting => Frame::Quoting,
+        Frame::Dropping => Frame::Dropping,
+        Frame::Fresh(s) => Frame::Fresh(s),
+        Frame::Holds(s) => Frame::Holds(s),
+        Frame::Dotted(s) => Frame::Dotted(s),
+        Frame::Tailed(s) => Frame::Tailed(s),
     }
 }
 
-// What a frame makes of a datum that was read in it.
-pub fn took(f: Frame, d: Read) -> Turn
-    ensures { λ r. ⌜ r ≡ tookOf f d ⌝ }
+// The frame of a bracket that holds so many data.
+pub fn begun(s: u64, n: usize) -> Frame
+    ensures { λ r. ⌜ r ≡ begunOf s n ⌝ }
 {
-    match d {
-        Read::Got(p, v) => held(f, p, v),
-        Read::Failed(n, p) => Turn::Stop(n, p),
+    if n == 0 {
+        return Frame::Fresh(s);
     }
+    Frame::Holds(s)
 }
 
 // What a frame makes of a datum that was dropped: it stays, and so does the node w.
@@ -103,7 +102,7 @@ pub fn skipped(f: Frame, w: usize, d: Read) -> Turn
     ensures { λ r. ⌜ r ≡ skippedOf f w d ⌝ }
 {
     match d {
-        Read::Got(p, _v) => Turn::On(p, w, f),
+        Read::Got(p, _v, _kind) => Turn::On(p, w, same(f)),
         Read::Failed(n, p) => Turn::Stop(n, p),
     }
 }

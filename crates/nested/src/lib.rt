@@ -4,13 +4,17 @@
 //
 // `datum` and `sequence` call each other: a datum holds a sequence and a sequence holds data. A sequence is a loop, so the stack
 // is bounded by the depth. Nothing may be written on refusal, so `build` reads twice: first into no room, which counts, then into the nodes.
+use classes::NO_SIMPLE;
 use classes::class_at;
+use classes::closes_at;
+use classes::simple_at;
+use frames::begun;
 use frames::held;
-use frames::is_dropping;
 use frames::node_kind;
 use frames::pointed_at;
+use frames::same;
+use frames::shape_kind;
 use frames::skipped;
-use frames::took;
 use meaning::records::WORDS;
 use nodes::NODE_WORDS;
 use refusals::ending_at;
@@ -22,7 +26,7 @@ ghost use lib.ListN.{length};
 ghost use Rattle.nested.specs.Items.{countOf};
 ghost use Rattle.nested.specs.Grammar.{node};
 ghost use Rattle.nested.specs.Lent.{outcome, nestedOf};
-ghost use Rattle.nested.specs.Said.{Put, Closed, TurnSaid, Begins, SequenceSaid, PlanSaid};
+ghost use Rattle.nested.specs.Said.{Put, Above, Took, Simples, Run, TurnSaid, Begins, SequenceSaid, PlanSaid};
 
 mod classes;
 mod frames;
@@ -59,9 +63,9 @@ pub enum Frame {
     Tailed(u64),
 }
 
-// The next record and the next node; or a refusal with its record.
+// The next record, the next node and the kind of the node of what was read; or a refusal with its record.
 pub enum Read {
-    Got(usize, usize),
+    Got(usize, usize, u32),
     Failed(u32, usize),
 }
 
@@ -79,32 +83,96 @@ pub enum Nested {
     Refused(u32, usize),
 }
 
+// Writes the node at node place `w`.
+fn lay(nodes: &mut [u32], w: usize, kind: u32, item: usize, beneath: usize)
+    requires { ⌜ (w + 1) * 3 ≤ length (now nodes) ⌝ }
+    ensures { λ _. ⌜ Put w kind item beneath (now (nodes .entry)) (now (nodes .exit)) ⌝ }
+{
+    let p = w * NODE_WORDS;
+    nodes[p] = kind;
+    nodes[p + 1] = (item % WORD) as u32;
+    nodes[p + 2] = (beneath % WORD) as u32;
+}
+
 // Writes the node at node place `w`, if there is room.
 fn put(nodes: &mut [u32], w: usize, kind: u32, item: usize, beneath: usize)
     ensures { λ _. ⌜ Put w kind item beneath (now (nodes .entry)) (now (nodes .exit)) ⌝ }
 {
     if w < nodes.len() / NODE_WORDS {
-        let p = w * NODE_WORDS;
-        nodes[p] = kind;
-        nodes[p + 1] = (item % WORD) as u32;
-        nodes[p + 2] = (beneath % WORD) as u32;
+        lay(nodes, w, kind, item, beneath);
     }
 }
 
-// A level is shut: its node, with the nodes beneath it from place w + 1 up to v; none for `#;`.
-fn close(nodes: &mut [u32], f: Frame, opened: usize, w: usize, next: usize, v: usize) -> Read
-    requires { ⌜ w < v ⌝ }
-    ensures { λ r. ⌜ Closed f opened w next v (now (nodes .entry)) (now (nodes .exit)) r ⌝ }
+// The lesser of two.
+fn least(a: usize, b: usize) -> usize
+    ensures { λ r. ⌜ (r ≤ a) × (r ≤ b) ⌝ }
 {
-    if is_dropping(f) {
-        return Read::Got(next, w);
+    if a < b { a } else { b }
+}
+
+// A level is shut and is a datum of the frame f: its node at node place w, with the nodes beneath it from there up to v.
+fn took(nodes: &mut [u32], f: Frame, opened: usize, w: usize, r: Read) -> Turn
+    requires { ⌜ Above w r ⌝ }
+    ensures { λ t. ⌜ Took f opened w (now (nodes .entry)) (now (nodes .exit)) r t ⌝ }
+{
+    match r {
+        Read::Got(p, v, kind) => {
+            put(nodes, w, kind, opened, v - w - 1);
+            held(f, p, v)
+        }
+        Read::Failed(n, p) => Turn::Stop(n, p),
     }
-    put(nodes, w, node_kind(f), opened, v - w - 1);
-    Read::Got(next, v)
+}
+
+// Where a run of simple data ends.
+fn simples_end(records: &[u32], from: usize) -> usize
+    requires { ⌜ from ≤ countOf (now records) ⌝ }
+    ensures { λ r. ⌜ Simples (now (records .entry)) from r ⌝ }
+{
+    let count = records.len() / WORDS;
+    let mut at = from;
+    while at < count {
+        if simple_at(records, at) == NO_SIMPLE {
+            return at;
+        }
+        at += 1;
+    }
+    at
+}
+
+// Where a run of simple data ends, or as much of it as there are nodes; their nodes are written from node place w on.
+fn put_simples(records: &[u32], from: usize, nodes: &mut [u32], w: usize) -> usize
+    requires { ⌜ (from ≤ countOf (now records)) × (w ≤ from) ⌝ }
+    ensures { λ r. ⌜ Run (now (records .entry)) from w (now (nodes .entry)) (now (nodes .exit)) r ⌝ }
+{
+    let limit = least(records.len() / WORDS, nodes.len() / NODE_WORDS);
+    let mut at = from;
+    let mut v = w;
+    while at < limit {
+        let kind = simple_at(records, at);
+        if kind == NO_SIMPLE {
+            return at;
+        }
+        lay(nodes, v, kind, at, 0);
+        at += 1;
+        v += 1;
+    }
+    at
+}
+
+// Reads a run of simple data: where it ends. Where there is room for no node, nothing is tried to be written.
+fn simples(records: &[u32], from: usize, nodes: &mut [u32], w: usize) -> usize
+    requires { ⌜ (from ≤ countOf (now records)) × (w ≤ from) ⌝ }
+    ensures { λ r. ⌜ Run (now (records .entry)) from w (now (nodes .entry)) (now (nodes .exit)) r ⌝ }
+{
+    if nodes.len() < NODE_WORDS {
+        return simples_end(records, from);
+    }
+    put_simples(records, from, nodes, w)
 }
 
 // The datum reader: the datum that starts at the record `at`, or what a sequence passes over there, or its end. What `#;` drops is
-// read and not written.
+// read and not written. The simple data that a bracket starts with are read here, and if its close follows them, it is read without a call.
 fn datum(records: &[u32], at: usize, depth: usize, f: Frame, nodes: &mut [u32], w: usize) -> Turn
     requires { ⌜ (at < countOf (now records)) × (w ≤ at) × (depth ≤ 64) ⌝ }
     ensures { λ r. ⌜ TurnSaid (now (records .entry)) at depth f w (now (nodes .entry)) (now (nodes .exit)) r ⌝ }
@@ -117,34 +185,36 @@ fn datum(records: &[u32], at: usize, depth: usize, f: Frame, nodes: &mut [u32], 
     match k {
         Class::Alien => Turn::Stop(refusals::ALIEN, at),
         Class::Fails => Turn::Stop(refusals::ERROR_ITEM, at),
-        Class::Passes => Turn::On(at + 1, w, f),
+        Class::Passes => Turn::On(at + 1, w, same(f)),
         Class::Drops => {
             let mut none = [0u32; 1];
-            skipped(
-                f,
-                w,
-                sequence(records, at + 1, depth + 1, Frame::Dropping, &mut none, 1),
-            )
+            let r = sequence(records, at + 1, depth + 1, Frame::Dropping, &mut none, 1);
+            skipped(f, w, r)
         }
-        Class::Marks => took(
-            f,
-            sequence(records, at + 1, depth + 1, Frame::Quoting, nodes, w + 1),
-        ),
+        Class::Marks => {
+            let r = sequence(records, at + 1, depth + 1, Frame::Quoting, nodes, w + 1);
+            took(nodes, f, at, w, r)
+        }
         Class::Simple(m) => {
             put(nodes, w, m, at, 0);
             held(f, at + 1, w + 1)
         }
-        Class::Opens(s) => took(
-            f,
-            sequence(records, at + 1, depth + 1, Frame::Fresh(s), nodes, w + 1),
-        ),
+        Class::Opens(s) => {
+            let end = simples(records, at + 1, nodes, w + 1);
+            let v = w + (end - at);
+            if closes_at(records, end, s) {
+                return took(nodes, f, at, w, Read::Got(end + 1, v, shape_kind(s)));
+            }
+            let r = sequence(records, end, depth + 1, begun(s, end - at - 1), nodes, v);
+            took(nodes, f, at, w, r)
+        }
         Class::Closes(_bracket) => Turn::Shut(at + 1, w),
         Class::Dots => Turn::On(at + 1, w, pointed_at(f)),
     }
 }
 
 // The sequence reader: the data from the record `from` on, up to the record that shuts their level, or to the end of the whole text; their
-// nodes come from node place `first` on. A level's own record and node stand one before.
+// nodes come from node place `first` on. The node of the level itself is its reader's.
 fn sequence(
     records: &[u32],
     from: usize,
@@ -169,7 +239,7 @@ fn sequence(
                 g = h;
             }
             Turn::Shut(p, x) => {
-                return close(nodes, g, from - 1, first - 1, p, x);
+                return Read::Got(p, x, node_kind(g));
             }
             Turn::Stop(n, p) => {
                 return Read::Failed(n, p);
@@ -178,7 +248,7 @@ fn sequence(
     }
     let n = ending_at(g);
     if n == refusals::NONE {
-        return Read::Got(count, v);
+        return Read::Got(count, v, node_kind(g));
     }
     Read::Failed(n, count)
 }
@@ -197,7 +267,7 @@ pub fn build(records: &[u32], nodes: &mut [u32]) -> Nested
     let mut none = [0u32; 1];
     let r = plan(records, &mut none);
     match r {
-        Read::Got(_p, v) => {
+        Read::Got(_p, v, _kind) => {
             if nodes.len() / NODE_WORDS < v {
                 return Nested::Refused(refusals::NO_ROOM, 0);
             }

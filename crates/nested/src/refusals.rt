@@ -38,7 +38,7 @@ pub const ALIEN: u32 = 48;
 const DEEPEST: usize = 64;
 
 // The bracket that closes what this one opens; vectors and byte lists are round.
-fn closer_of(s: u64) -> u64
+pub fn closer_of(s: u64) -> u64
     ensures { λ r. ⌜ r ≡ Rattle.nested.specs.Grammar.closer s ⌝ }
 {
     if s < frames::VECTOR { s } else { frames::ROUND }

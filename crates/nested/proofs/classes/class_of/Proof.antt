@@ -1,42 +1,55 @@
--- A kind of the layout is judged by its detail, an error by its number; the tests are those of `classOf`.
-use borrow.Author.Tests.{eq-eqb, ne-eqb, lt-ltb, le-ltb, le-leb, lt-leb}
-use mathlib.Core.Path.{sym, refl, _∙_}
-use Rattle.nested.specs.Items.{classOf}
+use mathlib.Core.Path.{_≡_, refl, sym, ap, _∙_}
 use borrow.Author.Needs.{needs}
 use Rattle.nested.proofs.classes.class_of.Statement.{statement}
 use Rattle.nested.proofs.classes.class_of.Tie as tie
 use Rattle.nested.proofs.classes.class_of.Reads as reads
 use Rattle.nested.proofs.classes.class_of.Lts as lts
-use Rattle.nested.proofs.classes.has_detail.Reads as has-detail-reads
-use Rattle.nested.proofs.classes.sort.Reads as sort-reads
+use Rattle.nested.proofs.classes.close_class.Reads as close-class-reads
+use Rattle.nested.proofs.classes.open_class.Reads as open-class-reads
+use Rattle.nested.proofs.classes.simple_kind.Reads as simple-kind-reads
+use Rattle.nested.proofs.classes.table_class.Reads as table-class-reads
 
-has-detail-requires : tie.Need-has-detail-requires
-has-detail-requires c κs = search needs
+-- src/classes.rt:177:9
+open-class-requires : tie.Need-open-class-requires
+open-class-requires c κs = search needs
 
-sort-requires : tie.Need-sort-requires
-sort-requires c κs = search needs
-
+-- src/classes.rt:177:9
 returns : tie.Need-returns
-unfolding classOf
-returns c = simp (le-leb _ _ (c .before .before .before .if1 .taken), (sym (c .before .before .has-detail .ensures) ∙ c .before .if2 .taken)) (c .sort .ensures)
+returns c = rw (c .before .if1 .taken) (c .open-class .ensures)
 
+-- src/classes.rt:180:9
+close-class-requires : tie.Need-close-class-requires
+close-class-requires c κs = search needs
+
+-- src/classes.rt:180:9
 returns-2 : tie.Need-returns-2
-unfolding classOf
-returns-2 c = simp (le-leb _ _ (c .before .before .if1 .taken), (sym (c .before .has-detail .ensures) ∙ c .if2 .left))
+returns-2 c = rw (c .before .if2 .taken) (c .close-class .ensures)
 
+-- src/classes.rt:182:9
+simple-kind-requires : tie.Need-simple-kind-requires
+simple-kind-requires c κs = search needs
+
+-- src/classes.rt:184:9
 returns-3 : tie.Need-returns-3
-unfolding classOf
-returns-3 c = simp (lt-leb _ _ (c .before .before .if1 .left), lt-ltb _ _ (c .before .if3 .taken), le-leb _ _ (c .if4 .taken))
+returns-3 c = sym (c .before .simple-kind .ensures (c .if3 .taken))
 
+-- src/classes.rt:186:5
+table-class-requires : tie.Need-table-class-requires
+table-class-requires c κs = search needs
+
+-- src/classes.rt:173:1
 returns-4 : tie.Need-returns-4
-unfolding classOf
-returns-4 c = simp (lt-leb _ _ (c .before .before .if1 .left), lt-ltb _ _ (c .before .if3 .taken), lt-leb _ _ (c .if4 .left))
-
-returns-5 : tie.Need-returns-5
-unfolding classOf
-returns-5 c = simp (lt-leb _ _ (c .before .if1 .left), le-ltb _ _ (c .if3 .left))
+returns-4 c = search needs
 
 pub class-of-spec : {M : Type 1} → statement M
 class-of-spec =
     tie.close
-    (tie.spec has-detail-requires sort-requires returns returns-2 returns-3 returns-4 returns-5)
+    (tie.spec
+    open-class-requires
+    returns
+    close-class-requires
+    returns-2
+    simple-kind-requires
+    returns-3
+    table-class-requires
+    returns-4)
