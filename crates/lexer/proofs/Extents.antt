@@ -16,7 +16,7 @@ use Rattle.meaning.specs.Places.{reach, reachFrom}
 use Rattle.meaning.specs.Records.{TextFits}
 use Rattle.lexer.specs.Inner.{TextsFit, ExtentFits}
 use Rattle.lexer.proofs.Here.{char-inside}
-use Rattle.lexer.proofs.Left.{Left, left-here}
+use Rattle.lexer.proofs.Left.{ReadTo, left-here}
 use Prim.Native.Nat.{ℕ, _+_, _^_, _≤_, _<_}
 use mathlib.Core.Path.{_≡_, subst}
 use mathlib.Core.Bool.{Bool}
@@ -70,7 +70,7 @@ module _ (s : List ℕ) (report : Bool) (at c : ℕ) (cs : List ℕ) (here : cha
   extent-fits free short behind =
       let f = fine-error (length s) (r .item .bytes) (r .what) extent-fine in
       let e : r .item .at ≡ at + length (r .item .bytes) = read-at report at c cs in
-      let l : Left s at r = left-here s report at c cs here in
+      let l : ReadTo s at r = left-here s report at c cs here in
       let t : TextsFit free (meaningOf report (r .what) at (r .item .at) (r .item .bytes)) =
       texts-fit free at (r .item .at) (omega (arith, l .inside)) behind (meaningOf report (r .what) at (r .item .at) (r .item .bytes)) (extent-made .meant) in
       record {

@@ -21,7 +21,7 @@ use native.Mathlib.Omega.{arith}
 abbrev pub part : List ℕ → ℕ → ℕ → List ℕ
 part s a b = take (b - a) (drop a s)
 
-pub record Left (s : List ℕ) (start : ℕ) (r : Read) : Type 0 where
+pub record ReadTo (s : List ℕ) (start : ℕ) (r : Read) : Type 0 where
   pub rest : r .rest ≡ chars (drop (r .item .at) s)
   pub bytes : r .item .bytes ≡ part s start (r .item .at)
   pub inside : r .item .at ≤ length s
@@ -41,7 +41,7 @@ module _ (s : List ℕ) (start : ℕ) where
       ap (λ (l : List ℕ). part s start at ++ l) (sym b) ∙ part-more at (width c) h
 
   scan-left : (report : Bool) (p : Phase) (i : SoFar) (cs : List ℕ) → start ≤ i .at → i .at ≤ length s → cs ≡ chars (drop (i .at) s)
-      → i .bytes ≡ part s start (i .at) → Left s start (scanOf report p i cs)
+      → i .bytes ≡ part s start (i .at) → ReadTo s start (scanOf report p i cs)
   unfolding scanOf
   scan-left report p i [] h k e b = record { rest = e; bytes = b; inside = k }
   scan-left report p i (c ∷ cs) h k e b =
@@ -52,7 +52,7 @@ module _ (s : List ℕ) (start : ℕ) where
       (λ o f. rw (f, scanOf) (record { rest = e; bytes = b; inside = k }))
 
 -- the item that starts with c at a place
-pub left-here : (s : List ℕ) (report : Bool) (at c : ℕ) (cs : List ℕ) → chars (drop at s) ≡ c ∷ cs → Left s at (readItem report at c cs)
+pub left-here : (s : List ℕ) (report : Bool) (at c : ℕ) (cs : List ℕ) → chars (drop at s) ≡ c ∷ cs → ReadTo s at (readItem report at c cs)
 left-here s report at c cs e =
     let H : Here s at c cs = char-here s at c cs e in
     rw (item-same report at c cs) at

@@ -14,7 +14,7 @@ use Rattle.lexer.specs.Reading.{gives, ends, turnOf, turn, startFrom, si
 use Rattle.lexer.specs.declared.Spot.{Spot}
 use Rattle.lexer.specs.declared.Start.{Start}
 use Rattle.lexer.specs.declared.Start.the-variants.{At, Nothing}
-use Rattle.lexer.proofs.Left.{Left, left-here, part}
+use Rattle.lexer.proofs.Left.{ReadTo, left-here, part}
 use Rattle.lexer.proofs.Turns.{Started, started, none-started}
 use Rattle.lexer.proofs.Extents.{Any, extent-made}
 use Rattle.lexer.proofs.Cases.{past, halfway, both, by-turn}
@@ -58,7 +58,7 @@ module _ (s : List ℕ) (report : Bool) (last : Place) (at c : ℕ) (cs : List �
       → Every (Whole s) (itemsOf report after at (r .item .at) ms)
   wholes [] h k = tt
   wholes (m ∷ ms) h k =
-      let l : Left s at r = left-here s report at c cs here in (
+      let l : ReadTo s at r = left-here s report at c cs here in (
         record {
           some = read-forward report at c cs;
           ends = l .inside;
@@ -90,7 +90,7 @@ module _ (s : List ℕ) (p : Spot) (c a n : ℕ) (S : Started s (p .at) (chars (
   abbrev it : Read
   it = readItem (p .report) a c (chars (drop n s))
 
-  lies : Left s a it
+  lies : ReadTo s a it
   lies = left-here s (p .report) a c (chars (drop n s)) (S .first)
 
   all-whole : Every (Whole s) (both p a (it .what) (it .item))

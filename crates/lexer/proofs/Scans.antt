@@ -15,7 +15,7 @@ use Rattle.lexer.specs.Reading.{turnOf, turnAt, foundOf}
 use Rattle.lexer.specs.declared.Spot.{Spot}
 use Rattle.lexer.specs.declared.Found.{Found}
 use Rattle.lexer.proofs.Here.{Here, char-here}
-use Rattle.lexer.proofs.Left.{Left, left-here, part}
+use Rattle.lexer.proofs.Left.{ReadTo, left-here, part}
 use Rattle.lexer.proofs.Extents.{extent-fits}
 use Prim.Native.Nat.{ℕ, _+_, _-_, _^_, _≤_, _<_}
 use mathlib.Core.Path.{_≡_, refl, sym, ap, _∙_, subst}
@@ -58,7 +58,7 @@ module _ (s : List ℕ) (report : Bool) (at c next : ℕ) (F : inner.First s at 
 
     pub end-inside : (at ≤ x .end) × (x .end ≤ length s)
     end-inside =
-        let l : Left s at it = left-here s report at c (chars (drop next s)) (F .first) in
+        let l : ReadTo s at it = left-here s report at c (chars (drop next s)) (F .first) in
         let z : x .end ≡ it .item .at = ap (λ (y : Scanned). y .end) scan-is in
         (omega (arith, read-forward report at c (chars (drop next s))), omega (arith, l .inside))
 

@@ -8,7 +8,7 @@ use lib.ListN.{length, length-append}
 use borrow.Author.Tests.{ne-eqb}
 use Rattle.nested.specs.Items.{countOf, classAt}
 use Rattle.nested.specs.Grammar.{Node, node, closer, kindOf}
-use Rattle.nested.specs.Reader.{Level, level, State, state, give, gained, tailed}
+use Rattle.nested.specs.Reader.{Level, level, Levels, state, give, gained, tailed}
 use Rattle.nested.specs.Lent.{wordsOf}
 use Rattle.nested.specs.Said.{reads, Ahead, Wrote, Put, Simples, Run, loose, grown, begunOf, LevelSaid, SaidBy, SequenceSaid, dropping, isPlan, arrive}
 use Rattle.nested.specs.declared.Class.the-variants.{Simple, Closes}
@@ -83,7 +83,7 @@ module _ (s : List ℕ) (from : ℕ) where
     step : (f : Frame) (i : ℕ) (ms : List Node) (ls : List Level) → loose f ≡ true
         → reads s (state (level f i ms) ls) at ≡ reads s (state (level (gained f) i (ms ++ (node k at 0 ∷ []))) ls) (at + 1)
     step f i ms ls l = reads-on s at (length ls) (Simple k) f i ms ls in-text (sym e) refl (loose-tailed f l)
-        ∙ ap (λ (st : State). reads s st (at + 1)) (give-keeps f i ms (node k at 0 ∷ []) ls (loose-keeps f l))
+        ∙ ap (λ (st : Levels). reads s st (at + 1)) (give-keeps f i ms (node k at 0 ∷ []) ls (loose-keeps f l))
 
     pub simples-more : Simples s from at → Simples s from (at + 1)
     simples-more R = record {

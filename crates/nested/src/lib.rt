@@ -183,8 +183,8 @@ fn datum(records: &[u32], at: usize, depth: usize, f: Frame, nodes: &mut [u32], 
         return Turn::Stop(n, at);
     }
     match k {
-        Class::Alien => Turn::Stop(refusals::ALIEN, at),
-        Class::Fails => Turn::Stop(refusals::ERROR_ITEM, at),
+        Class::Alien => Turn::Stop(refusal::ALIEN, at),
+        Class::Fails => Turn::Stop(refusal::ERROR_ITEM, at),
         Class::Passes => Turn::On(at + 1, w, same(f)),
         Class::Drops => {
             let mut none = [0u32; 1];
@@ -269,10 +269,10 @@ pub fn build(records: &[u32], nodes: &mut [u32]) -> Nested
     match r {
         Read::Got(_p, v, _kind) => {
             if nodes.len() / NODE_WORDS < v {
-                return Nested::Refused(refusals::NO_ROOM, 0);
+                return Nested::Refused(refusal::FEW_NODES, 0);
             }
             if WORD < records.len() / WORDS {
-                return Nested::Refused(refusals::NO_ROOM, 0);
+                return Nested::Refused(refusal::FEW_NODES, 0);
             }
             plan(records, nodes);
             Nested::Built(v)

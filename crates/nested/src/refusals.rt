@@ -3,36 +3,19 @@
 use crate::Class;
 use crate::Frame;
 use crate::frames;
+use refusal::ALIEN;
+use refusal::BRACKET_OPEN;
+use refusal::ERROR_ITEM;
+use refusal::MARK_WAITS;
+use refusal::MISPLACED_DOT;
+use refusal::TOO_DEEP;
+use refusal::WRONG_CLOSE;
 ghost use mathlib.Core.Path.{_≡_};
 ghost use Rattle.nested.specs.Grammar;
 ghost use Rattle.nested.specs.Reader.{tailed, starting, closing, dotting, ending, wrong};
 
 // no refusal
 pub const NONE: u32 = 0;
-
-// the end with a bracket open: (
-pub const BRACKET_OPEN: u32 = 40;
-
-// a wrong or stray close: )
-pub const WRONG_CLOSE: u32 = 41;
-
-// a dot outside a round, square or curly list, a second one, or one without data on both sides: .
-pub const MISPLACED_DOT: u32 = 42;
-
-// a close, a dot or the end where a mark waits for its datum: '
-pub const MARK_WAITS: u32 = 43;
-
-// a level inside 64 others
-pub const TOO_DEEP: u32 = 44;
-
-// an error item: ##
-pub const ERROR_ITEM: u32 = 45;
-
-// the nodes do not fit
-pub const NO_ROOM: u32 = 46;
-
-// a kind or a detail that the layout does not have
-pub const ALIEN: u32 = 48;
 
 // How many levels may lie inside one another.
 const DEEPEST: usize = 64;
