@@ -97,7 +97,8 @@ module _ (s : List ℕ) (at : ℕ) (S : Sharp s at) where
         refl,
         omega arith,
         two-told report skip kind.OpenParen kind.Vector
-            (sym (turn-eat s report at ph.AfterHash (at + 1) (code "(") (at + 2) k (ph.Done o) (omega arith) (vector-opens report (part s at (at + 1)) (at + 1) sign-part) ∙ sym (done-scan report o _ _))) refl,
+            (sym (turn-eat s report at ph.AfterHash (at + 1) (code "(") (at + 2) k
+            (ph.Done o) (omega arith) (vector-opens report (part s at (at + 1)) (at + 1) sign-part) ∙ sym (done-scan report o _ _))) refl,
       )
 
 pub boolean-told : (s : List ℕ) (at v : ℕ) → Spells s at v → (report skip : Bool) → at + 2 < length s → (c : ℕ) → getD s (at + 2) 0 ≡ c → (c < 0x80) × (inHash c ≡ stopsHash)
@@ -110,7 +111,9 @@ boolean-told s at v B report skip m c e stop =
       refl,
       omega arith,
       two-told s at (B .sign) report skip kind.BooleanLiteral v
-          (sym (turn-eat s report at ph.AfterHash (at + 1) (B .letter) (at + 2) k ph.InHash (omega arith) (B .stays (part s at (at + 1))) ∙ turn-stop s report at ph.InHash (at + 2) c (at + 2 + 1) l o (boolean-ends report (part s at (at + 2)) (at + 2) c o (ap hashKind (letter-part s at (B .sign) (B .letter) (B .more) (B .stands)) ∙ B .boolean) (stop .1)))) refl,
+          (sym (turn-eat s report at ph.AfterHash (at + 1) (B .letter) (at + 2) k ph.InHash (omega arith) (B .stays (part s at (at + 1)))
+          ∙ turn-stop s report at ph.InHash (at + 2) c (at + 2 + 1) l o (boolean-ends report (part s at (at + 2))
+          (at + 2) c o (ap hashKind (letter-part s at (B .sign) (B .letter) (B .more) (B .stands)) ∙ B .boolean) (stop .1)))) refl,
       λ depth. refl,
     )
 

@@ -1,6 +1,7 @@
 -- A decoded text is what the decoder makes of its item's extent, by the quotes that its kind tells.
 use Rattle.items.specs.Kinds as kind
-use Rattle.items.specs.Meaning.{Text, none, source, decoded, Meaning, escaped, unescape, wordKind, wordMeans, runMeans, stringText, linedText, hereText, characterMeans, characterOf, charInside, meaningOf}
+use Rattle.items.specs.Meaning.{Text, none, source, decoded, Meaning, escaped, unescape, wordKind, wordMeans, runMeans, stringText}
+use Rattle.items.specs.Meaning.{linedText, hereText, characterMeans, characterOf, charInside, meaningOf}
 use Rattle.items.specs.Readers.{SoFar, firstIs}
 use Rattle.items.specs.Items.{Place, Item, itemsOf, rangeAfter, standing, extentItems, memoryOf}
 use Rattle.items.specs.declared.Outcome.{Outcome}

@@ -59,11 +59,41 @@ module _ (c : ℕ) (low : code "a" ≤ c) (high : c ≤ code "z") where
 
   no-run : startsRun c ≡ false
   unfolding startsRun
-  no-run = rw (other (code "+") (inl (omega arith)), other (code "-") (inl (omega arith)), other (code ".") (inl (omega arith)), other (code "0") (inl (omega arith)), other (code "1") (inl (omega arith)), other (code "2") (inl (omega arith)), other (code "3") (inl (omega arith)), other (code "4") (inl (omega arith)), other (code "5") (inl (omega arith)), other (code "6") (inl (omega arith)), other (code "7") (inl (omega arith)), other (code "8") (inl (omega arith)), other (code "9") (inl (omega arith)))
+  no-run = rw (
+    other (code "+") (inl (omega arith)),
+    other (code "-") (inl (omega arith)),
+    other (code ".") (inl (omega arith)),
+    other (code "0") (inl (omega arith)),
+    other (code "1") (inl (omega arith)),
+    other (code "2") (inl (omega arith)),
+    other (code "3") (inl (omega arith)),
+    other (code "4") (inl (omega arith)),
+    other (code "5") (inl (omega arith)),
+    other (code "6") (inl (omega arith)),
+    other (code "7") (inl (omega arith)),
+    other (code "8") (inl (omega arith)),
+    other (code "9") (inl (omega arith)),
+  )
 
   pub letter-first : onFirst (firstOf c) ≡ ph.InWord
   unfolding firstOf
-  letter-first = rw (other (code ";") (inl (omega arith)), other (code "\"") (inl (omega arith)), other (code ",") (inl (omega arith)), other (code "#") (inl (omega arith)), other (code "(") (inl (omega arith)), other (code "[") (inl (omega arith)), other (code "{") (inr (omega arith)), other (code ")") (inl (omega arith)), other (code "]") (inl (omega arith)), other (code "}") (inr (omega arith)), other (code "'") (inl (omega arith)), other (code "`") (inl (omega arith)), no-run, other (code "|") (inr (omega arith)), other (code "\\") (inl (omega arith)))
+  letter-first = rw (
+    other (code ";") (inl (omega arith)),
+    other (code "\"") (inl (omega arith)),
+    other (code ",") (inl (omega arith)),
+    other (code "#") (inl (omega arith)),
+    other (code "(") (inl (omega arith)),
+    other (code "[") (inl (omega arith)),
+    other (code "{") (inr (omega arith)),
+    other (code ")") (inl (omega arith)),
+    other (code "]") (inl (omega arith)),
+    other (code "}") (inr (omega arith)),
+    other (code "'") (inl (omega arith)),
+    other (code "`") (inl (omega arith)),
+    no-run,
+    other (code "|") (inr (omega arith)),
+    other (code "\\") (inl (omega arith)),
+  )
 
 -- a digit begins a number run
 module _ (c : ℕ) (low : code "0" ≤ c) (high : c ≤ code "9") where
@@ -79,7 +109,21 @@ module _ (c : ℕ) (low : code "0" ≤ c) (high : c ≤ code "9") where
 
   pub digit-first : onFirst (firstOf c) ≡ ph.InRun
   unfolding firstOf
-  digit-first = rw (outside (code ";") (inr (omega arith)), outside (code "\"") (inl (omega arith)), outside (code ",") (inl (omega arith)), outside (code "#") (inl (omega arith)), outside (code "(") (inl (omega arith)), outside (code "[") (inr (omega arith)), outside (code "{") (inr (omega arith)), outside (code ")") (inl (omega arith)), outside (code "]") (inr (omega arith)), outside (code "}") (inr (omega arith)), outside (code "'") (inl (omega arith)), outside (code "`") (inr (omega arith)), runs)
+  digit-first = rw (
+    outside (code ";") (inr (omega arith)),
+    outside (code "\"") (inl (omega arith)),
+    outside (code ",") (inl (omega arith)),
+    outside (code "#") (inl (omega arith)),
+    outside (code "(") (inl (omega arith)),
+    outside (code "[") (inr (omega arith)),
+    outside (code "{") (inr (omega arith)),
+    outside (code ")") (inl (omega arith)),
+    outside (code "]") (inr (omega arith)),
+    outside (code "}") (inr (omega arith)),
+    outside (code "'") (inl (omega arith)),
+    outside (code "`") (inr (omega arith)),
+    runs,
+  )
 
 -- ---- a character that is an item of its own
 

@@ -13,7 +13,7 @@ use Rattle.pieces.specs.declared.Stage.the-variants.{Opening, Pound, Fir
 use Rattle.pieces.specs.declared.State.{State}
 use Rattle.pieces.specs.Calls.{whole, becomes, atDepth, report, lastOf, laidAt, partly, declared}
 use Rattle.pieces.specs.Expected.{longest}
-use Rattle.pieces.proofs.Parts.{Begun}
+use Rattle.pieces.proofs.Parts.{BytesTaken}
 use Rattle.pieces.proofs.Phases.{Ranges}
 use Prim.Native.Nat.{ℕ, _+_, _≤_}
 use mathlib.Core.Path.{_≡_, refl, sym, ap, _∙_}
@@ -25,7 +25,7 @@ use native.Mathlib.Omega.{arith}
 use Rattle.pieces.proofs.Kept.{laid-held, laid-long, bytes-snoc, count-snoc, scalars-snoc, Held, Beyonds, Stops, Staged, Calm}
 use Rattle.pieces.proofs.Kept.{Within, range-within, Kept}
 
-pub none-begun : Begun [] whole
+pub none-begun : BytesTaken [] whole
 none-begun = record { count = refl; reached = λ s. refl; wants = refl; high = omega arith }
 
 module _ {q g : List ℕ} {s : State} (k : Kept q g s) where
@@ -119,7 +119,7 @@ module _ {q g : List ℕ} {s : State} (k : Kept q g s) where
   }
 
   -- a character goes on
-  pub kept-partly : (g′ : List ℕ) (p : Part) → Begun g′ p → s .marks .at + p .count ≤ limit → Calm (s .marks .stage) → Kept q g′ (partly s p)
+  pub kept-partly : (g′ : List ℕ) (p : Part) → BytesTaken g′ p → s .marks .at + p .count ≤ limit → Calm (s .marks .stage) → Kept q g′ (partly s p)
   kept-partly g′ p h far calm = record {
     mode = k .mode;
     full = k .full;

@@ -27,7 +27,7 @@ use Rattle.pieces.specs.declared.State.{State}
 use Rattle.pieces.specs.Bounds.{doneBounds, phaseBounds, beyondBounds, stageBounds, inBounds}
 use Rattle.pieces.specs.Calls.{report, lastOf, itemSoFar, laidAt}
 use Rattle.pieces.specs.Expected.{longest}
-use Rattle.pieces.proofs.Parts.{Begun, part-bounded}
+use Rattle.pieces.proofs.Parts.{BytesTaken, part-bounded}
 use Rattle.pieces.proofs.Phases.{Ranges, Settled, Sized}
 use Prim.Native.Nat.{ℕ, _+_, _≤_, _<_}
 use mathlib.Core.Path.{_≡_, refl, sym, ap, _∙_}
@@ -151,7 +151,7 @@ pub record Kept (q g : List ℕ) (s : State) : Type 0 where
   pub far : s .marks .at + s .marks .part .count ≤ limit
   pub last : Within (lastOf s)
   pub scalars : Scalars q
-  pub begun : Begun g (s .marks .part)
+  pub begun : BytesTaken g (s .marks .part)
   pub staged : Staged q s (s .marks .stage)
 
 -- ---- a state that is kept is in bounds

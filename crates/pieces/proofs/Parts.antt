@@ -34,7 +34,7 @@ Wants (suc (suc (suc zero))) need code = (need ≡ 1) × (code < 2 ^ 15)
 Wants (suc (suc (suc (suc n)))) need code = ⊥
 
 -- the bytes g of a character were taken, and the machine stands where they lead
-pub record Begun (g : List ℕ) (p : Part) : Type 0 where
+pub record BytesTaken (g : List ℕ) (p : Part) : Type 0 where
   pub count : p .count ≡ length g
   pub reached : (s : List ℕ) → reads start 0 (g ++ s) ≡ reads (p .state) (length g) s
   pub wants : Wants (p .count) (p .state .need) (p .state .code)
@@ -133,7 +133,7 @@ pub record Whole (g : List ℕ) (c : ℕ) : Type 0 where
   pub count : width c ≡ length g
 
 abbrev pub Stepped : List ℕ → Part → ℕ → Step → Type 0
-Stepped g p b (steps.More u) = Begun (g ++ (b ∷ [])) (record { count = p .count + 1; state = u })
+Stepped g p b (steps.More u) = BytesTaken (g ++ (b ∷ [])) (record { count = p .count + 1; state = u })
 Stepped g p b (steps.Char c) = Whole (g ++ (b ∷ [])) c
 Stepped g p b steps.Bad = Unit {0}
 
@@ -144,7 +144,7 @@ read-whole (b ∷ l) c h e =
     let w : CharAt (b ∷ l) 0 c (length (b ∷ l)) = char-at (b ∷ l) 0 c (length (b ∷ l)) (sym e ∙ reads-front 0 b l) (omega arith) in
     record { bytes = sym (w .bytes) ∙ take-all (length (b ∷ l) - 0) (b ∷ l) (omega arith); scalar = w .scalar; count = omega (arith, w .on) }
 
-pub stepped : (g : List ℕ) (p : Part) (b : ℕ) → Begun g p → Stepped g p b (step (p .state) b)
+pub stepped : (g : List ℕ) (p : Part) (b : ℕ) → BytesTaken g p → Stepped g p b (step (p .state) b)
 unfolding reads
 stepped g p b h = go (step (p .state) b) refl (wants-on (p .count) (p .state) b (h .wants))
   where
@@ -166,6 +166,6 @@ stepped g p b h = go (step (p .state) b) refl (wants-on (p .count) (p .state) b 
     go steps.Bad e w = tt
 
 -- no character has the byte FF
-pub never-ff : (g : List ℕ) (p : Part) → Begun g p → step (p .state) 0xFF ≡ steps.Bad
+pub never-ff : (g : List ℕ) (p : Part) → BytesTaken g p → step (p .state) 0xFF ≡ steps.Bad
 unfolding step first within
 never-ff g p h = by-bool (eqb (p .state .need) 0) (λ e. rw e) (λ e. rw (e, within-above (p .state .low) (p .state .high) 0xFF (omega (arith, h .high))))

@@ -71,7 +71,8 @@ bare-requires-2 c κs = search needs
 
 quick-string-requires : tie.Need-quick-string-requires
 unfolding firstOf startsRun isBlank
-quick-string-requires c κs = let a = c .before .before .before in (a .pre .0, begins (now (a .args .source)) (a .args .at) (code "\"") (ph.Quoted Double) (a .pre .1) (c .match .keys9) (omega arith) refl refl)
+quick-string-requires c κs = let a = c .before .before .before in
+    (a .pre .0, begins (now (a .args .source)) (a .args .at) (code "\"") (ph.Quoted Double) (a .pre .1) (c .match .keys9) (omega arith) refl refl)
 
 quick-line-requires : tie.Need-quick-line-requires
 unfolding firstOf startsRun isBlank
@@ -101,57 +102,91 @@ returns : tie.Need-returns
 unfolding firstOf startsRun isBlank
 returns c =
     let a = c .before .before .before .before in
-    subst (λ (q : Quick). GlanceAt (now (a .args .source)) (a .args .report) (a .args .skip) (a .args .at) q) (sym (c .bracket .ensures))
-    (refl, omega arith, single-told (now (a .args .source)) (a .args .report) (a .args .skip) (a .args .at) (code "(") kind.OpenParen kind.Round (a .pre .1) (c .before .match .keys1) (omega arith) refl refl refl)
+    subst (λ (q : Quick). GlanceAt (now (a .args .source)) (a .args .report) (a .args .skip) (a .args .at) q) (sym (c .bracket .ensures)) (
+      refl,
+      omega arith,
+      single-told (now (a .args .source)) (a .args .report)
+          (a .args .skip) (a .args .at) (code "(") kind.OpenParen kind.Round (a .pre .1) (c .before .match .keys1) (omega arith) refl refl refl,
+    )
 
 returns-2 : tie.Need-returns-2
 unfolding firstOf startsRun isBlank
 returns-2 c =
     let a = c .before .before .before .before in
-    subst (λ (q : Quick). GlanceAt (now (a .args .source)) (a .args .report) (a .args .skip) (a .args .at) q) (sym (c .bracket2 .ensures))
-    (refl, omega arith, single-told (now (a .args .source)) (a .args .report) (a .args .skip) (a .args .at) (code ")") kind.CloseParen kind.Round (a .pre .1) (c .before .match .keys2) (omega arith) refl refl refl)
+    subst (λ (q : Quick). GlanceAt (now (a .args .source)) (a .args .report) (a .args .skip) (a .args .at) q) (sym (c .bracket2 .ensures)) (
+      refl,
+      omega arith,
+      single-told (now (a .args .source)) (a .args .report)
+          (a .args .skip) (a .args .at) (code ")") kind.CloseParen kind.Round (a .pre .1) (c .before .match .keys2) (omega arith) refl refl refl,
+    )
 
 returns-3 : tie.Need-returns-3
 unfolding firstOf startsRun isBlank
 returns-3 c =
     let a = c .before .before .before .before in
-    subst (λ (q : Quick). GlanceAt (now (a .args .source)) (a .args .report) (a .args .skip) (a .args .at) q) (sym (c .bracket3 .ensures))
-    (refl, omega arith, single-told (now (a .args .source)) (a .args .report) (a .args .skip) (a .args .at) (code "[") kind.OpenParen kind.Square (a .pre .1) (c .before .match .keys3) (omega arith) refl refl refl)
+    subst (λ (q : Quick). GlanceAt (now (a .args .source)) (a .args .report) (a .args .skip) (a .args .at) q) (sym (c .bracket3 .ensures)) (
+      refl,
+      omega arith,
+      single-told (now (a .args .source)) (a .args .report)
+          (a .args .skip) (a .args .at) (code "[") kind.OpenParen kind.Square (a .pre .1) (c .before .match .keys3) (omega arith) refl refl refl,
+    )
 
 returns-4 : tie.Need-returns-4
 unfolding firstOf startsRun isBlank
 returns-4 c =
     let a = c .before .before .before .before in
-    subst (λ (q : Quick). GlanceAt (now (a .args .source)) (a .args .report) (a .args .skip) (a .args .at) q) (sym (c .bracket4 .ensures))
-    (refl, omega arith, single-told (now (a .args .source)) (a .args .report) (a .args .skip) (a .args .at) (code "]") kind.CloseParen kind.Square (a .pre .1) (c .before .match .keys4) (omega arith) refl refl refl)
+    subst (λ (q : Quick). GlanceAt (now (a .args .source)) (a .args .report) (a .args .skip) (a .args .at) q) (sym (c .bracket4 .ensures)) (
+      refl,
+      omega arith,
+      single-told (now (a .args .source)) (a .args .report)
+          (a .args .skip) (a .args .at) (code "]") kind.CloseParen kind.Square (a .pre .1) (c .before .match .keys4) (omega arith) refl refl refl,
+    )
 
 returns-5 : tie.Need-returns-5
 unfolding firstOf startsRun isBlank
 returns-5 c =
     let a = c .before .before .before .before in
-    subst (λ (q : Quick). GlanceAt (now (a .args .source)) (a .args .report) (a .args .skip) (a .args .at) q) (sym (c .bracket5 .ensures))
-    (refl, omega arith, single-told (now (a .args .source)) (a .args .report) (a .args .skip) (a .args .at) (code "{") kind.OpenParen kind.Curly (a .pre .1) (c .before .match .keys5) (omega arith) refl refl refl)
+    subst (λ (q : Quick). GlanceAt (now (a .args .source)) (a .args .report) (a .args .skip) (a .args .at) q) (sym (c .bracket5 .ensures)) (
+      refl,
+      omega arith,
+      single-told (now (a .args .source)) (a .args .report)
+          (a .args .skip) (a .args .at) (code "{") kind.OpenParen kind.Curly (a .pre .1) (c .before .match .keys5) (omega arith) refl refl refl,
+    )
 
 returns-6 : tie.Need-returns-6
 unfolding firstOf startsRun isBlank
 returns-6 c =
     let a = c .before .before .before .before in
-    subst (λ (q : Quick). GlanceAt (now (a .args .source)) (a .args .report) (a .args .skip) (a .args .at) q) (sym (c .bracket6 .ensures))
-    (refl, omega arith, single-told (now (a .args .source)) (a .args .report) (a .args .skip) (a .args .at) (code "}") kind.CloseParen kind.Curly (a .pre .1) (c .before .match .keys6) (omega arith) refl refl refl)
+    subst (λ (q : Quick). GlanceAt (now (a .args .source)) (a .args .report) (a .args .skip) (a .args .at) q) (sym (c .bracket6 .ensures)) (
+      refl,
+      omega arith,
+      single-told (now (a .args .source)) (a .args .report)
+          (a .args .skip) (a .args .at) (code "}") kind.CloseParen kind.Curly (a .pre .1) (c .before .match .keys6) (omega arith) refl refl refl,
+    )
 
 returns-7 : tie.Need-returns-7
 unfolding firstOf startsRun isBlank
 returns-7 c =
     let a = c .before .before .before .before in
-    subst (λ (q : Quick). GlanceAt (now (a .args .source)) (a .args .report) (a .args .skip) (a .args .at) q) (sym (c .bare .ensures))
-    (refl, omega arith, single-told (now (a .args .source)) (a .args .report) (a .args .skip) (a .args .at) (code "'") kind.QuoteTick 0 (a .pre .1) (c .before .match .keys7) (omega arith) refl refl refl, λ depth. refl)
+    subst (λ (q : Quick). GlanceAt (now (a .args .source)) (a .args .report) (a .args .skip) (a .args .at) q) (sym (c .bare .ensures)) (
+      refl,
+      omega arith,
+      single-told (now (a .args .source)) (a .args .report)
+          (a .args .skip) (a .args .at) (code "'") kind.QuoteTick 0 (a .pre .1) (c .before .match .keys7) (omega arith) refl refl refl,
+      λ depth. refl,
+    )
 
 returns-8 : tie.Need-returns-8
 unfolding firstOf startsRun isBlank
 returns-8 c =
     let a = c .before .before .before .before in
-    subst (λ (q : Quick). GlanceAt (now (a .args .source)) (a .args .report) (a .args .skip) (a .args .at) q) (sym (c .bare2 .ensures))
-    (refl, omega arith, single-told (now (a .args .source)) (a .args .report) (a .args .skip) (a .args .at) (code "`") kind.QuasiQuote 0 (a .pre .1) (c .before .match .keys8) (omega arith) refl refl refl, λ depth. refl)
+    subst (λ (q : Quick). GlanceAt (now (a .args .source)) (a .args .report) (a .args .skip) (a .args .at) q) (sym (c .bare2 .ensures)) (
+      refl,
+      omega arith,
+      single-told (now (a .args .source)) (a .args .report)
+          (a .args .skip) (a .args .at) (code "`") kind.QuasiQuote 0 (a .pre .1) (c .before .match .keys8) (omega arith) refl refl refl,
+      λ depth. refl,
+    )
 
 returns-9 : tie.Need-returns-9
 returns-9 c = let a = c .before .before .before .before in c .quick-string .ensures (a .args .report) (a .args .skip)

@@ -30,7 +30,9 @@ returns-2 : tie.Need-returns-2
 returns-2 c report skip =
     let a = c .before .before .before .before .before .before in
     subst (λ (q : Quick). GlanceAt (now (a .args .source)) report skip (a .args .at) q) (sym (c .bare .ensures))
-    (boolean-told (now (a .args .source)) (a .args .at) (a .args .value) (a .pre .1) report skip (omega (arith, c .before .before .before .before .if1 .left)) (getD (now (a .args .source)) (a .args .at + 2) 0) refl (c .before .before .ends-boolean .ensures (c .before .if2 .taken)))
+    (boolean-told (now (a .args .source))
+    (a .args .at) (a .args .value) (a .pre .1) report skip (omega (arith, c .before .before .before .before .if1 .left))
+    (getD (now (a .args .source)) (a .args .at + 2) 0) refl (c .before .before .ends-boolean .ensures (c .before .if2 .taken)))
 
 returns-3 : tie.Need-returns-3
 returns-3 c report skip = tt

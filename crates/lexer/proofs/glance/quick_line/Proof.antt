@@ -41,7 +41,8 @@ returns-2 c report =
     subst (λ (q : Quick). GlanceAt (now (a .args .source)) report (a .args .skip) (a .args .at) q) (sym (c .bare .ensures))
     (line-told (now (a .args .source)) report (a .args .skip) (a .args .at) (e .0 .0) (c .before .before .before .before .before .if1 .left) (a .pre .1)
     (ends-here (now (a .args .source)) report (a .args .at) ph.InLine comment (e .0 .0)
-    (subst (λ (y : Ending). EndsAs (now (a .args .source)) report ph.InLine comment (a .args .at + 1) y) (sym (c .before .before .before .before .line-ending .ensures) ∙ e .1) (line-ends (now (a .args .source)) report (a .args .at + 1)))))
+    (subst (λ (y : Ending). EndsAs (now (a .args .source)) report ph.InLine comment (a .args .at + 1) y)
+    (sym (c .before .before .before .before .line-ending .ensures) ∙ e .1) (line-ends (now (a .args .source)) report (a .args .at + 1)))))
 
 returns-3 : tie.Need-returns-3
 returns-3 c report = tt

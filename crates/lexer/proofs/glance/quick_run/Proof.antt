@@ -19,7 +19,9 @@ within : (c : tie.After-known-told) → Spans (now (c .before .before .before .b
 within c =
     let a = c .before .before .before .before .before in
     spans (now (a .args .source)) (a .args .report) (a .args .at) (c .before .end .given .0 .0) Run ph.InRun (a .pre .1)
-    (ends-here (now (a .args .source)) (a .args .report) (a .args .at) ph.InRun Run (c .before .end .given .0 .0) (subst (λ (y : Ending). EndsAs (now (a .args .source)) (a .args .report) ph.InRun Run (a .args .at + 1) y) (sym (c .before .before .before .run-ending .ensures) ∙ c .before .end .given .1) (run-ends (now (a .args .source)) (a .args .report) (a .args .at + 1)))) (a .pre .0)
+    (ends-here (now (a .args .source)) (a .args .report) (a .args .at) ph.InRun Run (c .before .end .given .0 .0) (subst (λ (y : Ending). EndsAs
+    (now (a .args .source)) (a .args .report) ph.InRun Run (a .args .at + 1) y) (sym (c .before .before .before .run-ending .ensures)
+    ∙ c .before .end .given .1) (run-ends (now (a .args .source)) (a .args .report) (a .args .at + 1)))) (a .pre .0)
 
 add-run-ending : tie.Need-add-run-ending
 add-run-ending c = let a = c .before in omega (arith, a .pre .0, begins-inside (now (a .args .source)) (a .args .at) ph.InRun (a .pre .1))
@@ -47,9 +49,13 @@ enum-told c = search needs
 
 returns : tie.Need-returns
 returns c skip =
+    let told = c .before .before .before in
     let a = c .before .before .before .before .before .before .before in
-    ended-told (now (a .args .source)) (a .args .report) (a .args .at) (c .before .before .before .end .given .0 .0) Run ph.InRun (a .pre .1)
-    (ends-here (now (a .args .source)) (a .args .report) (a .args .at) ph.InRun Run (c .before .before .before .end .given .0 .0) (subst (λ (y : Ending). EndsAs (now (a .args .source)) (a .args .report) ph.InRun Run (a .args .at + 1) y) (sym (c .before .before .before .before .before .run-ending .ensures) ∙ c .before .before .before .end .given .1) (run-ends (now (a .args .source)) (a .args .report) (a .args .at + 1)))) (a .pre .0) (λ last i. refl) (c .tell-run .result) (c .tell-run .ensures) skip
+    ended-told (now (a .args .source)) (a .args .report) (a .args .at) (told .end .given .0 .0) Run ph.InRun (a .pre .1)
+    (ends-here (now (a .args .source)) (a .args .report) (a .args .at) ph.InRun Run
+    (told .end .given .0 .0) (subst (λ (y : Ending). EndsAs (now (a .args .source)) (a .args .report) ph.InRun Run (a .args .at + 1) y)
+    (sym (told .before .before .run-ending .ensures) ∙ told .end .given .1) (run-ends (now (a .args .source)) (a .args .report) (a .args .at + 1))))
+    (a .pre .0) (λ last i. refl) (c .tell-run .result) (c .tell-run .ensures) skip
 
 returns-2 : tie.Need-returns-2
 returns-2 c skip = tt

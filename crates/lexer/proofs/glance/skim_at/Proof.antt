@@ -49,7 +49,8 @@ shared-slice-read-match c = search needs
 
 skim-string-requires : tie.Need-skim-string-requires
 unfolding firstOf startsRun isBlank
-skim-string-requires c κs = let a = c .before .before .before in (a .pre .0, begins (now (a .args .source)) (a .args .at) (code "\"") (ph.Quoted Double) (a .pre .1) (c .match .keys9) (omega arith) refl refl)
+skim-string-requires c κs = let a = c .before .before .before in
+    (a .pre .0, begins (now (a .args .source)) (a .args .at) (code "\"") (ph.Quoted Double) (a .pre .1) (c .match .keys9) (omega arith) refl refl)
 
 skim-line-requires : tie.Need-skim-line-requires
 unfolding firstOf startsRun isBlank
@@ -67,50 +68,74 @@ word-ending-requires c κs = omega (arith, c .before .before .before .before .be
 returns : tie.Need-returns
 unfolding firstOf startsRun isBlank
 returns c =
-    let a = c .before .before .before in
-    (means kind.OpenParen kind.Round Nowhere, single-told (now (a .args .source)) (a .args .report) (a .args .skip) (a .args .at) (code "(") kind.OpenParen kind.Round (a .pre .1) (c .match .keys1) (omega arith) refl refl refl)
+    let a = c .before .before .before in (
+      means kind.OpenParen kind.Round Nowhere,
+      single-told (now (a .args .source)) (a .args .report)
+          (a .args .skip) (a .args .at) (code "(") kind.OpenParen kind.Round (a .pre .1) (c .match .keys1) (omega arith) refl refl refl,
+    )
 
 returns-2 : tie.Need-returns-2
 unfolding firstOf startsRun isBlank
 returns-2 c =
-    let a = c .before .before .before in
-    (means kind.CloseParen kind.Round Nowhere, single-told (now (a .args .source)) (a .args .report) (a .args .skip) (a .args .at) (code ")") kind.CloseParen kind.Round (a .pre .1) (c .match .keys2) (omega arith) refl refl refl)
+    let a = c .before .before .before in (
+      means kind.CloseParen kind.Round Nowhere,
+      single-told (now (a .args .source)) (a .args .report)
+          (a .args .skip) (a .args .at) (code ")") kind.CloseParen kind.Round (a .pre .1) (c .match .keys2) (omega arith) refl refl refl,
+    )
 
 returns-3 : tie.Need-returns-3
 unfolding firstOf startsRun isBlank
 returns-3 c =
-    let a = c .before .before .before in
-    (means kind.OpenParen kind.Square Nowhere, single-told (now (a .args .source)) (a .args .report) (a .args .skip) (a .args .at) (code "[") kind.OpenParen kind.Square (a .pre .1) (c .match .keys3) (omega arith) refl refl refl)
+    let a = c .before .before .before in (
+      means kind.OpenParen kind.Square Nowhere,
+      single-told (now (a .args .source)) (a .args .report)
+          (a .args .skip) (a .args .at) (code "[") kind.OpenParen kind.Square (a .pre .1) (c .match .keys3) (omega arith) refl refl refl,
+    )
 
 returns-4 : tie.Need-returns-4
 unfolding firstOf startsRun isBlank
 returns-4 c =
-    let a = c .before .before .before in
-    (means kind.CloseParen kind.Square Nowhere, single-told (now (a .args .source)) (a .args .report) (a .args .skip) (a .args .at) (code "]") kind.CloseParen kind.Square (a .pre .1) (c .match .keys4) (omega arith) refl refl refl)
+    let a = c .before .before .before in (
+      means kind.CloseParen kind.Square Nowhere,
+      single-told (now (a .args .source)) (a .args .report)
+          (a .args .skip) (a .args .at) (code "]") kind.CloseParen kind.Square (a .pre .1) (c .match .keys4) (omega arith) refl refl refl,
+    )
 
 returns-5 : tie.Need-returns-5
 unfolding firstOf startsRun isBlank
 returns-5 c =
-    let a = c .before .before .before in
-    (means kind.OpenParen kind.Curly Nowhere, single-told (now (a .args .source)) (a .args .report) (a .args .skip) (a .args .at) (code "{") kind.OpenParen kind.Curly (a .pre .1) (c .match .keys5) (omega arith) refl refl refl)
+    let a = c .before .before .before in (
+      means kind.OpenParen kind.Curly Nowhere,
+      single-told (now (a .args .source)) (a .args .report)
+          (a .args .skip) (a .args .at) (code "{") kind.OpenParen kind.Curly (a .pre .1) (c .match .keys5) (omega arith) refl refl refl,
+    )
 
 returns-6 : tie.Need-returns-6
 unfolding firstOf startsRun isBlank
 returns-6 c =
-    let a = c .before .before .before in
-    (means kind.CloseParen kind.Curly Nowhere, single-told (now (a .args .source)) (a .args .report) (a .args .skip) (a .args .at) (code "}") kind.CloseParen kind.Curly (a .pre .1) (c .match .keys6) (omega arith) refl refl refl)
+    let a = c .before .before .before in (
+      means kind.CloseParen kind.Curly Nowhere,
+      single-told (now (a .args .source)) (a .args .report)
+          (a .args .skip) (a .args .at) (code "}") kind.CloseParen kind.Curly (a .pre .1) (c .match .keys6) (omega arith) refl refl refl,
+    )
 
 returns-7 : tie.Need-returns-7
 unfolding firstOf startsRun isBlank
 returns-7 c =
-    let a = c .before .before .before in
-    (means kind.QuoteTick 0 Nowhere, single-told (now (a .args .source)) (a .args .report) (a .args .skip) (a .args .at) (code "'") kind.QuoteTick 0 (a .pre .1) (c .match .keys7) (omega arith) refl refl refl)
+    let a = c .before .before .before in (
+      means kind.QuoteTick 0 Nowhere,
+      single-told (now (a .args .source))
+          (a .args .report) (a .args .skip) (a .args .at) (code "'") kind.QuoteTick 0 (a .pre .1) (c .match .keys7) (omega arith) refl refl refl,
+    )
 
 returns-8 : tie.Need-returns-8
 unfolding firstOf startsRun isBlank
 returns-8 c =
-    let a = c .before .before .before in
-    (means kind.QuasiQuote 0 Nowhere, single-told (now (a .args .source)) (a .args .report) (a .args .skip) (a .args .at) (code "`") kind.QuasiQuote 0 (a .pre .1) (c .match .keys8) (omega arith) refl refl refl)
+    let a = c .before .before .before in (
+      means kind.QuasiQuote 0 Nowhere,
+      single-told (now (a .args .source))
+          (a .args .report) (a .args .skip) (a .args .at) (code "`") kind.QuasiQuote 0 (a .pre .1) (c .match .keys8) (omega arith) refl refl refl,
+    )
 
 returns-9 : tie.Need-returns-9
 returns-9 c = let a = c .before .before .before .before in c .skim-string .ensures (a .args .report) (a .args .skip)
@@ -126,14 +151,16 @@ returns-12 c =
     let a = c .before .before .before .before .before .before in
     let w = c .before in
     run-skims (now (a .args .source)) (a .args .report) (a .args .skip) (a .args .at) (a .pre .0) (digit w) (λ e. omega (arith, e, w .before .if1 .left)) (c .run-ending .result)
-    (subst (λ (y : Ending). EndsAs (now (a .args .source)) (a .args .report) ph.InRun Run (a .args .at + 1) y) (sym (c .run-ending .ensures)) (run-ends (now (a .args .source)) (a .args .report) (a .args .at + 1)))
+    (subst (λ (y : Ending). EndsAs (now (a .args .source)) (a .args .report) ph.InRun Run (a .args .at + 1) y)
+    (sym (c .run-ending .ensures)) (run-ends (now (a .args .source)) (a .args .report) (a .args .at + 1)))
 
 returns-13 : tie.Need-returns-13
 returns-13 c =
     let a = c .before .before .before .before .before .before .before .before in
     let w = c .before in
     word-skims (now (a .args .source)) (a .args .report) (a .args .skip) (a .args .at) (a .pre .0) (letter w) (λ e. omega (arith, e, w .before .if3 .left)) (c .word-ending .result)
-    (subst (λ (y : Ending). EndsAs (now (a .args .source)) (a .args .report) ph.InWord Word (a .args .at + 1) y) (sym (c .word-ending .ensures)) (word-ends (now (a .args .source)) (a .args .report) (a .args .at + 1)))
+    (subst (λ (y : Ending). EndsAs (now (a .args .source)) (a .args .report) ph.InWord Word (a .args .at + 1) y)
+    (sym (c .word-ending .ensures)) (word-ends (now (a .args .source)) (a .args .report) (a .args .at + 1)))
 
 returns-14 : tie.Need-returns-14
 returns-14 c = tt

@@ -21,13 +21,15 @@ returns : tie.Need-returns
 returns c report skip =
     let a = c .before .before .before .before .before in
     let g = c .before .end .given in
-    hash-skims (now (a .args .source)) report skip (a .args .at) (c .before .before .before .quick-hash .result) (c .before .before .before .quick-hash .ensures report skip) (g .0 .0) (g .0 .1 .0) (g .0 .1 .1 .0) (g .1)
+    hash-skims (now (a .args .source)) report skip (a .args .at) (c .before .before .before .quick-hash .result)
+    (c .before .before .before .quick-hash .ensures report skip) (g .0 .0) (g .0 .1 .0) (g .0 .1 .1 .0) (g .1)
 
 returns-2 : tie.Need-returns-2
 returns-2 c report skip =
     let a = c .before .before .before .before .before in
     let g = c .before .end2 .given in
-    bracket-skims (now (a .args .source)) report skip (a .args .at) (c .before .before .before .quick-hash .result) (c .before .before .before .quick-hash .ensures report skip) (g .0 .0) (g .0 .1 .0) (g .0 .1 .1 .0) (g .1)
+    bracket-skims (now (a .args .source)) report skip (a .args .at) (c .before .before .before .quick-hash .result)
+    (c .before .before .before .quick-hash .ensures report skip) (g .0 .0) (g .0 .1 .0) (g .0 .1 .1 .0) (g .1)
 
 returns-3 : tie.Need-returns-3
 returns-3 c report skip = tt

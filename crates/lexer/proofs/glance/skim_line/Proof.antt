@@ -25,7 +25,9 @@ line-ending-requires c κs = let a = c .before .before in omega (arith, begins-i
 returns-2 : tie.Need-returns-2
 returns-2 c report =
     let a = c .before .before .before in
-    line-skims (now (a .args .source)) report (a .args .skip) (a .args .at) (a .pre .0) (c .before .if1 .left) (a .pre .1) (c .line-ending .result) (subst (λ (y : Ending). EndsAs (now (a .args .source)) report ph.InLine comment (a .args .at + 1) y) (sym (c .line-ending .ensures)) (line-ends (now (a .args .source)) report (a .args .at + 1)))
+    line-skims (now (a .args .source)) report (a .args .skip) (a .args .at) (a .pre .0) (c .before .if1 .left)
+    (a .pre .1) (c .line-ending .result) (subst (λ (y : Ending). EndsAs (now (a .args .source)) report ph.InLine comment (a .args .at + 1) y)
+    (sym (c .line-ending .ensures)) (line-ends (now (a .args .source)) report (a .args .at + 1)))
 
 pub skim-line-spec : {M : Type 1} → statement M
 skim-line-spec = tie.close (tie.spec returns add-line-ending line-ending-requires returns-2)

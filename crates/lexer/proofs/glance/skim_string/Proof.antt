@@ -17,10 +17,13 @@ use Rattle.lexer.proofs.Skims.{string-skims}
 use Rattle.lexer.proofs.glance.skim_string.Statement.{statement}
 use Rattle.lexer.proofs.glance.skim_string.Tie as tie
 
-ended : (c : tie.After-known-told) (report : Bool) → EndsAs (now (c .before .before .before .before .before .args .source)) report (ph.Quoted Double) Str (c .before .before .before .before .before .args .at + 1) (ending.At (c .before .end .given .0 .0))
+ended : (c : tie.After-known-told) (report : Bool) → EndsAs (now (c .before .before .before .before .before .args .source)) report
+    (ph.Quoted Double) Str (c .before .before .before .before .before .args .at + 1) (ending.At (c .before .end .given .0 .0))
 ended c report =
     let a = c .before .before .before .before .before in
-    subst (λ (y : Ending). EndsAs (now (a .args .source)) report (ph.Quoted Double) Str (a .args .at + 1) y) (sym (c .before .before .before .string-ending .ensures) ∙ c .before .end .given .1) (string-ends (now (a .args .source)) report (a .args .at + 1))
+    subst (λ (y : Ending). EndsAs (now (a .args .source)) report (ph.Quoted Double) Str (a .args .at + 1) y)
+    (sym (c .before .before .before .string-ending .ensures) ∙ c .before .end .given .1)
+    (string-ends (now (a .args .source)) report (a .args .at + 1))
 
 within : (c : tie.After-known-told) → Spans (now (c .before .before .before .before .before .args .source)) (c .before .before .before .before .before .args .at) (c .before .end .given .0 .0)
 within c =

@@ -29,7 +29,8 @@ returns-2 : tie.Need-returns-2
 returns-2 c =
     let a = c .before .before .before .before .before .before in
     subst (λ (q : Quick). Tells Word (a .args .at) (now (a .args .raw)) q) (sym (c .named .ensures))
-    (identifier-tells (a .args .at) (a .args .end) (now (a .args .raw)) (a .pre .1) (ne-eqb (getD (now (a .args .raw)) 0 0) (code "+") (c .before .before .before .if1 .left)) (sym (c .before .before .word-kind .ensures) ∙ c .before .if2 .taken))
+    (identifier-tells (a .args .at) (a .args .end) (now (a .args .raw)) (a .pre .1) (ne-eqb (getD (now (a .args .raw)) 0 0)
+    (code "+") (c .before .before .before .if1 .left)) (sym (c .before .before .word-kind .ensures) ∙ c .before .if2 .taken))
 
 bare-requires : tie.Need-bare-requires
 bare-requires c κs = search needs

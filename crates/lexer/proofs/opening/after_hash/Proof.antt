@@ -20,7 +20,11 @@ line-end-requires : tie.Need-line-end-requires
 line-end-requires c κs = search needs
 
 returns : tie.Need-returns
-returns c = c .line-end .ensures ∙ bang (now (c .before .before .before .before .before .before .before .args .source)) (c .before .before .before .before .before .before .before .args .at) (c .before .before .before .code .given .0 .0) (c .before .before .before .code .given .0 .1 .0) (sym (c .before .before .before .code .given .1) ∙ c .before .before .before .before .before .decode-at .ensures) (c .before .if1 .taken) (c .before .before .before .before .before .before .before .pre)
+returns c =
+    let told = c .before .before .before in
+    let entry = told .before .before .before .before in
+    c .line-end .ensures ∙ bang (now (entry .args .source)) (entry .args .at) (told .code .given .0 .0)
+    (told .code .given .0 .1 .0) (sym (told .code .given .1) ∙ told .before .before .decode-at .ensures) (c .before .if1 .taken) (entry .pre)
 
 enum-told : tie.Need-enum-told
 enum-told c = search needs
@@ -32,16 +36,29 @@ enum-told-3 : tie.Need-enum-told-3
 enum-told-3 c = search needs
 
 returns-2 : tie.Need-returns-2
-returns-2 c = no-bang (now (c .before .before .before .before .before .before .args .source)) (c .before .before .before .before .before .before .args .at) (c .before .before .code .given .0 .0) (c .before .before .code .given .0 .1 .0) (sym (c .before .before .code .given .1) ∙ c .before .before .before .before .decode-at .ensures) (ne-eqb _ _ (c .if1 .left))
+returns-2 c =
+    let told = c .before .before in
+    let entry = told .before .before .before .before in
+    no-bang (now (entry .args .source)) (entry .args .at) (told .code .given .0 .0)
+    (told .code .given .0 .1 .0) (sym (told .code .given .1) ∙ told .before .before .decode-at .ensures) (ne-eqb _ _ (c .if1 .left))
 
 returns-3 : tie.Need-returns-3
-returns-3 c = hash-none (now (c .before .before .before .before .args .source)) (c .before .before .before .before .args .at) decoded.Bad (sym (c .enum-told .given .1) ∙ c .before .before .decode-at .ensures) (λ d n z. let y : _≡_ {A = ℕ} 0 1 = cc in omega arith)
+returns-3 c =
+    let entry = c .before .before .before .before in
+    hash-none (now (entry .args .source)) (entry .args .at) decoded.Bad
+    (sym (c .enum-told .given .1) ∙ c .before .before .decode-at .ensures) (λ d n z. let y : _≡_ {A = ℕ} 0 1 = cc in omega arith)
 
 returns-4 : tie.Need-returns-4
-returns-4 c = hash-none (now (c .before .before .before .before .args .source)) (c .before .before .before .before .args .at) decoded.Cut (sym (c .enum-told2 .given .1) ∙ c .before .before .decode-at .ensures) (λ d n z. let y : _≡_ {A = ℕ} 0 1 = cc in omega arith)
+returns-4 c =
+    let entry = c .before .before .before .before in
+    hash-none (now (entry .args .source)) (entry .args .at) decoded.Cut
+    (sym (c .enum-told2 .given .1) ∙ c .before .before .decode-at .ensures) (λ d n z. let y : _≡_ {A = ℕ} 0 1 = cc in omega arith)
 
 returns-5 : tie.Need-returns-5
-returns-5 c = hash-none (now (c .before .before .before .before .args .source)) (c .before .before .before .before .args .at) decoded.End (sym (c .enum-told3 .given .1) ∙ c .before .before .decode-at .ensures) (λ d n z. let y : _≡_ {A = ℕ} 0 1 = cc in omega arith)
+returns-5 c =
+    let entry = c .before .before .before .before in
+    hash-none (now (entry .args .source)) (entry .args .at) decoded.End
+    (sym (c .enum-told3 .given .1) ∙ c .before .before .decode-at .ensures) (λ d n z. let y : _≡_ {A = ℕ} 0 1 = cc in omega arith)
 
 pub after-hash-spec : {M : Type 1} → statement M
 after-hash-spec =

@@ -31,31 +31,52 @@ enum-known-code : tie.Need-enum-known-code Inv-loop μ-loop
 enum-known-code c = search needs
 
 returns : tie.Need-returns Inv-loop μ-loop
-returns c = line-stop (now (c .before .before .before .before .before .before .before .args .source)) (c .before .before .before .before .before .loop .at) (c .before .before .code .given .0 .0) (c .before .before .code .given .0 .1 .0) (sym (c .before .before .code .given .1) ∙ c .before .before .before .before .decode-at .ensures) (eq-eqb _ _ (c .if1 .taken)) ∙ c .before .before .before .before .before .loop .inv
+returns c =
+    let told = c .before .before in
+    let turn = told .before .before .before in
+    line-stop (now (turn .before .before .args .source)) (turn .loop .at) (told .code .given .0 .0) (told .code .given .0 .1 .0)
+    (sym (told .code .given .1) ∙ told .before .before .decode-at .ensures) (eq-eqb _ _ (c .if1 .taken)) ∙ turn .loop .inv
 
 loop-less : tie.Need-loop-less Inv-loop μ-loop
-loop-less c = omega (arith, char-found (now (c .before .before .before .before .before .before .before .args .source)) (c .before .before .before .before .before .loop .at) (c .before .before .code .given .0 .0) (c .before .before .code .given .0 .1 .0) (sym (c .before .before .code .given .1) ∙ c .before .before .before .before .decode-at .ensures), wide (c .before .before .code .given .0 .0))
+loop-less c =
+    let told = c .before .before in
+    omega (
+      arith,
+      char-found (now (told .before .before .before .before .before .args .source)) (told .before .before .before .loop .at)
+          (told .code .given .0 .0) (told .code .given .0 .1 .0) (sym (told .code .given .1) ∙ told .before .before .decode-at .ensures),
+      wide (told .code .given .0 .0),
+    )
 
 loop-again : tie.Need-loop-again Inv-loop μ-loop
-loop-again c = sym (line-on (now (c .before .before .before .before .before .before .before .args .source)) (c .before .before .before .before .before .loop .at) (c .before .before .code .given .0 .0) (c .before .before .code .given .0 .1 .0) (sym (c .before .before .code .given .1) ∙ c .before .before .before .before .decode-at .ensures) (ne-eqb _ _ (c .if1 .left))) ∙ c .before .before .before .before .before .loop .inv
+loop-again c =
+    let told = c .before .before in
+    let turn = told .before .before .before in
+    sym (line-on (now (turn .before .before .args .source)) (turn .loop .at) (told .code .given .0 .0) (told .code .given .0 .1 .0)
+    (sym (told .code .given .1) ∙ told .before .before .decode-at .ensures) (ne-eqb _ _ (c .if1 .left))) ∙ turn .loop .inv
 
 enum-told : tie.Need-enum-told Inv-loop μ-loop
 enum-told c = search needs
 
 returns-2 : tie.Need-returns-2 Inv-loop μ-loop
-returns-2 c = line-none (now (c .before .before .before .before .before .args .source)) (c .before .before .before .loop .at) decoded.Bad (sym (c .enum-told .given .1) ∙ c .before .before .decode-at .ensures) (λ d n z. let y : _≡_ {A = ℕ} 0 1 = cc in omega arith) ∙ c .before .before .before .loop .inv
+returns-2 c = line-none (now (c .before .before .before .before .before .args .source)) (c .before .before .before .loop .at) decoded.Bad
+    (sym (c .enum-told .given .1) ∙ c .before .before .decode-at .ensures) (λ d n z. let y : _≡_ {A = ℕ} 0 1 = cc in omega arith)
+    ∙ c .before .before .before .loop .inv
 
 enum-told-2 : tie.Need-enum-told-2 Inv-loop μ-loop
 enum-told-2 c = search needs
 
 returns-3 : tie.Need-returns-3 Inv-loop μ-loop
-returns-3 c = line-none (now (c .before .before .before .before .before .args .source)) (c .before .before .before .loop .at) decoded.Cut (sym (c .enum-told2 .given .1) ∙ c .before .before .decode-at .ensures) (λ d n z. let y : _≡_ {A = ℕ} 0 1 = cc in omega arith) ∙ c .before .before .before .loop .inv
+returns-3 c = line-none (now (c .before .before .before .before .before .args .source)) (c .before .before .before .loop .at) decoded.Cut
+    (sym (c .enum-told2 .given .1) ∙ c .before .before .decode-at .ensures) (λ d n z. let y : _≡_ {A = ℕ} 0 1 = cc in omega arith)
+    ∙ c .before .before .before .loop .inv
 
 enum-told-3 : tie.Need-enum-told-3 Inv-loop μ-loop
 enum-told-3 c = search needs
 
 returns-4 : tie.Need-returns-4 Inv-loop μ-loop
-returns-4 c = line-none (now (c .before .before .before .before .before .args .source)) (c .before .before .before .loop .at) decoded.End (sym (c .enum-told3 .given .1) ∙ c .before .before .decode-at .ensures) (λ d n z. let y : _≡_ {A = ℕ} 0 1 = cc in omega arith) ∙ c .before .before .before .loop .inv
+returns-4 c = line-none (now (c .before .before .before .before .before .args .source)) (c .before .before .before .loop .at) decoded.End
+    (sym (c .enum-told3 .given .1) ∙ c .before .before .decode-at .ensures) (λ d n z. let y : _≡_ {A = ℕ} 0 1 = cc in omega arith)
+    ∙ c .before .before .before .loop .inv
 
 pub line-end-spec : {M : Type 1} → statement M
 line-end-spec =

@@ -9,10 +9,14 @@ use Rattle.lexer.proofs.opening.open.Statement.{statement}
 use Rattle.lexer.proofs.opening.open.Tie as tie
 
 returns : tie.Need-returns
-returns c = open-mode (now (c .before .before .args .source)) (c .before .before .args .mode) (c .before .before .args .skip) (c .if1 .taken)
+returns c =
+    let entry = c .before .before in
+    open-mode (now (entry .args .source)) (entry .args .mode) (entry .args .skip) (c .if1 .taken)
 
 returns-2 : tie.Need-returns-2
-returns-2 c = open-long (now (c .before .before .before .args .source)) (c .before .before .before .args .mode) (c .before .before .before .args .skip) (c .before .if1 .left) (c .if2 .taken)
+returns-2 c =
+    let entry = c .before .before .before in
+    open-long (now (entry .args .source)) (entry .args .mode) (entry .args .skip) (c .before .if1 .left) (c .if2 .taken)
 
 first-bad-requires : tie.Need-first-bad-requires
 first-bad-requires c κs = search needs
@@ -27,10 +31,18 @@ enum-known-at : tie.Need-enum-known-at
 enum-known-at c = search needs
 
 returns-3 : tie.Need-returns-3
-returns-3 c = ap opened (c .start .ensures) ∙ open-utf8 (now (c .before .before .before .before .before .before .before .args .source)) (c .before .before .before .before .before .before .before .args .mode) (c .before .before .before .before .before .before .before .args .skip) (c .before .before .before .before .before .if1 .left) (c .before .before .before .before .if2 .left) Good (sym (c .before .enum-told .given .1) ∙ c .before .before .before .first-bad .ensures)
+returns-3 c =
+    let entry = c .before .before .before .before .before .before .before in
+    ap opened (c .start .ensures)
+    ∙ open-utf8 (now (entry .args .source)) (entry .args .mode) (entry .args .skip) (c .before .before .before .before .before .if1 .left)
+    (c .before .before .before .before .if2 .left) Good (sym (c .before .enum-told .given .1) ∙ c .before .before .before .first-bad .ensures)
 
 returns-4 : tie.Need-returns-4
-returns-4 c = open-utf8 (now (c .before .before .before .before .before .before .before .args .source)) (c .before .before .before .before .before .before .before .args .mode) (c .before .before .before .before .before .before .before .args .skip) (c .before .before .before .before .before .if1 .left) (c .before .before .before .before .if2 .left) (Bad (c .before .at .given .0 .0)) (sym (c .before .at .given .1) ∙ c .before .before .before .first-bad .ensures)
+returns-4 c =
+    let entry = c .before .before .before .before .before .before .before in
+    open-utf8 (now (entry .args .source))
+    (entry .args .mode) (entry .args .skip) (c .before .before .before .before .before .if1 .left) (c .before .before .before .before .if2 .left)
+    (Bad (c .before .at .given .0 .0)) (sym (c .before .at .given .1) ∙ c .before .before .before .first-bad .ensures)
 
 pub open-spec : {M : Type 1} → statement M
 open-spec =

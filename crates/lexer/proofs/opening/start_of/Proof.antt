@@ -17,10 +17,16 @@ enum-known-code : tie.Need-enum-known-code
 enum-known-code c = search needs
 
 after-hash-requires : tie.Need-after-hash-requires
-after-hash-requires c κs = hash-at (now (c .before .before .before .before .before .before .args .source)) (c .before .before .code .given .0 .0) (c .before .before .code .given .0 .1 .0) (sym (c .before .before .code .given .1) ∙ c .before .before .before .before .decode-at .ensures) (c .if1 .taken) .0
+after-hash-requires c κs =
+    let told = c .before .before in
+    hash-at (now (told .before .before .before .before .args .source))
+    (told .code .given .0 .0) (told .code .given .0 .1 .0) (sym (told .code .given .1) ∙ told .before .before .decode-at .ensures) (c .if1 .taken) .0
 
 returns : tie.Need-returns
-returns c = c .after-hash .ensures ∙ hash-at (now (c .before .before .before .before .before .before .before .args .source)) (c .before .before .before .code .given .0 .0) (c .before .before .before .code .given .0 .1 .0) (sym (c .before .before .before .code .given .1) ∙ c .before .before .before .before .before .decode-at .ensures) (c .before .if1 .taken) .1
+returns c =
+    let told = c .before .before .before in
+    c .after-hash .ensures ∙ hash-at (now (told .before .before .before .before .args .source)) (told .code .given .0 .0)
+    (told .code .given .0 .1 .0) (sym (told .code .given .1) ∙ told .before .before .decode-at .ensures) (c .before .if1 .taken) .1
 
 enum-told : tie.Need-enum-told
 enum-told c = search needs
@@ -32,16 +38,22 @@ enum-told-3 : tie.Need-enum-told-3
 enum-told-3 c = search needs
 
 returns-2 : tie.Need-returns-2
-returns-2 c = no-hash (now (c .before .before .before .before .before .before .args .source)) (c .before .before .code .given .0 .0) (c .before .before .code .given .0 .1 .0) (sym (c .before .before .code .given .1) ∙ c .before .before .before .before .decode-at .ensures) (ne-eqb _ _ (c .if1 .left))
+returns-2 c =
+    let told = c .before .before in
+    no-hash (now (told .before .before .before .before .args .source)) (told .code .given .0 .0)
+    (told .code .given .0 .1 .0) (sym (told .code .given .1) ∙ told .before .before .decode-at .ensures) (ne-eqb _ _ (c .if1 .left))
 
 returns-3 : tie.Need-returns-3
-returns-3 c = no-start (now (c .before .before .before .before .args .source)) decoded.Bad (sym (c .enum-told .given .1) ∙ c .before .before .decode-at .ensures) (λ d n z. let y : _≡_ {A = ℕ} 0 1 = cc in omega arith)
+returns-3 c = no-start (now (c .before .before .before .before .args .source)) decoded.Bad
+    (sym (c .enum-told .given .1) ∙ c .before .before .decode-at .ensures) (λ d n z. let y : _≡_ {A = ℕ} 0 1 = cc in omega arith)
 
 returns-4 : tie.Need-returns-4
-returns-4 c = no-start (now (c .before .before .before .before .args .source)) decoded.Cut (sym (c .enum-told2 .given .1) ∙ c .before .before .decode-at .ensures) (λ d n z. let y : _≡_ {A = ℕ} 0 1 = cc in omega arith)
+returns-4 c = no-start (now (c .before .before .before .before .args .source)) decoded.Cut
+    (sym (c .enum-told2 .given .1) ∙ c .before .before .decode-at .ensures) (λ d n z. let y : _≡_ {A = ℕ} 0 1 = cc in omega arith)
 
 returns-5 : tie.Need-returns-5
-returns-5 c = no-start (now (c .before .before .before .before .args .source)) decoded.End (sym (c .enum-told3 .given .1) ∙ c .before .before .decode-at .ensures) (λ d n z. let y : _≡_ {A = ℕ} 0 1 = cc in omega arith)
+returns-5 c = no-start (now (c .before .before .before .before .args .source)) decoded.End
+    (sym (c .enum-told3 .given .1) ∙ c .before .before .decode-at .ensures) (λ d n z. let y : _≡_ {A = ℕ} 0 1 = cc in omega arith)
 
 pub start-of-spec : {M : Type 1} → statement M
 start-of-spec =

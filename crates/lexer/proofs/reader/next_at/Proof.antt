@@ -8,7 +8,9 @@ use Rattle.lexer.proofs.reader.next_at.Statement.{statement}
 use Rattle.lexer.proofs.reader.next_at.Tie as tie
 
 returns : tie.Need-returns
-returns c = reply-long (now (c .before .before .before .args .source)) (c .before .before .before .args .position) (now (c .before .before .before .args .text)) (c .if1 .taken)
+returns c =
+    let entry = c .before .before .before in
+    reply-long (now (entry .args .source)) (entry .args .position) (now (entry .args .text)) (c .if1 .taken)
 
 next-item-requires : tie.Need-next-item-requires
 next-item-requires c κs = (c .if1 .left, omega arith)
@@ -20,10 +22,20 @@ free-after-requires : tie.Need-free-after-requires
 free-after-requires c κs = search needs
 
 returns-2 : tie.Need-returns-2
-returns-2 c = reply-room (now (c .before .before .before .before .before .before .before .before .before .args .source)) (c .before .before .before .before .before .before .before .before .before .args .position) (now (c .before .before .before .before .before .before .before .before .before .args .text)) (c .before .before .before .before .before .before .if1 .left) (c .before .before .before .nine .given .0 .0) (c .before .before .before .nine .given .0 .1 .0) (sym (c .before .before .before .nine .given .1) ∙ c .before .before .before .before .before .next-item .ensures) (c .before .free-after .result) (c .before .free-after .ensures) (c .if2 .taken)
+returns-2 c =
+    let told = c .before .before .before in
+    let entry = told .before .before .before .before .before .before in
+    reply-room (now (entry .args .source)) (entry .args .position) (now (entry .args .text)) (told .before .before .before .if1 .left)
+    (told .nine .given .0 .0) (told .nine .given .0 .1 .0) (sym (told .nine .given .1) ∙ told .before .before .next-item .ensures)
+    (c .before .free-after .result) (c .before .free-after .ensures) (c .if2 .taken)
 
 put-text-requires : tie.Need-put-text-requires
-put-text-requires c κs = reply-fits (now (c .before .before .before .before .before .before .before .before .before .before .args .source)) (c .before .before .before .before .before .before .before .before .before .before .args .position) (now (c .before .before .before .before .before .before .before .before .before .before .args .text)) (c .before .before .before .before .before .before .before .if1 .left) (c .before .before .before .before .nine .given .0 .0) (c .before .before .before .before .nine .given .0 .1 .0) (sym (c .before .before .before .before .nine .given .1) ∙ c .before .before .before .before .before .before .next-item .ensures) (c .before .before .free-after .result) (c .before .before .free-after .ensures) (c .before .if2 .left)
+put-text-requires c κs =
+    let told = c .before .before .before .before in
+    let entry = told .before .before .before .before .before .before in
+    reply-fits (now (entry .args .source)) (entry .args .position) (now (entry .args .text)) (told .before .before .before .if1 .left)
+    (told .nine .given .0 .0) (told .nine .given .0 .1 .0) (sym (told .nine .given .1) ∙ told .before .before .next-item .ensures)
+    (c .before .before .free-after .result) (c .before .before .free-after .ensures) (c .before .if2 .left)
 
 depth-after-requires : tie.Need-depth-after-requires
 depth-after-requires c κs = search needs
@@ -35,10 +47,20 @@ same-length : tie.Need-same-length
 same-length c = search needs
 
 returns-3 : tie.Need-returns-3
-returns-3 c = reply-item (now (c .before .before .before .before .before .before .before .before .before .before .before .before .before .before .args .source)) (c .before .before .before .before .before .before .before .before .before .before .before .before .before .before .args .position) (now (c .before .before .before .before .before .before .before .before .before .before .before .before .before .before .args .text)) (c .before .before .before .before .before .before .before .before .before .before .before .if1 .left) (c .before .before .before .before .before .before .before .before .nine .given .0 .0) (c .before .before .before .before .before .before .before .before .nine .given .0 .1 .0) (sym (c .before .before .before .before .before .before .before .before .nine .given .1) ∙ c .before .before .before .before .before .before .before .before .before .before .next-item .ensures) (c .before .before .before .before .before .before .free-after .result) (c .before .before .before .before .before .before .free-after .ensures) (c .before .before .before .before .before .if2 .left) (c .depth-after .result) (c .depth-after .ensures) (c .before .before .before .put-text .ensures)
+returns-3 c =
+    let at-free-after = c .before .before .before .before .before .before in
+    let told = at-free-after .before .before in
+    let entry = told .before .before .before .before .before .before in
+    reply-item (now (entry .args .source)) (entry .args .position) (now (entry .args .text)) (told .before .before .before .if1 .left)
+    (told .nine .given .0 .0) (told .nine .given .0 .1 .0) (sym (told .nine .given .1) ∙ told .before .before .next-item .ensures)
+    (at-free-after .free-after .result) (at-free-after .free-after .ensures) (c .before .before .before .before .before .if2 .left)
+    (c .depth-after .result) (c .depth-after .ensures) (c .before .before .before .put-text .ensures)
 
 returns-4 : tie.Need-returns-4
-returns-4 c = reply-end (now (c .before .before .before .before .before .before .args .source)) (c .before .before .before .before .before .before .args .position) (now (c .before .before .before .before .before .before .args .text)) (c .before .before .before .if1 .left) (sym (c .enum-told .given .1) ∙ c .before .before .next-item .ensures)
+returns-4 c =
+    let entry = c .before .before .before .before .before .before in
+    reply-end (now (entry .args .source)) (entry .args .position)
+    (now (entry .args .text)) (c .before .before .before .if1 .left) (sym (c .enum-told .given .1) ∙ c .before .before .next-item .ensures)
 
 pub next-at-spec : {M : Type 1} → statement M
 next-at-spec =

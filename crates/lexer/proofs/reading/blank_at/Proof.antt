@@ -19,15 +19,29 @@ shared-slice-read-b : tie.Need-shared-slice-read-b
 shared-slice-read-b c = search needs
 
 returns-2 : tie.Need-returns-2
-returns-2 c = blank-here (now (c .before .before .before .args .source)) (c .before .before .before .args .at) (c .before .before .if1 .left) true (rw (eq-eqb (getD (now (c .before .before .before .args .source)) (c .before .before .before .args .at) 0) 0x20 (c .if2 .taken)))
+returns-2 c =
+    let entry = c .before .before .before in
+    blank-here (now (entry .args .source))
+    (entry .args .at) (c .before .before .if1 .left) true (rw (eq-eqb (getD (now (entry .args .source)) (entry .args .at) 0) 0x20 (c .if2 .taken)))
 
 returns-3 : tie.Need-returns-3
 unfolding within
-returns-3 c = blank-here (now (c .before .before .before .before .args .source)) (c .before .before .before .before .args .at) (c .before .before .before .if1 .left) false (rw (ne-eqb (getD (now (c .before .before .before .before .args .source)) (c .before .before .before .before .args .at) 0) 0x20 (c .before .if2 .left), lt-leb 0x09 (getD (now (c .before .before .before .before .args .source)) (c .before .before .before .before .args .at) 0) (c .if3 .taken)))
+returns-3 c =
+    let entry = c .before .before .before .before in
+    blank-here (now (entry .args .source)) (entry .args .at) (c .before .before .before .if1 .left) false (rw (
+      ne-eqb (getD (now (entry .args .source)) (entry .args .at) 0) 0x20 (c .before .if2 .left),
+      lt-leb 0x09 (getD (now (entry .args .source)) (entry .args .at) 0) (c .if3 .taken),
+    ))
 
 returns-4 : tie.Need-returns-4
 unfolding within
-returns-4 c = blank-here (now (c .before .before .before .before .args .source)) (c .before .before .before .before .args .at) (c .before .before .before .if1 .left) (leb (getD (now (c .before .before .before .before .args .source)) (c .before .before .before .before .args .at) 0) 0x0D) (rw (ne-eqb (getD (now (c .before .before .before .before .args .source)) (c .before .before .before .before .args .at) 0) 0x20 (c .before .if2 .left), le-leb 0x09 (getD (now (c .before .before .before .before .args .source)) (c .before .before .before .before .args .at) 0) (c .if3 .left)))
+returns-4 c =
+    let entry = c .before .before .before .before in
+    blank-here (now (entry .args .source))
+    (entry .args .at) (c .before .before .before .if1 .left) (leb (getD (now (entry .args .source)) (entry .args .at) 0) 0x0D) (rw (
+      ne-eqb (getD (now (entry .args .source)) (entry .args .at) 0) 0x20 (c .before .if2 .left),
+      le-leb 0x09 (getD (now (entry .args .source)) (entry .args .at) 0) (c .if3 .left),
+    ))
 
 pub blank-at-spec : {M : Type 1} → statement M
 blank-at-spec = tie.close (tie.spec returns shared-slice-read-b returns-2 returns-3 returns-4)

@@ -37,37 +37,56 @@ past-spaces-requires c κs = search needs
 
 loop-less : tie.Need-loop-less Inv-loop μ-loop
 loop-less c =
+    let at-decode-at = c .before .before .before .before .before .before in
     let read = c .before .before .before .before in
-    omega
-    (arith, char-found (now (c .before .before .before .before .before .before .before .before .before .args .source)) (c .before .before .before .before .before .before .before .loop .at) (read .code .given .0 .0) (read .code .given .0 .1 .0) (sym (read .code .given .1) ∙ c .before .before .before .before .before .before .decode-at .ensures), wide (read .code .given .0 .0), c .past-spaces .ensures .0)
+    omega (
+      arith,
+      char-found (now (at-decode-at .before .before .before .args .source)) (at-decode-at .before .loop .at)
+          (read .code .given .0 .0) (read .code .given .0 .1 .0) (sym (read .code .given .1) ∙ at-decode-at .decode-at .ensures),
+      wide (read .code .given .0 .0),
+      c .past-spaces .ensures .0,
+    )
 
 loop-again : tie.Need-loop-again Inv-loop μ-loop
 loop-again c =
+    let turn = c .before .before .before .before .before .before .before in
     let read = c .before .before .before .before in
     c .past-spaces .ensures .1
-    ∙ sym (start-blank (now (c .before .before .before .before .before .before .before .before .before .args .source)) (c .before .before .before .before .before .before .before .loop .at) (read .code .given .0 .0) (read .code .given .0 .1 .0) (sym (read .code .given .1) ∙ c .before .before .before .before .before .before .decode-at .ensures) (sym (c .before .before .is-blank .ensures) ∙ c .before .if1 .taken))
-    ∙ c .before .before .before .before .before .before .before .loop .inv
+    ∙ sym (start-blank (now (turn .before .before .args .source)) (turn .loop .at) (read .code .given .0 .0) (read .code .given .0 .1 .0)
+    (sym (read .code .given .1) ∙ c .before .before .before .before .before .before .decode-at .ensures)
+    (sym (c .before .before .is-blank .ensures) ∙ c .before .if1 .taken))
+    ∙ turn .loop .inv
 
 returns : tie.Need-returns Inv-loop μ-loop
-returns c = start-solid (now (c .before .before .before .before .before .before .before .before .args .source)) (c .before .before .before .before .before .before .loop .at) (c .before .before .before .code .given .0 .0) (c .before .before .before .code .given .0 .1 .0) (sym (c .before .before .before .code .given .1) ∙ c .before .before .before .before .before .decode-at .ensures) (sym (c .before .is-blank .ensures) ∙ c .if1 .left) ∙ c .before .before .before .before .before .before .loop .inv
+returns c =
+    let told = c .before .before .before in
+    let turn = told .before .before .before in
+    start-solid (now (turn .before .before .args .source)) (turn .loop .at) (told .code .given .0 .0) (told .code .given .0 .1 .0)
+    (sym (told .code .given .1) ∙ told .before .before .decode-at .ensures) (sym (c .before .is-blank .ensures) ∙ c .if1 .left) ∙ turn .loop .inv
 
 enum-told : tie.Need-enum-told Inv-loop μ-loop
 enum-told c = search needs
 
 returns-2 : tie.Need-returns-2 Inv-loop μ-loop
-returns-2 c = start-none (now (c .before .before .before .before .before .args .source)) (c .before .before .before .loop .at) decoded.Bad (sym (c .enum-told .given .1) ∙ c .before .before .decode-at .ensures) (λ d n z. let y : _≡_ {A = ℕ} 0 1 = cc in omega arith) ∙ c .before .before .before .loop .inv
+returns-2 c = start-none (now (c .before .before .before .before .before .args .source)) (c .before .before .before .loop .at) decoded.Bad
+    (sym (c .enum-told .given .1) ∙ c .before .before .decode-at .ensures) (λ d n z. let y : _≡_ {A = ℕ} 0 1 = cc in omega arith)
+    ∙ c .before .before .before .loop .inv
 
 enum-told-2 : tie.Need-enum-told-2 Inv-loop μ-loop
 enum-told-2 c = search needs
 
 returns-3 : tie.Need-returns-3 Inv-loop μ-loop
-returns-3 c = start-none (now (c .before .before .before .before .before .args .source)) (c .before .before .before .loop .at) decoded.Cut (sym (c .enum-told2 .given .1) ∙ c .before .before .decode-at .ensures) (λ d n z. let y : _≡_ {A = ℕ} 0 1 = cc in omega arith) ∙ c .before .before .before .loop .inv
+returns-3 c = start-none (now (c .before .before .before .before .before .args .source)) (c .before .before .before .loop .at) decoded.Cut
+    (sym (c .enum-told2 .given .1) ∙ c .before .before .decode-at .ensures) (λ d n z. let y : _≡_ {A = ℕ} 0 1 = cc in omega arith)
+    ∙ c .before .before .before .loop .inv
 
 enum-told-3 : tie.Need-enum-told-3 Inv-loop μ-loop
 enum-told-3 c = search needs
 
 returns-4 : tie.Need-returns-4 Inv-loop μ-loop
-returns-4 c = start-none (now (c .before .before .before .before .before .args .source)) (c .before .before .before .loop .at) decoded.End (sym (c .enum-told3 .given .1) ∙ c .before .before .decode-at .ensures) (λ d n z. let y : _≡_ {A = ℕ} 0 1 = cc in omega arith) ∙ c .before .before .before .loop .inv
+returns-4 c = start-none (now (c .before .before .before .before .before .args .source)) (c .before .before .before .loop .at) decoded.End
+    (sym (c .enum-told3 .given .1) ∙ c .before .before .decode-at .ensures) (λ d n z. let y : _≡_ {A = ℕ} 0 1 = cc in omega arith)
+    ∙ c .before .before .before .loop .inv
 
 pub consume-whitespace-spec : {M : Type 1} → statement M
 consume-whitespace-spec =

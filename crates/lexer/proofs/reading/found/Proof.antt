@@ -36,7 +36,11 @@ past-requires : tie.Need-past-requires
 past-requires c κs = search needs
 
 one-requires : tie.Need-one-requires
-one-requires c κs = fits-one (c .before .before .before .before .before .before .before .before .before .args .free) (meaningOf (c .before .before .before .before .before .before .before .before .before .args .p .report) (c .before .before .before .before .before .before .before .before .before .args .what) (c .before .before .before .before .before .before .before .before .before .args .start) (c .before .before .before .before .before .before .before .before .before .args .start + length (now (c .before .before .before .before .before .before .before .before .before .args .raw))) (now (c .before .before .before .before .before .before .before .before .before .args .raw))) (c .before .before .m .given .0 .0) (sym (ap meant (c .before .before .m .given .1)) ∙ c .before .before .before .before .meaning .ensures) (c .before .before .before .before .before .before .before .before .before .pre .texts)
+one-requires c κs =
+    let entry = c .before .before .before .before .before .before .before .before .before in
+    fits-one (entry .args .free) (meaningOf (entry .args .p .report) (entry .args .what)
+    (entry .args .start) (entry .args .start + length (now (entry .args .raw))) (now (entry .args .raw))) (c .before .before .m .given .0 .0)
+    (sym (ap meant (c .before .before .m .given .1)) ∙ c .before .before .before .before .meaning .ensures) (entry .pre .texts)
 
 enum-known-m-2 : tie.Need-enum-known-m-2
 enum-known-m-2 c = search needs
@@ -45,22 +49,58 @@ past-requires-2 : tie.Need-past-requires-2
 past-requires-2 c κs = search needs
 
 one-requires-2 : tie.Need-one-requires-2
-one-requires-2 c κs = fits-two (c .before .before .before .before .before .before .before .before .before .before .args .free) (meaningOf (c .before .before .before .before .before .before .before .before .before .before .args .p .report) (c .before .before .before .before .before .before .before .before .before .before .args .what) (c .before .before .before .before .before .before .before .before .before .before .args .start) (c .before .before .before .before .before .before .before .before .before .before .args .start + length (now (c .before .before .before .before .before .before .before .before .before .before .args .raw))) (now (c .before .before .before .before .before .before .before .before .before .before .args .raw))) (c .before .before .before .m2 .given .0 .0) (c .before .before .before .m2 .given .0 .1 .0) (sym (ap meant (c .before .before .before .m2 .given .1)) ∙ c .before .before .before .before .before .meaning .ensures) (c .before .before .before .before .before .before .before .before .before .before .pre .texts) .1
+one-requires-2 c κs =
+    let told = c .before .before .before in
+    let entry = told .before .before .before .before .before .before .before in
+    fits-two (entry .args .free) (meaningOf (entry .args .p .report)
+    (entry .args .what) (entry .args .start) (entry .args .start + length (now (entry .args .raw))) (now (entry .args .raw))) (told .m2 .given .0 .0)
+    (told .m2 .given .0 .1 .0) (sym (ap meant (told .m2 .given .1)) ∙ told .before .before .meaning .ensures) (entry .pre .texts) .1
 
 stand-requires : tie.Need-stand-requires
 stand-requires c κs = search needs
 
 one-requires-3 : tie.Need-one-requires-3
-one-requires-3 c κs = fits-two (c .before .before .before .before .before .before .before .before .before .before .args .free) (meaningOf (c .before .before .before .before .before .before .before .before .before .before .args .p .report) (c .before .before .before .before .before .before .before .before .before .before .args .what) (c .before .before .before .before .before .before .before .before .before .before .args .start) (c .before .before .before .before .before .before .before .before .before .before .args .start + length (now (c .before .before .before .before .before .before .before .before .before .before .args .raw))) (now (c .before .before .before .before .before .before .before .before .before .before .args .raw))) (c .before .before .before .m2 .given .0 .0) (c .before .before .before .m2 .given .0 .1 .0) (sym (ap meant (c .before .before .before .m2 .given .1)) ∙ c .before .before .before .before .before .meaning .ensures) (c .before .before .before .before .before .before .before .before .before .before .pre .texts) .0
+one-requires-3 c κs =
+    let told = c .before .before .before in
+    let entry = told .before .before .before .before .before .before .before in
+    fits-two (entry .args .free) (meaningOf (entry .args .p .report)
+    (entry .args .what) (entry .args .start) (entry .args .start + length (now (entry .args .raw))) (now (entry .args .raw))) (told .m2 .given .0 .0)
+    (told .m2 .given .0 .1 .0) (sym (ap meant (told .m2 .given .1)) ∙ told .before .before .meaning .ensures) (entry .pre .texts) .0
 
 returns : tie.Need-returns
-returns c = found-one (c .before .before .before .before .before .before .before .before .before .before .args .free) (c .before .before .before .before .before .before .before .before .before .before .args .p) (c .before .before .before .before .before .before .before .before .before .before .args .start) (c .before .before .before .before .before .before .before .before .before .before .args .what) (now (c .before .before .before .before .before .before .before .before .before .before .args .raw)) (c .before .before .before .before .before .before .before .range-shown .result) (c .before .before .before .before .before .before .range-after .result) (c .before .before .before .before .before .before .before .range-shown .ensures) (c .before .before .before .before .before .before .range-after .ensures) (c .one .result) (c .before .past .result) (c .before .before .before .m .given .0 .0) (sym (ap meant (c .before .before .before .m .given .1)) ∙ c .before .before .before .before .before .meaning .ensures) (c .one .ensures) (c .before .past .ensures)
+returns c =
+    let at-range-after = c .before .before .before .before .before .before in
+    let at-range-shown = at-range-after .before in
+    let entry = at-range-shown .before .before .before in
+    found-one (entry .args .free) (entry .args .p) (entry .args .start) (entry .args .what)
+    (now (entry .args .raw)) (at-range-shown .range-shown .result) (at-range-after .range-after .result) (at-range-shown .range-shown .ensures)
+    (at-range-after .range-after .ensures) (c .one .result) (c .before .past .result) (c .before .before .before .m .given .0 .0)
+    (sym (ap meant (c .before .before .before .m .given .1)) ∙ c .before .before .before .before .before .meaning .ensures)
+    (c .one .ensures) (c .before .past .ensures)
 
 returns-2 : tie.Need-returns-2
-returns-2 c = found-second (c .before .before .before .before .before .before .before .before .before .before .before .args .free) (c .before .before .before .before .before .before .before .before .before .before .before .args .p) (c .before .before .before .before .before .before .before .before .before .before .before .args .start) (c .before .before .before .before .before .before .before .before .before .before .before .args .what) (now (c .before .before .before .before .before .before .before .before .before .before .before .args .raw)) (c .before .before .before .before .before .before .before .before .range-shown .result) (c .before .before .before .before .before .before .before .range-after .result) (c .before .before .before .before .before .before .before .before .range-shown .ensures) (c .before .before .before .before .before .before .before .range-after .ensures) (c .one2 .result) (c .before .past2 .result) (c .before .before .before .before .m2 .given .0 .0) (c .before .before .before .before .m2 .given .0 .1 .0) (sym (ap meant (c .before .before .before .before .m2 .given .1)) ∙ c .before .before .before .before .before .before .meaning .ensures) (c .before .before .if1 .taken) (c .one2 .ensures) (c .before .past2 .ensures)
+returns-2 c =
+    let told = c .before .before .before .before in
+    let at-range-after = told .before .before .before in
+    let at-range-shown = at-range-after .before in
+    let entry = at-range-shown .before .before .before in
+    found-second (entry .args .free) (entry .args .p) (entry .args .start)
+    (entry .args .what) (now (entry .args .raw)) (at-range-shown .range-shown .result) (at-range-after .range-after .result)
+    (at-range-shown .range-shown .ensures) (at-range-after .range-after .ensures) (c .one2 .result) (c .before .past2 .result)
+    (told .m2 .given .0 .0) (told .m2 .given .0 .1 .0) (sym (ap meant (told .m2 .given .1)) ∙ told .before .before .meaning .ensures)
+    (c .before .before .if1 .taken) (c .one2 .ensures) (c .before .past2 .ensures)
 
 returns-3 : tie.Need-returns-3
-returns-3 c = found-first (c .before .before .before .before .before .before .before .before .before .before .before .args .free) (c .before .before .before .before .before .before .before .before .before .before .before .args .p) (c .before .before .before .before .before .before .before .before .before .before .before .args .start) (c .before .before .before .before .before .before .before .before .before .before .before .args .what) (now (c .before .before .before .before .before .before .before .before .before .before .before .args .raw)) (c .before .before .before .before .before .before .before .before .range-shown .result) (c .before .before .before .before .before .before .before .range-after .result) (c .before .before .before .before .before .before .before .before .range-shown .ensures) (c .before .before .before .before .before .before .before .range-after .ensures) (c .one3 .result) (c .before .stand .result) (c .before .before .before .before .m2 .given .0 .0) (c .before .before .before .before .m2 .given .0 .1 .0) (sym (ap meant (c .before .before .before .before .m2 .given .1)) ∙ c .before .before .before .before .before .before .meaning .ensures) (c .before .before .if1 .left) (c .one3 .ensures) (c .before .stand .ensures)
+returns-3 c =
+    let told = c .before .before .before .before in
+    let at-range-after = told .before .before .before in
+    let at-range-shown = at-range-after .before in
+    let entry = at-range-shown .before .before .before in
+    found-first (entry .args .free) (entry .args .p) (entry .args .start) (entry .args .what)
+    (now (entry .args .raw)) (at-range-shown .range-shown .result) (at-range-after .range-after .result) (at-range-shown .range-shown .ensures)
+    (at-range-after .range-after .ensures) (c .one3 .result) (c .before .stand .result) (told .m2 .given .0 .0)
+    (told .m2 .given .0 .1 .0) (sym (ap meant (told .m2 .given .1)) ∙ told .before .before .meaning .ensures)
+    (c .before .before .if1 .left) (c .one3 .ensures) (c .before .stand .ensures)
 
 pub found-spec : {M : Type 1} → statement M
 found-spec =

@@ -26,19 +26,40 @@ skips-requires : tie.Need-skips-requires Inv-loop μ-loop
 skips-requires c κs = search needs
 
 loop-less : tie.Need-loop-less Inv-loop μ-loop
-loop-less c = seeks-moved (now (c .before .before .before .before .before .before .before .before .args .source)) (c .before .before .before .before .before .before .before .before .args .free) (c .before .before .before .before .before .before .before .before .args .spot) (c .before .before .before .before .before .before .loop .p) (c .before .before .before .before .before .before .loop .inv) (c .before .before .before .nine .given .0 .0) (c .before .before .before .nine .given .0 .1 .0) (sym (c .before .before .before .nine .given .1) ∙ c .before .before .before .before .before .turn-at .ensures) .smaller
+loop-less c =
+    let told = c .before .before .before in
+    let round = told .before .before .before in
+    let entry = round .before .before in
+    seeks-moved (now (entry .args .source)) (entry .args .free) (entry .args .spot) (round .loop .p) (round .loop .inv)
+    (told .nine .given .0 .0) (told .nine .given .0 .1 .0) (sym (told .nine .given .1) ∙ told .before .before .turn-at .ensures) .smaller
 
 loop-again : tie.Need-loop-again Inv-loop μ-loop
-loop-again c = seeks-on (now (c .before .before .before .before .before .before .before .before .args .source)) (c .before .before .before .before .before .before .before .before .args .free) (c .before .before .before .before .before .before .before .before .args .spot) (c .before .before .before .before .before .before .loop .p) (c .before .before .before .before .before .before .loop .inv) (c .before .before .before .nine .given .0 .0) (c .before .before .before .nine .given .0 .1 .0) (sym (c .before .before .before .nine .given .1) ∙ c .before .before .before .before .before .turn-at .ensures) (sym (c .before .skips .ensures) ∙ c .if1 .taken)
+loop-again c =
+    let told = c .before .before .before in
+    let round = told .before .before .before in
+    let entry = round .before .before in
+    seeks-on (now (entry .args .source))
+    (entry .args .free) (entry .args .spot) (round .loop .p) (round .loop .inv) (told .nine .given .0 .0) (told .nine .given .0 .1 .0)
+    (sym (told .nine .given .1) ∙ told .before .before .turn-at .ensures) (sym (c .before .skips .ensures) ∙ c .if1 .taken)
 
 returns : tie.Need-returns Inv-loop μ-loop
-returns c = seeks-given (now (c .before .before .before .before .before .before .before .before .args .source)) (c .before .before .before .before .before .before .before .before .args .free) (c .before .before .before .before .before .before .before .before .args .spot) (c .before .before .before .before .before .before .loop .p) (c .before .before .before .before .before .before .loop .inv) (c .before .before .before .nine .given .0 .0) (c .before .before .before .nine .given .0 .1 .0) (sym (c .before .before .before .nine .given .1) ∙ c .before .before .before .before .before .turn-at .ensures) (sym (c .before .skips .ensures) ∙ c .if1 .left)
+returns c =
+    let told = c .before .before .before in
+    let round = told .before .before .before in
+    let entry = round .before .before in
+    seeks-given (now (entry .args .source)) (entry .args .free)
+    (entry .args .spot) (round .loop .p) (round .loop .inv) (told .nine .given .0 .0) (told .nine .given .0 .1 .0)
+    (sym (told .nine .given .1) ∙ told .before .before .turn-at .ensures) (sym (c .before .skips .ensures) ∙ c .if1 .left)
 
 enum-told : tie.Need-enum-told Inv-loop μ-loop
 enum-told c = search needs
 
 returns-2 : tie.Need-returns-2 Inv-loop μ-loop
-returns-2 c = seeks-end (now (c .before .before .before .before .before .args .source)) (c .before .before .before .before .before .args .free) (c .before .before .before .before .before .args .spot) (c .before .before .before .loop .p) (c .before .before .before .loop .inv) (found-ends (c .before .before .before .before .before .args .free) (turn (now (c .before .before .before .before .before .args .source)) (c .before .before .before .loop .p)) (sym (c .enum-told .given .1) ∙ c .before .before .turn-at .ensures))
+returns-2 c =
+    let round = c .before .before .before in
+    let entry = round .before .before in
+    seeks-end (now (entry .args .source)) (entry .args .free) (entry .args .spot) (round .loop .p) (round .loop .inv) (found-ends (entry .args .free)
+    (turn (now (entry .args .source)) (round .loop .p)) (sym (c .enum-told .given .1) ∙ c .before .before .turn-at .ensures))
 
 pub next-item-spec : {M : Type 1} → statement M
 next-item-spec =

@@ -17,7 +17,9 @@ some : (c : tie.Then1) → 1 ≤ span blank (drop (c .before .before .before .ar
 some c = leb-true 1 (span blank (drop (c .before .before .before .args .at) (now (c .before .before .before .args .source)))) (sym (c .before .blank-at .ensures) ∙ c .if1 .taken)
 
 some-more : (c : tie.Then2) → 1 ≤ span blank (drop (c .before .before .before .before .before .args .at + 1) (now (c .before .before .before .before .before .args .source)))
-some-more c = leb-true 1 (span blank (drop (c .before .before .before .before .before .args .at + 1) (now (c .before .before .before .before .before .args .source)))) (sym (c .before .blank-at2 .ensures) ∙ c .if2 .taken)
+some-more c =
+    let entry = c .before .before .before .before .before in
+    leb-true 1 (span blank (drop (entry .args .at + 1) (now (entry .args .source)))) (sym (c .before .blank-at2 .ensures) ∙ c .if2 .taken)
 
 blank-at-requires : tie.Need-blank-at-requires
 blank-at-requires c κs = search needs

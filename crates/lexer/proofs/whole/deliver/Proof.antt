@@ -45,7 +45,9 @@ returns-3 c =
     let entry = c .before .before .before .before .before .before .before .before .before .before .before .before in
     let f = entry .args in
     let done = c .before .before .before .before .write in
-    ample (allItems (now (f .source)) (f .spot)) (now (f .recs)) (now (f .text)) (done .result) (done .ensures .0) (now (f .source)) (entry .pre .1) (c .before .before .before .before .before .before .before .before .if1 .left) (c .before .before .before .before .before .before .before .if2 .left) (done .ensures .1 .0) (done .ensures .1 .1)
+    ample (allItems (now (f .source)) (f .spot)) (now (f .recs)) (now (f .text))
+    (done .result) (done .ensures .0) (now (f .source)) (entry .pre .1) (c .before .before .before .before .before .before .before .before .if1 .left)
+    (c .before .before .before .before .before .before .before .if2 .left) (done .ensures .1 .0) (done .ensures .1 .1)
 
 pub deliver-spec : {M : Type 1} → statement M
 deliver-spec =

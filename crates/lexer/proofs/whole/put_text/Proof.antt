@@ -30,16 +30,31 @@ quotes-requires : tie.Need-quotes-requires
 quotes-requires c κs = search needs
 
 decode-requires : tie.Need-decode-requires
-decode-requires c κs = (part-long (now (c .before .before .before .before .before .before .before .before .before .args .source)) (c .before .before .before .before .before .before .before .before .before .args .r .start) (c .before .before .before .before .before .before .before .before .before .args .r .end) (c .before .before .before .before .before .before .before .before .before .pre .0) (c .before .before .before .before .before .before .before .before .before .pre .1), omega (arith, c .before .before .before .before .before .before .before .before .before .pre .2, ap length (decodes (now (c .before .before .before .before .before .before .before .before .before .args .source)) (c .before .before .before .before .before .before .before .before .before .args .r) (c .before .quotes .result) (c .before .before .before .before .before .if1 .taken) (c .before .quotes .ensures))))
+decode-requires c κs =
+    let entry = c .before .before .before .before .before .before .before .before .before in (
+      part-long (now (entry .args .source)) (entry .args .r .start) (entry .args .r .end) (entry .pre .0) (entry .pre .1),
+      omega (
+        arith,
+        entry .pre .2,
+        ap length (decodes (now (entry .args .source))
+            (entry .args .r) (c .before .quotes .result) (c .before .before .before .before .before .if1 .taken) (c .before .quotes .ensures)),
+      ),
+    )
 
 same-length : tie.Need-same-length
 same-length c = search needs
 
 returns : tie.Need-returns
-returns c = c .before .before .decode .ensures .1 ∙ ap (λ (l : List ℕ). written l (now (c .before .before .before .before .before .before .before .before .before .before .before .before .args .free))) (sym (decodes (now (c .before .before .before .before .before .before .before .before .before .before .before .before .args .source)) (c .before .before .before .before .before .before .before .before .before .before .before .before .args .r) (c .before .before .before .before .quotes .result) (c .before .before .before .before .before .before .before .before .if1 .taken) (c .before .before .before .before .quotes .ensures)))
+returns c =
+    let at-quotes = c .before .before .before .before in
+    let entry = at-quotes .before .before .before .before .before .before .before .before in
+    c .before .before .decode .ensures .1 ∙ ap (λ (l : List ℕ). written l (now (entry .args .free))) (sym (decodes (now (entry .args .source))
+    (entry .args .r) (at-quotes .quotes .result) (at-quotes .before .before .before .before .if1 .taken) (at-quotes .quotes .ensures)))
 
 returns-2 : tie.Need-returns-2
-returns-2 c = ap (λ (l : List ℕ). written l (now (c .before .before .before .before .args .free))) (sym (decodes-not (now (c .before .before .before .before .args .source)) (c .before .before .before .before .args .r) (c .if1 .left)))
+returns-2 c =
+    let entry = c .before .before .before .before in
+    ap (λ (l : List ℕ). written l (now (entry .args .free))) (sym (decodes-not (now (entry .args .source)) (entry .args .r) (c .if1 .left)))
 
 pub put-text-spec : {M : Type 1} → statement M
 put-text-spec =

@@ -27,27 +27,60 @@ abbrev μ-loop : tie.MeasureT-loop
 μ-loop source p recs₀ free from deep at₀ second₀ depth₀ w₀ recs at second depth w = sizeOf source (here p at second)
 
 item-told : (c : tie.After-known-told Inv-loop μ-loop)
-    → GlanceFrom (now (c .before .before .before .before .before .before .before .args .source)) (c .before .before .before .before .before .before .before .args .p .report) (c .before .before .before .before .before .before .before .args .p .skip) (c .before .before .before .before .loop .at) (Item (c .before .m .given .0 .0) (c .before .m .given .0 .1 .0) (c .before .m .given .0 .1 .1 .0))
-item-told c = subst (λ (q : Quick). GlanceFrom (now (c .before .before .before .before .before .before .before .args .source)) (c .before .before .before .before .before .before .before .args .p .report) (c .before .before .before .before .before .before .before .args .p .skip) (c .before .before .before .before .loop .at) q) (c .before .m .given .1) (c .before .before .before .quick-item .ensures)
+    → GlanceFrom (now (c .before .before .before .before .before .before .before .args .source))
+    (c .before .before .before .before .before .before .before .args .p .report)
+    (c .before .before .before .before .before .before .before .args .p .skip)
+    (c .before .before .before .before .loop .at) (Item (c .before .m .given .0 .0) (c .before .m .given .0 .1 .0) (c .before .m .given .0 .1 .1 .0))
+item-told c =
+    let entry = c .before .before .before .before .before .before .before in
+    subst (λ (q : Quick). GlanceFrom (now (entry .args .source)) (entry .args .p .report)
+    (entry .args .p .skip) (c .before .before .before .before .loop .at) q) (c .before .m .given .1) (c .before .before .before .quick-item .ensures)
 
 item-room : (c : tie.After-known-told Inv-loop μ-loop) → c .before .before .before .before .loop .w + recordWords ≤ length (c .before .before .before .before .loop .recs)
-item-room c = told-room (now (c .before .before .before .before .before .before .before .args .source)) (c .before .before .before .before .before .before .before .args .p) (now (c .before .before .before .before .before .before .before .args .recs)) (c .before .before .before .before .before .before .before .args .free) (c .before .before .before .before .before .before .before .args .deep) (c .before .before .before .before .before .before .before .args .from) (c .before .before .before .before .before .before .before .pre .1) (c .before .before .before .before .loop .at) (c .before .before .before .before .loop .second) (c .before .before .before .before .loop .inv) (c .before .m .given .0 .1 .0) (c .before .m .given .0 .1 .1 .0) (c .before .m .given .0 .0) (item-told c .0)
+item-room c =
+    let turn = c .before .before .before .before in
+    let entry = turn .before .before .before in
+    told-room (now (entry .args .source)) (entry .args .p) (now (entry .args .recs)) (entry .args .free)
+    (entry .args .deep) (entry .args .from) (entry .pre .1) (turn .loop .at) (turn .loop .second)
+    (turn .loop .inv) (c .before .m .given .0 .1 .0) (c .before .m .given .0 .1 .1 .0) (c .before .m .given .0 .0) (item-told c .0)
 
 item-same : (c : tie.After-known-told Inv-loop μ-loop) → length (c .before .before .before .before .loop .recs) ≡ length (now (c .before .before .before .before .before .before .before .args .recs))
-item-same c = told-length (now (c .before .before .before .before .before .before .before .args .source)) (c .before .before .before .before .before .before .before .args .p) (now (c .before .before .before .before .before .before .before .args .recs)) (c .before .before .before .before .before .before .before .args .free) (c .before .before .before .before .before .before .before .args .deep) (c .before .before .before .before .before .before .before .args .from) (c .before .before .before .before .before .before .before .pre .1) (c .before .before .before .before .loop .at) (c .before .before .before .before .loop .second) (c .before .before .before .before .loop .inv)
+item-same c =
+    let turn = c .before .before .before .before in
+    let entry = turn .before .before .before in
+    told-length (now (entry .args .source)) (entry .args .p) (now (entry .args .recs))
+    (entry .args .free) (entry .args .deep) (entry .args .from) (entry .pre .1) (turn .loop .at) (turn .loop .second) (turn .loop .inv)
 
 bracket-told : (c : tie.After-known-told2 Inv-loop μ-loop)
-    → GlanceFrom (now (c .before .before .before .before .before .before .before .args .source)) (c .before .before .before .before .before .before .before .args .p .report) (c .before .before .before .before .before .before .before .args .p .skip) (c .before .before .before .before .loop .at) (Bracket (c .before .m2 .given .0 .0) (c .before .m2 .given .0 .1 .0) (c .before .m2 .given .0 .1 .1 .0))
-bracket-told c = subst (λ (q : Quick). GlanceFrom (now (c .before .before .before .before .before .before .before .args .source)) (c .before .before .before .before .before .before .before .args .p .report) (c .before .before .before .before .before .before .before .args .p .skip) (c .before .before .before .before .loop .at) q) (c .before .m2 .given .1) (c .before .before .before .quick-item .ensures)
+    → GlanceFrom (now (c .before .before .before .before .before .before .before .args .source))
+    (c .before .before .before .before .before .before .before .args .p .report)
+    (c .before .before .before .before .before .before .before .args .p .skip) (c .before .before .before .before .loop .at)
+    (Bracket (c .before .m2 .given .0 .0) (c .before .m2 .given .0 .1 .0) (c .before .m2 .given .0 .1 .1 .0))
+bracket-told c =
+    let entry = c .before .before .before .before .before .before .before in
+    subst (λ (q : Quick). GlanceFrom (now (entry .args .source)) (entry .args .p .report)
+    (entry .args .p .skip) (c .before .before .before .before .loop .at) q) (c .before .m2 .given .1) (c .before .before .before .quick-item .ensures)
 
 bracket-room : (c : tie.After-known-told2 Inv-loop μ-loop) → c .before .before .before .before .loop .w + recordWords ≤ length (c .before .before .before .before .loop .recs)
-bracket-room c = told-room (now (c .before .before .before .before .before .before .before .args .source)) (c .before .before .before .before .before .before .before .args .p) (now (c .before .before .before .before .before .before .before .args .recs)) (c .before .before .before .before .before .before .before .args .free) (c .before .before .before .before .before .before .before .args .deep) (c .before .before .before .before .before .before .before .args .from) (c .before .before .before .before .before .before .before .pre .1) (c .before .before .before .before .loop .at) (c .before .before .before .before .loop .second) (c .before .before .before .before .loop .inv) (c .before .m2 .given .0 .1 .0) (c .before .m2 .given .0 .1 .1 .0) (c .before .m2 .given .0 .0) (bracket-told c)
+bracket-room c =
+    let turn = c .before .before .before .before in
+    let entry = turn .before .before .before in
+    told-room (now (entry .args .source)) (entry .args .p) (now (entry .args .recs)) (entry .args .free)
+    (entry .args .deep) (entry .args .from) (entry .pre .1) (turn .loop .at) (turn .loop .second)
+    (turn .loop .inv) (c .before .m2 .given .0 .1 .0) (c .before .m2 .given .0 .1 .1 .0) (c .before .m2 .given .0 .0) (bracket-told c)
 
-bracket-same : (c : tie.After-known-told2 Inv-loop μ-loop) → length (c .before .before .before .before .loop .recs) ≡ length (now (c .before .before .before .before .before .before .before .args .recs))
-bracket-same c = told-length (now (c .before .before .before .before .before .before .before .args .source)) (c .before .before .before .before .before .before .before .args .p) (now (c .before .before .before .before .before .before .before .args .recs)) (c .before .before .before .before .before .before .before .args .free) (c .before .before .before .before .before .before .before .args .deep) (c .before .before .before .before .before .before .before .args .from) (c .before .before .before .before .before .before .before .pre .1) (c .before .before .before .before .loop .at) (c .before .before .before .before .loop .second) (c .before .before .before .before .loop .inv)
+bracket-same : (c : tie.After-known-told2 Inv-loop μ-loop)
+    → length (c .before .before .before .before .loop .recs) ≡ length (now (c .before .before .before .before .before .before .before .args .recs))
+bracket-same c =
+    let turn = c .before .before .before .before in
+    let entry = turn .before .before .before in
+    told-length (now (entry .args .source)) (entry .args .p) (now (entry .args .recs))
+    (entry .args .free) (entry .args .deep) (entry .args .from) (entry .pre .1) (turn .loop .at) (turn .loop .second) (turn .loop .inv)
 
 loop-holds : tie.Need-loop-holds Inv-loop μ-loop
-loop-holds c = none-told (now (c .before .before .args .source)) (c .before .before .args .p) (now (c .before .before .args .recs)) (c .before .before .args .free) (c .before .before .args .deep) (c .before .before .args .from)
+loop-holds c =
+    let entry = c .before .before in
+    none-told (now (entry .args .source)) (entry .args .p) (now (entry .args .recs)) (entry .args .free) (entry .args .deep) (entry .args .from)
 
 quick-item-requires : tie.Need-quick-item-requires Inv-loop μ-loop
 quick-item-requires c κs = c .before .before .before .pre .0
@@ -68,21 +101,43 @@ part-put-end : tie.Need-part-put-end Inv-loop μ-loop
 part-put-end c = omega arith
 
 record-at-requires : tie.Need-record-at-requires Inv-loop μ-loop
-record-at-requires c κs = told-fits (now (c .before .before .before .before .before .before .before .before .args .source)) (c .before .before .before .before .before .before .before .before .args .p) (now (c .before .before .before .before .before .before .before .before .args .recs)) (c .before .before .before .before .before .before .before .before .args .free) (c .before .before .before .before .before .before .before .before .args .deep) (c .before .before .before .before .before .before .before .before .args .from) (c .before .before .before .before .before .before .before .before .pre .1) (c .before .before .before .before .before .loop .at) (c .before .before .before .before .before .loop .second) (c .before .before .before .before .before .loop .inv) (c .before .before .m .given .0 .1 .0) (c .before .before .m .given .0 .1 .1 .0) (c .before .before .m .given .0 .0) (item-told (c .before) .0) (c .before .before .before .before .before .before .before .before .pre .0)
+record-at-requires c κs =
+    let told = c .before .before in
+    let turn = told .before .before .before in
+    let entry = turn .before .before .before in
+    told-fits (now (entry .args .source)) (entry .args .p) (now (entry .args .recs)) (entry .args .free)
+    (entry .args .deep) (entry .args .from) (entry .pre .1) (turn .loop .at) (turn .loop .second)
+    (turn .loop .inv) (told .m .given .0 .1 .0) (told .m .given .0 .1 .1 .0) (told .m .given .0 .0) (item-told (c .before) .0) (entry .pre .0)
 
 put-requires : tie.Need-put-requires Inv-loop μ-loop
 put-requires c κs = let l = c .before .before .before .before .before .before .loop in omega (arith, item-room (c .before .before), length-part (l .recs) (l .w))
 
 add-w : tie.Need-add-w Inv-loop μ-loop
-add-w c = let good = c .before .before .before .before .before .before .before .before .before .before .before .before .good in omega (arith, item-room (c .before .before .before .before .before), item-same (c .before .before .before .before .before))
+add-w c =
+    let earlier = c .before .before .before .before .before in
+    let good = c .before .before .before .before .before .before .before .before .before .before .before .before .good in
+    omega (arith, item-room (earlier), item-same (earlier))
 
 loop-less : tie.Need-loop-less Inv-loop μ-loop
-loop-less c = told-smaller (now (c .before .before .before .before .before .before .before .before .before .before .before .before .args .source)) (c .before .before .before .before .before .before .before .before .before .before .before .before .args .p) (now (c .before .before .before .before .before .before .before .before .before .before .before .before .args .recs)) (c .before .before .before .before .before .before .before .before .before .before .before .before .args .free) (c .before .before .before .before .before .before .before .before .before .before .before .before .args .deep) (c .before .before .before .before .before .before .before .before .before .before .before .before .args .from) (c .before .before .before .before .before .before .before .before .before .before .before .before .pre .1) (c .before .before .before .before .before .before .before .before .before .loop .at) (c .before .before .before .before .before .before .before .before .before .loop .second) (c .before .before .before .before .before .before .before .before .before .loop .inv) (c .before .before .before .before .before .before .m .given .0 .1 .0) (c .before .before .before .before .before .before .m .given .0 .1 .1 .0) (c .before .before .before .before .before .before .m .given .0 .0) (item-told (c .before .before .before .before .before) .0)
+loop-less c =
+    let told = c .before .before .before .before .before .before in
+    let turn = told .before .before .before in
+    let entry = turn .before .before .before in
+    told-smaller (now (entry .args .source)) (entry .args .p) (now (entry .args .recs)) (entry .args .free)
+    (entry .args .deep) (entry .args .from) (entry .pre .1) (turn .loop .at) (turn .loop .second) (turn .loop .inv)
+    (told .m .given .0 .1 .0) (told .m .given .0 .1 .1 .0) (told .m .given .0 .0) (item-told (c .before .before .before .before .before) .0)
 
 loop-again : tie.Need-loop-again Inv-loop μ-loop
 loop-again c =
-    told-on (now (c .before .before .before .before .before .before .before .before .before .before .before .before .args .source)) (c .before .before .before .before .before .before .before .before .before .before .before .before .args .p) (now (c .before .before .before .before .before .before .before .before .before .before .before .before .args .recs)) (c .before .before .before .before .before .before .before .before .before .before .before .before .args .free) (c .before .before .before .before .before .before .before .before .before .before .before .before .args .deep) (c .before .before .before .before .before .before .before .before .before .before .before .before .args .from) (c .before .before .before .before .before .before .before .before .before .before .before .before .pre .1) (c .before .before .before .before .before .before .before .before .before .loop .at) (c .before .before .before .before .before .before .before .before .before .loop .second) (c .before .before .before .before .before .before .before .before .before .loop .inv) (c .before .before .before .before .before .before .m .given .0 .1 .0) (c .before .before .before .before .before .before .m .given .0 .1 .1 .0) (c .before .before .before .before .before .before .m .given .0 .0) (item-told (c .before .before .before .before .before) .0) (c .before .before .before .before .before .before .before .before .before .loop .depth) (sym (item-told (c .before .before .before .before .before) .1 (c .before .before .before .before .before .before .before .before .before .loop .depth)))
-    (c .before .before .put .ensures ∙ ap (λ (x : Record). written (wordsOf x) (take (length (c .before .before .before .before .before .before .before .before .before .loop .recs) - c .before .before .before .before .before .before .before .before .before .loop .w) (drop (c .before .before .before .before .before .before .before .before .before .loop .w) (c .before .before .before .before .before .before .before .before .before .loop .recs)))) (c .before .before .before .record-at .ensures))
+    let earlier = c .before .before .before .before .before in
+    let told = earlier .before in
+    let turn = told .before .before .before in
+    let entry = turn .before .before .before in
+    told-on (now (entry .args .source)) (entry .args .p) (now (entry .args .recs)) (entry .args .free) (entry .args .deep)
+    (entry .args .from) (entry .pre .1) (turn .loop .at) (turn .loop .second) (turn .loop .inv) (told .m .given .0 .1 .0) (told .m .given .0 .1 .1 .0)
+    (told .m .given .0 .0) (item-told (earlier) .0) (turn .loop .depth) (sym (item-told (earlier) .1 (turn .loop .depth)))
+    (c .before .before .put .ensures ∙ ap (λ (x : Record). written (wordsOf x)
+    (take (length (turn .loop .recs) - turn .loop .w) (drop (turn .loop .w) (turn .loop .recs)))) (c .before .before .before .record-at .ensures))
 
 enum-known-m-2 : tie.Need-enum-known-m-2 Inv-loop μ-loop
 enum-known-m-2 c = search needs
@@ -100,7 +155,13 @@ part-put-end-2 : tie.Need-part-put-end-2 Inv-loop μ-loop
 part-put-end-2 c = omega arith
 
 record-at-requires-2 : tie.Need-record-at-requires-2 Inv-loop μ-loop
-record-at-requires-2 c κs = told-fits (now (c .before .before .before .before .before .before .before .before .args .source)) (c .before .before .before .before .before .before .before .before .args .p) (now (c .before .before .before .before .before .before .before .before .args .recs)) (c .before .before .before .before .before .before .before .before .args .free) (c .before .before .before .before .before .before .before .before .args .deep) (c .before .before .before .before .before .before .before .before .args .from) (c .before .before .before .before .before .before .before .before .pre .1) (c .before .before .before .before .before .loop .at) (c .before .before .before .before .before .loop .second) (c .before .before .before .before .before .loop .inv) (c .before .before .m2 .given .0 .1 .0) (c .before .before .m2 .given .0 .1 .1 .0) (c .before .before .m2 .given .0 .0) (bracket-told (c .before)) (c .before .before .before .before .before .before .before .before .pre .0)
+record-at-requires-2 c κs =
+    let told = c .before .before in
+    let turn = told .before .before .before in
+    let entry = turn .before .before .before in
+    told-fits (now (entry .args .source)) (entry .args .p) (now (entry .args .recs)) (entry .args .free)
+    (entry .args .deep) (entry .args .from) (entry .pre .1) (turn .loop .at) (turn .loop .second)
+    (turn .loop .inv) (told .m2 .given .0 .1 .0) (told .m2 .given .0 .1 .1 .0) (told .m2 .given .0 .0) (bracket-told (c .before)) (entry .pre .0)
 
 put-requires-2 : tie.Need-put-requires-2 Inv-loop μ-loop
 put-requires-2 c κs = let l = c .before .before .before .before .before .before .loop in omega (arith, bracket-room (c .before .before), length-part (l .recs) (l .w))
@@ -109,15 +170,31 @@ depth-after-requires : tie.Need-depth-after-requires Inv-loop μ-loop
 depth-after-requires c κs = search needs
 
 add-w-2 : tie.Need-add-w-2 Inv-loop μ-loop
-add-w-2 c = let good = c .before .before .before .before .before .before .before .before .before .before .before .before .before .good in omega (arith, bracket-room (c .before .before .before .before .before .before), bracket-same (c .before .before .before .before .before .before))
+add-w-2 c =
+    let earlier = c .before .before .before .before .before .before in
+    let good = c .before .before .before .before .before .before .before .before .before .before .before .before .before .good in
+    omega (arith, bracket-room (earlier), bracket-same (earlier))
 
 loop-less-2 : tie.Need-loop-less-2 Inv-loop μ-loop
-loop-less-2 c = told-smaller (now (c .before .before .before .before .before .before .before .before .before .before .before .before .before .args .source)) (c .before .before .before .before .before .before .before .before .before .before .before .before .before .args .p) (now (c .before .before .before .before .before .before .before .before .before .before .before .before .before .args .recs)) (c .before .before .before .before .before .before .before .before .before .before .before .before .before .args .free) (c .before .before .before .before .before .before .before .before .before .before .before .before .before .args .deep) (c .before .before .before .before .before .before .before .before .before .before .before .before .before .args .from) (c .before .before .before .before .before .before .before .before .before .before .before .before .before .pre .1) (c .before .before .before .before .before .before .before .before .before .before .loop .at) (c .before .before .before .before .before .before .before .before .before .before .loop .second) (c .before .before .before .before .before .before .before .before .before .before .loop .inv) (c .before .before .before .before .before .before .before .m2 .given .0 .1 .0) (c .before .before .before .before .before .before .before .m2 .given .0 .1 .1 .0) (c .before .before .before .before .before .before .before .m2 .given .0 .0) (bracket-told (c .before .before .before .before .before .before))
+loop-less-2 c =
+    let told = c .before .before .before .before .before .before .before in
+    let turn = told .before .before .before in
+    let entry = turn .before .before .before in
+    told-smaller (now (entry .args .source)) (entry .args .p) (now (entry .args .recs)) (entry .args .free)
+    (entry .args .deep) (entry .args .from) (entry .pre .1) (turn .loop .at) (turn .loop .second) (turn .loop .inv) (told .m2 .given .0 .1 .0)
+    (told .m2 .given .0 .1 .1 .0) (told .m2 .given .0 .0) (bracket-told (c .before .before .before .before .before .before))
 
 loop-again-2 : tie.Need-loop-again-2 Inv-loop μ-loop
 loop-again-2 c =
-    told-on (now (c .before .before .before .before .before .before .before .before .before .before .before .before .before .args .source)) (c .before .before .before .before .before .before .before .before .before .before .before .before .before .args .p) (now (c .before .before .before .before .before .before .before .before .before .before .before .before .before .args .recs)) (c .before .before .before .before .before .before .before .before .before .before .before .before .before .args .free) (c .before .before .before .before .before .before .before .before .before .before .before .before .before .args .deep) (c .before .before .before .before .before .before .before .before .before .before .before .before .before .args .from) (c .before .before .before .before .before .before .before .before .before .before .before .before .before .pre .1) (c .before .before .before .before .before .before .before .before .before .before .loop .at) (c .before .before .before .before .before .before .before .before .before .before .loop .second) (c .before .before .before .before .before .before .before .before .before .before .loop .inv) (c .before .before .before .before .before .before .before .m2 .given .0 .1 .0) (c .before .before .before .before .before .before .before .m2 .given .0 .1 .1 .0) (c .before .before .before .before .before .before .before .m2 .given .0 .0) (bracket-told (c .before .before .before .before .before .before)) (c .depth-after .result) (c .depth-after .ensures)
-    (c .before .before .before .put2 .ensures ∙ ap (λ (x : Record). written (wordsOf x) (take (length (c .before .before .before .before .before .before .before .before .before .before .loop .recs) - c .before .before .before .before .before .before .before .before .before .before .loop .w) (drop (c .before .before .before .before .before .before .before .before .before .before .loop .w) (c .before .before .before .before .before .before .before .before .before .before .loop .recs)))) (c .before .before .before .before .record-at2 .ensures))
+    let told = c .before .before .before .before .before .before .before in
+    let turn = told .before .before .before in
+    let entry = turn .before .before .before in
+    told-on (now (entry .args .source)) (entry .args .p) (now (entry .args .recs)) (entry .args .free) (entry .args .deep) (entry .args .from)
+    (entry .pre .1) (turn .loop .at) (turn .loop .second) (turn .loop .inv) (told .m2 .given .0 .1 .0) (told .m2 .given .0 .1 .1 .0)
+    (told .m2 .given .0 .0) (bracket-told (c .before .before .before .before .before .before)) (c .depth-after .result) (c .depth-after .ensures)
+    (c .before .before .before .put2 .ensures
+    ∙ ap (λ (x : Record). written (wordsOf x) (take (length (turn .loop .recs) - turn .loop .w) (drop (turn .loop .w) (turn .loop .recs))))
+    (c .before .before .before .before .record-at2 .ensures))
 
 enum-told : tie.Need-enum-told Inv-loop μ-loop
 enum-told c = search needs
@@ -126,10 +203,18 @@ stand-requires : tie.Need-stand-requires Inv-loop μ-loop
 stand-requires c κs = search needs
 
 same-length : tie.Need-same-length Inv-loop μ-loop
-same-length c = told-length (now (c .before .before .before .before .before .before .before .args .source)) (c .before .before .before .before .before .before .before .args .p) (now (c .before .before .before .before .before .before .before .args .recs)) (c .before .before .before .before .before .before .before .args .free) (c .before .before .before .before .before .before .before .args .deep) (c .before .before .before .before .before .before .before .args .from) (c .before .before .before .before .before .before .before .pre .1) (c .before .before .before .before .loop .at) (c .before .before .before .before .loop .second) (c .before .before .before .before .loop .inv)
+same-length c =
+    let turn = c .before .before .before .before in
+    let entry = turn .before .before .before in
+    told-length (now (entry .args .source)) (entry .args .p) (now (entry .args .recs))
+    (entry .args .free) (entry .args .deep) (entry .args .from) (entry .pre .1) (turn .loop .at) (turn .loop .second) (turn .loop .inv)
 
 returns : tie.Need-returns Inv-loop μ-loop
-returns c = subst (λ (q : Spot). Onward (now (c .before .before .before .before .before .before .before .args .source)) (c .before .before .before .before .before .before .before .args .p) (now (c .before .before .before .before .before .before .before .args .recs)) (c .before .before .before .before .before .before .before .args .free) (c .before .before .before .before .before .before .before .args .deep) (c .before .before .before .before .before .before .before .args .from) q (c .before .before .before .before .loop .recs) (c .before .before .before .before .loop .depth) (c .before .before .before .before .loop .w)) (sym (c .stand .ensures)) (c .before .before .before .before .loop .inv)
+returns c =
+    let turn = c .before .before .before .before in
+    let entry = turn .before .before .before in
+    subst (λ (q : Spot). Onward (now (entry .args .source)) (entry .args .p) (now (entry .args .recs)) (entry .args .free)
+    (entry .args .deep) (entry .args .from) q (turn .loop .recs) (turn .loop .depth) (turn .loop .w)) (sym (c .stand .ensures)) (turn .loop .inv)
 
 pub put-told-spec : {M : Type 1} → statement M
 put-told-spec =

@@ -16,7 +16,10 @@ enum-known-position c = search needs
 
 deliver-requires : tie.Need-deliver-requires
 deliver-requires c κs =
-    let o = read-opened (now (c .before .before .before .before .before .before .before .before .before .args .source)) (c .before .before .before .before .before .before .before .before .before .args .mode) (c .before .before .before .before .before .before .before .before .before .args .skip) (now (c .before .before .before .before .before .before .before .before .before .args .recs)) (now (c .before .before .before .before .before .before .before .before .before .args .text)) (c .before .before .before .position .given .0 .0) (sym (ap openingOf (c .before .before .before .position .given .1)) ∙ c .before .before .before .before .before .«open» .ensures) in (o .0, o .1)
+    let entry = c .before .before .before .before .before .before .before .before .before in
+    let o = read-opened (now (entry .args .source)) (entry .args .mode) (entry .args .skip) (now (entry .args .recs))
+    (now (entry .args .text)) (c .before .before .before .position .given .0 .0)
+    (sym (ap openingOf (c .before .before .before .position .given .1)) ∙ c .before .before .before .before .before .«open» .ensures) in (o .0, o .1)
 
 enum-known-m : tie.Need-enum-known-m
 enum-known-m c = search needs
@@ -34,16 +37,30 @@ same-length-2 : tie.Need-same-length-2
 same-length-2 c = search needs
 
 returns : tie.Need-returns
-returns c = c .before .before .before .before .deliver .ensures ∙ sym (read-opened (now (c .before .before .before .before .before .before .before .before .before .before .before .before .before .before .args .source)) (c .before .before .before .before .before .before .before .before .before .before .before .before .before .before .args .mode) (c .before .before .before .before .before .before .before .before .before .before .before .before .before .before .args .skip) (now (c .before .before .before .before .before .before .before .before .before .before .before .before .before .before .args .recs)) (now (c .before .before .before .before .before .before .before .before .before .before .before .before .before .before .args .text)) (c .before .before .before .before .before .before .before .before .position .given .0 .0) (sym (ap openingOf (c .before .before .before .before .before .before .before .before .position .given .1)) ∙ c .before .before .before .before .before .before .before .before .before .before .«open» .ensures) .2)
+returns c =
+    let told = c .before .before .before .before .before .before .before .before in
+    let entry = told .before .before .before .before .before .before in
+    c .before .before .before .before .deliver .ensures
+    ∙ sym (read-opened (now (entry .args .source)) (entry .args .mode) (entry .args .skip) (now (entry .args .recs)) (now (entry .args .text))
+    (told .position .given .0 .0) (sym (ap openingOf (told .position .given .1)) ∙ told .before .before .«open» .ensures) .2)
 
 returns-2 : tie.Need-returns-2
-returns-2 c = read-refused (now (c .before .before .before .before .before .before .before .args .source)) (c .before .before .before .before .before .before .before .args .mode) (c .before .before .before .before .before .before .before .args .skip) (now (c .before .before .before .before .before .before .before .args .recs)) (now (c .before .before .before .before .before .before .before .args .text)) 25 (c .before .m .given .0 .0) (sym (ap openingOf (c .before .m .given .1)) ∙ c .before .before .before .«open» .ensures)
+returns-2 c =
+    let entry = c .before .before .before .before .before .before .before in
+    read-refused (now (entry .args .source)) (entry .args .mode) (entry .args .skip) (now (entry .args .recs)) (now (entry .args .text)) 25
+    (c .before .m .given .0 .0) (sym (ap openingOf (c .before .m .given .1)) ∙ c .before .before .before .«open» .ensures)
 
 returns-3 : tie.Need-returns-3
-returns-3 c = read-refused (now (c .before .before .before .before .before .before .args .source)) (c .before .before .before .before .before .before .args .mode) (c .before .before .before .before .before .before .args .skip) (now (c .before .before .before .before .before .before .args .recs)) (now (c .before .before .before .before .before .before .args .text)) 20 limit (sym (ap openingOf (c .enum-told .given .1)) ∙ c .before .before .«open» .ensures)
+returns-3 c =
+    let entry = c .before .before .before .before .before .before in
+    read-refused (now (entry .args .source)) (entry .args .mode) (entry .args .skip)
+    (now (entry .args .recs)) (now (entry .args .text)) 20 limit (sym (ap openingOf (c .enum-told .given .1)) ∙ c .before .before .«open» .ensures)
 
 returns-4 : tie.Need-returns-4
-returns-4 c = read-refused (now (c .before .before .before .before .before .before .before .args .source)) (c .before .before .before .before .before .before .before .args .mode) (c .before .before .before .before .before .before .before .args .skip) (now (c .before .before .before .before .before .before .before .args .recs)) (now (c .before .before .before .before .before .before .before .args .text)) 21 (c .before .at .given .0 .0) (sym (ap openingOf (c .before .at .given .1)) ∙ c .before .before .before .«open» .ensures)
+returns-4 c =
+    let entry = c .before .before .before .before .before .before .before in
+    read-refused (now (entry .args .source)) (entry .args .mode) (entry .args .skip) (now (entry .args .recs)) (now (entry .args .text)) 21
+    (c .before .at .given .0 .0) (sym (ap openingOf (c .before .at .given .1)) ∙ c .before .before .before .«open» .ensures)
 
 pub read-spec : {M : Type 1} → statement M
 read-spec =

@@ -22,37 +22,70 @@ Inv-loop source recs₀ text₀ p₀ free₀ depth₀ w₀ recs text p free dept
 abbrev μ-loop : tie.MeasureT-loop
 μ-loop source recs₀ text₀ p₀ free₀ depth₀ w₀ recs text p free depth w = sizeOf source p
 
-fit : (c : tie.After-slice-known3 Inv-loop μ-loop) → Roomy (now (c .before .before .before .before .before .before .before .before .args .source)) (c .before .before .before .before .before .before .before .before .args .spot) (now (c .before .before .before .before .before .before .before .before .args .recs)) (now (c .before .before .before .before .before .before .before .before .args .text))
-fit c = record { rows = c .before .before .before .before .before .before .before .before .pre .1 .0; bytes = c .before .before .before .before .before .before .before .before .pre .1 .1 }
+fit : (c : tie.After-slice-known3 Inv-loop μ-loop) → Roomy (now (c .before .before .before .before .before .before .before .before .args .source))
+    (c .before .before .before .before .before .before .before .before .args .spot)
+    (now (c .before .before .before .before .before .before .before .before .args .recs))
+    (now (c .before .before .before .before .before .before .before .before .args .text))
+fit c =
+    let entry = c .before .before .before .before .before .before .before .before in
+    record { rows = entry .pre .1 .0; bytes = entry .pre .1 .1 }
 
 told : (c : tie.After-slice-known3 Inv-loop μ-loop)
-    → Writing (now (c .before .before .before .before .before .before .before .before .args .source)) (c .before .before .before .before .before .before .before .before .args .spot) (now (c .before .before .before .before .before .before .before .before .args .recs)) (now (c .before .before .before .before .before .before .before .before .args .text)) (c .before .before .put-told .last .1 .1 .0) (c .before .before .before .before .loop .text) (c .before .before .put-told .result .spot) (c .before .before .before .before .loop .free) (c .before .before .put-told .result .depth) (c .before .before .put-told .result .words)
-told c = c .before .before .put-told .ensures .on (c .before .before .before .before .before .before .before .before .args .spot) (now (c .before .before .before .before .before .before .before .before .args .recs)) (now (c .before .before .before .before .before .before .before .before .args .text)) (c .before .before .before .before .loop .text) (fit c) (c .before .before .before .before .loop .inv)
+    → Writing (now (c .before .before .before .before .before .before .before .before .args .source))
+    (c .before .before .before .before .before .before .before .before .args .spot)
+    (now (c .before .before .before .before .before .before .before .before .args .recs))
+    (now (c .before .before .before .before .before .before .before .before .args .text)) (c .before .before .put-told .last .1 .1 .0)
+    (c .before .before .before .before .loop .text) (c .before .before .put-told .result .spot)
+    (c .before .before .before .before .loop .free) (c .before .before .put-told .result .depth) (c .before .before .put-told .result .words)
+told c =
+    let turn = c .before .before .before .before in
+    let entry = turn .before .before .before .before in
+    c .before .before .put-told .ensures .on
+    (entry .args .spot) (now (entry .args .recs)) (now (entry .args .text)) (turn .loop .text) (fit c) (turn .loop .inv)
 
-one : (c : tie.After-known-told Inv-loop μ-loop) → One (c .before .r .given .0 .0) (c .before .r .given .0 .1 .0) ≡ foundOf (c .before .before .before .before .before .before .before .before .loop .free) (nextAt (now (c .before .before .before .before .before .before .before .before .before .before .before .before .args .source)) (c .before .before .before .before .before .before .put-told .result .spot))
+one : (c : tie.After-known-told Inv-loop μ-loop) → One (c .before .r .given .0 .0) (c .before .r .given .0 .1 .0)
+    ≡ foundOf (c .before .before .before .before .before .before .before .before .loop .free)
+    (nextAt (now (c .before .before .before .before .before .before .before .before .before .before .before .before .args .source))
+    (c .before .before .before .before .before .before .put-told .result .spot))
 one c = sym (c .before .r .given .1) ∙ c .before .before .before .next-item .ensures
 
-fits : (c : tie.After-known-told Inv-loop μ-loop) → (c .before .before .before .before .before .before .put-told .result .words + recordWords ≤ length (c .before .before .before .before .before .before .put-told .last .1 .1 .0)) × (c .before .before .before .before .before .before .before .before .loop .free + length (bytesFor (now (c .before .before .before .before .before .before .before .before .before .before .before .before .args .source)) (c .before .r .given .0 .0)) ≤ length (c .before .before .before .before .before .before .before .before .loop .text))
-fits c = room (now (c .before .before .before .before .before .before .before .before .before .before .before .before .args .source)) (c .before .before .before .before .before .before .before .before .before .before .before .before .args .spot) (now (c .before .before .before .before .before .before .before .before .before .before .before .before .args .recs)) (now (c .before .before .before .before .before .before .before .before .before .before .before .before .args .text)) (fit (c .before .before .before .before)) (told (c .before .before .before .before)) (c .before .r .given .0 .0) (c .before .r .given .0 .1 .0) (one c)
+fits : (c : tie.After-known-told Inv-loop μ-loop) → (c .before .before .before .before .before .before .put-told .result .words + recordWords
+    ≤ length (c .before .before .before .before .before .before .put-told .last .1 .1 .0))
+    × (c .before .before .before .before .before .before .before .before .loop .free
+    + length (bytesFor (now (c .before .before .before .before .before .before .before .before .before .before .before .before .args .source))
+    (c .before .r .given .0 .0)) ≤ length (c .before .before .before .before .before .before .before .before .loop .text))
+fits c =
+    let earlier = c .before .before .before .before in
+    let entry = earlier .before .before .before .before .before .before .before .before in
+    room (now (entry .args .source)) (entry .args .spot) (now (entry .args .recs))
+    (now (entry .args .text)) (fit (earlier)) (told (earlier)) (c .before .r .given .0 .0) (c .before .r .given .0 .1 .0) (one c)
 
-same : (c : tie.After-known-told Inv-loop μ-loop) → length (c .before .before .before .before .before .before .put-told .last .1 .1 .0) ≡ length (now (c .before .before .before .before .before .before .before .before .before .before .before .before .args .recs))
-same c = recs-length (now (c .before .before .before .before .before .before .before .before .before .before .before .before .args .source)) (c .before .before .before .before .before .before .before .before .before .before .before .before .args .spot) (now (c .before .before .before .before .before .before .before .before .before .before .before .before .args .recs)) (now (c .before .before .before .before .before .before .before .before .before .before .before .before .args .text)) (fit (c .before .before .before .before)) (told (c .before .before .before .before))
+same : (c : tie.After-known-told Inv-loop μ-loop) → length (c .before .before .before .before .before .before .put-told .last .1 .1 .0)
+    ≡ length (now (c .before .before .before .before .before .before .before .before .before .before .before .before .args .recs))
+same c =
+    let earlier = c .before .before .before .before in
+    let entry = earlier .before .before .before .before .before .before .before .before in
+    recs-length (now (entry .args .source)) (entry .args .spot) (now (entry .args .recs)) (now (entry .args .text)) (fit (earlier)) (told (earlier))
 
 loop-holds : tie.Need-loop-holds Inv-loop μ-loop
-loop-holds c = writing (now (c .before .before .before .args .source)) (c .before .before .before .args .spot) (now (c .before .before .before .args .recs)) (now (c .before .before .before .args .text)) (record { rows = c .before .before .before .pre .1 .0; bytes = c .before .before .before .pre .1 .1 })
+loop-holds c =
+    let entry = c .before .before .before in
+    writing (now (entry .args .source))
+    (entry .args .spot) (now (entry .args .recs)) (now (entry .args .text)) (record { rows = entry .pre .1 .0; bytes = entry .pre .1 .1 })
 
 put-told-requires : tie.Need-put-told-requires Inv-loop μ-loop
-put-told-requires c κs = (
-  c .before .before .before .before .before .pre .0,
-  record {
-    start = c .before .before .before .before .before .args .spot;
-    recs₀ = now (c .before .before .before .before .before .args .recs);
-    text₀ = now (c .before .before .before .before .before .args .text);
-    text = c .before .loop .text;
-    roomy = record { rows = c .before .before .before .before .before .pre .1 .0; bytes = c .before .before .before .before .before .pre .1 .1 };
-    writing = c .before .loop .inv;
-  },
-)
+put-told-requires c κs =
+    let entry = c .before .before .before .before .before in (
+      entry .pre .0,
+      record {
+        start = entry .args .spot;
+        recs₀ = now (entry .args .recs);
+        text₀ = now (entry .args .text);
+        text = c .before .loop .text;
+        roomy = record { rows = entry .pre .1 .0; bytes = entry .pre .1 .1 };
+        writing = c .before .loop .inv;
+      },
+    )
 
 next-item-requires : tie.Need-next-item-requires Inv-loop μ-loop
 next-item-requires c κs = (c .before .before .before .before .before .before .before .before .pre .0, told c .going .behind)
@@ -86,37 +119,76 @@ part-put-text-end c = omega arith
 
 put-text-requires : tie.Need-put-text-requires Inv-loop μ-loop
 put-text-requires c κs =
+    let earlier = c .before .before .before .before .before in
+    let at-r = earlier .before in
+    let there = at-r .before .before .before in
+    let entry = there .before .before .before .before .before .before .before .before in
     let l = c .before .before .before .before .before .before .before .before .before .before .before .before .before .loop in
-    text-fits (now (c .before .before .before .before .before .before .before .before .before .before .before .before .before .before .before .before .before .args .source)) (c .before .before .before .before .before .before .before .before .before .before .before .before .before .before .before .before .before .args .spot) (now (c .before .before .before .before .before .before .before .before .before .before .before .before .before .before .before .before .before .args .recs)) (now (c .before .before .before .before .before .before .before .before .before .before .before .before .before .before .before .before .before .args .text)) (fit (c .before .before .before .before .before .before .before .before .before)) (told (c .before .before .before .before .before .before .before .before .before)) (c .before .before .before .before .before .before .r .given .0 .0) (c .before .before .before .before .before .before .r .given .0 .1 .0) (one (c .before .before .before .before .before)) (length (take (length (l .text) - l .free) (drop (l .free) (l .text)))) (omega (arith, fits (c .before .before .before .before .before), length-part (l .text) (l .free)))
+    text-fits (now (entry .args .source)) (entry .args .spot) (now (entry .args .recs)) (now (entry .args .text))
+    (fit (there)) (told (there)) (at-r .r .given .0 .0) (at-r .r .given .0 .1 .0) (one (earlier))
+    (length (take (length (l .text) - l .free) (drop (l .free) (l .text)))) (omega (arith, fits (earlier), length-part (l .text) (l .free)))
 
 depth-after-requires : tie.Need-depth-after-requires Inv-loop μ-loop
 depth-after-requires c κs = search needs
 
 add-w : tie.Need-add-w Inv-loop μ-loop
-add-w c = let good = c .before .before .before .before .before .before .before .before .before .before .before .before .before .before .before .before .before .before .before .before .before .good in omega (arith, fits (c .before .before .before .before .before .before .before .before .before), same (c .before .before .before .before .before .before .before .before .before))
+add-w c =
+    let earlier = c .before .before .before .before .before .before .before .before .before in
+    let good =
+    c .before .before .before .before .before .before .before .before .before .before .before .before .before .before .before .before .before .before .before .before .before .good in
+    omega (arith, fits (earlier), same (earlier))
 
 free-after-requires : tie.Need-free-after-requires Inv-loop μ-loop
 free-after-requires c κs = search needs
 
 loop-less : tie.Need-loop-less Inv-loop μ-loop
-loop-less c = omega (arith, has-moved (now (c .before .before .before .before .before .before .before .before .before .before .before .before .before .before .before .before .before .before .before .before .before .before .args .source)) (c .before .before .before .before .before .before .before .before .before .before .before .before .before .before .before .before .before .before .before .before .before .before .args .spot) (now (c .before .before .before .before .before .before .before .before .before .before .before .before .before .before .before .before .before .before .before .before .before .before .args .recs)) (now (c .before .before .before .before .before .before .before .before .before .before .before .before .before .before .before .before .before .before .before .before .before .before .args .text)) (fit (c .before .before .before .before .before .before .before .before .before .before .before .before .before .before)) (told (c .before .before .before .before .before .before .before .before .before .before .before .before .before .before)) (c .before .before .before .before .before .before .before .before .before .before .before .r .given .0 .0) (c .before .before .before .before .before .before .before .before .before .before .before .r .given .0 .1 .0) (one (c .before .before .before .before .before .before .before .before .before .before)) .smaller, c .before .before .before .before .before .before .before .before .before .before .before .before .before .before .before .before .put-told .ensures .ahead)
+loop-less c =
+    let at-r = c .before .before .before .before .before .before .before .before .before .before .before in
+    let earlier = at-r .before .before .before in
+    let entry = earlier .before .before .before .before .before .before .before .before in
+    omega (
+      arith,
+      has-moved (now (entry .args .source)) (entry .args .spot)
+          (now (entry .args .recs)) (now (entry .args .text)) (fit (earlier)) (told (earlier)) (at-r .r .given .0 .0)
+          (at-r .r .given .0 .1 .0) (one (c .before .before .before .before .before .before .before .before .before .before)) .smaller,
+      earlier .before .before .put-told .ensures .ahead,
+    )
 
 loop-again : tie.Need-loop-again Inv-loop μ-loop
-loop-again c = writing-on (now (c .before .before .before .before .before .before .before .before .before .before .before .before .before .before .before .before .before .before .before .before .before .before .args .source)) (c .before .before .before .before .before .before .before .before .before .before .before .before .before .before .before .before .before .before .before .before .before .before .args .spot) (now (c .before .before .before .before .before .before .before .before .before .before .before .before .before .before .before .before .before .before .before .before .before .before .args .recs)) (now (c .before .before .before .before .before .before .before .before .before .before .before .before .before .before .before .before .before .before .before .before .before .before .args .text)) (fit (c .before .before .before .before .before .before .before .before .before .before .before .before .before .before)) (told (c .before .before .before .before .before .before .before .before .before .before .before .before .before .before)) (c .before .before .before .before .before .before .before .before .before .before .before .r .given .0 .0) (c .before .before .before .before .before .before .before .before .before .before .before .r .given .0 .1 .0) (one (c .before .before .before .before .before .before .before .before .before .before)) (c .free-after .result) (c .before .depth-after .result) (c .free-after .ensures) (c .before .depth-after .ensures) (c .before .before .before .before .before .before .before .before .put .ensures) (c .before .before .before .before .put-text .ensures)
+loop-again c =
+    let at-put-text = c .before .before .before .before in
+    let at-r = at-put-text .before .before .before .before .before .before .before in
+    let earlier = at-r .before .before .before in
+    let entry = earlier .before .before .before .before .before .before .before .before in
+    writing-on (now (entry .args .source)) (entry .args .spot) (now (entry .args .recs)) (now (entry .args .text)) (fit (earlier))
+    (told (earlier)) (at-r .r .given .0 .0) (at-r .r .given .0 .1 .0) (one (at-put-text .before .before .before .before .before .before))
+    (c .free-after .result) (c .before .depth-after .result) (c .free-after .ensures)
+    (c .before .depth-after .ensures) (at-put-text .before .before .before .before .put .ensures) (at-put-text .put-text .ensures)
 
 enum-told : tie.Need-enum-told Inv-loop μ-loop
 enum-told c = search needs
 
 same-length : tie.Need-same-length Inv-loop μ-loop
-same-length c = recs-length (now (c .before .before .before .before .before .before .before .before .before .before .before .args .source)) (c .before .before .before .before .before .before .before .before .before .before .before .args .spot) (now (c .before .before .before .before .before .before .before .before .before .before .before .args .recs)) (now (c .before .before .before .before .before .before .before .before .before .before .before .args .text)) (fit (c .before .before .before)) (told (c .before .before .before))
+same-length c =
+    let entry = c .before .before .before .before .before .before .before .before .before .before .before in
+    recs-length (now (entry .args .source))
+    (entry .args .spot) (now (entry .args .recs)) (now (entry .args .text)) (fit (c .before .before .before)) (told (c .before .before .before))
 
 same-length-2 : tie.Need-same-length-2 Inv-loop μ-loop
-same-length-2 c = text-length (now (c .before .before .before .before .before .before .before .before .before .before .before .args .source)) (c .before .before .before .before .before .before .before .before .before .before .before .args .spot) (now (c .before .before .before .before .before .before .before .before .before .before .before .args .recs)) (now (c .before .before .before .before .before .before .before .before .before .before .before .args .text)) (fit (c .before .before .before)) (told (c .before .before .before))
+same-length-2 c =
+    let entry = c .before .before .before .before .before .before .before .before .before .before .before in
+    text-length (now (entry .args .source))
+    (entry .args .spot) (now (entry .args .recs)) (now (entry .args .text)) (fit (c .before .before .before)) (told (c .before .before .before))
 
 returns : tie.Need-returns Inv-loop μ-loop
 returns c =
-    let e = sym (c .enum-told .given .1) ∙ c .before .before .next-item .ensures in
-    (written-all (now (c .before .before .before .before .before .before .before .before .before .before .before .args .source)) (c .before .before .before .before .before .before .before .before .before .before .before .args .spot) (now (c .before .before .before .before .before .before .before .before .before .before .before .args .recs)) (now (c .before .before .before .before .before .before .before .before .before .before .before .args .text)) (fit (c .before .before .before)) (told (c .before .before .before)) _ refl e, writing-end (now (c .before .before .before .before .before .before .before .before .before .before .before .args .source)) (c .before .before .before .before .before .before .before .before .before .before .before .args .spot) (now (c .before .before .before .before .before .before .before .before .before .before .before .args .recs)) (now (c .before .before .before .before .before .before .before .before .before .before .before .args .text)) (fit (c .before .before .before)) (told (c .before .before .before)) e)
+    let earlier = c .before .before .before in
+    let entry = earlier .before .before .before .before .before .before .before .before in
+    let e = sym (c .enum-told .given .1) ∙ c .before .before .next-item .ensures in (
+      written-all (now (entry .args .source))
+          (entry .args .spot) (now (entry .args .recs)) (now (entry .args .text)) (fit (earlier)) (told (earlier)) _ refl e,
+      writing-end (now (entry .args .source)) (entry .args .spot) (now (entry .args .recs)) (now (entry .args .text)) (fit (earlier)) (told (earlier)) e,
+    )
 
 pub write-spec : {M : Type 1} → statement M
 write-spec =
