@@ -43,13 +43,13 @@ module _ (s : List ℕ) (start : Spot) (recs₀ text₀ : List ℕ) (roomy : Roo
       (place-fine s (p .report) (p .skip) a e m G (told .fine) (here p at second))
       (next-told s (p .report) (p .skip) a e m G free (here p at second) refl refl (told .starts))
 
-  pub quick-room : w + recordWords ≤ length recs
+  quick-room : w + recordWords ≤ length recs
   quick-room = room s start recs₀ text₀ roomy g r (here p e false) next .0
 
-  pub quick-smaller : sizeOf s (here p e false) < sizeOf s (here p at second)
+  quick-smaller : sizeOf s (here p e false) < sizeOf s (here p at second)
   quick-smaller = has-moved s start recs₀ text₀ roomy g r (here p e false) next .smaller
 
-  pub quick-writes : (d : ℕ) → d ≡ depthAfter (m .kind) depth → {x : List ℕ} → x ≡ written (wordsOf (deepAt depth r)) (take (length recs - w) (drop w recs))
+  quick-writes : (d : ℕ) → d ≡ depthAfter (m .kind) depth → {x : List ℕ} → x ≡ written (wordsOf (deepAt depth r)) (take (length recs - w) (drop w recs))
       → Writing s start recs₀ text₀ (putMid w (length recs - w) recs x) text (here p e false) free d (w + recordWords)
   quick-writes d hd hx =
       let b = bare-nine s free (rangeOf (range a e)) (rangeOf (range a e)) m (G .alone .undecoded) in
