@@ -9,7 +9,7 @@ use meaning::records::WORDS;
 ghost use mathlib.Core.Path.{_≡_};
 ghost use Prim.Native.Nat.{_<_};
 ghost use Rattle.nested.specs.Items.{hasDetail, sortOf, classOf, classAt, countOf};
-ghost use Rattle.nested.specs.Said.{PlainSaid, SimpleSaid, SimpleAt, ClosesSaid};
+ghost use Rattle.nested.specs.Said.{PlainSaid, SimpleSaid, SimpleAt, IsSimple, ClosesSaid};
 
 // The node's kind that no simple datum has.
 pub const NO_SIMPLE: u32 = nodes::MARK + 1;
@@ -134,6 +134,21 @@ fn simple_kind(k: u32, d: u32) -> u32
     rare_kind(k, d)
 }
 
+// Whether a record is a simple datum.
+fn is_simple(k: u32, d: u32) -> bool
+    ensures { λ r. ⌜ IsSimple (classOf k d) r ⌝ }
+{
+    if k <= kinds::UNQUOTE_SPLICE_SYNTAX {
+        return false;
+    }
+    if kinds::BOOLEAN_LITERAL < k {
+        if k <= kinds::STRING_LITERAL {
+            return d == kinds::NO_DETAIL;
+        }
+    }
+    rare_kind(k, d) != NO_SIMPLE
+}
+
 // What a kind and a detail are to the reader, by the table.
 fn table_class(k: u32, d: u32) -> Class
     ensures { λ r. ⌜ r ≡ classOf k d ⌝ }
@@ -206,6 +221,15 @@ pub fn simple_at(records: &[u32], at: usize) -> u32
 {
     let p = at * WORDS;
     simple_kind(records[p], records[p + 1])
+}
+
+// Whether the record at a place is a simple datum.
+pub fn is_simple_at(records: &[u32], at: usize) -> bool
+    requires { ⌜ at < countOf (now records) ⌝ }
+    ensures { λ r. ⌜ IsSimple (classAt (now (records .entry)) at) r ⌝ }
+{
+    let p = at * WORDS;
+    is_simple(records[p], records[p + 1])
 }
 
 // Whether the record at a place closes the bracket s.

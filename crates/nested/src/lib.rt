@@ -7,6 +7,7 @@
 use classes::NO_SIMPLE;
 use classes::class_at;
 use classes::closes_at;
+use classes::is_simple_at;
 use classes::simple_at;
 use frames::begun;
 use frames::held;
@@ -132,7 +133,7 @@ fn simples_end(records: &[u32], from: usize) -> usize
     let count = records.len() / WORDS;
     let mut at = from;
     while at < count {
-        if simple_at(records, at) == NO_SIMPLE {
+        if !is_simple_at(records, at) {
             return at;
         }
         at += 1;
