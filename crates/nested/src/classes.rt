@@ -233,10 +233,11 @@ pub fn is_simple_at(records: &[u32], at: usize) -> bool
 }
 
 // Whether the record at a place closes the bracket s.
-pub fn closes_at(records: &[u32], at: usize, s: u64) -> bool
+pub fn closes_at(records: &[u32], count: usize, at: usize, s: u64) -> bool
+    requires { ⌜ count ≡ countOf (now records) ⌝ }
     ensures { λ r. ⌜ ClosesSaid (now (records .entry)) at s r ⌝ }
 {
-    if at < records.len() / WORDS {
+    if at < count {
         let p = at * WORDS;
         if records[p] == kinds::CLOSE_PAREN {
             return records[p + 1] as u64 == closer_of(s);

@@ -45,7 +45,7 @@ closer-of-requires c κs = search needs
 
 -- src/classes.rt:214:13
 returns : tie.Need-returns
-returns c = λ q. (c .before .before .before .before .if1 .taken, closes-said _ _ (c .before .before .before .before .before .before .args .s) (c .before .before .if2 .taken) (eqb-true _ _ q ∙ c .closer-of .ensures))
+returns c = λ q. (omega (arith, c .before .before .before .before .if1 .taken, c .before .before .before .before .before .before .pre), closes-said _ _ (c .before .before .before .before .before .before .args .s) (c .before .before .if2 .taken) (eqb-true _ _ q ∙ c .closer-of .ensures))
 
 -- src/classes.rt:208:1
 returns-2 : tie.Need-returns-2
