@@ -90,14 +90,11 @@ fn plain_kind(kind: u32, d: u32) -> u32
     }
 }
 
-// The node's kind of a simple datum that is rare in plans: a word such as if, a string, a boolean, a character.
+// The node's kind of a simple datum that is rare in plans: a string, a boolean, a character, a word such as if.
 fn rare_kind(k: u32, d: u32) -> u32
     requires { ⌜ 9 < k ⌝ }
     ensures { λ r. ⌜ SimpleSaid k d r ⌝ }
 {
-    if k <= kinds::REQUIRE {
-        return plain_kind(nodes::SYMBOL, d);
-    }
     if k == kinds::STRING_LITERAL {
         return plain_kind(nodes::STRING, d);
     }
@@ -107,13 +104,16 @@ fn rare_kind(k: u32, d: u32) -> u32
         }
         return NO_SIMPLE;
     }
+    if kinds::CHARACTER_LITERAL < k {
+        return NO_SIMPLE;
+    }
     if k == kinds::CHARACTER_LITERAL {
         if is_scalar(d) {
             return nodes::CHARACTER;
         }
         return NO_SIMPLE;
     }
-    NO_SIMPLE
+    plain_kind(nodes::SYMBOL, d)
 }
 
 // The node's kind of a simple datum; NO_SIMPLE of any other record. What ends most runs of simple data is tried first.
@@ -188,6 +188,16 @@ fn close_class(d: u32) -> Class
     Class::Alien
 }
 
+// What a comment is to the reader.
+fn comment_class(d: u32) -> Class
+    ensures { λ r. ⌜ r ≡ classOf 25 d ⌝ }
+{
+    if d == kinds::NO_DETAIL {
+        return Class::Passes;
+    }
+    Class::Alien
+}
+
 // What a kind and a detail are to the reader: what is frequent in plans first, then by the table.
 fn class_of(k: u32, d: u32) -> Class
     ensures { λ r. ⌜ r ≡ classOf k d ⌝ }
@@ -201,6 +211,9 @@ fn class_of(k: u32, d: u32) -> Class
     let m = simple_kind(k, d);
     if m != NO_SIMPLE {
         return Class::Simple(m);
+    }
+    if k == kinds::COMMENT {
+        return comment_class(d);
     }
     table_class(k, d)
 }
