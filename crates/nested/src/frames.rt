@@ -119,7 +119,7 @@ pub fn node_kind(f: Frame) -> u32
     nodes::NO_KIND
 }
 
-// A frame without what the compiler would copy beside its parts.
+// The same frame, made of its parts: where it is handed on as it is, the compiler copies the bytes between them too, at every record.
 pub fn same(f: Frame) -> Frame
     ensures { λ r. ⌜ r ≡ f ⌝ }
 {

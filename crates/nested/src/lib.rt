@@ -3,7 +3,8 @@
 // starts with) and how many nodes lie beneath it; these follow it, so its next sibling is 1 + that many nodes on.
 //
 // `datum` and `sequence` call each other: a datum holds a sequence and a sequence holds data. A sequence is a loop, so the stack
-// is bounded by the depth. Nothing may be written on refusal, so `build` reads twice: first into no room, which counts, then into the nodes.
+// is bounded by the depth. The simple data that a bracket starts with are read as one run, and a list of simple data alone needs no call.
+// Nothing may be written on refusal, so `build` reads twice: first into no room, which counts, then into the nodes.
 use classes::NO_SIMPLE;
 use classes::class_at;
 use classes::closes_at;
@@ -140,7 +141,8 @@ fn simples_end(records: &[u32], count: usize, from: usize) -> usize
     at
 }
 
-// Where a run of simple data ends, or as much of it as there are nodes; their nodes are written from node place w on.
+// Where a run of simple data ends, as far as there are nodes for it; they are written from node place w on. There are never more nodes
+// than records before a place, so one limit serves both.
 fn put_simples(records: &[u32], count: usize, from: usize, nodes: &mut [u32], w: usize) -> usize
     requires { ⌜ (count ≡ countOf (now records)) × (from ≤ count) × (w ≤ from) ⌝ }
     ensures { λ r. ⌜ Run (now (records .entry)) from w (now (nodes .entry)) (now (nodes .exit)) r ⌝ }
@@ -160,7 +162,7 @@ fn put_simples(records: &[u32], count: usize, from: usize, nodes: &mut [u32], w:
     at
 }
 
-// Reads a run of simple data: where it ends. Where there is room for no node, nothing is tried to be written.
+// A run of simple data, with its nodes: where it ends. Where no node has room, as when nodes are only counted, it is passed over.
 fn simples(records: &[u32], count: usize, from: usize, nodes: &mut [u32], w: usize) -> usize
     requires { ⌜ (count ≡ countOf (now records)) × (from ≤ count) × (w ≤ from) ⌝ }
     ensures { λ r. ⌜ Run (now (records .entry)) from w (now (nodes .entry)) (now (nodes .exit)) r ⌝ }
@@ -172,7 +174,7 @@ fn simples(records: &[u32], count: usize, from: usize, nodes: &mut [u32], w: usi
 }
 
 // The datum reader: the datum that starts at the record `at`, or what a sequence passes over there, or its end. What `#;` drops is
-// read and not written. The simple data that a bracket starts with are read here, and if its close follows them, it is read without a call.
+// read and not written. A bracket's first simple data are read here; if its close follows them, there is no sequence to read.
 fn datum(
     records: &[u32],
     count: usize,

@@ -3,7 +3,7 @@
 use borrow.Author.Needs.{needs}
 use native.Mathlib.Omega.{arith}
 use Prim.Native.Nat.{_*_, _+_, _-_}
-use mathlib.Core.Path.{_≡_, refl, sym, ap, _∙_}
+use mathlib.Core.Path.{refl, sym, _∙_}
 use lib.ListN.{replicate}
 use Rattle.nested.specs.declared.Class.the-variants.{Alien, Fails, Marks, Simple, Opens}
 use Rattle.nested.specs.declared.Frame.the-variants.{Quoting, Dropping, Fresh}

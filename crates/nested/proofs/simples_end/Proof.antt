@@ -1,3 +1,4 @@
+-- The invariant: what lies behind is a run of simple data.
 use native.Mathlib.Omega.{arith}
 use borrow.Author.Needs.{needs}
 use borrow.Author.Tests.{not-false}
@@ -16,31 +17,24 @@ Inv-loop records count from at₀ at = Simples records from at
 abbrev μ-loop : tie.MeasureT-loop
 μ-loop records count from at₀ at = count - at
 
--- src/lib.rt:135:5
 loop-holds : tie.Need-loop-holds Inv-loop μ-loop
 loop-holds c = simples-none (c .before .args .records .now) (c .before .args .from) (omega (arith, c .before .pre .0, c .before .pre .1))
 
--- src/lib.rt:136:13
 is-simple-at-requires : tie.Need-is-simple-at-requires Inv-loop μ-loop
 is-simple-at-requires c κs = omega (arith, c .loop-test .taken, c .before .before .before .pre .0)
 
--- src/lib.rt:137:13
 returns : tie.Need-returns Inv-loop μ-loop
 returns c = c .before .before .before .loop .inv
 
--- src/lib.rt:139:9
 add-at : tie.Need-add-at Inv-loop μ-loop
 add-at c = search needs
 
--- src/lib.rt:135:5
 loop-less : tie.Need-loop-less Inv-loop μ-loop
 loop-less c = omega arith
 
--- src/lib.rt:135:5
 loop-again : tie.Need-loop-again Inv-loop μ-loop
 loop-again c = let q = c .before .is-simple-at .ensures (not-false _ (c .if1 .left)) in simples-more (c .before .before .before .before .before .args .records .now) (c .before .before .before .before .before .args .from) (c .before .before .before .loop .at) (q .0) (omega (arith, c .before .before .loop-test .taken, c .before .before .before .before .before .pre .0)) (q .1) (c .before .before .before .loop .inv)
 
--- src/lib.rt:129:1
 returns-2 : tie.Need-returns-2 Inv-loop μ-loop
 returns-2 c = c .before .loop .inv
 

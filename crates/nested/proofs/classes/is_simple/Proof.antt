@@ -1,3 +1,4 @@
+-- Names, numbers and strings are simple if they have no detail (law `frequent-said`); all else is left to the rare kinds.
 use Rattle.nested.proofs.Table.{none-said, frequent-said, rare-said}
 use borrow.Author.Needs.{needs}
 use Rattle.nested.proofs.classes.is_simple.Statement.{statement}
@@ -6,19 +7,15 @@ use Rattle.nested.proofs.classes.is_simple.Reads as reads
 use Rattle.nested.proofs.classes.is_simple.Lts as lts
 use Rattle.nested.proofs.classes.rare_kind.Reads as rare-kind-reads
 
--- src/classes.rt:142:9
 returns : tie.Need-returns
 returns c = none-said _
 
--- src/classes.rt:146:13
 returns-2 : tie.Need-returns-2
 returns-2 c = frequent-said _ _ (c .before .if2 .taken) (c .if3 .taken)
 
--- src/classes.rt:149:5
 rare-kind-requires : tie.Need-rare-kind-requires
 rare-kind-requires c κs = search needs
 
--- src/classes.rt:138:1
 returns-3 : tie.Need-returns-3
 returns-3 c = rare-said _ _ _ (c .rare-kind .ensures)
 

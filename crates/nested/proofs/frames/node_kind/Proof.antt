@@ -1,3 +1,4 @@
+-- The places of the frames part them as `nodeKind` does: with a dot, brackets without one, marks, the others.
 use mathlib.Core.Path.{_≡_, refl, sym, ap, _∙_}
 use Rattle.nested.proofs.Steps.{kind-dotted, kind-shape, kind-mark, kind-none}
 use borrow.Author.Needs.{needs}
@@ -9,31 +10,24 @@ use Rattle.nested.proofs.frames.bracket_of.Reads as bracket-of-reads
 use Rattle.nested.proofs.frames.shape_kind.Reads as shape-kind-reads
 use Rattle.nested.proofs.frames.stage_of.Reads as stage-of-reads
 
--- src/frames.rt:109:9
 stage-of-requires : tie.Need-stage-of-requires
 stage-of-requires c κs = search needs
 
--- src/frames.rt:111:9
 returns : tie.Need-returns
 returns c = kind-dotted (c .before .before .args .f) (rw (c .before .stage-of .ensures) at (c .if1 .taken))
 
--- src/frames.rt:114:27
 bracket-of-requires : tie.Need-bracket-of-requires
 bracket-of-requires c κs = search needs
 
--- src/frames.rt:114:9
 shape-kind-requires : tie.Need-shape-kind-requires
 shape-kind-requires c κs = search needs
 
--- src/frames.rt:114:9
 returns-2 : tie.Need-returns-2
 returns-2 c = c .shape-kind .ensures ∙ rw (c .before .bracket-of .ensures) (kind-shape (c .before .before .before .before .before .args .f) (rw (c .before .before .before .before .stage-of .ensures) at (c .before .before .if2 .taken)) (rw (c .before .before .before .before .stage-of .ensures) at (c .before .before .before .if1 .left)))
 
--- src/frames.rt:117:9
 returns-3 : tie.Need-returns-3
 returns-3 c = kind-mark (c .before .before .before .before .args .f) (sym (c .before .before .before .stage-of .ensures) ∙ c .if3 .taken)
 
--- src/frames.rt:106:1
 returns-4 : tie.Need-returns-4
 returns-4 c = kind-none (c .before .before .before .before .args .f) (rw (c .before .before .before .stage-of .ensures) at (c .before .if2 .left)) (λ q. c .if3 .left (c .before .before .before .stage-of .ensures ∙ q))
 
