@@ -192,33 +192,18 @@ fn datum(
     if n != refusals::NONE {
         return Turn::Stop(n, at);
     }
+    let inner = depth + 1;
     match k {
         Class::Alien => Turn::Stop(refusals::ALIEN, at),
         Class::Fails => Turn::Stop(refusals::ERROR_ITEM, at),
         Class::Passes => Turn::On(at + 1, w, same(f)),
         Class::Drops => {
             let mut none = [0u32; 1];
-            let r = sequence(
-                records,
-                count,
-                at + 1,
-                depth + 1,
-                Frame::Dropping,
-                &mut none,
-                1,
-            );
+            let r = sequence(records, count, at + 1, inner, Frame::Dropping, &mut none, 1);
             skipped(f, w, r)
         }
         Class::Marks => {
-            let r = sequence(
-                records,
-                count,
-                at + 1,
-                depth + 1,
-                Frame::Quoting,
-                nodes,
-                w + 1,
-            );
+            let r = sequence(records, count, at + 1, inner, Frame::Quoting, nodes, w + 1);
             took(nodes, f, at, w, r)
         }
         Class::Simple(m) => {
@@ -231,15 +216,7 @@ fn datum(
             if closes_at(records, count, end, s) {
                 return took(nodes, f, at, w, Read::Got(end + 1, v, shape_kind(s)));
             }
-            let r = sequence(
-                records,
-                count,
-                end,
-                depth + 1,
-                begun(s, end - at - 1),
-                nodes,
-                v,
-            );
+            let r = sequence(records, count, end, inner, begun(s, end - at - 1), nodes, v);
             took(nodes, f, at, w, r)
         }
         Class::Closes(_bracket) => Turn::Shut(at + 1, w),

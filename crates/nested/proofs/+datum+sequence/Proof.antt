@@ -106,6 +106,9 @@ datum-wrong-at-requires t c κs = search needs
 datum-returns : (t : ℕ) → datum-lts.Need-returns (datum-claims t) (datum-at t) datum.Post
 datum-returns t c = let b = c .before .before .before .before .before in let s = b .args .records .now in let at = b .args .at in let depth = b .args .depth in let w = b .args .w in let f = b .args .f in let old = b .args .nodes .now in let in-text : at < countOf s = omega (arith, b .pre .1 .0, b .pre .1 .1) in stop-said s at depth w old in-text (b .pre .1 .2) (c .before .before .class-at .result) f _ (c .before .before .class-at .ensures) (c .before .wrong-at .ensures) (c .if1 .taken)
 
+datum-add-inner : (t : ℕ) → datum-lts.Need-add-inner (datum-claims t) (datum-at t) datum.Post
+datum-add-inner t c = search needs
+
 datum-enum-told : (t : ℕ) → datum-lts.Need-enum-told (datum-claims t) (datum-at t) datum.Post
 datum-enum-told t c = search needs
 
@@ -115,8 +118,8 @@ datum-enum-told-2 t c = search needs
 datum-enum-told-3 : (t : ℕ) → datum-lts.Need-enum-told-3 (datum-claims t) (datum-at t) datum.Post
 datum-enum-told-3 t c = search needs
 
-datum-add-t21 : (t : ℕ) → datum-lts.Need-add-t21 (datum-claims t) (datum-at t) datum.Post
-datum-add-t21 t c = search needs
+datum-add-t22 : (t : ℕ) → datum-lts.Need-add-t22 (datum-claims t) (datum-at t) datum.Post
+datum-add-t22 t c = search needs
 
 datum-same-requires : (t : ℕ) → datum-lts.Need-same-requires (datum-claims t) (datum-at t) datum.Post
 datum-same-requires t c κs = search needs
@@ -126,9 +129,6 @@ datum-enum-told-4 t c = search needs
 
 datum-add-sequence : (t : ℕ) → datum-lts.Need-add-sequence (datum-claims t) (datum-at t) datum.Post
 datum-add-sequence t c = search needs
-
-datum-add-sequence-2 : (t : ℕ) → datum-lts.Need-add-sequence-2 (datum-claims t) (datum-at t) datum.Post
-datum-add-sequence-2 t c = search needs
 
 datum-slice-aggregate-sequence : (t : ℕ) → datum-lts.Need-slice-aggregate-sequence (datum-claims t) (datum-at t) datum.Post
 datum-slice-aggregate-sequence t c = search needs
@@ -142,14 +142,11 @@ datum-skipped-requires t c κs = search needs
 datum-enum-told-5 : (t : ℕ) → datum-lts.Need-enum-told-5 (datum-claims t) (datum-at t) datum.Post
 datum-enum-told-5 t c = search needs
 
+datum-add-sequence-2 : (t : ℕ) → datum-lts.Need-add-sequence-2 (datum-claims t) (datum-at t) datum.Post
+datum-add-sequence-2 t c = search needs
+
 datum-add-sequence-3 : (t : ℕ) → datum-lts.Need-add-sequence-3 (datum-claims t) (datum-at t) datum.Post
 datum-add-sequence-3 t c = search needs
-
-datum-add-sequence-4 : (t : ℕ) → datum-lts.Need-add-sequence-4 (datum-claims t) (datum-at t) datum.Post
-datum-add-sequence-4 t c = search needs
-
-datum-add-sequence-5 : (t : ℕ) → datum-lts.Need-add-sequence-5 (datum-claims t) (datum-at t) datum.Post
-datum-add-sequence-5 t c = search needs
 
 datum-sequence-requires-2 : (t : ℕ) → datum-lts.Need-sequence-requires-2 (datum-claims t) (datum-at t) datum.Post
 datum-sequence-requires-2 t c κs = let b = c .before .before .before .before .before .before .before .before in let s = b .args .records .now in let at = b .args .at in let depth = b .args .depth in let w = b .args .w in let f = b .args .f in let old = b .args .nodes .now in let in-text : at < countOf s = omega (arith, b .pre .1 .0, b .pre .1 .1) in (omega (arith, b .pre .0, in-text), begins-level s (b .args .count) (at + 1) (depth + 1) (w + 1) Quoting (b .pre .1 .0) refl (omega (arith, in-text)) (omega (arith, b .pre .1 .2)) (depth-more depth (starting-plan f depth (rw (c .before .enum-told5 .given .1) at (sym (c .before .before .before .before .wrong-at .ensures) ∙ c .before .before .before .if1 .left)))))
@@ -193,8 +190,8 @@ datum-add-v t c = omega (arith, c .before .before .simples .ensures .simples .co
 datum-closes-at-requires : (t : ℕ) → datum-lts.Need-closes-at-requires (datum-claims t) (datum-at t) datum.Post
 datum-closes-at-requires t c κs = c .before .before .before .before .before .before .before .before .before .before .before .before .pre .1 .0
 
-datum-add-t48 : (t : ℕ) → datum-lts.Need-add-t48 (datum-claims t) (datum-at t) datum.Post
-datum-add-t48 t c = search needs
+datum-add-t47 : (t : ℕ) → datum-lts.Need-add-t47 (datum-claims t) (datum-at t) datum.Post
+datum-add-t47 t c = omega (arith, c .before .before .closes-at .ensures (c .before .if2 .taken) .0)
 
 datum-shape-kind-requires : (t : ℕ) → datum-lts.Need-shape-kind-requires (datum-claims t) (datum-at t) datum.Post
 datum-shape-kind-requires t c κs = search needs
@@ -207,9 +204,6 @@ datum-same-length t c = c .before .before .took2 .kept .0 ∙ c .before .before 
 
 datum-returns-2 : (t : ℕ) → datum-lts.Need-returns-2 (datum-claims t) (datum-at t) datum.Post
 datum-returns-2 t c = let b = c .before .before .before .before .before .before .before .before .before .before .before .before .before .before .before .before .before .before .before in let s = b .args .records .now in let at = b .args .at in let depth = b .args .depth in let w = b .args .w in let f = b .args .f in let old = b .args .nodes .now in let in-text : at < countOf s = omega (arith, b .pre .1 .0, b .pre .1 .1) in let R = c .before .before .before .before .before .before .before .before .before .simples .ensures in let mid = c .before .before .before .before .before .before .before .before .before .simples .last .1 .1 .1 .0 in let end = c .before .before .before .before .before .before .before .before .before .simples .result in let q = c .before .before .before .before .before .before .closes-at .ensures (c .before .before .before .before .before .if2 .taken) in took-level s at depth w old mid (c .before .before .took2 .last .0) (Opens (c .before .before .before .before .before .before .before .before .before .before .before .before .k2 .given .0 .0)) (Fresh (c .before .before .before .before .before .before .before .before .before .before .before .before .k2 .given .0 .0)) in-text (sym (c .before .before .before .before .before .before .before .before .before .before .before .before .k2 .given .1) ∙ c .before .before .before .before .before .before .before .before .before .before .before .before .before .before .before .before .class-at .ensures) (λ g i ms ls. refl) refl (c .before .before .before .before .before .before .before .before .before .simples .kept .1 .1 .1 .0) (Got (end + 1) (w + (end - at)) (c .before .before .before .shape-kind .result)) (c .before .before .took2 .result) f (opened-leaf s at (depth + 1) w (c .before .before .before .before .before .before .before .before .before .before .before .before .k2 .given .0 .0) old mid end (b .pre .1 .2) R (w + (end - at)) (c .before .before .before .shape-kind .result) (q .0) (q .1) refl (c .before .before .before .shape-kind .ensures)) (c .before .before .took2 .ensures) (rw (c .before .before .before .before .before .before .before .before .before .before .before .before .k2 .given .1) at (sym (c .before .before .before .before .before .before .before .before .before .before .before .before .before .before .before .wrong-at .ensures) ∙ c .before .before .before .before .before .before .before .before .before .before .before .before .before .before .if1 .left))
-
-datum-add-sequence-6 : (t : ℕ) → datum-lts.Need-add-sequence-6 (datum-claims t) (datum-at t) datum.Post
-datum-add-sequence-6 t c = search needs
 
 datum-sub-begun : (t : ℕ) → datum-lts.Need-sub-begun (datum-claims t) (datum-at t) datum.Post
 datum-sub-begun t c = omega (arith, c .before .before .before .before .simples .ensures .simples .count)
@@ -229,14 +223,14 @@ datum-took-requires-3 t c κs = let b = c .before .before .before .before .befor
 datum-enum-known-k-3 : (t : ℕ) → datum-lts.Need-enum-known-k-3 (datum-claims t) (datum-at t) datum.Post
 datum-enum-known-k-3 t c = search needs
 
-datum-add-t57 : (t : ℕ) → datum-lts.Need-add-t57 (datum-claims t) (datum-at t) datum.Post
-datum-add-t57 t c = search needs
+datum-add-t55 : (t : ℕ) → datum-lts.Need-add-t55 (datum-claims t) (datum-at t) datum.Post
+datum-add-t55 t c = search needs
 
 datum-enum-told-6 : (t : ℕ) → datum-lts.Need-enum-told-6 (datum-claims t) (datum-at t) datum.Post
 datum-enum-told-6 t c = search needs
 
-datum-add-t58 : (t : ℕ) → datum-lts.Need-add-t58 (datum-claims t) (datum-at t) datum.Post
-datum-add-t58 t c = search needs
+datum-add-t56 : (t : ℕ) → datum-lts.Need-add-t56 (datum-claims t) (datum-at t) datum.Post
+datum-add-t56 t c = search needs
 
 datum-pointed-at-requires : (t : ℕ) → datum-lts.Need-pointed-at-requires (datum-claims t) (datum-at t) datum.Post
 datum-pointed-at-requires t c κs = search needs
@@ -344,21 +338,20 @@ pub +datum+sequence-spec : {M : Type 1} → statement M
     (datum-class-at-requires t)
     (datum-wrong-at-requires t)
     (datum-returns t)
+    (datum-add-inner t)
     (datum-enum-told t)
     (datum-enum-told-2 t)
     (datum-enum-told-3 t)
-    (datum-add-t21 t)
+    (datum-add-t22 t)
     (datum-same-requires t)
     (datum-enum-told-4 t)
     (datum-add-sequence t)
-    (datum-add-sequence-2 t)
     (datum-slice-aggregate-sequence t)
     (datum-sequence-requires t)
     (datum-skipped-requires t)
     (datum-enum-told-5 t)
+    (datum-add-sequence-2 t)
     (datum-add-sequence-3 t)
-    (datum-add-sequence-4 t)
-    (datum-add-sequence-5 t)
     (datum-sequence-requires-2 t)
     (datum-took-requires t)
     (datum-enum-known-k t)
@@ -373,21 +366,20 @@ pub +datum+sequence-spec : {M : Type 1} → statement M
     (datum-sub-v t)
     (datum-add-v t)
     (datum-closes-at-requires t)
-    (datum-add-t48 t)
+    (datum-add-t47 t)
     (datum-shape-kind-requires t)
     (datum-took-requires-2 t)
     (datum-same-length t)
     (datum-returns-2 t)
-    (datum-add-sequence-6 t)
     (datum-sub-begun t)
     (datum-sub-begun-2 t)
     (datum-begun-requires t)
     (datum-sequence-requires-3 t)
     (datum-took-requires-3 t)
     (datum-enum-known-k-3 t)
-    (datum-add-t57 t)
+    (datum-add-t55 t)
     (datum-enum-told-6 t)
-    (datum-add-t58 t)
+    (datum-add-t56 t)
     (datum-pointed-at-requires t)
     (datum-returns-3 t)
     (datum-returns-4 t)
