@@ -1,5 +1,5 @@
 -- Runs of simple data, and the levels that start with one. Assumes nothing.
-use Prim.Native.Nat.{ℕ, zero, suc, _+_, _-_, _*_, _≤_, _<_}
+use Prim.Native.Nat.{ℕ, suc, _+_, _-_, _≤_, _<_}
 use native.Mathlib.Omega.{arith}
 use mathlib.Core.Path.{_≡_, refl, sym, ap, subst, _∙_}
 use mathlib.Core.Bool.{Bool, true, false}
@@ -9,8 +9,7 @@ use borrow.Author.Tests.{ne-eqb}
 use Rattle.nested.specs.Items.{countOf, classAt}
 use Rattle.nested.specs.Grammar.{Node, node, closer, kindOf}
 use Rattle.nested.specs.Reader.{Level, level, Levels, state, give, gained, tailed}
-use Rattle.nested.specs.Lent.{wordsOf}
-use Rattle.nested.specs.Said.{reads, Ahead, Wrote, Put, Simples, Run, loose, grown, begunOf, LevelSaid, SaidBy, SequenceSaid, dropping, isPlan, arrive}
+use Rattle.nested.specs.Said.{reads, Wrote, Put, Simples, Run, loose, grown, begunOf, LevelSaid, SaidBy, SequenceSaid, dropping, isPlan, arrive}
 use Rattle.nested.specs.declared.Class.the-variants.{Simple, Closes}
 use Rattle.nested.specs.declared.Frame.{Frame}
 use Rattle.nested.specs.declared.Frame.the-variants.{Plan, Quoting, Dropping, Fresh, Holds, Dotted, Tailed}
@@ -184,9 +183,6 @@ module _ (s : List ℕ) (at depth w b : ℕ) (old mid : List ℕ) (end : ℕ) (f
 
   pub rest-few : w + (end - at) ≤ end
   rest-few = omega (arith, R .simples .count)
-
-  pub run-long : at < end
-  run-long = omega (arith, R .simples .count)
 
   module _ (g : Frame) (v : ℕ) (new : List ℕ) (e : g ≡ begunOf b (end - at - 1)) (c : v ≡ w + (end - at)) (l : length mid ≡ length old) where
     rest-level : (r : Read) → SequenceSaid s end depth g v mid new r → LevelSaid s end depth (grown (R .simples .ns) (Fresh b)) v mid new r

@@ -2,13 +2,14 @@
 use Prim.Native.Nat.{ℕ, _≤_, _<_}
 use native.Mathlib.Omega.{arith}
 use mathlib.Core.Path.{_≡_, refl, sym, ap, _∙_}
-use mathlib.Core.Bool.{Bool, true, false, cond}
+use mathlib.Core.Bool.{Bool, true, false, cond, not}
 use lib.Dec.{eqb, leb, ltb}
-use borrow.Author.Tests.{ne-eqb, le-leb, lt-leb, ltb-true}
+use borrow.Author.Tests.{ne-eqb, le-leb, lt-leb, ltb-true, leb-true, leb-false, eqb-true, eqb-false, not-true}
 use Rattle.chars.specs.Encode.{isScalar}
 use Rattle.nested.specs.Items.{hasDetail, sortOf, classOf, symbol}
 use Rattle.nested.specs.Grammar.{closer}
-use Rattle.nested.specs.Said.{PlainSaid, SimpleSaid}
+use Rattle.nested.specs.Said.{PlainSaid, SimpleSaid, IsSimple}
+use Rattle.nested.specs.declared.Class.{Class}
 use Rattle.nested.specs.declared.Class.the-variants.{Simple, Closes}
 
 class-word : (k : ℕ) → 9 < k → k ≤ 22 → classOf k 0 ≡ Simple symbol
@@ -80,6 +81,25 @@ boolean-said k d e h z = ap (λ (n : ℕ). classOf n d) e ∙ class-boolean d h
 
 pub character-said : (k d : ℕ) → k ≡ 23 → isScalar d ≡ true → SimpleSaid k d 2
 character-said k d e h z = ap (λ (n : ℕ). classOf n d) e ∙ class-character d h
+
+pub frequent-said : (k d : ℕ) → 26 < k → k ≤ 30 → IsSimple (classOf k d) (eqb d 0)
+frequent-said k d l h z = go (leb k 28) (eqb k 29) refl refl
+  where
+    at-zero : classOf k d ≡ classOf k 0
+    at-zero = ap (λ (n : ℕ). classOf k n) (eqb-true d 0 z)
+
+    go : (a b : Bool) → leb k 28 ≡ a → eqb k 29 ≡ b → (kind : ℕ) × (classOf k d ≡ Simple kind)
+    go true b e q = (symbol, at-zero ∙ class-name k l (leb-true k 28 e))
+    go false true e q = (1, at-zero ∙ ap (λ (n : ℕ). classOf n 0) (eqb-true k 29 q) ∙ class-number)
+    go false false e q =
+        let last : k ≡ 30 = omega (arith, leb-false k 28 e, eqb-false k 29 q) in
+        (3, at-zero ∙ ap (λ (n : ℕ). classOf n 0) last ∙ class-string)
+
+pub rare-said : (k d r : ℕ) → SimpleSaid k d r → IsSimple (classOf k d) (not (eqb r 10))
+rare-said k d r h z = (r, h (eqb-false r 10 (not-true (eqb r 10) z)))
+
+pub none-said : (c : Class) → IsSimple c false
+none-said c z = let q : _≡_ {A = ℕ} 0 1 = cc in absurd (let x : ⊥ = omega arith in x)
 
 -- ---- a close
 

@@ -9,7 +9,7 @@ use meaning::records::WORDS;
 ghost use mathlib.Core.Path.{_≡_};
 ghost use Prim.Native.Nat.{_<_};
 ghost use Rattle.nested.specs.Items.{hasDetail, sortOf, classOf, classAt, countOf};
-ghost use Rattle.nested.specs.Said.{PlainSaid, SimpleSaid, SimpleAt, ClosesSaid};
+ghost use Rattle.nested.specs.Said.{PlainSaid, SimpleSaid, SimpleAt, IsSimple, ClosesSaid};
 
 // The node's kind that no simple datum has.
 pub const NO_SIMPLE: u32 = nodes::MARK + 1;
@@ -90,14 +90,11 @@ fn plain_kind(kind: u32, d: u32) -> u32
     }
 }
 
-// The node's kind of a simple datum that is rare in plans: a word such as if, a string, a boolean, a character.
+// The node's kind of a simple datum that is rare in plans: a string, a boolean, a character, a word such as if.
 fn rare_kind(k: u32, d: u32) -> u32
     requires { ⌜ 9 < k ⌝ }
     ensures { λ r. ⌜ SimpleSaid k d r ⌝ }
 {
-    if k <= kinds::REQUIRE {
-        return plain_kind(nodes::SYMBOL, d);
-    }
     if k == kinds::STRING_LITERAL {
         return plain_kind(nodes::STRING, d);
     }
@@ -107,13 +104,16 @@ fn rare_kind(k: u32, d: u32) -> u32
         }
         return NO_SIMPLE;
     }
+    if kinds::CHARACTER_LITERAL < k {
+        return NO_SIMPLE;
+    }
     if k == kinds::CHARACTER_LITERAL {
         if is_scalar(d) {
             return nodes::CHARACTER;
         }
         return NO_SIMPLE;
     }
-    NO_SIMPLE
+    plain_kind(nodes::SYMBOL, d)
 }
 
 // The node's kind of a simple datum; NO_SIMPLE of any other record. What ends most runs of simple data is tried first.
@@ -132,6 +132,21 @@ fn simple_kind(k: u32, d: u32) -> u32
         }
     }
     rare_kind(k, d)
+}
+
+// Whether a record is a simple datum.
+fn is_simple(k: u32, d: u32) -> bool
+    ensures { λ r. ⌜ IsSimple (classOf k d) r ⌝ }
+{
+    if k <= kinds::UNQUOTE_SPLICE_SYNTAX {
+        return false;
+    }
+    if kinds::BOOLEAN_LITERAL < k {
+        if k <= kinds::STRING_LITERAL {
+            return d == kinds::NO_DETAIL;
+        }
+    }
+    rare_kind(k, d) != NO_SIMPLE
 }
 
 // What a kind and a detail are to the reader, by the table.
@@ -173,6 +188,16 @@ fn close_class(d: u32) -> Class
     Class::Alien
 }
 
+// What a comment is to the reader.
+fn comment_class(d: u32) -> Class
+    ensures { λ r. ⌜ r ≡ classOf 25 d ⌝ }
+{
+    if d == kinds::NO_DETAIL {
+        return Class::Passes;
+    }
+    Class::Alien
+}
+
 // What a kind and a detail are to the reader: what is frequent in plans first, then by the table.
 fn class_of(k: u32, d: u32) -> Class
     ensures { λ r. ⌜ r ≡ classOf k d ⌝ }
@@ -186,6 +211,9 @@ fn class_of(k: u32, d: u32) -> Class
     let m = simple_kind(k, d);
     if m != NO_SIMPLE {
         return Class::Simple(m);
+    }
+    if k == kinds::COMMENT {
+        return comment_class(d);
     }
     table_class(k, d)
 }
@@ -208,11 +236,21 @@ pub fn simple_at(records: &[u32], at: usize) -> u32
     simple_kind(records[p], records[p + 1])
 }
 
+// Whether the record at a place is a simple datum.
+pub fn is_simple_at(records: &[u32], at: usize) -> bool
+    requires { ⌜ at < countOf (now records) ⌝ }
+    ensures { λ r. ⌜ IsSimple (classAt (now (records .entry)) at) r ⌝ }
+{
+    let p = at * WORDS;
+    is_simple(records[p], records[p + 1])
+}
+
 // Whether the record at a place closes the bracket s.
-pub fn closes_at(records: &[u32], at: usize, s: u64) -> bool
+pub fn closes_at(records: &[u32], count: usize, at: usize, s: u64) -> bool
+    requires { ⌜ count ≡ countOf (now records) ⌝ }
     ensures { λ r. ⌜ ClosesSaid (now (records .entry)) at s r ⌝ }
 {
-    if at < records.len() / WORDS {
+    if at < count {
         let p = at * WORDS;
         if records[p] == kinds::CLOSE_PAREN {
             return records[p + 1] as u64 == closer_of(s);

@@ -7,12 +7,27 @@ use items::kinds;
 ghost use mathlib.Core.Path.{_≡_};
 ghost use Rattle.nested.specs.Grammar.{kindOf};
 ghost use Rattle.nested.specs.Reader.{pointed, nodeKind};
-ghost use Rattle.nested.specs.Said.{begunOf, heldOf, skippedOf};
+ghost use Rattle.nested.specs.Said.{begunOf, heldOf, skippedOf, stageOf, bracketOf};
 
 // Brackets as a frame holds them.
 pub const ROUND: u64 = kinds::ROUND as u64;
 
 pub const VECTOR: u64 = kinds::VECTOR as u64;
+
+// The frames in their order.
+const PLAN: u64 = 0;
+
+const QUOTING: u64 = 1;
+
+const DROPPING: u64 = 2;
+
+const FRESH: u64 = 3;
+
+const HOLDS: u64 = 4;
+
+const DOTTED: u64 = 5;
+
+const TAILED: u64 = 6;
 
 // The frame after a dot.
 pub fn pointed_at(f: Frame) -> Frame
@@ -57,22 +72,54 @@ pub fn shape_kind(s: u64) -> u32
     nodes::BYTE_LIST
 }
 
-// The kind of the node that a level gives.
-pub fn node_kind(f: Frame) -> u32
-    ensures { λ r. ⌜ r ≡ nodeKind f ⌝ }
+// A frame's place among the frames, in their order.
+fn stage_of(f: Frame) -> u64
+    ensures { λ r. ⌜ r ≡ stageOf f ⌝ }
 {
     match f {
-        Frame::Plan => nodes::NO_KIND,
-        Frame::Quoting => nodes::MARK,
-        Frame::Dropping => nodes::NO_KIND,
-        Frame::Fresh(s) => shape_kind(s),
-        Frame::Holds(s) => shape_kind(s),
-        Frame::Dotted(_s) => nodes::DOTTED_LIST,
-        Frame::Tailed(_s) => nodes::DOTTED_LIST,
+        Frame::Plan => PLAN,
+        Frame::Quoting => QUOTING,
+        Frame::Dropping => DROPPING,
+        Frame::Fresh(_s) => FRESH,
+        Frame::Holds(_s) => HOLDS,
+        Frame::Dotted(_s) => DOTTED,
+        Frame::Tailed(_s) => TAILED,
     }
 }
 
-// A frame without what the compiler would copy beside its parts.
+// The bracket of a frame that has one.
+fn bracket_of(f: Frame) -> u64
+    ensures { λ r. ⌜ r ≡ bracketOf f ⌝ }
+{
+    match f {
+        Frame::Plan => ROUND,
+        Frame::Quoting => ROUND,
+        Frame::Dropping => ROUND,
+        Frame::Fresh(s) => s,
+        Frame::Holds(s) => s,
+        Frame::Dotted(s) => s,
+        Frame::Tailed(s) => s,
+    }
+}
+
+// The kind of the node that a level gives. Frames are compared by their places: a match would be a jump by a table.
+pub fn node_kind(f: Frame) -> u32
+    ensures { λ r. ⌜ r ≡ nodeKind f ⌝ }
+{
+    let g = stage_of(f);
+    if HOLDS < g {
+        return nodes::DOTTED_LIST;
+    }
+    if FRESH <= g {
+        return shape_kind(bracket_of(f));
+    }
+    if g == QUOTING {
+        return nodes::MARK;
+    }
+    nodes::NO_KIND
+}
+
+// The same frame, made of its parts: where it is handed on as it is, the compiler copies the bytes between them too, at every record.
 pub fn same(f: Frame) -> Frame
     ensures { λ r. ⌜ r ≡ f ⌝ }
 {

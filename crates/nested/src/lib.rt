@@ -3,10 +3,12 @@
 // starts with) and how many nodes lie beneath it; these follow it, so its next sibling is 1 + that many nodes on.
 //
 // `datum` and `sequence` call each other: a datum holds a sequence and a sequence holds data. A sequence is a loop, so the stack
-// is bounded by the depth. Nothing may be written on refusal, so `build` reads twice: first into no room, which counts, then into the nodes.
+// is bounded by the depth. The simple data that a bracket starts with are read as one run, and a list of simple data alone needs no call.
+// Nothing may be written on refusal, so `build` reads twice: first into no room, which counts, then into the nodes.
 use classes::NO_SIMPLE;
 use classes::class_at;
 use classes::closes_at;
+use classes::is_simple_at;
 use classes::simple_at;
 use frames::begun;
 use frames::held;
@@ -125,14 +127,13 @@ fn took(nodes: &mut [u32], f: Frame, opened: usize, w: usize, r: Read) -> Turn
 }
 
 // Where a run of simple data ends.
-fn simples_end(records: &[u32], from: usize) -> usize
-    requires { ⌜ from ≤ countOf (now records) ⌝ }
+fn simples_end(records: &[u32], count: usize, from: usize) -> usize
+    requires { ⌜ (count ≡ countOf (now records)) × (from ≤ count) ⌝ }
     ensures { λ r. ⌜ Simples (now (records .entry)) from r ⌝ }
 {
-    let count = records.len() / WORDS;
     let mut at = from;
     while at < count {
-        if simple_at(records, at) == NO_SIMPLE {
+        if !is_simple_at(records, at) {
             return at;
         }
         at += 1;
@@ -140,12 +141,13 @@ fn simples_end(records: &[u32], from: usize) -> usize
     at
 }
 
-// Where a run of simple data ends, or as much of it as there are nodes; their nodes are written from node place w on.
-fn put_simples(records: &[u32], from: usize, nodes: &mut [u32], w: usize) -> usize
-    requires { ⌜ (from ≤ countOf (now records)) × (w ≤ from) ⌝ }
+// Where a run of simple data ends, as far as there are nodes for it; they are written from node place w on. There are never more nodes
+// than records before a place, so one limit serves both.
+fn put_simples(records: &[u32], count: usize, from: usize, nodes: &mut [u32], w: usize) -> usize
+    requires { ⌜ (count ≡ countOf (now records)) × (from ≤ count) × (w ≤ from) ⌝ }
     ensures { λ r. ⌜ Run (now (records .entry)) from w (now (nodes .entry)) (now (nodes .exit)) r ⌝ }
 {
-    let limit = least(records.len() / WORDS, nodes.len() / NODE_WORDS);
+    let limit = least(count, nodes.len() / NODE_WORDS);
     let mut at = from;
     let mut v = w;
     while at < limit {
@@ -160,21 +162,29 @@ fn put_simples(records: &[u32], from: usize, nodes: &mut [u32], w: usize) -> usi
     at
 }
 
-// Reads a run of simple data: where it ends. Where there is room for no node, nothing is tried to be written.
-fn simples(records: &[u32], from: usize, nodes: &mut [u32], w: usize) -> usize
-    requires { ⌜ (from ≤ countOf (now records)) × (w ≤ from) ⌝ }
+// A run of simple data, with its nodes: where it ends. Where no node has room, as when nodes are only counted, it is passed over.
+fn simples(records: &[u32], count: usize, from: usize, nodes: &mut [u32], w: usize) -> usize
+    requires { ⌜ (count ≡ countOf (now records)) × (from ≤ count) × (w ≤ from) ⌝ }
     ensures { λ r. ⌜ Run (now (records .entry)) from w (now (nodes .entry)) (now (nodes .exit)) r ⌝ }
 {
     if nodes.len() < NODE_WORDS {
-        return simples_end(records, from);
+        return simples_end(records, count, from);
     }
-    put_simples(records, from, nodes, w)
+    put_simples(records, count, from, nodes, w)
 }
 
 // The datum reader: the datum that starts at the record `at`, or what a sequence passes over there, or its end. What `#;` drops is
-// read and not written. The simple data that a bracket starts with are read here, and if its close follows them, it is read without a call.
-fn datum(records: &[u32], at: usize, depth: usize, f: Frame, nodes: &mut [u32], w: usize) -> Turn
-    requires { ⌜ (at < countOf (now records)) × (w ≤ at) × (depth ≤ 64) ⌝ }
+// read and not written. A bracket's first simple data are read here; if its close follows them, there is no sequence to read.
+fn datum(
+    records: &[u32],
+    count: usize,
+    at: usize,
+    depth: usize,
+    f: Frame,
+    nodes: &mut [u32],
+    w: usize,
+) -> Turn
+    requires { ⌜ (count ≡ countOf (now records)) × (at < count) × (w ≤ at) × (depth ≤ 64) ⌝ }
     ensures { λ r. ⌜ TurnSaid (now (records .entry)) at depth f w (now (nodes .entry)) (now (nodes .exit)) r ⌝ }
 {
     let k = class_at(records, at);
@@ -182,17 +192,18 @@ fn datum(records: &[u32], at: usize, depth: usize, f: Frame, nodes: &mut [u32], 
     if n != refusals::NONE {
         return Turn::Stop(n, at);
     }
+    let inner = depth + 1;
     match k {
         Class::Alien => Turn::Stop(refusal::ALIEN, at),
         Class::Fails => Turn::Stop(refusal::ERROR_ITEM, at),
         Class::Passes => Turn::On(at + 1, w, same(f)),
         Class::Drops => {
             let mut none = [0u32; 1];
-            let r = sequence(records, at + 1, depth + 1, Frame::Dropping, &mut none, 1);
+            let r = sequence(records, count, at + 1, inner, Frame::Dropping, &mut none, 1);
             skipped(f, w, r)
         }
         Class::Marks => {
-            let r = sequence(records, at + 1, depth + 1, Frame::Quoting, nodes, w + 1);
+            let r = sequence(records, count, at + 1, inner, Frame::Quoting, nodes, w + 1);
             took(nodes, f, at, w, r)
         }
         Class::Simple(m) => {
@@ -200,12 +211,12 @@ fn datum(records: &[u32], at: usize, depth: usize, f: Frame, nodes: &mut [u32], 
             held(f, at + 1, w + 1)
         }
         Class::Opens(s) => {
-            let end = simples(records, at + 1, nodes, w + 1);
+            let end = simples(records, count, at + 1, nodes, w + 1);
             let v = w + (end - at);
-            if closes_at(records, end, s) {
+            if closes_at(records, count, end, s) {
                 return took(nodes, f, at, w, Read::Got(end + 1, v, shape_kind(s)));
             }
-            let r = sequence(records, end, depth + 1, begun(s, end - at - 1), nodes, v);
+            let r = sequence(records, count, end, inner, begun(s, end - at - 1), nodes, v);
             took(nodes, f, at, w, r)
         }
         Class::Closes(_bracket) => Turn::Shut(at + 1, w),
@@ -217,21 +228,21 @@ fn datum(records: &[u32], at: usize, depth: usize, f: Frame, nodes: &mut [u32], 
 // nodes come from node place `first` on. The node of the level itself is its reader's.
 fn sequence(
     records: &[u32],
+    count: usize,
     from: usize,
     depth: usize,
     f: Frame,
     nodes: &mut [u32],
     first: usize,
 ) -> Read
-    requires { ⌜ Begins (now records) from depth f first ⌝ }
+    requires { ⌜ Begins (now records) count from depth f first ⌝ }
     ensures { λ r. ⌜ SequenceSaid (now (records .entry)) from depth f first (now (nodes .entry)) (now (nodes .exit)) r ⌝ }
 {
-    let count = records.len() / WORDS;
     let mut at = from;
     let mut v = first;
     let mut g = f;
     while at < count {
-        let t = datum(records, at, depth, g, nodes, v);
+        let t = datum(records, count, at, depth, g, nodes, v);
         match t {
             Turn::On(p, x, h) => {
                 at = p;
@@ -257,7 +268,8 @@ fn sequence(
 fn plan(records: &[u32], nodes: &mut [u32]) -> Read
     ensures { λ r. ⌜ PlanSaid (now (records .entry)) (now (nodes .entry)) (now (nodes .exit)) r ⌝ }
 {
-    sequence(records, 0, 0, Frame::Plan, nodes, 0)
+    let count = records.len() / WORDS;
+    sequence(records, count, 0, 0, Frame::Plan, nodes, 0)
 }
 
 // The nodes of the records, written from the start of `nodes` on; or the refusal, and `nodes` stays as it was.

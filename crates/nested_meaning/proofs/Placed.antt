@@ -17,9 +17,12 @@ use Rattle.nested_meaning.specs.Trees.{At, here, later}
 
 sorted : (k d n : ℕ) → deeper (sortOf k d) n ≡ after k n
 unfolding sortOf
-sorted k d n = go (eqb k kind.OpenParen) (eqb k kind.CloseParen) (leb k kind.UnquoteSpliceSyntax) (leb k kind.Require) (eqb k kind.CharacterLiteral) (eqb k kind.DatumComment) (eqb k kind.Comment) (eqb k kind.BooleanLiteral) (leb k kind.Keyword) (eqb k kind.Number) (eqb k kind.StringLiteral)
+sorted k d n = go (eqb k kind.OpenParen) (eqb k kind.CloseParen) (leb k kind.UnquoteSpliceSyntax) (leb k kind.Require) (eqb k kind.CharacterLiteral)
+    (eqb k kind.DatumComment) (eqb k kind.Comment) (eqb k kind.BooleanLiteral) (leb k kind.Keyword) (eqb k kind.Number) (eqb k kind.StringLiteral)
   where
-    go : (a b c e f g h i j l m : Bool) → deeper (cond a (Opens d) (cond b (Closes d) (cond c Marks (cond e (Simple symbol) (cond f (Simple character) (cond g Drops (cond h Passes (cond i (Simple boolean) (cond j (Simple symbol) (cond l (Simple number) (cond m (Simple string) Dots))))))))))) n
+    go : (a b c e f g h i j l m : Bool)
+        → deeper (cond a (Opens d) (cond b (Closes d) (cond c Marks (cond e (Simple symbol) (cond f (Simple character) (cond g Drops
+        (cond h Passes (cond i (Simple boolean) (cond j (Simple symbol) (cond l (Simple number) (cond m (Simple string) Dots))))))))))) n
         ≡ cond a (suc n) (cond b (oneLess n) n)
     go true b c e f g h i j l m = refl
     go false true c e f g h i j l m = refl

@@ -39,4 +39,8 @@ module _ (call : List ℕ → List ℕ → Outcome) (meets : (records nodes : Li
   -- it writes nothing
   pub never-unwritten : ((records nodes : List ℕ) → call records nodes .memory ≡ nodes) → ⊥
   never-unwritten h =
-      omega (arith, ap (λ (m : List ℕ). getD m 0 0) (h (wordsIn (opens ∷ a ∷ closes ∷ [])) seven), ap (λ (o : Outcome). getD (o .memory) 0 0) (meets (wordsIn (opens ∷ a ∷ closes ∷ [])) seven ∙ written))
+      omega (
+        arith,
+        ap (λ (m : List ℕ). getD m 0 0) (h (wordsIn (opens ∷ a ∷ closes ∷ [])) seven),
+        ap (λ (o : Outcome). getD (o .memory) 0 0) (meets (wordsIn (opens ∷ a ∷ closes ∷ [])) seven ∙ written),
+      )

@@ -8,7 +8,8 @@ use Rattle.laws.specs.Quoted.{within}
 use Rattle.chars.specs.Encode.{isScalar}
 use Rattle.items.specs.Kinds as kind
 use Rattle.items.specs.Items.{recordWords}
-use Rattle.nested.specs.Items.{Item, item, lastError, boolean, number, character, string, symbol, plainList, dottedList, vector, byteList, abbreviation, hasDetail, sortOf, classOf, itemsFrom, itemsOf, countOf}
+use Rattle.nested.specs.Items.{Item, item, lastError, boolean, number, character, string, symbol, plainList, dottedList, vector, byteList}
+use Rattle.nested.specs.Items.{abbreviation, hasDetail, sortOf, classOf, itemsFrom, itemsOf, countOf}
 use Rattle.nested.specs.Grammar.{Node, node}
 use Rattle.nested.specs.Reader.{Result, Nodes, No, run, readOn, giveIn, start}
 use Rattle.nested.specs.Lent.{wordsOf, nestedOf, outcome, Outcome}

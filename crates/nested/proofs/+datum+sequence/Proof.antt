@@ -3,7 +3,7 @@
 use borrow.Author.Needs.{needs}
 use native.Mathlib.Omega.{arith}
 use Prim.Native.Nat.{_*_, _+_, _-_}
-use mathlib.Core.Path.{_≡_, refl, sym, ap, _∙_}
+use mathlib.Core.Path.{refl, sym, _∙_}
 use lib.ListN.{replicate}
 use Rattle.nested.specs.declared.Class.the-variants.{Alien, Fails, Marks, Simple, Opens}
 use Rattle.nested.specs.declared.Frame.the-variants.{Quoting, Dropping, Fresh}
@@ -39,10 +39,10 @@ use Rattle.nested.proofs.+datum+sequence.{statement}
 use Rattle.nested.proofs.+datum+sequence.Tie.{close}
 
 abbrev μ-datum : Measures 2 datum-kinds.ps ℕ
-μ-datum κs a = 2 * (countOf (a .0 .now) - a .1 .0)
+μ-datum κs a = 2 * (countOf (a .0 .now) - a .1 .1 .0)
 
 abbrev μ-sequence : Measures 2 sequence-kinds.ps ℕ
-μ-sequence κs a = 2 * (countOf (a .0 .now) - a .1 .0) + 1
+μ-sequence κs a = 2 * (countOf (a .0 .now) - a .1 .1 .0) + 1
 
 abbrev datum-at : ℕ → In 2 datum-kinds.ps
 datum-at t = and 2 datum-kinds.ps (is 2 datum-kinds.ps μ-datum t) datum.Pre
@@ -104,7 +104,13 @@ datum-wrong-at-requires : (t : ℕ) → datum-lts.Need-wrong-at-requires (datum-
 datum-wrong-at-requires t c κs = search needs
 
 datum-returns : (t : ℕ) → datum-lts.Need-returns (datum-claims t) (datum-at t) datum.Post
-datum-returns t c = let b = c .before .before .before .before .before in let s = b .args .records .now in let at = b .args .at in let depth = b .args .depth in let w = b .args .w in let f = b .args .f in let old = b .args .nodes .now in stop-said s at depth w old (b .pre .1 .0) (b .pre .1 .1) (c .before .before .class-at .result) f _ (c .before .before .class-at .ensures) (c .before .wrong-at .ensures) (c .if1 .taken)
+datum-returns t c = let b = c .before .before .before .before .before in
+    let s = b .args .records .now in let at = b .args .at in let depth = b .args .depth in let w = b .args .w in let f = b .args .f in
+    let old = b .args .nodes .now in let in-text : at < countOf s = omega (arith, b .pre .1 .0, b .pre .1 .1) in stop-said s at depth w old in-text
+    (b .pre .1 .2) (c .before .before .class-at .result) f _ (c .before .before .class-at .ensures) (c .before .wrong-at .ensures) (c .if1 .taken)
+
+datum-add-inner : (t : ℕ) → datum-lts.Need-add-inner (datum-claims t) (datum-at t) datum.Post
+datum-add-inner t c = search needs
 
 datum-enum-told : (t : ℕ) → datum-lts.Need-enum-told (datum-claims t) (datum-at t) datum.Post
 datum-enum-told t c = search needs
@@ -115,8 +121,8 @@ datum-enum-told-2 t c = search needs
 datum-enum-told-3 : (t : ℕ) → datum-lts.Need-enum-told-3 (datum-claims t) (datum-at t) datum.Post
 datum-enum-told-3 t c = search needs
 
-datum-add-t20 : (t : ℕ) → datum-lts.Need-add-t20 (datum-claims t) (datum-at t) datum.Post
-datum-add-t20 t c = search needs
+datum-add-t22 : (t : ℕ) → datum-lts.Need-add-t22 (datum-claims t) (datum-at t) datum.Post
+datum-add-t22 t c = search needs
 
 datum-same-requires : (t : ℕ) → datum-lts.Need-same-requires (datum-claims t) (datum-at t) datum.Post
 datum-same-requires t c κs = search needs
@@ -127,14 +133,18 @@ datum-enum-told-4 t c = search needs
 datum-add-sequence : (t : ℕ) → datum-lts.Need-add-sequence (datum-claims t) (datum-at t) datum.Post
 datum-add-sequence t c = search needs
 
-datum-add-sequence-2 : (t : ℕ) → datum-lts.Need-add-sequence-2 (datum-claims t) (datum-at t) datum.Post
-datum-add-sequence-2 t c = search needs
-
 datum-slice-aggregate-sequence : (t : ℕ) → datum-lts.Need-slice-aggregate-sequence (datum-claims t) (datum-at t) datum.Post
 datum-slice-aggregate-sequence t c = search needs
 
 datum-sequence-requires : (t : ℕ) → datum-lts.Need-sequence-requires (datum-claims t) (datum-at t) datum.Post
-datum-sequence-requires t c κs = let b = c .before .before .before .before .before .before .before .before in let s = b .args .records .now in let at = b .args .at in let depth = b .args .depth in let w = b .args .w in let f = b .args .f in let old = b .args .nodes .now in (omega (arith, b .pre .0, b .pre .1 .0), begins-level s (at + 1) (depth + 1) 1 Dropping refl (omega (arith, b .pre .1 .0)) (omega arith) (depth-more depth (rw (c .before .enum-told4 .given .1) at (sym (c .before .before .before .before .wrong-at .ensures) ∙ c .before .before .before .if1 .left))))
+datum-sequence-requires t c κs = let b = c .before .before .before .before .before .before .before .before in
+    let s = b .args .records .now in let at = b .args .at in let depth = b .args .depth in let w = b .args .w in
+    let f = b .args .f in let old = b .args .nodes .now in let in-text : at < countOf s = omega (arith, b .pre .1 .0, b .pre .1 .1) in (
+      omega (arith, b .pre .0, in-text),
+      begins-level s (b .args .count) (at + 1) (depth + 1) 1 Dropping
+          (b .pre .1 .0) refl (omega (arith, in-text)) (omega arith) (depth-more depth (rw (c .before .enum-told4 .given .1) at
+          (sym (c .before .before .before .before .wrong-at .ensures) ∙ c .before .before .before .if1 .left))),
+    )
 
 datum-skipped-requires : (t : ℕ) → datum-lts.Need-skipped-requires (datum-claims t) (datum-at t) datum.Post
 datum-skipped-requires t c κs = search needs
@@ -142,20 +152,30 @@ datum-skipped-requires t c κs = search needs
 datum-enum-told-5 : (t : ℕ) → datum-lts.Need-enum-told-5 (datum-claims t) (datum-at t) datum.Post
 datum-enum-told-5 t c = search needs
 
+datum-add-sequence-2 : (t : ℕ) → datum-lts.Need-add-sequence-2 (datum-claims t) (datum-at t) datum.Post
+datum-add-sequence-2 t c = search needs
+
 datum-add-sequence-3 : (t : ℕ) → datum-lts.Need-add-sequence-3 (datum-claims t) (datum-at t) datum.Post
 datum-add-sequence-3 t c = search needs
 
-datum-add-sequence-4 : (t : ℕ) → datum-lts.Need-add-sequence-4 (datum-claims t) (datum-at t) datum.Post
-datum-add-sequence-4 t c = search needs
-
-datum-add-sequence-5 : (t : ℕ) → datum-lts.Need-add-sequence-5 (datum-claims t) (datum-at t) datum.Post
-datum-add-sequence-5 t c = search needs
-
 datum-sequence-requires-2 : (t : ℕ) → datum-lts.Need-sequence-requires-2 (datum-claims t) (datum-at t) datum.Post
-datum-sequence-requires-2 t c κs = let b = c .before .before .before .before .before .before .before .before in let s = b .args .records .now in let at = b .args .at in let depth = b .args .depth in let w = b .args .w in let f = b .args .f in let old = b .args .nodes .now in (omega (arith, b .pre .0, b .pre .1 .0), begins-level s (at + 1) (depth + 1) (w + 1) Quoting refl (omega (arith, b .pre .1 .0)) (omega (arith, b .pre .1 .1)) (depth-more depth (starting-plan f depth (rw (c .before .enum-told5 .given .1) at (sym (c .before .before .before .before .wrong-at .ensures) ∙ c .before .before .before .if1 .left)))))
+datum-sequence-requires-2 t c κs = let b = c .before .before .before .before .before .before .before .before in
+    let s = b .args .records .now in let at = b .args .at in let depth = b .args .depth in let w = b .args .w in
+    let f = b .args .f in let old = b .args .nodes .now in let in-text : at < countOf s = omega (arith, b .pre .1 .0, b .pre .1 .1) in (
+      omega (arith, b .pre .0, in-text),
+      begins-level s (b .args .count) (at + 1) (depth + 1) (w + 1) Quoting (b .pre .1 .0) refl (omega (arith, in-text))
+          (omega (arith, b .pre .1 .2)) (depth-more depth (starting-plan f depth (rw (c .before .enum-told5 .given .1) at
+          (sym (c .before .before .before .before .wrong-at .ensures) ∙ c .before .before .before .if1 .left)))),
+    )
 
 datum-took-requires : (t : ℕ) → datum-lts.Need-took-requires (datum-claims t) (datum-at t) datum.Post
-datum-took-requires t c κs = let b = c .before .before .before .before .before .before .before .before .before .before .before .before in let s = b .args .records .now in let at = b .args .at in let depth = b .args .depth in let w = b .args .w in let f = b .args .f in let old = b .args .nodes .now in above s at (depth + 1) Quoting w old (c .before .before .before .sequence2 .last .1 .1 .1 .1 .0) (c .before .before .before .sequence2 .result) (opened-sequence s at (depth + 1) Quoting w old (c .before .before .before .sequence2 .last .1 .1 .1 .1 .0) (c .before .before .before .sequence2 .result) refl (c .before .before .before .sequence2 .ensures))
+datum-took-requires t c κs =
+    let at-sequence = c .before .before .before in
+    let b = c .before .before .before .before .before .before .before .before .before .before .before .before in
+    let s = b .args .records .now in let at = b .args .at in let depth = b .args .depth in let w = b .args .w in let f = b .args .f in
+    let old = b .args .nodes .now in let in-text : at < countOf s = omega (arith, b .pre .1 .0, b .pre .1 .1) in above s at (depth + 1) Quoting w old
+    (at-sequence .sequence2 .last .1 .1 .1 .1 .1 .0) (at-sequence .sequence2 .result) (opened-sequence s at (depth + 1) Quoting w old
+    (at-sequence .sequence2 .last .1 .1 .1 .1 .1 .0) (at-sequence .sequence2 .result) refl (at-sequence .sequence2 .ensures))
 
 datum-enum-known-k : (t : ℕ) → datum-lts.Need-enum-known-k (datum-claims t) (datum-at t) datum.Post
 datum-enum-known-k t c = search needs
@@ -182,16 +202,24 @@ datum-add-simples-2 : (t : ℕ) → datum-lts.Need-add-simples-2 (datum-claims t
 datum-add-simples-2 t c = search needs
 
 datum-simples-requires : (t : ℕ) → datum-lts.Need-simples-requires (datum-claims t) (datum-at t) datum.Post
-datum-simples-requires t c κs = let b = c .before .before .before .before .before .before .before .before .before in let s = b .args .records .now in let at = b .args .at in let depth = b .args .depth in let w = b .args .w in let f = b .args .f in let old = b .args .nodes .now in (omega (arith, b .pre .1 .0), omega (arith, b .pre .1 .1))
+datum-simples-requires t c κs = let b = c .before .before .before .before .before .before .before .before .before in
+    let s = b .args .records .now in let at = b .args .at in let depth = b .args .depth in let w = b .args .w in let f = b .args .f in
+    let old = b .args .nodes .now in let in-text : at < countOf s = omega (arith, b .pre .1 .0, b .pre .1 .1) in
+    (b .pre .1 .0, omega (arith, b .pre .1 .1), omega (arith, b .pre .1 .2))
 
 datum-sub-v : (t : ℕ) → datum-lts.Need-sub-v (datum-claims t) (datum-at t) datum.Post
 datum-sub-v t c = omega (arith, c .before .before .simples .ensures .simples .count)
 
 datum-add-v : (t : ℕ) → datum-lts.Need-add-v (datum-claims t) (datum-at t) datum.Post
-datum-add-v t c = omega (arith, c .before .before .simples .ensures .simples .count, c .before .before .simples .ensures .simples .inside, c .before .before .before .before .before .before .before .before .before .before .before .before .pre .1 .1)
+datum-add-v t c = omega (
+  arith,
+  c .before .before .simples .ensures .simples .count,
+  c .before .before .simples .ensures .simples .inside,
+  c .before .before .before .before .before .before .before .before .before .before .before .before .pre .1 .2,
+)
 
 datum-closes-at-requires : (t : ℕ) → datum-lts.Need-closes-at-requires (datum-claims t) (datum-at t) datum.Post
-datum-closes-at-requires t c κs = search needs
+datum-closes-at-requires t c κs = c .before .before .before .before .before .before .before .before .before .before .before .before .pre .1 .0
 
 datum-add-t47 : (t : ℕ) → datum-lts.Need-add-t47 (datum-claims t) (datum-at t) datum.Post
 datum-add-t47 t c = omega (arith, c .before .before .closes-at .ensures (c .before .if2 .taken) .0)
@@ -203,13 +231,27 @@ datum-took-requires-2 : (t : ℕ) → datum-lts.Need-took-requires-2 (datum-clai
 datum-took-requires-2 t c κs = omega (arith, c .before .before .before .before .before .before .simples .ensures .simples .count)
 
 datum-same-length : (t : ℕ) → datum-lts.Need-same-length (datum-claims t) (datum-at t) datum.Post
-datum-same-length t c = c .before .before .took2 .kept .0 ∙ c .before .before .before .before .before .before .before .before .before .simples .kept .1 .1 .0
+datum-same-length t c = c .before .before .took2 .kept .0 ∙ c .before .before .before .before .before .before .before .before .before .simples .kept .1 .1 .1 .0
 
 datum-returns-2 : (t : ℕ) → datum-lts.Need-returns-2 (datum-claims t) (datum-at t) datum.Post
-datum-returns-2 t c = let b = c .before .before .before .before .before .before .before .before .before .before .before .before .before .before .before .before .before .before .before in let s = b .args .records .now in let at = b .args .at in let depth = b .args .depth in let w = b .args .w in let f = b .args .f in let old = b .args .nodes .now in let R = c .before .before .before .before .before .before .before .before .before .simples .ensures in let mid = c .before .before .before .before .before .before .before .before .before .simples .last .1 .1 .0 in let end = c .before .before .before .before .before .before .before .before .before .simples .result in let q = c .before .before .before .before .before .before .closes-at .ensures (c .before .before .before .before .before .if2 .taken) in took-level s at depth w old mid (c .before .before .took2 .last .0) (Opens (c .before .before .before .before .before .before .before .before .before .before .before .before .k2 .given .0 .0)) (Fresh (c .before .before .before .before .before .before .before .before .before .before .before .before .k2 .given .0 .0)) (b .pre .1 .0) (sym (c .before .before .before .before .before .before .before .before .before .before .before .before .k2 .given .1) ∙ c .before .before .before .before .before .before .before .before .before .before .before .before .before .before .before .before .class-at .ensures) (λ g i ms ls. refl) refl (c .before .before .before .before .before .before .before .before .before .simples .kept .1 .1 .0) (Got (end + 1) (w + (end - at)) (c .before .before .before .shape-kind .result)) (c .before .before .took2 .result) f (opened-leaf s at (depth + 1) w (c .before .before .before .before .before .before .before .before .before .before .before .before .k2 .given .0 .0) old mid end (b .pre .1 .1) R (w + (end - at)) (c .before .before .before .shape-kind .result) (q .0) (q .1) refl (c .before .before .before .shape-kind .ensures)) (c .before .before .took2 .ensures) (rw (c .before .before .before .before .before .before .before .before .before .before .before .before .k2 .given .1) at (sym (c .before .before .before .before .before .before .before .before .before .before .before .before .before .before .before .wrong-at .ensures) ∙ c .before .before .before .before .before .before .before .before .before .before .before .before .before .before .if1 .left))
-
-datum-add-sequence-6 : (t : ℕ) → datum-lts.Need-add-sequence-6 (datum-claims t) (datum-at t) datum.Post
-datum-add-sequence-6 t c = search needs
+datum-returns-2 t c =
+    let at-took = c .before .before in
+    let at-shape-kind = at-took .before in
+    let told = at-shape-kind .before .before .before .before .before .before .before .before .before in
+    let b =
+    c .before .before .before .before .before .before .before .before .before .before .before .before .before .before .before .before .before .before .before in
+    let s = b .args .records .now in let at = b .args .at in let depth = b .args .depth in let w = b .args .w in
+    let f = b .args .f in let old = b .args .nodes .now in let in-text : at < countOf s = omega (arith, b .pre .1 .0, b .pre .1 .1) in
+    let R = c .before .before .before .before .before .before .before .before .before .simples .ensures in
+    let mid = c .before .before .before .before .before .before .before .before .before .simples .last .1 .1 .1 .0 in
+    let end = c .before .before .before .before .before .before .before .before .before .simples .result in
+    let q = at-shape-kind .before .before .before .closes-at .ensures (at-shape-kind .before .before .if2 .taken) in
+    took-level s at depth w old mid (at-took .took2 .last .0) (Opens (told .k2 .given .0 .0)) (Fresh (told .k2 .given .0 .0)) in-text
+    (sym (told .k2 .given .1) ∙ told .before .before .before .before .class-at .ensures) (λ g i ms ls. refl) refl
+    (at-shape-kind .before .before .before .before .before .before .simples .kept .1 .1 .1 .0) (Got (end + 1) (w + (end - at))
+    (at-shape-kind .shape-kind .result)) (at-took .took2 .result) f (opened-leaf s at (depth + 1) w (told .k2 .given .0 .0) old mid end
+    (b .pre .1 .2) R (w + (end - at)) (at-shape-kind .shape-kind .result) (q .0) (q .1) refl (at-shape-kind .shape-kind .ensures))
+    (at-took .took2 .ensures) (rw (told .k2 .given .1) at (sym (told .before .before .before .wrong-at .ensures) ∙ told .before .before .if1 .left))
 
 datum-sub-begun : (t : ℕ) → datum-lts.Need-sub-begun (datum-claims t) (datum-at t) datum.Post
 datum-sub-begun t c = omega (arith, c .before .before .before .before .simples .ensures .simples .count)
@@ -221,73 +263,174 @@ datum-begun-requires : (t : ℕ) → datum-lts.Need-begun-requires (datum-claims
 datum-begun-requires t c κs = search needs
 
 datum-sequence-requires-3 : (t : ℕ) → datum-lts.Need-sequence-requires-3 (datum-claims t) (datum-at t) datum.Post
-datum-sequence-requires-3 t c κs = let b = c .before .before .before .before .before .before .before .before .before .before .before .before .before .before .before .before in let s = b .args .records .now in let at = b .args .at in let depth = b .args .depth in let w = b .args .w in let f = b .args .f in let old = b .args .nodes .now in let R = c .before .before .before .before .before .before .simples .ensures in let mid = c .before .before .before .before .before .before .simples .last .1 .1 .0 in let end = c .before .before .before .before .before .before .simples .result in (omega (arith, b .pre .0, b .pre .1 .0, R .simples .count, R .simples .inside), begins-level s end (depth + 1) (w + (end - at)) (c .before .begun .result) (rest-inner s at (depth + 1) w (c .before .before .before .before .before .before .before .before .before .k2 .given .0 .0) old mid end (b .pre .1 .1) R (c .before .begun .result) (c .before .begun .ensures)) (R .simples .inside) (rest-few s at (depth + 1) w (c .before .before .before .before .before .before .before .before .before .k2 .given .0 .0) old mid end (b .pre .1 .1) R) (depth-more depth (starting-plan f depth (rw (c .before .before .before .before .before .before .before .before .before .k2 .given .1) at (sym (c .before .before .before .before .before .before .before .before .before .before .before .before .wrong-at .ensures) ∙ c .before .before .before .before .before .before .before .before .before .before .before .if1 .left)))))
+datum-sequence-requires-3 t c κs =
+    let told = c .before .before .before .before .before .before .before .before .before in
+    let b = c .before .before .before .before .before .before .before .before .before .before .before .before .before .before .before .before in
+    let s = b .args .records .now in let at = b .args .at in let depth = b .args .depth in let w = b .args .w in
+    let f = b .args .f in let old = b .args .nodes .now in let in-text : at < countOf s = omega (arith, b .pre .1 .0, b .pre .1 .1) in
+    let R = c .before .before .before .before .before .before .simples .ensures in
+    let mid = c .before .before .before .before .before .before .simples .last .1 .1 .1 .0 in
+    let end = c .before .before .before .before .before .before .simples .result in (
+      omega (arith, b .pre .0, in-text, R .simples .count, R .simples .inside),
+      begins-level s (b .args .count) end (depth + 1) (w + (end - at)) (c .before .begun .result) (b .pre .1 .0)
+          (rest-inner s at (depth + 1) w (told .k2 .given .0 .0) old mid end (b .pre .1 .2) R (c .before .begun .result) (c .before .begun .ensures))
+          (R .simples .inside) (rest-few s at (depth + 1) w (told .k2 .given .0 .0) old mid end (b .pre .1 .2) R) (depth-more depth (starting-plan f
+          depth (rw (told .k2 .given .1) at (sym (told .before .before .before .wrong-at .ensures) ∙ told .before .before .if1 .left)))),
+    )
 
 datum-took-requires-3 : (t : ℕ) → datum-lts.Need-took-requires-3 (datum-claims t) (datum-at t) datum.Post
-datum-took-requires-3 t c κs = let b = c .before .before .before .before .before .before .before .before .before .before .before .before .before .before .before .before .before .before .before .before in let s = b .args .records .now in let at = b .args .at in let depth = b .args .depth in let w = b .args .w in let f = b .args .f in let old = b .args .nodes .now in let R = c .before .before .before .before .before .before .before .before .before .before .simples .ensures in let mid = c .before .before .before .before .before .before .before .before .before .before .simples .last .1 .1 .0 in let end = c .before .before .before .before .before .before .before .before .before .before .simples .result in above s at (depth + 1) (Fresh (c .before .before .before .before .before .before .before .before .before .before .before .before .before .k2 .given .0 .0)) w old (c .before .before .before .sequence3 .last .1 .1 .1 .1 .0) (c .before .before .before .sequence3 .result) (opened-run s at (depth + 1) w (c .before .before .before .before .before .before .before .before .before .before .before .before .before .k2 .given .0 .0) old mid end (b .pre .1 .1) R (c .before .before .before .before .before .begun .result) (w + (end - at)) (c .before .before .before .sequence3 .last .1 .1 .1 .1 .0) (c .before .before .before .before .before .begun .ensures) refl (c .before .before .before .before .before .before .before .before .before .before .simples .kept .1 .1 .0) (c .before .before .before .sequence3 .result) (c .before .before .before .sequence3 .ensures))
+datum-took-requires-3 t c κs =
+    let at-sequence = c .before .before .before in
+    let at-begun = at-sequence .before .before in
+    let told = at-begun .before .before .before .before .before .before .before .before in
+    let b =
+    c .before .before .before .before .before .before .before .before .before .before .before .before .before .before .before .before .before .before .before .before in
+    let s = b .args .records .now in let at = b .args .at in let depth = b .args .depth in let w = b .args .w in
+    let f = b .args .f in let old = b .args .nodes .now in let in-text : at < countOf s = omega (arith, b .pre .1 .0, b .pre .1 .1) in
+    let R = c .before .before .before .before .before .before .before .before .before .before .simples .ensures in
+    let mid = c .before .before .before .before .before .before .before .before .before .before .simples .last .1 .1 .1 .0 in
+    let end = c .before .before .before .before .before .before .before .before .before .before .simples .result in
+    above s at (depth + 1) (Fresh (told .k2 .given .0 .0)) w old (at-sequence .sequence3 .last .1 .1 .1 .1 .1 .0)
+    (at-sequence .sequence3 .result) (opened-run s at (depth + 1) w (told .k2 .given .0 .0) old mid end
+    (b .pre .1 .2) R (at-begun .begun .result) (w + (end - at)) (at-sequence .sequence3 .last .1 .1 .1 .1 .1 .0) (at-begun .begun .ensures) refl
+    (at-begun .before .before .before .before .before .simples .kept .1 .1 .1 .0) (at-sequence .sequence3 .result) (at-sequence .sequence3 .ensures))
 
 datum-enum-known-k-3 : (t : ℕ) → datum-lts.Need-enum-known-k-3 (datum-claims t) (datum-at t) datum.Post
 datum-enum-known-k-3 t c = search needs
 
-datum-add-t56 : (t : ℕ) → datum-lts.Need-add-t56 (datum-claims t) (datum-at t) datum.Post
-datum-add-t56 t c = search needs
+datum-add-t55 : (t : ℕ) → datum-lts.Need-add-t55 (datum-claims t) (datum-at t) datum.Post
+datum-add-t55 t c = search needs
 
 datum-enum-told-6 : (t : ℕ) → datum-lts.Need-enum-told-6 (datum-claims t) (datum-at t) datum.Post
 datum-enum-told-6 t c = search needs
 
-datum-add-t57 : (t : ℕ) → datum-lts.Need-add-t57 (datum-claims t) (datum-at t) datum.Post
-datum-add-t57 t c = search needs
+datum-add-t56 : (t : ℕ) → datum-lts.Need-add-t56 (datum-claims t) (datum-at t) datum.Post
+datum-add-t56 t c = search needs
 
 datum-pointed-at-requires : (t : ℕ) → datum-lts.Need-pointed-at-requires (datum-claims t) (datum-at t) datum.Post
 datum-pointed-at-requires t c κs = search needs
 
 datum-returns-3 : (t : ℕ) → datum-lts.Need-returns-3 (datum-claims t) (datum-at t) datum.Post
-datum-returns-3 t c = let b = c .before .before .before .before .before .before .before in let s = b .args .records .now in let at = b .args .at in let depth = b .args .depth in let w = b .args .w in let f = b .args .f in let old = b .args .nodes .now in stop-said s at depth w old (b .pre .1 .0) (b .pre .1 .1) Alien f 48 (sym (c .enum-told .given .1) ∙ c .before .before .before .before .class-at .ensures) refl (λ q. omega arith)
+datum-returns-3 t c = let b = c .before .before .before .before .before .before .before in let s = b .args .records .now in
+    let at = b .args .at in let depth = b .args .depth in let w = b .args .w in let f = b .args .f in
+    let old = b .args .nodes .now in let in-text : at < countOf s = omega (arith, b .pre .1 .0, b .pre .1 .1) in stop-said s at depth w old in-text
+    (b .pre .1 .2) Alien f 48 (sym (c .enum-told .given .1) ∙ c .before .before .before .before .class-at .ensures) refl (λ q. omega arith)
 
 datum-returns-4 : (t : ℕ) → datum-lts.Need-returns-4 (datum-claims t) (datum-at t) datum.Post
-datum-returns-4 t c = let b = c .before .before .before .before .before .before .before in let s = b .args .records .now in let at = b .args .at in let depth = b .args .depth in let w = b .args .w in let f = b .args .f in let old = b .args .nodes .now in stop-said s at depth w old (b .pre .1 .0) (b .pre .1 .1) Fails f 45 (sym (c .enum-told2 .given .1) ∙ c .before .before .before .before .class-at .ensures) refl (λ q. omega arith)
+datum-returns-4 t c = let b = c .before .before .before .before .before .before .before in let s = b .args .records .now in
+    let at = b .args .at in let depth = b .args .depth in let w = b .args .w in let f = b .args .f in
+    let old = b .args .nodes .now in let in-text : at < countOf s = omega (arith, b .pre .1 .0, b .pre .1 .1) in stop-said s at depth w old in-text
+    (b .pre .1 .2) Fails f 45 (sym (c .enum-told2 .given .1) ∙ c .before .before .before .before .class-at .ensures) refl (λ q. omega arith)
 
 datum-returns-5 : (t : ℕ) → datum-lts.Need-returns-5 (datum-claims t) (datum-at t) datum.Post
-datum-returns-5 t c = let b = c .before .before .before .before .before .before .before .before in let s = b .args .records .now in let at = b .args .at in let depth = b .args .depth in let w = b .args .w in let f = b .args .f in let old = b .args .nodes .now in rw (c .same .ensures) (pass-said s at depth w old (b .pre .1 .0) (b .pre .1 .1) f (sym (c .before .enum-told3 .given .1) ∙ c .before .before .before .before .before .class-at .ensures))
+datum-returns-5 t c = let b = c .before .before .before .before .before .before .before .before in let s = b .args .records .now in
+    let at = b .args .at in let depth = b .args .depth in let w = b .args .w in let f = b .args .f in let old = b .args .nodes .now in
+    let in-text : at < countOf s = omega (arith, b .pre .1 .0, b .pre .1 .1) in rw (c .same .ensures) (pass-said s at depth w old in-text
+    (b .pre .1 .2) f (sym (c .before .enum-told3 .given .1) ∙ c .before .before .before .before .before .class-at .ensures))
 
 datum-returns-6 : (t : ℕ) → datum-lts.Need-returns-6 (datum-claims t) (datum-at t) datum.Post
-datum-returns-6 t c = let b = c .before .before .before .before .before .before .before .before .before .before .before in let s = b .args .records .now in let at = b .args .at in let depth = b .args .depth in let w = b .args .w in let f = b .args .f in let old = b .args .nodes .now in let to = c .before .before .sequence .last .1 .1 .1 .1 .0 in rw (c .skipped .ensures) (skipped-said s at depth w old (b .pre .1 .0) (b .pre .1 .1) f (replicate 1 0) to (sym (c .before .before .before .before .enum-told4 .given .1) ∙ c .before .before .before .before .before .before .before .before .class-at .ensures) (rw (c .before .before .before .before .enum-told4 .given .1) at (sym (c .before .before .before .before .before .before .before .wrong-at .ensures) ∙ c .before .before .before .before .before .before .if1 .left)) (c .before .before .sequence .result) (opened-sequence s at (depth + 1) Dropping 0 (replicate 1 0) to (c .before .before .sequence .result) refl (c .before .before .sequence .ensures)))
+datum-returns-6 t c =
+    let at-sequence = c .before .before in
+    let told = at-sequence .before .before in
+    let b = c .before .before .before .before .before .before .before .before .before .before .before in let s = b .args .records .now in
+    let at = b .args .at in let depth = b .args .depth in let w = b .args .w in let f = b .args .f in let old = b .args .nodes .now in
+    let in-text : at < countOf s = omega (arith, b .pre .1 .0, b .pre .1 .1) in let to = c .before .before .sequence .last .1 .1 .1 .1 .1 .0 in
+    rw (c .skipped .ensures) (skipped-said s at depth w old in-text (b .pre .1 .2) f (replicate 1 0) to
+    (sym (told .enum-told4 .given .1) ∙ told .before .before .before .before .class-at .ensures) (rw (told .enum-told4 .given .1) at
+    (sym (told .before .before .before .wrong-at .ensures) ∙ told .before .before .if1 .left)) (at-sequence .sequence .result)
+    (opened-sequence s at (depth + 1) Dropping 0 (replicate 1 0) to (at-sequence .sequence .result) refl (at-sequence .sequence .ensures)))
 
 datum-same-length-2 : (t : ℕ) → datum-lts.Need-same-length-2 (datum-claims t) (datum-at t) datum.Post
-datum-same-length-2 t c = c .before .before .took .kept .0 ∙ c .before .before .before .before .before .before .sequence2 .kept .1 .1 .1 .1 .0
+datum-same-length-2 t c = c .before .before .took .kept .0 ∙ c .before .before .before .before .before .before .sequence2 .kept .1 .1 .1 .1 .1 .0
 
 datum-returns-7 : (t : ℕ) → datum-lts.Need-returns-7 (datum-claims t) (datum-at t) datum.Post
-datum-returns-7 t c = let b = c .before .before .before .before .before .before .before .before .before .before .before .before .before .before .before in let s = b .args .records .now in let at = b .args .at in let depth = b .args .depth in let w = b .args .w in let f = b .args .f in let old = b .args .nodes .now in took-level s at depth w old (c .before .before .before .before .before .before .sequence2 .last .1 .1 .1 .1 .0) (c .before .before .took .last .0) Marks Quoting (b .pre .1 .0) (sym (c .before .before .before .before .before .before .before .before .enum-told5 .given .1) ∙ c .before .before .before .before .before .before .before .before .before .before .before .before .class-at .ensures) (λ g i ms ls. refl) refl (c .before .before .before .before .before .before .sequence2 .kept .1 .1 .1 .1 .0) (c .before .before .before .before .before .before .sequence2 .result) (c .before .before .took .result) f (opened-sequence s at (depth + 1) Quoting w old (c .before .before .before .before .before .before .sequence2 .last .1 .1 .1 .1 .0) (c .before .before .before .before .before .before .sequence2 .result) refl (c .before .before .before .before .before .before .sequence2 .ensures)) (c .before .before .took .ensures) (rw (c .before .before .before .before .before .before .before .before .enum-told5 .given .1) at (sym (c .before .before .before .before .before .before .before .before .before .before .before .wrong-at .ensures) ∙ c .before .before .before .before .before .before .before .before .before .before .if1 .left))
+datum-returns-7 t c =
+    let at-took = c .before .before in
+    let at-sequence = at-took .before .before .before .before in
+    let told = at-sequence .before .before in
+    let b = c .before .before .before .before .before .before .before .before .before .before .before .before .before .before .before in
+    let s = b .args .records .now in let at = b .args .at in let depth = b .args .depth in let w = b .args .w in let f = b .args .f in
+    let old = b .args .nodes .now in let in-text : at < countOf s = omega (arith, b .pre .1 .0, b .pre .1 .1) in
+    took-level s at depth w old (at-sequence .sequence2 .last .1 .1 .1 .1 .1 .0)
+    (at-took .took .last .0) Marks Quoting in-text (sym (told .enum-told5 .given .1) ∙ told .before .before .before .before .class-at .ensures)
+    (λ g i ms ls. refl) refl (at-sequence .sequence2 .kept .1 .1 .1 .1 .1 .0)
+    (at-sequence .sequence2 .result) (at-took .took .result) f (opened-sequence s at (depth + 1) Quoting w old
+    (at-sequence .sequence2 .last .1 .1 .1 .1 .1 .0) (at-sequence .sequence2 .result) refl (at-sequence .sequence2 .ensures)) (at-took .took .ensures)
+    (rw (told .enum-told5 .given .1) at (sym (told .before .before .before .wrong-at .ensures) ∙ told .before .before .if1 .left))
 
 datum-same-length-3 : (t : ℕ) → datum-lts.Need-same-length-3 (datum-claims t) (datum-at t) datum.Post
 datum-same-length-3 t c = c .before .before .before .put .kept .0
 
 datum-returns-8 : (t : ℕ) → datum-lts.Need-returns-8 (datum-claims t) (datum-at t) datum.Post
-datum-returns-8 t c = let b = c .before .before .before .before .before .before .before .before .before .before .before .before .before in let s = b .args .records .now in let at = b .args .at in let depth = b .args .depth in let w = b .args .w in let f = b .args .f in let old = b .args .nodes .now in let m = c .before .before .before .before .before .before .k .given .0 .0 in let new = c .before .before .before .put .last .0 in rw (c .held .ensures) (took-said s at depth w old new (Simple m) (Got (at + 1) (w + 1) m) f (datum-simple s at depth w old new (b .pre .1 .0) m (sym (c .before .before .before .before .before .before .k .given .1) ∙ c .before .before .before .before .before .before .before .before .before .before .class-at .ensures) (b .pre .1 .1) (c .before .before .before .put .ensures)) (rw (c .before .before .before .before .before .before .k .given .1) at (sym (c .before .before .before .before .before .before .before .before .before .wrong-at .ensures) ∙ c .before .before .before .before .before .before .before .before .if1 .left)))
+datum-returns-8 t c =
+    let told = c .before .before .before .before .before .before in
+    let b = c .before .before .before .before .before .before .before .before .before .before .before .before .before in
+    let s = b .args .records .now in let at = b .args .at in let depth = b .args .depth in let w = b .args .w in
+    let f = b .args .f in let old = b .args .nodes .now in let in-text : at < countOf s = omega (arith, b .pre .1 .0, b .pre .1 .1) in
+    let m = c .before .before .before .before .before .before .k .given .0 .0 in let new = c .before .before .before .put .last .0 in
+    rw (c .held .ensures) (took-said s at depth w old new (Simple m) (Got (at + 1) (w + 1) m) f (datum-simple s at depth w old new in-text m
+    (sym (told .k .given .1) ∙ told .before .before .before .before .class-at .ensures) (b .pre .1 .2) (c .before .before .before .put .ensures))
+    (rw (told .k .given .1) at (sym (told .before .before .before .wrong-at .ensures) ∙ told .before .before .if1 .left)))
 
 datum-same-length-4 : (t : ℕ) → datum-lts.Need-same-length-4 (datum-claims t) (datum-at t) datum.Post
-datum-same-length-4 t c = c .before .before .took3 .kept .0 ∙ c .before .before .before .before .before .before .sequence3 .kept .1 .1 .1 .1 .0 ∙ c .before .before .before .before .before .before .before .before .before .before .before .before .before .simples .kept .1 .1 .0
+datum-same-length-4 t c = c .before .before .took3 .kept .0 ∙ c .before .before .before .before .before .before .sequence3 .kept .1 .1 .1 .1 .1 .0
+    ∙ c .before .before .before .before .before .before .before .before .before .before .before .before .before .simples .kept .1 .1 .1 .0
 
 datum-returns-9 : (t : ℕ) → datum-lts.Need-returns-9 (datum-claims t) (datum-at t) datum.Post
-datum-returns-9 t c = let b = c .before .before .before .before .before .before .before .before .before .before .before .before .before .before .before .before .before .before .before .before .before .before .before in let s = b .args .records .now in let at = b .args .at in let depth = b .args .depth in let w = b .args .w in let f = b .args .f in let old = b .args .nodes .now in let R = c .before .before .before .before .before .before .before .before .before .before .before .before .before .simples .ensures in let mid = c .before .before .before .before .before .before .before .before .before .before .before .before .before .simples .last .1 .1 .0 in let end = c .before .before .before .before .before .before .before .before .before .before .before .before .before .simples .result in took-level s at depth w old (c .before .before .before .before .before .before .sequence3 .last .1 .1 .1 .1 .0) (c .before .before .took3 .last .0) (Opens (c .before .before .before .before .before .before .before .before .before .before .before .before .before .before .before .before .k2 .given .0 .0)) (Fresh (c .before .before .before .before .before .before .before .before .before .before .before .before .before .before .before .before .k2 .given .0 .0)) (b .pre .1 .0) (sym (c .before .before .before .before .before .before .before .before .before .before .before .before .before .before .before .before .k2 .given .1) ∙ c .before .before .before .before .before .before .before .before .before .before .before .before .before .before .before .before .before .before .before .before .class-at .ensures) (λ g i ms ls. refl) refl (c .before .before .before .before .before .before .sequence3 .kept .1 .1 .1 .1 .0 ∙ c .before .before .before .before .before .before .before .before .before .before .before .before .before .simples .kept .1 .1 .0) (c .before .before .before .before .before .before .sequence3 .result) (c .before .before .took3 .result) f (opened-run s at (depth + 1) w (c .before .before .before .before .before .before .before .before .before .before .before .before .before .before .before .before .k2 .given .0 .0) old mid end (b .pre .1 .1) R (c .before .before .before .before .before .before .before .before .begun .result) (w + (end - at)) (c .before .before .before .before .before .before .sequence3 .last .1 .1 .1 .1 .0) (c .before .before .before .before .before .before .before .before .begun .ensures) refl (c .before .before .before .before .before .before .before .before .before .before .before .before .before .simples .kept .1 .1 .0) (c .before .before .before .before .before .before .sequence3 .result) (c .before .before .before .before .before .before .sequence3 .ensures)) (c .before .before .took3 .ensures) (rw (c .before .before .before .before .before .before .before .before .before .before .before .before .before .before .before .before .k2 .given .1) at (sym (c .before .before .before .before .before .before .before .before .before .before .before .before .before .before .before .before .before .before .before .wrong-at .ensures) ∙ c .before .before .before .before .before .before .before .before .before .before .before .before .before .before .before .before .before .before .if1 .left))
+datum-returns-9 t c =
+    let at-took = c .before .before in
+    let at-sequence = at-took .before .before .before .before in
+    let at-begun = at-sequence .before .before in
+    let at-simples = at-begun .before .before .before .before .before in
+    let told = at-simples .before .before .before in
+    let b =
+    c .before .before .before .before .before .before .before .before .before .before .before .before .before .before .before .before .before .before .before .before .before .before .before in
+    let s = b .args .records .now in let at = b .args .at in let depth = b .args .depth in let w = b .args .w in
+    let f = b .args .f in let old = b .args .nodes .now in let in-text : at < countOf s = omega (arith, b .pre .1 .0, b .pre .1 .1) in
+    let R = c .before .before .before .before .before .before .before .before .before .before .before .before .before .simples .ensures in
+    let mid = c .before .before .before .before .before .before .before .before .before .before .before .before .before .simples .last .1 .1 .1 .0 in
+    let end = c .before .before .before .before .before .before .before .before .before .before .before .before .before .simples .result in
+    took-level s at depth w old (at-sequence .sequence3 .last .1 .1 .1 .1 .1 .0) (at-took .took3 .last .0) (Opens (told .k2 .given .0 .0))
+    (Fresh (told .k2 .given .0 .0)) in-text (sym (told .k2 .given .1) ∙ told .before .before .before .before .class-at .ensures)
+    (λ g i ms ls. refl) refl (at-sequence .sequence3 .kept .1 .1 .1 .1 .1 .0 ∙ at-simples .simples .kept .1 .1 .1 .0)
+    (at-sequence .sequence3 .result) (at-took .took3 .result) f (opened-run s at (depth + 1) w
+    (told .k2 .given .0 .0) old mid end (b .pre .1 .2) R (at-begun .begun .result) (w + (end - at)) (at-sequence .sequence3 .last .1 .1 .1 .1 .1 .0)
+    (at-begun .begun .ensures) refl (at-simples .simples .kept .1 .1 .1 .0) (at-sequence .sequence3 .result) (at-sequence .sequence3 .ensures))
+    (at-took .took3 .ensures) (rw (told .k2 .given .1) at (sym (told .before .before .before .wrong-at .ensures) ∙ told .before .before .if1 .left))
 
 datum-returns-10 : (t : ℕ) → datum-lts.Need-returns-10 (datum-claims t) (datum-at t) datum.Post
-datum-returns-10 t c = let b = c .before .before .before .before .before .before .before .before in let s = b .args .records .now in let at = b .args .at in let depth = b .args .depth in let w = b .args .w in let f = b .args .f in let old = b .args .nodes .now in close-said s at depth w old (b .pre .1 .0) (b .pre .1 .1) (c .before .k3 .given .0 .0) f (sym (c .before .k3 .given .1) ∙ c .before .before .before .before .before .class-at .ensures) (rw (c .before .k3 .given .1) at (sym (c .before .before .before .before .wrong-at .ensures) ∙ c .before .before .before .if1 .left))
+datum-returns-10 t c = let b = c .before .before .before .before .before .before .before .before in
+    let s = b .args .records .now in let at = b .args .at in let depth = b .args .depth in let w = b .args .w in let f = b .args .f in
+    let old = b .args .nodes .now in let in-text : at < countOf s = omega (arith, b .pre .1 .0, b .pre .1 .1) in close-said s at depth w old in-text
+    (b .pre .1 .2) (c .before .k3 .given .0 .0) f (sym (c .before .k3 .given .1) ∙ c .before .before .before .before .before .class-at .ensures)
+    (rw (c .before .k3 .given .1) at (sym (c .before .before .before .before .wrong-at .ensures) ∙ c .before .before .before .if1 .left))
 
 datum-returns-11 : (t : ℕ) → datum-lts.Need-returns-11 (datum-claims t) (datum-at t) datum.Post
-datum-returns-11 t c = let b = c .before .before .before .before .before .before .before .before in let s = b .args .records .now in let at = b .args .at in let depth = b .args .depth in let w = b .args .w in let f = b .args .f in let old = b .args .nodes .now in dot-said s at depth w old (b .pre .1 .0) (b .pre .1 .1) f (c .pointed-at .result) (sym (c .before .enum-told6 .given .1) ∙ c .before .before .before .before .before .class-at .ensures) (rw (c .before .enum-told6 .given .1) at (sym (c .before .before .before .before .wrong-at .ensures) ∙ c .before .before .before .if1 .left)) (c .pointed-at .ensures)
+datum-returns-11 t c = let b = c .before .before .before .before .before .before .before .before in
+    let s = b .args .records .now in let at = b .args .at in let depth = b .args .depth in let w = b .args .w in let f = b .args .f in
+    let old = b .args .nodes .now in let in-text : at < countOf s = omega (arith, b .pre .1 .0, b .pre .1 .1) in dot-said s at depth w old in-text
+    (b .pre .1 .2) f (c .pointed-at .result) (sym (c .before .enum-told6 .given .1) ∙ c .before .before .before .before .before .class-at .ensures)
+    (rw (c .before .enum-told6 .given .1) at (sym (c .before .before .before .before .wrong-at .ensures) ∙ c .before .before .before .if1 .left))
+    (c .pointed-at .ensures)
 
 abbrev sequence-Inv-loop : sequence-lts.InvT-loop
-sequence-Inv-loop records from depth nodes₀ first count at₀ v₀ g₀ nodes at v g = Going records from depth g₀ first nodes₀ nodes at v g
+sequence-Inv-loop records count from depth nodes₀ first at₀ v₀ g₀ nodes at v g = Going records from depth g₀ first nodes₀ nodes at v g
 
 abbrev sequence-μ-loop : sequence-lts.MeasureT-loop
-sequence-μ-loop records from depth nodes₀ first count at₀ v₀ g₀ nodes at v g = countOf records - at
+sequence-μ-loop records count from depth nodes₀ first at₀ v₀ g₀ nodes at v g = countOf records - at
 
 sequence-loop-holds : (t : ℕ) → sequence-lts.Need-loop-holds (sequence-claims t) (sequence-at t) sequence.Post sequence-Inv-loop sequence-μ-loop
-sequence-loop-holds t c = going-start (c .before .before .args .records .now) (c .before .before .args .from) (c .before .before .args .depth) (c .before .before .args .f) (c .before .before .args .first) (c .before .before .args .nodes .now) (c .before .before .pre .1)
+sequence-loop-holds t c =
+    let entry = c .before .before in
+    going-start (entry .args .records .now)
+    (entry .args .count) (entry .args .from) (entry .args .depth) (entry .args .f) (entry .args .first) (entry .args .nodes .now) (entry .pre .1)
 
 sequence-datum-requires : (t : ℕ) → sequence-lts.Need-datum-requires (sequence-claims t) (sequence-at t) sequence.Post sequence-Inv-loop sequence-μ-loop
-sequence-datum-requires t c κs = (omega (arith, c .before .before .before .before .before .pre .0, c .before .before .loop .inv .back, c .before .loop-test .taken), (c .before .loop-test .taken, c .before .before .loop .inv .few, c .before .before .before .before .before .pre .1 .shallow))
+sequence-datum-requires t c κs =
+    let entry = c .before .before .before .before .before in (
+      omega (arith, entry .pre .0, c .before .before .loop .inv .back, c .before .loop-test .taken, entry .pre .1 .counted),
+      (entry .pre .1 .counted, c .before .loop-test .taken, c .before .before .loop .inv .few, entry .pre .1 .shallow),
+    )
 
 sequence-enum-known-t : (t : ℕ) → sequence-lts.Need-enum-known-t (sequence-claims t) (sequence-at t) sequence.Post sequence-Inv-loop sequence-μ-loop
 sequence-enum-known-t t c = search needs
@@ -296,7 +439,12 @@ sequence-loop-less : (t : ℕ) → sequence-lts.Need-loop-less (sequence-claims 
 sequence-loop-less t c = let T = rw (c .before .t .given .1) at (c .before .before .before .before .before .datum .ensures) in omega (arith, T .1 .past, T .1 .inside)
 
 sequence-loop-again : (t : ℕ) → sequence-lts.Need-loop-again (sequence-claims t) (sequence-at t) sequence.Post sequence-Inv-loop sequence-μ-loop
-sequence-loop-again t c = going-more (c .before .before .before .before .before .before .before .before .before .before .before .args .records .now) (c .before .before .before .before .before .before .before .before .before .before .before .args .from) (c .before .before .before .before .before .before .before .before .before .before .before .args .depth) (c .before .before .before .before .before .before .before .before .before .before .before .args .f) (c .before .before .before .before .before .before .before .before .before .before .before .args .first) (c .before .before .before .before .before .before .before .before .before .before .before .args .nodes .now) (c .before .before .before .before .before .before .before .before .before .before .before .pre .1) _ _ _ _ (c .before .before .before .before .before .before .before .before .loop .inv) _ _ _ _ (c .before .before .before .before .before .datum .kept .1 .1 .1 .1 .0) (rw (c .before .t .given .1) at (c .before .before .before .before .before .datum .ensures))
+sequence-loop-again t c =
+    let at-datum = c .before .before .before .before .before in
+    let entry = at-datum .before .before .before .before .before .before in
+    going-more (entry .args .records .now) (entry .args .count) (entry .args .from) (entry .args .depth)
+    (entry .args .f) (entry .args .first) (entry .args .nodes .now) (entry .pre .1) _ _ _ _ (at-datum .before .before .before .loop .inv) _ _ _ _
+    (at-datum .datum .kept .1 .1 .1 .1 .1 .0) (rw (c .before .t .given .1) at (at-datum .datum .ensures))
 
 sequence-enum-known-t-2 : (t : ℕ) → sequence-lts.Need-enum-known-t-2 (sequence-claims t) (sequence-at t) sequence.Post sequence-Inv-loop sequence-μ-loop
 sequence-enum-known-t-2 t c = search needs
@@ -305,19 +453,30 @@ sequence-node-kind-requires : (t : ℕ) → sequence-lts.Need-node-kind-requires
 sequence-node-kind-requires t c κs = search needs
 
 sequence-same-length : (t : ℕ) → sequence-lts.Need-same-length (sequence-claims t) (sequence-at t) sequence.Post sequence-Inv-loop sequence-μ-loop
-sequence-same-length t c = c .before .before .before .before .before .before .datum .kept .1 .1 .1 .1 .0 ∙ c .before .before .before .before .before .before .before .before .before .loop .inv .long
+sequence-same-length t c = c .before .before .before .before .before .before .datum .kept .1 .1 .1 .1 .1 .0 ∙ c .before .before .before .before .before .before .before .before .before .loop .inv .long
 
 sequence-returns : (t : ℕ) → sequence-lts.Need-returns (sequence-claims t) (sequence-at t) sequence.Post sequence-Inv-loop sequence-μ-loop
-sequence-returns t c = going-shut (c .before .before .before .before .before .before .before .before .before .before .before .before .args .records .now) (c .before .before .before .before .before .before .before .before .before .before .before .before .args .from) (c .before .before .before .before .before .before .before .before .before .before .before .before .args .depth) (c .before .before .before .before .before .before .before .before .before .before .before .before .args .f) (c .before .before .before .before .before .before .before .before .before .before .before .before .args .first) (c .before .before .before .before .before .before .before .before .before .before .before .before .args .nodes .now) (c .before .before .before .before .before .before .before .before .before .before .before .before .pre .1) _ _ _ _ (c .before .before .before .before .before .before .before .before .before .loop .inv) (c .before .before .before .before .before .before .datum .last .1 .1 .1 .1 .0) _ _ (c .node-kind .result) (c .before .before .before .before .before .before .datum .kept .1 .1 .1 .1 .0) (rw (c .before .before .t2 .given .1) at (c .before .before .before .before .before .before .datum .ensures)) (c .node-kind .ensures)
+sequence-returns t c =
+    let at-datum = c .before .before .before .before .before .before in
+    let entry = at-datum .before .before .before .before .before .before in
+    going-shut (entry .args .records .now)
+    (entry .args .count) (entry .args .from) (entry .args .depth) (entry .args .f) (entry .args .first) (entry .args .nodes .now)
+    (entry .pre .1) _ _ _ _ (at-datum .before .before .before .loop .inv) (at-datum .datum .last .1 .1 .1 .1 .1 .0) _ _ (c .node-kind .result)
+    (at-datum .datum .kept .1 .1 .1 .1 .1 .0) (rw (c .before .before .t2 .given .1) at (at-datum .datum .ensures)) (c .node-kind .ensures)
 
 sequence-enum-known-t-3 : (t : ℕ) → sequence-lts.Need-enum-known-t-3 (sequence-claims t) (sequence-at t) sequence.Post sequence-Inv-loop sequence-μ-loop
 sequence-enum-known-t-3 t c = search needs
 
 sequence-same-length-2 : (t : ℕ) → sequence-lts.Need-same-length-2 (sequence-claims t) (sequence-at t) sequence.Post sequence-Inv-loop sequence-μ-loop
-sequence-same-length-2 t c = c .before .before .before .before .before .datum .kept .1 .1 .1 .1 .0 ∙ c .before .before .before .before .before .before .before .before .loop .inv .long
+sequence-same-length-2 t c = c .before .before .before .before .before .datum .kept .1 .1 .1 .1 .1 .0 ∙ c .before .before .before .before .before .before .before .before .loop .inv .long
 
 sequence-returns-2 : (t : ℕ) → sequence-lts.Need-returns-2 (sequence-claims t) (sequence-at t) sequence.Post sequence-Inv-loop sequence-μ-loop
-sequence-returns-2 t c = going-stop (c .before .before .before .before .before .before .before .before .before .before .before .args .records .now) (c .before .before .before .before .before .before .before .before .before .before .before .args .from) (c .before .before .before .before .before .before .before .before .before .before .before .args .depth) (c .before .before .before .before .before .before .before .before .before .before .before .args .f) (c .before .before .before .before .before .before .before .before .before .before .before .args .first) (c .before .before .before .before .before .before .before .before .before .before .before .args .nodes .now) (c .before .before .before .before .before .before .before .before .before .before .before .pre .1) _ _ _ _ (c .before .before .before .before .before .before .before .before .loop .inv) _ _ (c .before .before .before .before .before .datum .last .1 .1 .1 .1 .0) (rw (c .before .t3 .given .1) at (c .before .before .before .before .before .datum .ensures))
+sequence-returns-2 t c =
+    let at-datum = c .before .before .before .before .before in
+    let entry = at-datum .before .before .before .before .before .before in
+    going-stop (entry .args .records .now) (entry .args .count) (entry .args .from) (entry .args .depth)
+    (entry .args .f) (entry .args .first) (entry .args .nodes .now) (entry .pre .1) _ _ _ _ (at-datum .before .before .before .loop .inv) _ _
+    (at-datum .datum .last .1 .1 .1 .1 .1 .0) (rw (c .before .t3 .given .1) at (at-datum .datum .ensures))
 
 sequence-ending-at-requires : (t : ℕ) → sequence-lts.Need-ending-at-requires (sequence-claims t) (sequence-at t) sequence.Post sequence-Inv-loop sequence-μ-loop
 sequence-ending-at-requires t c κs = search needs
@@ -329,13 +488,22 @@ sequence-same-length-3 : (t : ℕ) → sequence-lts.Need-same-length-3 (sequence
 sequence-same-length-3 t c = c .before .before .before .before .loop .inv .long
 
 sequence-returns-3 : (t : ℕ) → sequence-lts.Need-returns-3 (sequence-claims t) (sequence-at t) sequence.Post sequence-Inv-loop sequence-μ-loop
-sequence-returns-3 t c = going-done (c .before .before .before .before .before .before .before .args .records .now) (c .before .before .before .before .before .before .before .args .from) (c .before .before .before .before .before .before .before .args .depth) (c .before .before .before .before .before .before .before .args .f) (c .before .before .before .before .before .before .before .args .first) (c .before .before .before .before .before .before .before .args .nodes .now) (c .before .before .before .before .before .before .before .pre .1) _ _ _ _ (c .before .before .before .before .loop .inv) _ _ (c .before .before .before .loop-test .left) (c .before .before .ending-at .ensures) (c .before .if1 .taken)
+sequence-returns-3 t c =
+    let entry = c .before .before .before .before .before .before .before in
+    rw (entry .pre .1 .counted) (going-done (entry .args .records .now) (entry .args .count)
+    (entry .args .from) (entry .args .depth) (entry .args .f) (entry .args .first) (entry .args .nodes .now) (entry .pre .1) _ _ _ _
+    (c .before .before .before .before .loop .inv) _ _ (omega (arith, c .before .before .before .loop-test .left, entry .pre .1 .counted))
+    (c .before .before .ending-at .ensures) (c .before .if1 .taken))
 
 sequence-same-length-4 : (t : ℕ) → sequence-lts.Need-same-length-4 (sequence-claims t) (sequence-at t) sequence.Post sequence-Inv-loop sequence-μ-loop
 sequence-same-length-4 t c = c .before .before .before .loop .inv .long
 
 sequence-returns-4 : (t : ℕ) → sequence-lts.Need-returns-4 (sequence-claims t) (sequence-at t) sequence.Post sequence-Inv-loop sequence-μ-loop
-sequence-returns-4 t c = going-end (c .before .before .before .before .before .before .args .records .now) (c .before .before .before .before .before .before .args .from) (c .before .before .before .before .before .before .args .depth) (c .before .before .before .before .before .before .args .f) (c .before .before .before .before .before .before .args .first) (c .before .before .before .before .before .before .args .nodes .now) (c .before .before .before .before .before .before .pre .1) _ _ _ _ (c .before .before .before .loop .inv) _ (c .before .before .loop-test .left) (c .before .ending-at .ensures) (c .if1 .left)
+sequence-returns-4 t c =
+    let entry = c .before .before .before .before .before .before in
+    rw (entry .pre .1 .counted) (going-end (entry .args .records .now) (entry .args .count) (entry .args .from) (entry .args .depth)
+    (entry .args .f) (entry .args .first) (entry .args .nodes .now) (entry .pre .1) _ _ _ _ (c .before .before .before .loop .inv) _
+    (omega (arith, c .before .before .loop-test .left, entry .pre .1 .counted)) (c .before .ending-at .ensures) (c .if1 .left))
 
 pub +datum+sequence-spec : {M : Type 1} → statement M
 +datum+sequence-spec = close μ-datum μ-sequence (λ t. datum-lts.spec (datum-claims t)
@@ -344,21 +512,20 @@ pub +datum+sequence-spec : {M : Type 1} → statement M
     (datum-class-at-requires t)
     (datum-wrong-at-requires t)
     (datum-returns t)
+    (datum-add-inner t)
     (datum-enum-told t)
     (datum-enum-told-2 t)
     (datum-enum-told-3 t)
-    (datum-add-t20 t)
+    (datum-add-t22 t)
     (datum-same-requires t)
     (datum-enum-told-4 t)
     (datum-add-sequence t)
-    (datum-add-sequence-2 t)
     (datum-slice-aggregate-sequence t)
     (datum-sequence-requires t)
     (datum-skipped-requires t)
     (datum-enum-told-5 t)
+    (datum-add-sequence-2 t)
     (datum-add-sequence-3 t)
-    (datum-add-sequence-4 t)
-    (datum-add-sequence-5 t)
     (datum-sequence-requires-2 t)
     (datum-took-requires t)
     (datum-enum-known-k t)
@@ -378,16 +545,15 @@ pub +datum+sequence-spec : {M : Type 1} → statement M
     (datum-took-requires-2 t)
     (datum-same-length t)
     (datum-returns-2 t)
-    (datum-add-sequence-6 t)
     (datum-sub-begun t)
     (datum-sub-begun-2 t)
     (datum-begun-requires t)
     (datum-sequence-requires-3 t)
     (datum-took-requires-3 t)
     (datum-enum-known-k-3 t)
-    (datum-add-t56 t)
+    (datum-add-t55 t)
     (datum-enum-told-6 t)
-    (datum-add-t57 t)
+    (datum-add-t56 t)
     (datum-pointed-at-requires t)
     (datum-returns-3 t)
     (datum-returns-4 t)

@@ -1,3 +1,4 @@
+-- Three stores are the three words laid (law `put-sets`).
 use native.Mathlib.Omega.{arith}
 use Prim.Native.Nat.{_*_}
 use lib.ListN.{length-set}
@@ -9,55 +10,42 @@ use Rattle.nested.proofs.lay.Tie as tie
 use Rattle.nested.proofs.lay.Reads as reads
 use Rattle.nested.proofs.lay.Lts as lts
 
--- src/lib.rt:91:13
 mul-p : tie.Need-mul-p
 mul-p c = search needs
 
--- src/lib.rt:92:5
 mul-nodes : tie.Need-mul-nodes
 mul-nodes c = search needs
 
--- src/lib.rt:92:5
 slice-write-nodes : tie.Need-slice-write-nodes
 slice-write-nodes c = search needs
 
--- src/lib.rt:93:20
 cast-nodes : tie.Need-cast-nodes
 cast-nodes c = search needs
 
--- src/lib.rt:93:11
 add-nodes : tie.Need-add-nodes
 add-nodes c = search needs
 
--- src/lib.rt:93:5
 mul-nodes-2 : tie.Need-mul-nodes-2
 mul-nodes-2 c = search needs
 
--- src/lib.rt:93:5
 slice-write-nodes-2 : tie.Need-slice-write-nodes-2
 slice-write-nodes-2 c = simp length-set (omega arith)
 
--- src/lib.rt:94:20
 cast-nodes-2 : tie.Need-cast-nodes-2
 cast-nodes-2 c = search needs
 
--- src/lib.rt:94:11
 add-nodes-2 : tie.Need-add-nodes-2
 add-nodes-2 c = search needs
 
--- src/lib.rt:94:5
 mul-nodes-3 : tie.Need-mul-nodes-3
 mul-nodes-3 c = search needs
 
--- src/lib.rt:94:5
 slice-write-nodes-3 : tie.Need-slice-write-nodes-3
 slice-write-nodes-3 c = simp length-set (omega arith)
 
--- src/lib.rt:87:1
 same-length : tie.Need-same-length
 same-length c = search needs
 
--- src/lib.rt:87:1
 returns : tie.Need-returns
 unfolding Put
 returns c = λ h hi hn. put-sets (c .args .nodes .now) (c .args .w * 3) _ _ _ (omega arith) hi hn

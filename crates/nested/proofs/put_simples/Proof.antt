@@ -1,3 +1,5 @@
+-- The invariant: what lies behind is a run of simple data whose nodes are written. As many nodes as records were passed, so there is room for the
+-- next node wherever the next record is below the limit.
 use native.Mathlib.Omega.{arith}
 use mathlib.Core.Path.{_≡_, refl, sym, ap, _∙_}
 use borrow.Author.Needs.{needs}
@@ -14,56 +16,64 @@ use Rattle.nested.proofs.lay.Reads as lay-reads
 use Rattle.nested.proofs.least.Reads as least-reads
 
 abbrev Inv-loop : tie.InvT-loop
-Inv-loop records from nodes₀ w limit at₀ v₀ nodes at v = (length nodes ≡ length nodes₀) × (v + from ≡ w + at) × Run records from w nodes₀ nodes at
+Inv-loop records count from nodes₀ w limit at₀ v₀ nodes at v = (length nodes ≡ length nodes₀) × (v + from ≡ w + at) × Run records from w nodes₀ nodes at
 
 abbrev μ-loop : tie.MeasureT-loop
-μ-loop records from nodes₀ w limit at₀ v₀ nodes at v = limit - at
+μ-loop records count from nodes₀ w limit at₀ v₀ nodes at v = limit - at
 
--- src/lib.rt:148:9
 least-requires : tie.Need-least-requires Inv-loop μ-loop
 least-requires c κs = search needs
 
--- src/lib.rt:151:5
 loop-holds : tie.Need-loop-holds Inv-loop μ-loop
-loop-holds c = (refl, omega arith, run-none (c .before .before .before .args .records .now) (c .before .before .before .args .from) (c .before .before .before .args .w) (c .before .before .before .args .nodes .now) (c .before .before .before .pre .0))
+loop-holds c =
+    let entry = c .before .before .before in (
+      refl,
+      omega arith,
+      run-none (entry .args .records .now) (entry .args .from) (entry .args .w) (entry .args .nodes .now) (omega (arith, entry .pre .0, entry .pre .1)),
+    )
 
--- src/lib.rt:152:13
 simple-at-requires : tie.Need-simple-at-requires Inv-loop μ-loop
-simple-at-requires c κs = omega (arith, c .before .before .least .ensures .0)
+simple-at-requires c κs = omega (arith, c .before .before .least .ensures .0, c .before .before .before .before .before .pre .0)
 
--- src/lib.rt:154:13
 same-length : tie.Need-same-length Inv-loop μ-loop
 same-length c = c .before .before .before .loop .inv .0
 
--- src/lib.rt:154:13
 returns : tie.Need-returns Inv-loop μ-loop
 returns c = c .before .before .before .loop .inv .2
 
--- src/lib.rt:156:9
 lay-requires : tie.Need-lay-requires Inv-loop μ-loop
-lay-requires c κs = omega (arith, c .before .before .before .before .before .least .ensures .1, c .before .before .before .before .loop .inv .0, c .before .before .before .before .loop .inv .1, c .before .before .before .before .before .before .before .before .pre .1)
+lay-requires c κs =
+    let turn = c .before .before .before .before in
+    omega (arith, turn .before .least .ensures .1, turn .loop .inv .0, turn .loop .inv .1, turn .before .before .before .before .pre .2)
 
--- src/lib.rt:157:9
 add-at : tie.Need-add-at Inv-loop μ-loop
 add-at c = search needs
 
--- src/lib.rt:158:9
 add-v : tie.Need-add-v Inv-loop μ-loop
-add-v c = omega (arith, c .before .before .before .before .before .before .before .loop .inv .1, c .before .before .before .before .before .before .before .before .before .before .before .pre .1, c .before .before .before .before .before .before .before .before .least .ensures .0)
+add-v c =
+    let turn = c .before .before .before .before .before .before .before in
+    omega (arith, turn .loop .inv .1, turn .before .before .before .before .pre .2, turn .before .least .ensures .0)
 
--- src/lib.rt:151:5
 loop-less : tie.Need-loop-less Inv-loop μ-loop
 loop-less c = omega arith
 
--- src/lib.rt:151:5
 loop-again : tie.Need-loop-again Inv-loop μ-loop
-loop-again c = (c .before .before .lay .kept .0 ∙ c .before .before .before .before .before .before .before .loop .inv .0, omega (arith, c .before .before .before .before .before .before .before .loop .inv .1), run-more (c .before .before .before .before .before .before .before .before .before .before .before .args .records .now) (c .before .before .before .before .before .before .before .before .before .before .before .args .from) (c .before .before .before .before .before .before .before .loop .at) (c .before .before .before .before .before .simple-at .result) (omega (arith, c .before .before .before .before .before .before .loop-test .taken, c .before .before .before .before .before .before .before .before .least .ensures .0)) (c .before .before .before .before .before .simple-at .ensures (c .before .before .before .before .if1 .left)) (c .before .before .before .before .before .before .before .before .before .before .before .args .w) (c .before .before .before .before .before .before .before .loop .v) (c .before .before .before .before .before .before .before .before .before .before .before .args .nodes .now) (c .before .before .before .before .before .before .before .loop .nodes) (c .before .before .lay .last .0) (c .before .before .before .before .before .before .before .loop .inv .0) (c .before .before .before .before .before .before .before .loop .inv .2) (omega (arith, c .before .before .before .before .before .before .before .loop .inv .1, c .before .before .before .before .before .before .before .loop .inv .2 .simples .count)) (c .before .before .lay .ensures))
+loop-again c =
+    let laid = c .before .before in
+    let at-simple-at = laid .before .before .before in
+    let turn = at-simple-at .before .before in
+    let entry = turn .before .before .before .before in (
+      laid .lay .kept .0 ∙ turn .loop .inv .0,
+      omega (arith, turn .loop .inv .1),
+      run-more (entry .args .records .now) (entry .args .from) (turn .loop .at) (at-simple-at .simple-at .result)
+          (omega (arith, at-simple-at .before .loop-test .taken, turn .before .least .ensures .0, entry .pre .0)) (at-simple-at .simple-at .ensures
+          (laid .before .before .if1 .left)) (entry .args .w) (turn .loop .v) (entry .args .nodes .now) (turn .loop .nodes) (laid .lay .last .0)
+          (turn .loop .inv .0) (turn .loop .inv .2) (omega (arith, turn .loop .inv .1, turn .loop .inv .2 .simples .count)) (laid .lay .ensures),
+    )
 
--- src/lib.rt:144:1
 same-length-2 : tie.Need-same-length-2 Inv-loop μ-loop
 same-length-2 c = c .before .loop .inv .0
 
--- src/lib.rt:144:1
 returns-2 : tie.Need-returns-2 Inv-loop μ-loop
 returns-2 c = c .before .loop .inv .2
 

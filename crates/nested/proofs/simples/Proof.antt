@@ -1,3 +1,4 @@
+-- Where not even one node has room, the promise asks for nothing to be written; else the writing scan says it all.
 use Rattle.nested.proofs.Runs.{run-unwritten}
 use borrow.Author.Needs.{needs}
 use Rattle.nested.proofs.simples.Statement.{statement}
@@ -7,23 +8,21 @@ use Rattle.nested.proofs.simples.Lts as lts
 use Rattle.nested.proofs.put_simples.Reads as put-simples-reads
 use Rattle.nested.proofs.simples_end.Reads as simples-end-reads
 
--- src/lib.rt:169:9
 simples-end-requires : tie.Need-simples-end-requires
 simples-end-requires c κs = search needs
 
--- src/lib.rt:169:9
 returns : tie.Need-returns
-returns c = run-unwritten (c .before .before .before .before .args .records .now) (c .before .before .before .before .args .from) (c .before .before .before .before .args .w) (c .simples-end .result) (c .before .before .before .before .args .nodes .now) (c .before .if1 .taken) (c .simples-end .ensures)
+returns c =
+    let entry = c .before .before .before .before in
+    run-unwritten (entry .args .records .now)
+    (entry .args .from) (entry .args .w) (c .simples-end .result) (entry .args .nodes .now) (c .before .if1 .taken) (c .simples-end .ensures)
 
--- src/lib.rt:171:5
 put-simples-requires : tie.Need-put-simples-requires
 put-simples-requires c κs = search needs
 
--- src/lib.rt:164:1
 same-length : tie.Need-same-length
 same-length c = search needs
 
--- src/lib.rt:164:1
 returns-2 : tie.Need-returns-2
 returns-2 c = search needs
 

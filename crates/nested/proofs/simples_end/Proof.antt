@@ -1,46 +1,44 @@
+-- The invariant: what lies behind is a run of simple data.
 use native.Mathlib.Omega.{arith}
 use borrow.Author.Needs.{needs}
+use borrow.Author.Tests.{not-false}
 use Prim.Native.Nat.{_-_}
-use Rattle.nested.specs.Items.{countOf}
 use Rattle.nested.specs.Said.{Simples}
 use Rattle.nested.proofs.Runs.{simples-none, simples-more}
 use Rattle.nested.proofs.simples_end.Statement.{statement}
 use Rattle.nested.proofs.simples_end.Tie as tie
 use Rattle.nested.proofs.simples_end.Reads as reads
 use Rattle.nested.proofs.simples_end.Lts as lts
-use Rattle.nested.proofs.classes.simple_at.Reads as simple-at-reads
+use Rattle.nested.proofs.classes.is_simple_at.Reads as is-simple-at-reads
 
 abbrev Inv-loop : tie.InvT-loop
-Inv-loop records from count at₀ at = Simples records from at
+Inv-loop records count from at₀ at = Simples records from at
 
 abbrev μ-loop : tie.MeasureT-loop
-μ-loop records from count at₀ at = countOf records - at
+μ-loop records count from at₀ at = count - at
 
--- src/lib.rt:134:5
 loop-holds : tie.Need-loop-holds Inv-loop μ-loop
-loop-holds c = simples-none (c .before .args .records .now) (c .before .args .from) (c .before .pre)
+loop-holds c = simples-none (c .before .args .records .now) (c .before .args .from) (omega (arith, c .before .pre .0, c .before .pre .1))
 
--- src/lib.rt:135:12
-simple-at-requires : tie.Need-simple-at-requires Inv-loop μ-loop
-simple-at-requires c κs = c .loop-test .taken
+is-simple-at-requires : tie.Need-is-simple-at-requires Inv-loop μ-loop
+is-simple-at-requires c κs = omega (arith, c .loop-test .taken, c .before .before .before .pre .0)
 
--- src/lib.rt:136:13
 returns : tie.Need-returns Inv-loop μ-loop
 returns c = c .before .before .before .loop .inv
 
--- src/lib.rt:138:9
 add-at : tie.Need-add-at Inv-loop μ-loop
 add-at c = search needs
 
--- src/lib.rt:134:5
 loop-less : tie.Need-loop-less Inv-loop μ-loop
 loop-less c = omega arith
 
--- src/lib.rt:134:5
 loop-again : tie.Need-loop-again Inv-loop μ-loop
-loop-again c = simples-more (c .before .before .before .before .before .args .records .now) (c .before .before .before .before .before .args .from) (c .before .before .before .loop .at) (c .before .simple-at .result) (c .before .before .loop-test .taken) (c .before .simple-at .ensures (c .if1 .left)) (c .before .before .before .loop .inv)
+loop-again c =
+    let entry = c .before .before .before .before .before in
+    let q = c .before .is-simple-at .ensures (not-false _ (c .if1 .left)) in
+    simples-more (entry .args .records .now) (entry .args .from) (c .before .before .before .loop .at)
+    (q .0) (omega (arith, c .before .before .loop-test .taken, entry .pre .0)) (q .1) (c .before .before .before .loop .inv)
 
--- src/lib.rt:128:1
 returns-2 : tie.Need-returns-2 Inv-loop μ-loop
 returns-2 c = c .before .loop .inv
 
@@ -51,7 +49,7 @@ simples-end-spec =
     Inv-loop
     μ-loop
     loop-holds
-    simple-at-requires
+    is-simple-at-requires
     returns
     add-at
     loop-less

@@ -6,7 +6,9 @@ use Rattle.nested_exports.proofs.mihadrena_nest.Tie as tie
 
 returns : tie.Need-returns
 returns c =
-    told _ _ (c .before .before .before .before .before .before .before .build .ensures) (c .before .before .before .before .answer .ensures .0) (c .before .before .before .before .answer .ensures .1) (c .before .before .put-value .ensures)
+    let answered = c .before .before .before .before in
+    told _ _ (answered .before .before .before .build .ensures)
+    (answered .answer .ensures .0) (answered .answer .ensures .1) (c .before .before .put-value .ensures)
 
 pub mihadrena-nest-spec : {M : Type 1} → statement M
 mihadrena-nest-spec =

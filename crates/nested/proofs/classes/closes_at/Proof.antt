@@ -1,3 +1,4 @@
+-- The record is inside, its kind is the closing bracket's, and its detail is the one that closes s: so `classOf` has it (law `closes-said`).
 use native.Mathlib.Omega.{arith}
 use mathlib.Core.Path.{_≡_, refl, sym, ap, _∙_}
 use Prim.Native.Nat.{_+_, _*_}
@@ -11,47 +12,41 @@ use Rattle.nested.proofs.classes.closes_at.Reads as reads
 use Rattle.nested.proofs.classes.closes_at.Lts as lts
 use Rattle.nested.proofs.refusals.closer_of.Reads as closer-of-reads
 
--- src/classes.rt:212:17
 mul-p : tie.Need-mul-p
 mul-p c = search needs
 
--- src/classes.rt:213:12
 mul-if2 : tie.Need-mul-if2
 mul-if2 c = search needs
 
--- src/classes.rt:213:12
 shared-slice-read-if2 : tie.Need-shared-slice-read-if2
 shared-slice-read-if2 c = search needs
 
--- src/classes.rt:214:28
 add-result : tie.Need-add-result
 add-result c = search needs
 
--- src/classes.rt:214:20
 mul-result : tie.Need-mul-result
 mul-result c = search needs
 
--- src/classes.rt:214:20
 shared-slice-read-result : tie.Need-shared-slice-read-result
 shared-slice-read-result c = search needs
 
--- src/classes.rt:214:20
 cast-result : tie.Need-cast-result
 cast-result c = omega (arith, c .shared-slice-known3 .given (c .before .before .before .before .before .args .at * 10 + 1))
 
--- src/classes.rt:214:45
 closer-of-requires : tie.Need-closer-of-requires
 closer-of-requires c κs = search needs
 
--- src/classes.rt:214:13
 returns : tie.Need-returns
-returns c = λ q. (c .before .before .before .before .if1 .taken, closes-said _ _ (c .before .before .before .before .before .before .args .s) (c .before .before .if2 .taken) (eqb-true _ _ q ∙ c .closer-of .ensures))
+returns c =
+    let entry = c .before .before .before .before .before .before in
+    λ q. (
+      omega (arith, c .before .before .before .before .if1 .taken, entry .pre),
+      closes-said _ _ (entry .args .s) (c .before .before .if2 .taken) (eqb-true _ _ q ∙ c .closer-of .ensures),
+    )
 
--- src/classes.rt:208:1
 returns-2 : tie.Need-returns-2
 returns-2 c = λ q. not-true q
 
--- src/classes.rt:208:1
 returns-3 : tie.Need-returns-3
 returns-3 c = λ q. not-true q
 

@@ -1,5 +1,6 @@
+-- Each test leaves the kinds of one row of the table, and the law of that row in `Table` says what it gives. Where the answer is none, nothing is said.
 use native.Mathlib.Omega.{arith}
-use mathlib.Core.Path.{sym, refl, _∙_}
+use mathlib.Core.Path.{sym, _∙_}
 use Rattle.nested.proofs.Table.{plain-word, plain-string, boolean-said, character-said, no-simple}
 use borrow.Author.Needs.{needs}
 use Rattle.nested.proofs.classes.rare_kind.Statement.{statement}
@@ -9,45 +10,35 @@ use Rattle.nested.proofs.classes.rare_kind.Lts as lts
 use Rattle.chars.proofs.is_scalar.Reads as is-scalar-reads
 use Rattle.nested.proofs.classes.plain_kind.Reads as plain-kind-reads
 
--- src/classes.rt:95:9
 plain-kind-requires : tie.Need-plain-kind-requires
 plain-kind-requires c κs = search needs
 
--- src/classes.rt:95:9
 returns : tie.Need-returns
-returns c = plain-word _ _ _ (omega arith) (c .before .if1 .taken) (c .plain-kind .ensures)
+returns c = plain-string _ _ _ (c .before .if1 .taken) (c .plain-kind .ensures)
 
--- src/classes.rt:98:9
-plain-kind-requires-2 : tie.Need-plain-kind-requires-2
-plain-kind-requires-2 c κs = search needs
-
--- src/classes.rt:98:9
 returns-2 : tie.Need-returns-2
-returns-2 c = plain-string _ _ _ (c .before .if2 .taken) (c .plain-kind2 .ensures)
+returns-2 c = boolean-said _ _ (c .before .if2 .taken) (c .if3 .taken)
 
--- src/classes.rt:102:13
 returns-3 : tie.Need-returns-3
-returns-3 c = boolean-said _ _ (c .before .if3 .taken) (c .if4 .taken)
+returns-3 c = no-simple _ _
 
--- src/classes.rt:104:9
 returns-4 : tie.Need-returns-4
 returns-4 c = no-simple _ _
 
--- src/classes.rt:107:12
 is-scalar-requires : tie.Need-is-scalar-requires
 is-scalar-requires c κs = search needs
 
--- src/classes.rt:108:13
 returns-5 : tie.Need-returns-5
 returns-5 c = character-said _ _ (c .before .before .if5 .taken) (sym (c .before .is-scalar .ensures) ∙ c .if6 .taken)
 
--- src/classes.rt:110:9
 returns-6 : tie.Need-returns-6
 returns-6 c = no-simple _ _
 
--- src/classes.rt:90:1
+plain-kind-requires-2 : tie.Need-plain-kind-requires-2
+plain-kind-requires-2 c κs = search needs
+
 returns-7 : tie.Need-returns-7
-returns-7 c = no-simple _ _
+returns-7 c = plain-word _ _ _ (omega arith) (omega arith) (c .plain-kind2 .ensures)
 
 pub rare-kind-spec : {M : Type 1} → statement M
 rare-kind-spec =
@@ -55,11 +46,11 @@ rare-kind-spec =
     (tie.spec
     plain-kind-requires
     returns
-    plain-kind-requires-2
     returns-2
     returns-3
     returns-4
     is-scalar-requires
     returns-5
     returns-6
+    plain-kind-requires-2
     returns-7)

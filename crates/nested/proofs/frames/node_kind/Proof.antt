@@ -1,78 +1,48 @@
--- One arm for each frame, as in `nodeKind`.
-use borrow.Author.Tests.{eq-eqb, ne-eqb, lt-ltb, le-ltb, le-leb, lt-leb}
-use mathlib.Core.Path.{sym, refl, _∙_}
+-- The places of the frames part them as `nodeKind` does: with a dot, brackets without one, marks, the others.
+use mathlib.Core.Path.{_≡_, refl, sym, ap, _∙_}
+use Rattle.nested.proofs.Steps.{kind-dotted, kind-shape, kind-mark, kind-none}
 use borrow.Author.Needs.{needs}
 use Rattle.nested.proofs.frames.node_kind.Statement.{statement}
 use Rattle.nested.proofs.frames.node_kind.Tie as tie
 use Rattle.nested.proofs.frames.node_kind.Reads as reads
 use Rattle.nested.proofs.frames.node_kind.Lts as lts
+use Rattle.nested.proofs.frames.bracket_of.Reads as bracket-of-reads
 use Rattle.nested.proofs.frames.shape_kind.Reads as shape-kind-reads
+use Rattle.nested.proofs.frames.stage_of.Reads as stage-of-reads
 
-enum-told : tie.Need-enum-told
-enum-told c = search needs
+stage-of-requires : tie.Need-stage-of-requires
+stage-of-requires c κs = search needs
 
-enum-told-2 : tie.Need-enum-told-2
-enum-told-2 c = search needs
+returns : tie.Need-returns
+returns c = kind-dotted (c .before .before .args .f) (rw (c .before .stage-of .ensures) at (c .if1 .taken))
 
-enum-told-3 : tie.Need-enum-told-3
-enum-told-3 c = search needs
-
-enum-known-f : tie.Need-enum-known-f
-enum-known-f c = search needs
+bracket-of-requires : tie.Need-bracket-of-requires
+bracket-of-requires c κs = search needs
 
 shape-kind-requires : tie.Need-shape-kind-requires
 shape-kind-requires c κs = search needs
 
-enum-known-f-2 : tie.Need-enum-known-f-2
-enum-known-f-2 c = search needs
-
-shape-kind-requires-2 : tie.Need-shape-kind-requires-2
-shape-kind-requires-2 c κs = search needs
-
-enum-known-f-3 : tie.Need-enum-known-f-3
-enum-known-f-3 c = search needs
-
-enum-known-f-4 : tie.Need-enum-known-f-4
-enum-known-f-4 c = search needs
-
-returns : tie.Need-returns
-returns c = search needs
-
 returns-2 : tie.Need-returns-2
-returns-2 c = search needs
+returns-2 c =
+    let at-stage-of = c .before .before .before .before in
+    c .shape-kind .ensures ∙ rw (c .before .bracket-of .ensures) (kind-shape (at-stage-of .before .args .f) (rw (at-stage-of .stage-of .ensures) at
+    (c .before .before .if2 .taken)) (rw (at-stage-of .stage-of .ensures) at (c .before .before .before .if1 .left)))
 
 returns-3 : tie.Need-returns-3
-returns-3 c = search needs
+returns-3 c = kind-mark (c .before .before .before .before .args .f) (sym (c .before .before .before .stage-of .ensures) ∙ c .if3 .taken)
 
 returns-4 : tie.Need-returns-4
-returns-4 c = rw (c .before .before .f .given .1) (c .shape-kind .ensures)
-
-returns-5 : tie.Need-returns-5
-returns-5 c = rw (c .before .before .f2 .given .1) (c .shape-kind2 .ensures)
-
-returns-6 : tie.Need-returns-6
-returns-6 c = search needs
-
-returns-7 : tie.Need-returns-7
-returns-7 c = search needs
+returns-4 c = kind-none (c .before .before .before .before .args .f) (rw (c .before .before .before .stage-of .ensures) at (c .before .if2 .left))
+    (λ q. c .if3 .left (c .before .before .before .stage-of .ensures ∙ q))
 
 pub node-kind-spec : {M : Type 1} → statement M
 node-kind-spec =
     tie.close
     (tie.spec
-    enum-told
-    enum-told-2
-    enum-told-3
-    enum-known-f
-    shape-kind-requires
-    enum-known-f-2
-    shape-kind-requires-2
-    enum-known-f-3
-    enum-known-f-4
+    stage-of-requires
     returns
+    bracket-of-requires
+    shape-kind-requires
     returns-2
     returns-3
-    returns-4
-    returns-5
-    returns-6
-    returns-7)
+    returns-4)

@@ -1,62 +1,49 @@
+-- Each arm makes the frame that it matched.
 use borrow.Author.Needs.{needs}
 use Rattle.nested.proofs.frames.same.Statement.{statement}
 use Rattle.nested.proofs.frames.same.Tie as tie
 use Rattle.nested.proofs.frames.same.Reads as reads
 use Rattle.nested.proofs.frames.same.Lts as lts
 
--- src/frames.rt:80:24
 enum-told : tie.Need-enum-told
 enum-told c = search needs
 
--- src/frames.rt:81:27
 enum-told-2 : tie.Need-enum-told-2
 enum-told-2 c = search needs
 
--- src/frames.rt:82:28
 enum-told-3 : tie.Need-enum-told-3
 enum-told-3 c = search needs
 
--- src/frames.rt:83:22
 enum-known-f : tie.Need-enum-known-f
 enum-known-f c = search needs
 
--- src/frames.rt:84:22
 enum-known-f-2 : tie.Need-enum-known-f-2
 enum-known-f-2 c = search needs
 
--- src/frames.rt:85:23
 enum-known-f-3 : tie.Need-enum-known-f-3
 enum-known-f-3 c = search needs
 
--- src/frames.rt:86:23
 enum-known-f-4 : tie.Need-enum-known-f-4
 enum-known-f-4 c = search needs
 
--- src/frames.rt:76:1
 returns : tie.Need-returns
 returns c = search needs
 
--- src/frames.rt:76:1
 returns-2 : tie.Need-returns-2
 returns-2 c = search needs
 
--- src/frames.rt:76:1
 returns-3 : tie.Need-returns-3
 returns-3 c = search needs
 
--- src/frames.rt:76:1
 returns-4 : tie.Need-returns-4
 returns-4 c = rw (c .before .f .given .1)
 
--- src/frames.rt:76:1
 returns-5 : tie.Need-returns-5
 returns-5 c = rw (c .before .f2 .given .1)
 
--- src/frames.rt:76:1
 returns-6 : tie.Need-returns-6
 returns-6 c = rw (c .before .f3 .given .1)
 
--- src/frames.rt:76:1
 returns-7 : tie.Need-returns-7
 returns-7 c = rw (c .before .f4 .given .1)
 
