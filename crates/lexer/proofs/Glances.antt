@@ -2,7 +2,6 @@
 use Rattle.chars.specs.Utf8.{front, placed, chars}
 use Rattle.chars.specs.declared.Decoded.the-variants as decoded
 use Rattle.chars.specs.Blank.{isBlank}
-use Rattle.chars.specs.Encode.{width}
 use Rattle.items.specs.Kinds as kind
 use Rattle.items.specs.Classes.{firstOf}
 use Rattle.items.specs.Machine.{onFirst, scanOf}
@@ -10,7 +9,6 @@ use Rattle.items.specs.Readers.{SoFar, soFar}
 use Rattle.items.specs.Meaning.{meaningOf}
 use Rattle.items.specs.Items.{Place, range, rangeAfter, standing, placeOf}
 use Rattle.items.specs.Whole.{limit}
-use Rattle.items.specs.declared.Outcome.{Outcome}
 use Rattle.items.specs.declared.Phase.{Phase}
 use Rattle.items.specs.declared.Nine.{Nine}
 use Rattle.steps.specs.Scan.{part, scanned, answer}
@@ -24,25 +22,24 @@ use Rattle.meaning.specs.declared.Text.the-variants.{Nowhere, Source, Decoded}
 use Rattle.meaning.specs.Places.{placeIn, rangeOf}
 use Rattle.meaning.specs.Records.{nineFor, TextFits}
 use Rattle.lexer.specs.Inner as inner
-use Rattle.lexer.specs.Inner.{ExtentFits, bytesFor, freeAfter}
-use Rattle.lexer.specs.Reading.{moved, turn, turnAt, turnOf, nextAt, startFrom, foundOf}
-use Rattle.lexer.specs.Glance.{Begins, Alone, Glanced, Undecoded}
+use Rattle.lexer.specs.Inner.{bytesFor, freeAfter}
+use Rattle.lexer.specs.Reading.{moved, turn, turnAt, nextAt, startFrom, foundOf}
+use Rattle.lexer.specs.Glance.{Begins, Glanced, Undecoded}
 use Rattle.lexer.specs.declared.Spot.{Spot}
 use Rattle.lexer.specs.declared.Start.the-variants.{At}
 use Rattle.lexer.specs.declared.Found.{Found}
 use Rattle.lexer.specs.declared.Found.the-variants.{One}
 use Rattle.lexer.proofs.Here.{char-found}
-use Rattle.lexer.proofs.Starts.{start-solid}
 use Rattle.lexer.proofs.Turns.{Started, started, turn-started}
 use Rattle.lexer.proofs.Scans.{end-inside, scan-fits, found-is}
 use Rattle.lexer.proofs.Gives.{fits-one, found-one}
 use Rattle.lexer.proofs.Nexts.{found-gives, next-at-gives}
-use Prim.Native.Nat.{ℕ, _+_, _-_, _^_, _≤_, _<_}
+use Prim.Native.Nat.{ℕ, _+_, _-_, _≤_, _<_}
 use mathlib.Core.Path.{_≡_, refl, sym, ap, _∙_, subst}
-use mathlib.Core.Bool.{Bool, true, false, _&&_}
-use mathlib.Core.List.{List, [], _∷_}
-use lib.Dec.{eqb, leb, ltb}
-use lib.ListN.{length, getD, take, drop, length-take, length-drop}
+use mathlib.Core.Bool.{Bool, false, _&&_}
+use mathlib.Core.List.{List, []}
+use lib.Dec.{eqb}
+use lib.ListN.{length, getD, drop, length-take, length-drop}
 use native.Mathlib.Omega.{arith}
 use borrow.Author.Tests.{lt-leb}
 

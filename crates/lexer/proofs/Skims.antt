@@ -37,7 +37,7 @@ use Rattle.lexer.proofs.Going.{going-on, it, it-moved}
 use Rattle.lexer.proofs.Quickly.{here}
 use Rattle.lexer.proofs.Tells.{and-false, spans, ends-here, line-told, string-tells, identifier-tells, word-tells, run-tells}
 use Prim.Native.Nat.{ℕ, _+_, _-_, _≤_, _<_}
-use mathlib.Core.Path.{_≡_, refl, sym, ap, _∙_, subst}
+use mathlib.Core.Path.{_≡_, refl, ap, _∙_, subst}
 use mathlib.Core.Bool.{Bool, false}
 use mathlib.Core.List.{List, [], _∷_, _++_}
 use lib.Dec.{eqb}

@@ -3,7 +3,7 @@ use Rattle.chars.specs.Utf8.{chars}
 use Rattle.chars.specs.Blank.{isBlank}
 use Rattle.chars.proofs.Blanks.{between-blanks}
 use Rattle.items.specs.Kinds as kind
-use Rattle.items.specs.Classes.{number, wordy, startsRun, firstOf}
+use Rattle.items.specs.Classes.{startsRun, firstOf}
 use Rattle.items.specs.Machine.{onFirst}
 use Rattle.items.specs.Readers.{SoFar, soFar, comment, firstIs}
 use Rattle.items.specs.Meaning.{escaped, stringText, wordKind, wordMeans, runMeans}
@@ -16,27 +16,25 @@ use Rattle.items.specs.declared.Outcome.{Outcome}
 use Rattle.items.specs.declared.Outcome.the-variants.{Token, Str, Word, Run}
 use Rattle.items.specs.declared.Phase.{Phase}
 use Rattle.items.specs.declared.Phase.the-variants as ph
-use Rattle.laws.specs.Quoted.{code, codes, oneOf}
+use Rattle.laws.specs.Quoted.{code}
 use Rattle.steps.specs.Scan.{part, answer}
 use Rattle.steps.specs.Ended.{EndsAs}
 use Rattle.steps.specs.declared.Ending.the-variants as ending
 use Rattle.steps.proofs.Kept.{done-scan}
-use Rattle.steps.proofs.Characters.{upto, in-run}
+use Rattle.steps.proofs.Characters.{in-run}
 use Rattle.meaning.specs.Meant.{means}
-use Rattle.meaning.specs.declared.Means.{Means}
 use Rattle.meaning.specs.declared.Text.the-variants.{Nowhere, Source}
-use Rattle.lexer.specs.Inner.{ExtentFits}
-use Rattle.lexer.specs.Glance.{Begins, Alone, Level, Tells, Glanced, GlanceAt, Told, GlanceFrom}
+use Rattle.lexer.specs.Glance.{Begins, Level, Tells, Glanced, GlanceAt, Told, GlanceFrom}
 use Rattle.lexer.specs.Reading.{startFrom}
 use Rattle.lexer.specs.declared.Quick.{Quick}
 use Rattle.lexer.specs.declared.Quick.the-variants.{Item, Bracket, Other}
 use Rattle.lexer.proofs.Scans.{inside, scan-fits, end-inside}
 use Rattle.lexer.proofs.Glances.{begins}
 use Rattle.lexer.proofs.WordKinds.{kind-fine, kind-level, kind-kept}
-use Prim.Native.Nat.{ℕ, _+_, _-_, _^_, _≤_, _<_}
+use Prim.Native.Nat.{ℕ, _+_, _-_, _≤_, _<_}
 use mathlib.Core.Path.{_≡_, refl, sym, ap, _∙_, subst}
 use mathlib.Core.Bool.{Bool, true, false, _&&_}
-use mathlib.Core.List.{List, []}
+use mathlib.Core.List.{List}
 use mathlib.Core.Logic.{_⊎_, inl, inr, ⊎-elim}
 use lib.Dec.{eqb}
 use lib.ListN.{length, getD, drop, length-take, length-drop}

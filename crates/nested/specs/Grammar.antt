@@ -1,6 +1,6 @@
 -- R7RS 7.1.2 over the records of a text, as derivations: `Datum d xs ys ns` says that xs is one datum and then ys, that the
 -- datum has the nodes ns, and that at most d levels (brackets, quoting marks, `#;`) lie inside one another in it.
-use Prim.Native.Nat.{ℕ, zero, suc}
+use Prim.Native.Nat.{ℕ, suc}
 use mathlib.Core.Path.{_≡_}
 use mathlib.Core.Bool.{Bool, true, cond}
 use mathlib.Core.List.{List, [], _∷_, _++_}
@@ -8,8 +8,7 @@ use lib.Dec.{eqb, ltb}
 use lib.ListN.{length}
 use Rattle.items.specs.Kinds as kind
 use Rattle.nested.specs.Items.{Item, item, plainList, dottedList, vector, byteList, abbreviation}
-use Rattle.nested.specs.declared.Class.{Class}
-use Rattle.nested.specs.declared.Class.the-variants.{Alien, Fails, Passes, Drops, Marks, Simple, Opens, Closes, Dots}
+use Rattle.nested.specs.declared.Class.the-variants.{Passes, Drops, Marks, Simple, Opens, Closes, Dots}
 
 -- A node: its kind, its item (the record that it starts with), how many nodes lie beneath it. Nodes stand in the order of
 -- their items, so the nodes beneath one follow it.

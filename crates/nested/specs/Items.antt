@@ -1,7 +1,7 @@
 -- What stands in a record, by 01's "An item": a record is `recordWords` words, of which the first is the kind and the second the detail.
 -- `hasDetail`, `sortOf` and `classOf` are the one table of the kinds and details that the layout has.
 use Prim.Native.Nat.{ℕ, zero, suc, _+_, _*_, _-_, _/_}
-use mathlib.Core.Bool.{Bool, true, false, cond, _||_, _&&_}
+use mathlib.Core.Bool.{Bool, true, cond}
 use mathlib.Core.List.{List, [], _∷_}
 use lib.Dec.{eqb, leb, ltb}
 use lib.ListN.{length, getD}

@@ -8,6 +8,7 @@ use items::kinds;
 use meaning::records::WORDS;
 ghost use mathlib.Core.Path.{_≡_};
 ghost use Prim.Native.Nat.{_<_};
+ghost use Rattle.items.specs.Kinds as kind;
 ghost use Rattle.nested.specs.Items.{hasDetail, sortOf, classOf, classAt, countOf};
 ghost use Rattle.nested.specs.Said.{PlainSaid, SimpleSaid, SimpleAt, IsSimple, ClosesSaid};
 
@@ -92,7 +93,7 @@ fn plain_kind(kind: u32, d: u32) -> u32
 
 // The node's kind of a simple datum that is rare in plans: a string, a boolean, a character, a word such as if.
 fn rare_kind(k: u32, d: u32) -> u32
-    requires { ⌜ 9 < k ⌝ }
+    requires { ⌜ kind.UnquoteSpliceSyntax < k ⌝ }
     ensures { λ r. ⌜ SimpleSaid k d r ⌝ }
 {
     if k == kinds::STRING_LITERAL {
@@ -170,7 +171,7 @@ fn table_class(k: u32, d: u32) -> Class
 
 // What an opening bracket is to the reader.
 fn open_class(d: u32) -> Class
-    ensures { λ r. ⌜ r ≡ classOf 0 d ⌝ }
+    ensures { λ r. ⌜ r ≡ classOf kind.OpenParen d ⌝ }
 {
     if has_detail(kinds::OPEN_PAREN, d) {
         return Class::Opens(d as u64);
@@ -180,7 +181,7 @@ fn open_class(d: u32) -> Class
 
 // What a closing bracket is to the reader.
 fn close_class(d: u32) -> Class
-    ensures { λ r. ⌜ r ≡ classOf 1 d ⌝ }
+    ensures { λ r. ⌜ r ≡ classOf kind.CloseParen d ⌝ }
 {
     if has_detail(kinds::CLOSE_PAREN, d) {
         return Class::Closes(d as u64);
@@ -190,7 +191,7 @@ fn close_class(d: u32) -> Class
 
 // What a comment is to the reader.
 fn comment_class(d: u32) -> Class
-    ensures { λ r. ⌜ r ≡ classOf 25 d ⌝ }
+    ensures { λ r. ⌜ r ≡ classOf kind.Comment d ⌝ }
 {
     if d == kinds::NO_DETAIL {
         return Class::Passes;

@@ -2,8 +2,8 @@
 use Prim.Native.Nat.{ℕ, _+_}
 use native.Mathlib.Omega.{arith}
 use mathlib.Core.Path.{_≡_}
-use mathlib.Core.List.{List, [], _∷_}
-use Rattle.nested.specs.Items.{Item, item}
+use mathlib.Core.List.{List}
+use Rattle.nested.specs.Items.{Item}
 use Rattle.nested.specs.Grammar.{Node, Gap, none, comment, dropped, Datum, simple, quoted, bracket, dotted, Sequence, last, more, Reading}
 use Rattle.nested_meaning.specs.Depth.{opens, closes}
 

@@ -1,6 +1,6 @@
 -- The bracket nodes around a node are the brackets open before its item. A datum leaves as many brackets open as it found, so what is open before
 -- an item after it is not changed by it; and a bracket's node stands exactly around what its two brackets enclose.
-use Prim.Native.Nat.{ℕ, zero, suc}
+use Prim.Native.Nat.{ℕ, suc}
 use mathlib.Core.Path.{_≡_, refl, sym, ap, subst, _∙_}
 use mathlib.Core.Bool.{Bool, true, false, cond}
 use mathlib.Core.List.{List, [], _∷_, _++_, append-assoc, append-nil}
@@ -9,9 +9,7 @@ use lib.ListN.{length}
 use Rattle.items.specs.Kinds as kind
 use Rattle.nested.specs.Items.{Item, item, itemsOf, plainList, dottedList, vector, byteList, abbreviation}
 use Rattle.nested.specs.Grammar.{Node, node, isList, kindOf, Gap, none, comment, dropped, Datum, simple, quoted, bracket, dotted, Sequence, last, more, Reading}
-use Rattle.nested.specs.declared.Class.{Class}
-use Rattle.nested.specs.declared.Class.the-variants.{Marks, Opens, Dots}
-use Rattle.nested_meaning.specs.Depth.{depthOf}
+use Rattle.nested.specs.declared.Class.the-variants.{Opens}
 use Rattle.nested_meaning.specs.Trees.{At, here, later, Shown, empty, tree, Trees, bare, grown, inside}
 use Rattle.nested_meaning.proofs.Placed.{placed}
 

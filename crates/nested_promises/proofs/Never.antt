@@ -1,7 +1,7 @@
 -- Two permitted answers coincide; and programs that do not meet the promise, whatever else they do: a row of specs/Rows, where the definition
 -- answers otherwise, contradicts their habit.
 use Prim.Native.Nat.{ℕ}
-use mathlib.Core.Path.{_≡_, refl, sym, ap, _∙_}
+use mathlib.Core.Path.{_≡_, sym, ap, _∙_}
 use mathlib.Core.List.{List, [], _∷_}
 use lib.ListN.{getD}
 use native.Mathlib.Omega.{arith}

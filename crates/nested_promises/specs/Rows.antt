@@ -3,16 +3,16 @@
 use Prim.Native.Nat.{ℕ, zero, suc, _+_, _-_}
 use mathlib.Core.Path.{_≡_, refl}
 use mathlib.Core.List.{List, [], _∷_, _++_, map}
-use lib.ListN.{replicate, length}
+use lib.ListN.{replicate}
 use Rattle.laws.specs.Quoted.{within}
 use Rattle.chars.specs.Encode.{isScalar}
 use Rattle.items.specs.Kinds as kind
 use Rattle.items.specs.Items.{recordWords}
 use Rattle.nested.specs.Items.{Item, item, lastError, boolean, number, character, string, symbol, plainList, dottedList, vector, byteList}
 use Rattle.nested.specs.Items.{abbreviation, hasDetail, sortOf, classOf, itemsFrom, itemsOf, countOf}
-use Rattle.nested.specs.Grammar.{Node, node}
+use Rattle.nested.specs.Grammar.{node}
 use Rattle.nested.specs.Reader.{Result, Nodes, No, run, readOn, giveIn, start}
-use Rattle.nested.specs.Lent.{wordsOf, nestedOf, outcome, Outcome}
+use Rattle.nested.specs.Lent.{wordsOf, nestedOf, outcome}
 use Rattle.nested.specs.declared.Class.the-variants.{Opens}
 use Rattle.nested.specs.declared.Nested.the-variants.{Built, Refused}
 

@@ -1,7 +1,7 @@
 -- The invariant: what lies behind is a run of simple data whose nodes are written. As many nodes as records were passed, so there is room for the
 -- next node wherever the next record is below the limit.
 use native.Mathlib.Omega.{arith}
-use mathlib.Core.Path.{_≡_, refl, sym, ap, _∙_}
+use mathlib.Core.Path.{_≡_, refl, _∙_}
 use borrow.Author.Needs.{needs}
 use Prim.Native.Nat.{_+_, _-_}
 use lib.ListN.{length}

@@ -1,6 +1,6 @@
 -- The answer of the level is taken apart: its node is put, and the frame holds it; a refusal is passed on.
 use native.Mathlib.Omega.{arith}
-use mathlib.Core.Path.{_≡_, refl, sym, ap, _∙_}
+use mathlib.Core.Path.{refl}
 use borrow.Author.Needs.{needs}
 use Rattle.nested.proofs.took.Statement.{statement}
 use Rattle.nested.proofs.took.Tie as tie

@@ -1,7 +1,7 @@
 -- The sign and the letter are the boolean where the byte after them ends it (Sharps).
 use borrow.Author.Needs.{needs}
 use native.Mathlib.Omega.{arith}
-use mathlib.Core.Path.{_≡_, refl, sym, subst}
+use mathlib.Core.Path.{refl, sym, subst}
 use Prim.Native.Nat.{_+_}
 use lib.ListN.{getD}
 use denote.Ref.{now}

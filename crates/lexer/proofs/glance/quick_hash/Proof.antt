@@ -1,8 +1,7 @@
 -- The byte after the sign opens a vector, or is a letter that spells a boolean with it (Sharps).
 use borrow.Author.Needs.{needs}
 use native.Mathlib.Omega.{arith}
-use mathlib.Core.Path.{_≡_, sym, subst}
-use Prim.Native.Nat.{_+_}
+use mathlib.Core.Path.{sym, subst}
 use denote.Ref.{now}
 use Rattle.lexer.specs.Glance.{GlanceAt}
 use Rattle.lexer.specs.declared.Quick.{Quick}

@@ -1,8 +1,7 @@
 -- The comment ends where its line does (Tells), and has no other meaning.
 use borrow.Author.Needs.{needs}
 use native.Mathlib.Omega.{arith}
-use mathlib.Core.Path.{_≡_, sym, subst, _∙_}
-use mathlib.Core.Bool.{Bool}
+use mathlib.Core.Path.{sym, subst, _∙_}
 use Prim.Native.Nat.{_+_}
 use denote.Ref.{now}
 use Rattle.items.specs.Readers.{comment}

@@ -1,6 +1,6 @@
 -- The record is inside, its kind is the closing bracket's, and its detail is the one that closes s: so `classOf` has it (law `closes-said`).
 use native.Mathlib.Omega.{arith}
-use mathlib.Core.Path.{_≡_, refl, sym, ap, _∙_}
+use mathlib.Core.Path.{_∙_}
 use Prim.Native.Nat.{_+_, _*_}
 use borrow.Author.Tests.{eqb-true}
 use Rattle.nested.proofs.Table.{closes-said}

@@ -1,6 +1,5 @@
 -- The tests are those of `sortOf`, in its order; each arm answers what the definition is there.
-use borrow.Author.Tests.{eq-eqb, ne-eqb, lt-ltb, le-ltb, le-leb, lt-leb}
-use mathlib.Core.Path.{sym, refl, _∙_}
+use borrow.Author.Tests.{eq-eqb, ne-eqb, le-leb, lt-leb}
 use Rattle.nested.specs.Items.{sortOf}
 use Rattle.nested.proofs.classes.sort.Statement.{statement}
 use Rattle.nested.proofs.classes.sort.Tie as tie

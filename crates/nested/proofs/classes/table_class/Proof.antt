@@ -1,6 +1,6 @@
 -- A kind of the layout is judged by its detail, an error by its number; the tests are those of `classOf`.
-use borrow.Author.Tests.{eq-eqb, ne-eqb, lt-ltb, le-ltb, le-leb, lt-leb}
-use mathlib.Core.Path.{sym, refl, _∙_}
+use borrow.Author.Tests.{lt-ltb, le-ltb, le-leb, lt-leb}
+use mathlib.Core.Path.{sym, _∙_}
 use Rattle.nested.specs.Items.{classOf}
 use borrow.Author.Needs.{needs}
 use Rattle.nested.proofs.classes.table_class.Statement.{statement}

@@ -1,5 +1,5 @@
 -- The places of the frames part them as `nodeKind` does: with a dot, brackets without one, marks, the others.
-use mathlib.Core.Path.{_≡_, refl, sym, ap, _∙_}
+use mathlib.Core.Path.{sym, _∙_}
 use Rattle.nested.proofs.Steps.{kind-dotted, kind-shape, kind-mark, kind-none}
 use borrow.Author.Needs.{needs}
 use Rattle.nested.proofs.frames.node_kind.Statement.{statement}

@@ -1,6 +1,5 @@
 -- The tests are those of `kindOf`.
-use borrow.Author.Tests.{eq-eqb, ne-eqb, lt-ltb, le-ltb, le-leb, lt-leb}
-use mathlib.Core.Path.{sym, refl, _∙_}
+use borrow.Author.Tests.{eq-eqb, ne-eqb, lt-ltb, le-ltb}
 use Rattle.nested.proofs.frames.shape_kind.Statement.{statement}
 use Rattle.nested.proofs.frames.shape_kind.Tie as tie
 use Rattle.nested.proofs.frames.shape_kind.Reads as reads

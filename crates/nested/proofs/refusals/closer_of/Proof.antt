@@ -1,6 +1,5 @@
 -- One test, that of `closer`.
-use borrow.Author.Tests.{eq-eqb, ne-eqb, lt-ltb, le-ltb, le-leb, lt-leb}
-use mathlib.Core.Path.{sym, refl, _∙_}
+use borrow.Author.Tests.{lt-ltb, le-ltb}
 use Rattle.nested.proofs.refusals.closer_of.Statement.{statement}
 use Rattle.nested.proofs.refusals.closer_of.Tie as tie
 use Rattle.nested.proofs.refusals.closer_of.Reads as reads

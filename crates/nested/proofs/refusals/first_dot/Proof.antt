@@ -1,6 +1,5 @@
 -- One test, that of `isList`.
-use borrow.Author.Tests.{eq-eqb, ne-eqb, lt-ltb, le-ltb, le-leb, lt-leb}
-use mathlib.Core.Path.{sym, refl, _∙_}
+use borrow.Author.Tests.{lt-ltb, le-ltb}
 use Rattle.nested.proofs.refusals.first_dot.Statement.{statement}
 use Rattle.nested.proofs.refusals.first_dot.Tie as tie
 use Rattle.nested.proofs.refusals.first_dot.Reads as reads

@@ -1,7 +1,5 @@
 -- A close fits where it is the closer of what is open: laws `close-yes` and `close-no`.
 use Rattle.nested.proofs.Steps.{close-yes, close-no}
-use borrow.Author.Tests.{eq-eqb, ne-eqb, lt-ltb, le-ltb, le-leb, lt-leb}
-use mathlib.Core.Path.{sym, refl, _∙_}
 use borrow.Author.Needs.{needs}
 use Rattle.nested.proofs.refusals.fits_close.Statement.{statement}
 use Rattle.nested.proofs.refusals.fits_close.Tie as tie
