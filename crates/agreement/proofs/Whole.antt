@@ -1,17 +1,16 @@
 -- The items of a whole text of tokens and spaces are what the productions say, in both modes: each token is read as its one item, and
 -- spaces are passed over.
 use Prim.Native.Nat.{ℕ, _+_}
-use mathlib.Core.Path.{_≡_, refl, sym, ap, subst, _∙_}
+use mathlib.Core.Path.{_≡_, refl, sym, subst, _∙_}
 use mathlib.Core.Bool.{Bool, true, false}
 use mathlib.Core.List.{List, [], _∷_, _++_}
 use lib.ListN.{length}
-use lib.Dec.{eqb}
 use native.Mathlib.Nat.{add-assoc, add-zero, le-refl}
 use Rattle.laws.specs.Quoted.{codes, code, oneOf}
 use Rattle.chars.specs.Blank.{isBlank}
 use Rattle.chars.specs.Encode.{width}
 use Rattle.items.specs.Items.{Item, unset, itemsAt, pastLine, afterPound, items, byteCount}
-use Rattle.agreement.specs.Reading.{item, ReadAs, Reads, ends, blank, reads}
+use Rattle.agreement.specs.Reading.{item, Reads, ends, blank, reads}
 use Rattle.agreement.specs.Repeated.{Many, done, more}
 use Rattle.agreement.specs.Whole.{Said, whitespace, Tokens, no-more, space, token, InFirstLine, Whole, tokens, first-line, only-line, AreSaid, none, one}
 use Rattle.agreement.proofs.Classes.{at-one-of}

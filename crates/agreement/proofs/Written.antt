@@ -5,10 +5,10 @@ use mathlib.Core.Path.{_≡_, refl, sym, ap, _∙_}
 use mathlib.Core.Bool.{Bool, true, false, not, _||_}
 use mathlib.Core.List.{List, [], _∷_, _++_, map}
 use mathlib.Core.Logic.{_⊎_, inl, inr}
-use lib.ListN.{length, getD, drop}
-use lib.Dec.{eqb, ltb, lit≤}
+use lib.ListN.{length, getD}
+use lib.Dec.{eqb, ltb}
 use native.Mathlib.Omega.{arith}
-use borrow.Author.Tests.{eqb-true, lt-ltb, ltb-true, ne-eqb}
+use borrow.Author.Tests.{eqb-true, lt-ltb, ne-eqb}
 use Rattle.laws.specs.Quoted.{codes, code, oneOf, within}
 use Rattle.laws.proofs.Choice.{by-bool, within-is}
 use Rattle.chars.specs.Encode.{bytesOf}
@@ -17,7 +17,7 @@ use Rattle.numbers.specs.declared.Real.{Real}
 use Rattle.numbers.specs.declared.Parts.{Parts}
 use Rattle.numbers.specs.declared.Parsed.the-variants as parsed
 use Rattle.numbers.specs.declared.MaybeParts.the-variants.{SomeParts}
-use Rattle.numbers.specs.Grammar.{complex, judged, prefix, parseNumber, zeroParts}
+use Rattle.numbers.specs.Grammar.{complex, judged, parseNumber, zeroParts}
 use Rattle.standard.specs.Characters.{lower, isSign}
 use Rattle.standard.proofs.Letters.{lower-is, UpperOf}
 use Rattle.difference.specs.Productions.{Letter, Sign, Prefix}

@@ -4,7 +4,7 @@ use Rattle.laws.proofs.Choice.{by-bool}
 use Rattle.items.specs.Whole.{inReport}
 use Rattle.pieces.specs.declared.State.{State}
 use Rattle.pieces.specs.Bounds.{inBounds}
-use Rattle.pieces.specs.Calls.{What, item, more, finished, refused, Reply, reply, pieceOf, feedOf, endUnlessStopped, endOf}
+use Rattle.pieces.specs.Calls.{What, item, more, finished, refused, Reply, pieceOf, feedOf, endUnlessStopped, endOf}
 use Rattle.pieces.specs.Drive.{heed, prepend, unlessTaken, pieceCalls, endCalls, handOver, joined}
 use Rattle.pieces.specs.Due.{lastOf, endAnswer}
 use Rattle.pieces.specs.Due as due

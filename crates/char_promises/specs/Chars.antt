@@ -1,15 +1,15 @@
 -- Characters: what each call of crate `chars` ensures is `r ≡` its definition, so that no other answer is permitted.
 use Prim.Native.Nat.{ℕ}
 use mathlib.Core.Path.{_≡_, refl, sym, _∙_}
-use mathlib.Core.Bool.{Bool, true, false}
-use mathlib.Core.List.{List, [], _∷_, _++_, map}
+use mathlib.Core.Bool.{true, false}
+use mathlib.Core.List.{List, [], _∷_, map}
 use lib.ListN.{drop, replicate}
 use native.Mathlib.Omega.{arith}
 use Rattle.laws.specs.Quoted.{code, within}
 use Rattle.chars.specs.Encode.{isScalar, utf8, width, encode, bytesOf, spelled, lay, laid}
 use Rattle.chars.specs.Blank.{isBlank}
 use Rattle.chars.specs.Machine.{start, step}
-use Rattle.chars.specs.Utf8.{more, first, rest, front, placed, sequences, firstBad}
+use Rattle.chars.specs.Utf8.{first, rest, front, placed, sequences, firstBad}
 use Rattle.chars.specs.declared.Begun.{Begun}
 use Rattle.chars.specs.declared.Step.the-variants as steps
 use Rattle.chars.specs.declared.Decoded.{Decoded}

@@ -1,21 +1,20 @@
 -- A decimal is a text of ASCII, so it has no bad sequence: each production passes digits, a sign, a dot or a marker.
-use Prim.Native.Nat.{ℕ, zero, suc, _+_, _≤_, _<_}
-use mathlib.Core.Path.{_≡_, refl, sym, ap, _∙_, subst}
-use mathlib.Core.Bool.{Bool, true, false, _||_}
+use Prim.Native.Nat.{ℕ, suc, _+_, _<_}
+use mathlib.Core.Path.{_≡_, refl, sym, ap, _∙_}
+use mathlib.Core.Bool.{Bool, true}
 use mathlib.Core.List.{List, [], _∷_}
 use native.Mathlib.Nat.{zero-add}
 use native.Mathlib.Omega.{arith}
 use lib.Dec.{eqb, ltb}
 use lib.ListN.{length, drop}
 use lib.Seq.{drop-drop}
-use borrow.Author.Tests.{eqb-true, ltb-true}
-use Rattle.laws.specs.Choice.{if_then_else_}
-use Rattle.laws.specs.Quoted.{code, within}
+use borrow.Author.Tests.{eqb-true}
+use Rattle.laws.specs.Quoted.{code}
 use Rattle.laws.specs.Texts.{span, starts}
 use Rattle.laws.proofs.Choice.{by-bool, if-all, if-is, within-is}
 use Rattle.laws.proofs.Places.{past}
 use Rattle.chars.specs.declared.Utf8.the-variants as utf8
-use Rattle.chars.specs.Utf8.{ascii, sequences, verdict, firstBad}
+use Rattle.chars.specs.Utf8.{ascii, sequences, firstBad}
 use Rattle.chars.proofs.Ascii.{ascii-yes, ascii-pass}
 use Rattle.digits.specs.declared.Span.{Span}
 use Rattle.digits.specs.Digits.{digitOf, digits, sign, negative, uinteger, spanAt}

@@ -3,12 +3,12 @@ use mathlib.Core.Path.{_≡_, refl, sym, ap, _∙_, subst}
 use mathlib.Core.Bool.{Bool, true, false, cond}
 use mathlib.Core.List.{List, [], _∷_}
 use Prim.Native.Nat.{ℕ, zero, suc, _+_, _-_, _*_, _^_, _≤_, _<_}
-use native.Mathlib.Nat.{mul-pos, mul-mul-mul-comm, mul-assoc, mul-comm, mul-left-comm, mul-one, one-mul, zero-mul, lt-irrefl, zero-lt-suc, pow-suc, zero-add, suc-add, add-suc, add-zero}
+use native.Mathlib.Nat.{mul-pos, mul-mul-mul-comm, mul-comm, mul-one, one-mul, zero-mul, lt-irrefl, zero-lt-suc, pow-suc, suc-add, add-suc, add-zero}
 use native.Mathlib.Omega.{arith}
 use lib.ListN.{getD}
-use lib.Dec.{T, ltb, leb, eqb, lit<, lit≤}
-use lib.IntN.{ℤ, pos, negsuc, negℤ}
-use lib.Ieee.{Float, nan, inf, fin, Format, binary64, unlike, up, down, odd, units, round, low, prec, emax, neg, mul, div, ofInt, ofBits}
+use lib.Dec.{ltb, eqb, lit<}
+use lib.IntN.{pos, negsuc, negℤ}
+use lib.Ieee.{Float, nan, inf, fin, Format, binary64, unlike, up, down, odd, units, round, low, prec, emax, neg, mul, div}
 use lib.Ieee.Fits.{up-pos, down-pos, round-is}
 use lib.Ieee.Exact.{HasValue}
 use lib.Ieee.Back.{round-whole}

@@ -1,11 +1,11 @@
 -- What `Rounded` states implies the textbook's words: no number of 53 binary digits is nearer.
-use mathlib.Core.Path.{_≡_, refl, sym, ap, _∙_, subst}
+use mathlib.Core.Path.{_≡_, refl, sym, ap, _∙_}
 use mathlib.Core.Bool.{Bool, true, false}
-use Prim.Native.Nat.{ℕ, zero, suc, _+_, _-_, _*_, _%_, _^_, _≤_, _<_}
-use native.Mathlib.Nat.{le-refl, le-trans, le-of-eq, lt-of-lt-of-le, lt-of-le-of-lt, mul-pos, mul-comm, mul-assoc, mul-left-comm}
-use native.Mathlib.Nat.{mul-right-comm, one-mul, mul-le-mul-right, mul-le-mul-left, mul-lt-mul-of-pos-right, pow-succ', add-mul, le-of-lt}
+use Prim.Native.Nat.{ℕ, _+_, _-_, _*_, _^_, _≤_, _<_}
+use native.Mathlib.Nat.{le-trans, le-of-eq, mul-assoc}
+use native.Mathlib.Nat.{mul-right-comm, one-mul, mul-le-mul-right, mul-le-mul-left, pow-succ', add-mul, le-of-lt}
 use native.Mathlib.Omega.{arith}
-use lib.Pow.{pow-add, pow-pos, pow-mono}
+use lib.Pow.{pow-add, pow-mono}
 use lib.Dec.{ltb}
 use lib.Ieee.{Float}
 use borrow.Author.Tests.{ltb-true, ltb-false}

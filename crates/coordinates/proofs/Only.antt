@@ -1,16 +1,15 @@
 -- What specs/Nearest states over whole numbers has one answer: two f64 that meet it are the same, sign and all.
 use mathlib.Core.Path.{_≡_, refl, sym, ap, _∙_, subst}
 use mathlib.Core.Bool.{Bool, true, false, _&&_}
-use mathlib.Core.Logic.{_⊎_, inl, inr}
 use Prim.Native.Nat.{ℕ, zero, suc, _+_, _-_, _*_, _%_, _^_, _≤_, _<_}
-use native.Mathlib.Nat.{le-trans, le-of-eq, lt-of-lt-of-le, lt-of-le-of-lt, lt-irrefl, mul-pos, mul-comm, mul-assoc, mul-left-comm}
+use native.Mathlib.Nat.{le-trans, le-of-eq, lt-of-lt-of-le, lt-irrefl, mul-pos, mul-comm, mul-assoc, mul-left-comm}
 use native.Mathlib.Nat.{mul-right-comm, mul-one, one-mul, zero-mul, mul-le-mul-right, mul-le-mul-left, mul-lt-mul-of-pos-right, mul-sub}
-use native.Mathlib.Nat.{eq-of-mul-eq-mul-right, pow-succ', pow-suc, zero-lt-suc, suc-mul, add-comm, add-mul}
+use native.Mathlib.Nat.{eq-of-mul-eq-mul-right, pow-succ', pow-suc, zero-lt-suc, add-comm, add-mul}
 use native.Mathlib.Omega.{arith}
 use lib.IntN.{ℤ, pos, negsuc}
-use lib.Dec.{T, ltb, leb, eqb, eqb→eq, ltb→lt, nltb→le, lit≤, lit<}
+use lib.Dec.{T, ltb, leb, eqb, eqb→eq}
 use lib.Pow.{pow-add, pow-pos, pow-mono}
-use lib.Ieee.{Float, nan, inf, fin, binary64, prec, emax, low, up, down, fits}
+use lib.Ieee.{Float, nan, inf, fin, binary64, up, down, fits}
 use lib.Ieee.Fits.{and-l, down-pos}
 use lib.Ieee.Exact.{HasValue}
 use borrow.Author.Tests.{ltb-true, ltb-false}

@@ -1,18 +1,18 @@
 -- `round` at binary64 is what specs/Nearest states over whole numbers, for a fraction in the normal range.
 use mathlib.Core.Path.{_≡_, refl, sym, ap, _∙_, subst}
-use mathlib.Core.Bool.{Bool, true, false, not, cond}
+use mathlib.Core.Bool.{Bool, not}
 use mathlib.Core.Logic.{_⊎_, inl, inr}
 use Prim.Native.Nat.{ℕ, zero, suc, _+_, _-_, _*_, _/_, _%_, _^_, _≤_, _<_, compare, Ordering, Ordering·lt, Ordering·eq, Ordering·gt}
-use native.Mathlib.Nat.{le-refl, le-trans, le-of-eq, lt-of-lt-of-le, lt-of-le-of-lt, mul-pos, mul-comm, mul-assoc, mul-one, add-mul}
+use native.Mathlib.Nat.{le-trans, le-of-eq, lt-of-le-of-lt, mul-pos, mul-comm, mul-assoc}
 use native.Mathlib.Nat.{mul-le-mul-right, div-add-mod', mod-lt, div-le-self, div-div-eq-div-mul, le-div-iff-mul-le, div-lt-iff-lt-mul}
 use native.Mathlib.Nat.{suc-mul, zero-mul, zero-lt-suc, pow-le-pow-right, mul-le-mul, mul-le-mul-left}
 use native.Mathlib.Omega.{arith}
-use lib.Dec.{T, isLe, isEq, leb, ltb, eqb, leb→le, nleb→lt, eqb→eq, eqb-refl, lit≤, lit<}
+use lib.Dec.{T, isLe, isEq, leb, eqb, leb→le, nleb→lt, eqb→eq, eqb-refl, lit≤, lit<}
 use lib.Arith.{lt-of-le-ne}
-use lib.Pow.{pow-add, pow-pos, pow-mono, pow-lt, shl-lt}
+use lib.Pow.{pow-add, pow-pos, pow-lt, shl-lt}
 use lib.IntN.{pos}
 use Rattle.coordinates.proofs.Floats.{ten-pos}
-use lib.Ieee.{Float, fin, Format, binary64, size, units, round, nearest}
+use lib.Ieee.{Float, fin, binary64, size, round, nearest}
 use lib.Ieee.Digits.{size-lt, size-le, size-reaches}
 use lib.Ieee.Fits.{nearest-le, kept-lt, round-is}
 use lib.Ieee.Exact.{HasValue, units-val}

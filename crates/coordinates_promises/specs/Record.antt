@@ -4,7 +4,7 @@ use mathlib.Core.Path.{_≡_, refl, sym, _∙_}
 use mathlib.Core.Bool.{false}
 use mathlib.Core.List.{List}
 use lib.IntN.{negsuc}
-use lib.Ieee.{fin, binary64, round}
+use lib.Ieee.{fin, round}
 use native.Mathlib.Omega.{arith}
 use Rattle.laws.specs.Quoted.{codes, within}
 use Rattle.laws.specs.Texts.{span, starts}
@@ -14,7 +14,7 @@ use Rattle.digits.specs.Digits.{digitOf, sign, uinteger, value, signed}
 use Rattle.numbers.specs.Reals.{exponentMarker, exponent, suffix, pointOf, dotted, undotted, decimal, pointIn, oneDecimal}
 use Rattle.items.specs.Kinds as kind
 use Rattle.coordinates.specs.declared.CoordinateAnswer.{CoordinateAnswer}
-use Rattle.coordinates.specs.Answers.{Answer, float, refused, answered}
+use Rattle.coordinates.specs.Answers.{float, refused, answered}
 use Rattle.coordinates.specs.Coordinate.{allDigits, scale, scaled, outside, ofPoint, ofDecimal, coordinate, recordCoordinate}
 use Rattle.coordinates_promises.specs.Text.{answered-one}
 

@@ -1,10 +1,10 @@
 -- What `Nearest` says of one fraction: the floats nearest to 1 / 10 and to a number half way between two floats.
-use Prim.Native.Nat.{ℕ, _*_, _^_}
+use Prim.Native.Nat.{ℕ, _^_}
 use mathlib.Core.Path.{_≡_, refl}
 use mathlib.Core.Bool.{false}
 use lib.Dec.{lit≤, lit<}
 use lib.IntN.{pos, negsuc}
-use lib.Ieee.{Float, fin}
+use lib.Ieee.{fin}
 use Rattle.coordinates.specs.Nearest.{Rounded, Nearest}
 
 -- 0.1 in units of 2 ^ -56

@@ -6,7 +6,6 @@ use mathlib.Core.List.{[]}
 use lib.Dec.{eqb, ltb}
 use native.Mathlib.Omega.{arith}
 use borrow.Author.Tests.{eqb-true, ltb-false}
-use Rattle.laws.specs.Choice.{if_then_else_}
 use Rattle.laws.specs.Quoted.{code, codes, oneOf}
 use Rattle.laws.proofs.Choice.{by-bool, if-all, if-is}
 use Rattle.items.specs.declared.Quotes.{Quotes}

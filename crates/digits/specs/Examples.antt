@@ -1,5 +1,4 @@
 -- Texts of hexadecimal digits with what they are: one table, one statement, proved by computation.
-use Prim.Native.Nat.{ℕ}
 use Prim.Native.String.{String}
 use mathlib.Core.Path.{_≡_, refl}
 use mathlib.Core.List.{List, [], _∷_, map}

@@ -1,19 +1,18 @@
 -- In report mode every item of error 11 points at what fails (specs/Failing).
-use Prim.Native.Nat.{ℕ, _+_, _-_, _^_, _≤_, _<_}
+use Prim.Native.Nat.{ℕ, _+_, _-_, _≤_, _<_}
 use mathlib.Core.Path.{_≡_, refl, sym, ap, subst, _∙_}
-use mathlib.Core.Bool.{Bool, true, false, _&&_}
+use mathlib.Core.Bool.{true, _&&_}
 use mathlib.Core.List.{List, [], _∷_, _++_, append-assoc, append-nil}
-use mathlib.Core.Logic.{_⊎_, inl, inr}
+use mathlib.Core.Logic.{inl, inr}
 use lib.ListN.{length, drop, take, length-append, take-append-drop, length-drop}
 use lib.Seq.{drop-append-seam, length-take-le, drop-append-le, drop-drop}
-use lib.Dec.{eqb, leb, ltb}
+use lib.Dec.{eqb, ltb}
 use native.Mathlib.Omega.{arith}
 use borrow.Author.Tests.{lt-ltb, le-leb}
 use Rattle.laws.specs.Quoted.{code}
 use Rattle.laws.proofs.Choice.{if-all}
-use Rattle.chars.specs.Encode.{utf8, width, bytesOf, isScalar}
+use Rattle.chars.specs.Encode.{utf8, bytesOf, isScalar}
 use Rattle.chars.specs.Utf8.{front}
-use Rattle.chars.proofs.Good.{Scalars}
 use Rattle.chars.proofs.Round.{back, one-read}
 use Rattle.numbers.specs.Grammar.{parseNumber}
 use Rattle.numbers.specs.declared.Parsed.{Parsed}
@@ -26,7 +25,7 @@ use Rattle.items.specs.declared.Outcome.{Outcome}
 use Rattle.items.specs.declared.Outcome.the-variants.{Token, Str, HereStr, Word, Run, Lined, Keyword, Character, Error, ErrorAt}
 use Rattle.items.specs.declared.CharValue.{CharValue}
 use Rattle.items.specs.declared.CharValue.the-variants.{Scalar, Wrong, WrongAt}
-use Rattle.items.specs.Items.{Place, range, unset, isSet, placeOf, characterSets, rangeAfter, standing, Item, itemOf, itemsOf, extentItems, items}
+use Rattle.items.specs.Items.{Place, range, unset, placeOf, characterSets, rangeAfter, itemsOf, extentItems, items}
 use Rattle.items.specs.Meaning.{Text, none, source, Meaning, one, wordKind, wordMeans, runMeans, stringText, linedText, hereText}
 use Rattle.items.specs.Meaning.{characterOf, charInside, characterMeans, meaningOf}
 use Rattle.items.specs.Readers.{SoFar, Read, firstIs, scalarOf, pastFailing, readItem}

@@ -1,19 +1,17 @@
 -- What an item's text is, copied into the text memory, and the record that says so.
-use Prim.Native.Nat.{ℕ, suc, _+_, _-_, _≤_, _<_}
-use mathlib.Core.Path.{_≡_, refl, sym, ap, _∙_}
+use Prim.Native.Nat.{ℕ, _+_, _-_, _≤_, _<_}
+use mathlib.Core.Path.{_≡_, sym, ap, _∙_}
 use mathlib.Core.Bool.{Bool, true, false}
-use mathlib.Core.List.{List, [], _∷_, _++_}
+use mathlib.Core.List.{List, [], _∷_}
 use lib.ListN.{length, getD, take, drop, set, length-take, length-drop, drop-of-length-le}
 use lib.Seq.{take-suc, take-nil, take-all, take-append-seam, length-take-le}
 use lib.Dec.{eqb}
 use native.Mathlib.Omega.{arith}
 use native.Mathlib.Numerals.{add-one}
-use Rattle.laws.specs.Choice.{if_then_else_}
 use Rattle.laws.specs.Lent.{written}
 use Rattle.laws.proofs.Choice.{if-all}
 use Rattle.laws.proofs.Lent.{written-push, part-rest}
 use Rattle.items.specs.Kinds as kind
-use Rattle.items.specs.Meaning.{unescape}
 use Rattle.items.specs.Items.{Place, range, placeOf}
 use Rattle.items.specs.declared.Record.{Record}
 use Rattle.items.proofs.Shorter.{shorter}
@@ -24,7 +22,7 @@ use Rattle.meaning.specs.declared.Range.{Range}
 use Rattle.meaning.specs.Places.{rangeOf}
 use Rattle.meaning.specs.Records.{nineWith}
 use Rattle.pieces.specs.declared.Got.the-variants.{Item}
-use Rattle.pieces.specs.Calls.{What, item}
+use Rattle.pieces.specs.Calls.{item}
 use Rattle.giving.specs.Answers.{whatOf}
 use Rattle.giving.specs.Copied.{quotesOf, copiedBy, hasText, givenBy}
 

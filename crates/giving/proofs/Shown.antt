@@ -1,16 +1,16 @@
 -- An item as the code gives it, by what crate `meaning` says of its extent, is the item as specs/Given has it.
 use Prim.Native.Nat.{ℕ, _+_}
 use mathlib.Core.Path.{_≡_, refl, sym, ap, _∙_}
-use mathlib.Core.Bool.{Bool, true, false, _&&_}
+use mathlib.Core.Bool.{Bool, _&&_}
 use mathlib.Core.List.{List, [], _∷_}
-use lib.ListN.{length, drop, take}
+use lib.ListN.{length, drop}
 use lib.Dec.{eqb, ltb}
 use native.Mathlib.Omega.{arith}
 use Rattle.laws.specs.Choice.{if_then_else_}
 use Rattle.laws.specs.Quoted.{code}
 use Rattle.laws.proofs.Choice.{if-all}
 use Rattle.items.specs.Kinds as kind
-use Rattle.items.specs.declared.Quotes.the-variants.{Double, Lines}
+use Rattle.items.specs.declared.Quotes.the-variants.{Lines}
 use Rattle.items.specs.declared.Outcome.{Outcome}
 use Rattle.items.specs.declared.Outcome.the-variants.{Token, Str, HereStr, Word, Run, Lined, Keyword, Character, Error, ErrorAt}
 use Rattle.items.specs.declared.CharValue.{CharValue}
@@ -21,7 +21,7 @@ use Rattle.numbers.specs.declared.Parsed.the-variants as parsed
 use Rattle.items.specs.Readers.{firstIs}
 use Rattle.items.specs.Meaning.{Text, none, source, decoded, Meaning, meaningOf, wordMeans, wordKind, runMeans, escaped, unescape}
 use Rattle.items.specs.Meaning.{stringText, linedText, hereText, characterOf, charInside, characterMeans}
-use Rattle.items.specs.Items.{Place, Item, itemOf, itemsOf, rangeAfter, standing, extentItems}
+use Rattle.items.specs.Items.{Place, itemOf, itemsOf, rangeAfter, standing, extentItems}
 use Rattle.meaning.specs.declared.Means.{Means}
 use Rattle.meaning.specs.declared.Meant.the-variants.{One, Two}
 use Rattle.meaning.specs.Meant.{sized, sizedAll, meant}
@@ -29,7 +29,7 @@ use Rattle.pieces.specs.declared.Beyond.{Beyond}
 use Rattle.pieces.specs.declared.Stage.the-variants.{Waiting}
 use Rattle.pieces.specs.declared.State.{State}
 use Rattle.pieces.specs.Given.{Given, given}
-use Rattle.pieces.specs.Calls.{Turn, on, off, item, itemSoFar, lastOf, gives, report, ends, beyond, becomes, deeper}
+use Rattle.pieces.specs.Calls.{on, off, item, itemSoFar, lastOf, gives, report, ends, beyond, becomes, deeper}
 use Rattle.giving.specs.Copied.{quotesOf, givenBy, oneGiven, pairGiven}
 use Rattle.pieces.proofs.Pairs.{Shape, alone, pair, shape}
 

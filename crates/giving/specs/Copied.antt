@@ -1,7 +1,7 @@
 -- An item as it is given, by what the code knows of it: its text by its kind and its places, or between which quotes it is decoded.
 -- proofs/Shown shows that this is what specs/Given of the crate pieces says of the item.
 use Prim.Native.Nat.{ℕ, _-_}
-use mathlib.Core.Bool.{Bool, true, false, _&&_}
+use mathlib.Core.Bool.{Bool, true, _&&_}
 use mathlib.Core.List.{List, [], _∷_, _++_}
 use lib.ListN.{length, take, drop}
 use lib.Dec.{eqb}

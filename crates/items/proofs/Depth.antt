@@ -1,13 +1,13 @@
 -- The depth of an item: it fits a word, skipped comments do not move it, it is the count of the brackets that are open, and the other nine
 -- words of a record do not know of it.
-use Rattle.items.specs.Items.{Item, kept, deepest, depthAfter, depthPast, ownWords, recordWords, textWords, nineOf, recordOf, memoryOf, records}
+use Rattle.items.specs.Items.{Item, kept, deepest, depthAfter, depthPast, ownWords, recordWords, nineOf, recordOf, memoryOf, records}
 use Rattle.items.specs.Kinds as kind
 use Rattle.items.specs.Meaning.{Text, none, source, decoded}
 use Rattle.laws.specs.Choice.{if_then_else_}
 use Rattle.laws.proofs.Choice.{by-bool, if-all, if-is, and-true}
 use Prim.Native.Nat.{ℕ, zero, suc, _+_, _-_, _≤_}
 use mathlib.Core.Path.{_≡_, refl, sym, ap, _∙_}
-use mathlib.Core.Bool.{Bool, true, false, _&&_}
+use mathlib.Core.Bool.{Bool, true, _&&_}
 use mathlib.Core.List.{List, [], _∷_, _++_}
 use lib.ListN.{length, take, drop}
 use lib.Dec.{eqb, ltb}

@@ -1,13 +1,13 @@
 -- In report mode no earlier item has a say in the places of the items that follow.
 use Prim.Native.Nat.{ℕ, zero, suc, _+_}
 use mathlib.Core.Path.{_≡_, refl, ap, _∙_}
-use mathlib.Core.Bool.{Bool, true, false}
+use mathlib.Core.Bool.{true}
 use mathlib.Core.List.{List, [], _∷_, _++_}
 use Rattle.laws.proofs.Choice.{by-bool}
 use Rattle.chars.specs.Encode.{width}
 use Rattle.chars.specs.Blank.{isBlank}
 use Rattle.items.specs.declared.Outcome.{Outcome}
-use Rattle.items.specs.Items.{Place, unset, rangeAfter, Item, extentItems, itemsFrom}
+use Rattle.items.specs.Items.{Place, rangeAfter, Item, extentItems, itemsFrom}
 use Rattle.items.specs.Readers.{SoFar, Read, readItem}
 
 -- what ranges were set before makes no difference to an extent's items

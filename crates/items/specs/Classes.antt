@@ -1,7 +1,7 @@
 -- What a character is where it stands: the tests of the Rust's functions, one class type for each place, in the Rust's order.
 -- The readers and the machine go by these classes and never look at a character otherwise.
 use Prim.Native.Nat.{ℕ}
-use mathlib.Core.Bool.{Bool, true, _||_}
+use mathlib.Core.Bool.{Bool, true}
 use lib.Dec.{eqb}
 use Rattle.laws.specs.Choice.{if_then_else_}
 use Rattle.laws.specs.Quoted.{code, codes, oneOf}

@@ -1,6 +1,6 @@
 -- The whole-text call, all of it: what it answers and what both lent memories hold afterwards. Document 01, "Refused calls".
-use Prim.Native.Nat.{ℕ, _/_, _^_, _-_}
-use mathlib.Core.Bool.{Bool, true, false}
+use Prim.Native.Nat.{ℕ, _/_}
+use mathlib.Core.Bool.{Bool}
 use mathlib.Core.List.{List}
 use lib.ListN.{length}
 use lib.Dec.{eqb, leb, ltb}

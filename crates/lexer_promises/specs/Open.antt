@@ -13,7 +13,7 @@ use Rattle.chars.specs.declared.Utf8.the-variants.{Good}
 use Rattle.items.specs.Items.{unset}
 use Rattle.items.specs.Whole.{limit, inReport}
 use Rattle.meaning.specs.Places.{rangeOf}
-use Rattle.lexer.specs.Opening.{Opening, opened, refused, lineEnd, afterHash, startOf, opening, openOf}
+use Rattle.lexer.specs.Opening.{opened, refused, lineEnd, afterHash, startOf, opening, openOf}
 use Rattle.lexer.specs.declared.Position.{Position}
 
 -- a position at a place, with no error range and no bracket open

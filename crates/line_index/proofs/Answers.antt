@@ -1,13 +1,11 @@
 -- The calls, from what their parts find.
-use mathlib.Core.Path.{_≡_, refl, sym, ap, _∙_, subst}
+use mathlib.Core.Path.{_≡_, refl, sym, _∙_, subst}
 use mathlib.Core.Bool.{Bool, true, false}
 use mathlib.Core.List.{List, [], _∷_}
-use Prim.Native.Nat.{ℕ, zero, suc, _+_, _-_, _*_, _≤_, _<_}
+use Prim.Native.Nat.{ℕ, _+_, _-_, _*_, _≤_, _<_}
 use native.Mathlib.Omega.{arith}
 use lib.ListN.{length, drop, getD, set}
-use lib.Dec.{ltb}
 use borrow.Author.Tests.{lt-ltb, le-ltb}
-use Rattle.laws.specs.Choice.{if_then_else_}
 use Rattle.laws.specs.Lent.{written}
 use Rattle.laws.specs.Texts.{same}
 use Rattle.laws.proofs.Places.{past, here}
@@ -21,7 +19,7 @@ use Rattle.lines.specs.Many.{lineWord, columnWord, answers, locateAllOf}
 use Rattle.lines.specs.declared.Answer.the-variants as answer
 use Rattle.lines.specs.declared.Column.{Column}
 use Rattle.lines.specs.declared.Located.{Located}
-use Rattle.lines.specs.declared.Located.the-variants.{At, Refused}
+use Rattle.lines.specs.declared.Located.the-variants.{Refused}
 use Rattle.lines.proofs.Line.{starts-search}
 use Rattle.lines.proofs.Bounds.{since-line}
 use Rattle.lines.proofs.Index.{index-is}

@@ -1,21 +1,16 @@
 -- The line starts stored one after the other, byte by byte or a block at a time.
 use mathlib.Core.Path.{_≡_, refl, sym, ap, _∙_}
-use mathlib.Core.Bool.{true, false}
 use mathlib.Core.List.{List, [], _∷_, _++_, append-assoc, append-nil}
-use Prim.Native.Nat.{ℕ, zero, suc, _+_, _-_, _*_, _≤_, _<_}
+use Prim.Native.Nat.{ℕ, _+_, _-_, _≤_, _<_}
 use native.Mathlib.Omega.{arith}
-use native.Mathlib.Nat.{add-zero}
-use lib.ListN.{length, getD, set, drop, length-set, length-append}
-use lib.Dec.{eqb}
+use lib.ListN.{length, getD, set, length-set, length-append}
 use borrow.Author.Tests.{eq-eqb, ne-eqb}
-use Rattle.laws.specs.Choice.{if_then_else_}
 use Rattle.laws.specs.Lent.{written}
 use Rattle.laws.proofs.Lent.{written-push}
-use Rattle.items.specs.Whole.{limit}
 use Rattle.lines.specs.Starts.{newline, startsFrom, starts}
 use Rattle.lines.proofs.Tests.{by-equal}
 use Rattle.line_index.specs.Left.{block, left, stored, Storing}
-use Rattle.line_index.proofs.Left.{left-hit, left-miss, left-end, left-bound}
+use Rattle.line_index.proofs.Left.{left-hit, left-miss, left-end}
 
 -- stored after w, all of it is written
 pub stored-written : (l w old : List ℕ) → length w + length l ≤ length old → stored (length w) l (written w old) ≡ written (w ++ l) old

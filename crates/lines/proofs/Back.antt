@@ -1,16 +1,15 @@
 -- The line and the column that were found go back to the place: it is the line's start and the bytes of the characters before the column.
 use mathlib.Core.Path.{_≡_, refl, sym, ap, subst, _∙_}
-use mathlib.Core.Bool.{Bool, true, false}
-use mathlib.Core.List.{List, [], _∷_, _++_}
+use mathlib.Core.Bool.{Bool}
+use mathlib.Core.List.{List, [], _∷_}
 use mathlib.Core.Logic.{_⊎_, inl, inr}
 use Prim.Native.Nat.{ℕ, zero, suc, _+_, _-_, _≤_, _<_}
 use native.Mathlib.Omega.{arith}
 use lib.ListN.{length, getD, drop, take, length-drop, length-append}
-use lib.Dec.{leb, ltb}
+use lib.Dec.{ltb}
 use borrow.Author.Tests.{le-leb, lt-leb, lt-ltb, le-ltb}
 use Rattle.laws.specs.Choice.{if_then_else_}
 use Rattle.laws.proofs.Choice.{by-bool}
-use Rattle.refusal.specs.Refusals.{noPlace, alien}
 use Rattle.chars.specs.Utf8.{Front, char, bad, cut, none, front, sequences, chars}
 use Rattle.chars.specs.Encode.{utf8, width, bytesOf}
 use Rattle.chars.proofs.Sequences.{char-some, not-none, sequences-char, sequences-bad, sequences-cut}
@@ -18,10 +17,10 @@ use Rattle.chars.proofs.Spells.{Spells, spells}
 use Rattle.chars.proofs.Chars.{chars-char, char-width}
 use Rattle.chars.proofs.Width.{width-utf8}
 use Rattle.lines.specs.Starts.{startsFrom, starts}
-use Rattle.lines.specs.Place.{isIndex, lineOf, column, since, answered, lineStart, placeOf, locateOf}
+use Rattle.lines.specs.Place.{isIndex, lineOf, column, answered, lineStart, placeOf, locateOf}
 use Rattle.lines.specs.declared.Column.{Column}
 use Rattle.lines.specs.declared.Column.the-variants.{Whole, Inside}
-use Rattle.lines.specs.declared.Located.the-variants.{At, Refused}
+use Rattle.lines.specs.declared.Located.the-variants.{At}
 use Rattle.lines.proofs.Tests.{by-less}
 use Rattle.lines.proofs.Columns.{column-done}
 use Rattle.lines.proofs.Bounds.{since-line}

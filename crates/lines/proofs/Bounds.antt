@@ -1,14 +1,14 @@
 -- A line starts where a character starts: the characters of a UTF-8 text are those before a line's start and those from it on.
-use mathlib.Core.Path.{_≡_, refl, sym, ap, _∙_, subst}
+use mathlib.Core.Path.{_≡_, refl, sym, ap, _∙_}
 use mathlib.Core.Bool.{_&&_}
 use mathlib.Core.List.{List, [], _∷_, _++_}
 use mathlib.Core.Logic.{_⊎_, ⊎-elim, inl, inr}
-use Prim.Native.Nat.{ℕ, zero, suc, _+_, _-_, _*_, _%_, _≤_, _<_}
+use Prim.Native.Nat.{ℕ, zero, suc, _+_, _-_, _≤_, _<_}
 use native.Mathlib.Omega.{arith}
 use lib.ListN.{length, getD, drop}
-use lib.Dec.{eqb, leb, ltb}
+use lib.Dec.{eqb, leb}
 use borrow.Author.Tests.{lt-ltb, le-ltb, lt-leb, eq-eqb, ne-eqb}
-use Rattle.chars.specs.Utf8.{ascii, first, Front, char, bad, cut, none, after, front, onward, Sequence, read, broken, short, sequences, verdict, firstBad}
+use Rattle.chars.specs.Utf8.{ascii, first, Front, char, bad, cut, none, after, front, onward, Sequence, read, broken, sequences, verdict, firstBad}
 use Rattle.chars.specs.Machine.{step, start, told, run}
 use Rattle.chars.specs.declared.Begun.{Begun}
 use Rattle.chars.specs.declared.Step.{Step}

@@ -1,27 +1,24 @@
 -- The bytes of a piece, one by one.
-use mathlib.Core.Path.{_≡_, refl, sym, ap, _∙_, subst}
-use mathlib.Core.Bool.{Bool, true, false}
-use mathlib.Core.List.{List, [], _∷_, _++_}
-use Prim.Native.Nat.{ℕ, zero, suc, _+_, _-_, _≤_, _<_}
+use mathlib.Core.Path.{_≡_, refl, sym, ap, _∙_}
+use mathlib.Core.List.{List}
+use Prim.Native.Nat.{ℕ, _+_, _-_, _≤_, _<_}
 use native.Mathlib.Omega.{arith}
 use native.Mathlib.Numerals.{add-one}
-use lib.ListN.{length, getD, drop, set, length-set, drop-of-length-le}
+use lib.ListN.{length, getD, drop, length-set, drop-of-length-le}
 use lib.Seq.{drop-cons}
-use lib.Dec.{eqb, ltb}
+use lib.Dec.{ltb}
 use borrow.Author.Tests.{lt-ltb, le-ltb, eq-eqb, ne-eqb}
 use Rattle.chars.specs.Machine.{step, start, told}
 use Rattle.chars.specs.declared.Begun as begun
 use Rattle.chars.specs.declared.Step.{Step}
 use Rattle.chars.specs.declared.Step.the-variants as steps
-use Rattle.laws.specs.Choice.{if_then_else_}
-use Rattle.laws.specs.Lent.{written}
 use Rattle.items.specs.Whole.{limit}
 use Rattle.lines.specs.Starts.{newline}
-use Rattle.lines.specs.Pieces.{Fed, fed, movedOf, stoppedOf, stepOf, noted, fedOf, pieceOf, endOf}
+use Rattle.lines.specs.Pieces.{fed, movedOf, stoppedOf, stepOf, noted, fedOf, pieceOf, endOf}
 use Rattle.lines.specs.declared.State.{State}
 use Rattle.lines.specs.declared.Answer.the-variants.{Served, Refused}
-use Rattle.lines.proofs.Tests.{by-less, by-equal}
-use Rattle.laws.proofs.Choice.{by-bool, if-all}
+use Rattle.lines.proofs.Tests.{by-equal}
+use Rattle.laws.proofs.Choice.{if-all}
 use Rattle.refusal.specs.Refusals.{tooLong, notUtf8, linesNoRoom}
 
 module _ (t : State) (b : ℕ) where

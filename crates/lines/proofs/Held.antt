@@ -1,13 +1,11 @@
 -- What the memory holds when a text has come in pieces.
-use mathlib.Core.Path.{_≡_, refl, sym, ap, _∙_, subst}
-use mathlib.Core.Bool.{Bool, true, false}
+use mathlib.Core.Path.{_≡_, refl, sym, ap, _∙_}
 use mathlib.Core.List.{List, [], _∷_, _++_, append-assoc, append-nil}
 use Prim.Native.Nat.{ℕ, zero, suc, _+_, _-_, _≤_, _<_}
 use native.Mathlib.Omega.{arith}
-use native.Mathlib.Numerals.{add-one, sub-one}
-use lib.ListN.{length, drop, take, set, length-set, length-append, drop-of-length-le}
+use lib.ListN.{length, drop, take, set, length-append, drop-of-length-le}
 use lib.Seq.{take-all, take-append-le, set-out, take-nil}
-use lib.Dec.{eqb, ltb}
+use lib.Dec.{eqb}
 use borrow.Author.Tests.{lt-ltb, le-ltb, eq-eqb, ne-eqb}
 use Rattle.chars.specs.Utf8.{Sequence, read, broken, short, sequences, verdict, firstBad}
 use Rattle.chars.specs.declared.Utf8.{Utf8}
@@ -17,18 +15,17 @@ use Rattle.chars.specs.declared.Begun as begun
 use Rattle.chars.specs.declared.Step.{Step}
 use Rattle.chars.specs.declared.Step.the-variants as steps
 use Rattle.chars.proofs.Run.{run-sequences}
-use Rattle.laws.specs.Choice.{if_then_else_}
 use Rattle.laws.specs.Lent.{written}
 use Rattle.items.specs.Whole.{limit}
 use Rattle.lines.specs.Starts.{newline, startsFrom, starts, fit, ifGood, buildOf}
 use Rattle.lines.specs.declared.Answer.the-variants.{Served, Refused}
-use Rattle.lines.specs.Pieces.{Fed, fed, fresh, movedOf, stoppedOf, stepOf, noted, fedOf, shown, before, laid}
+use Rattle.lines.specs.Pieces.{Fed, fresh, movedOf, stoppedOf, noted, fedOf, shown, before, laid}
 use Rattle.lines.specs.declared.State.{State}
 use Rattle.lines.proofs.Tests.{by-less, by-equal}
 use Rattle.laws.proofs.Choice.{by-bool}
 use Rattle.laws.proofs.Lent.{written-push}
 use Rattle.refusal.specs.Refusals.{tooLong, notUtf8, linesNoRoom}
-use Rattle.lines.proofs.Feeding.{step-stands, step-full, step-counts, step-did}
+use Rattle.lines.proofs.Feeding.{step-full, step-counts, step-did}
 use Rattle.lines.proofs.Joined.{fed-cons, fed-nil, stands, below, moved-low}
 
 laid-first : (m : List ℕ) → set m 0 0 ≡ laid (0 ∷ []) m

@@ -1,16 +1,13 @@
 -- In pieces the same answer and the same index as in one.
-use mathlib.Core.Path.{_≡_, refl, sym, ap, _∙_, subst}
-use mathlib.Core.Bool.{Bool, true, false}
-use mathlib.Core.List.{List, [], _∷_, _++_, append-assoc, append-nil}
-use Prim.Native.Nat.{ℕ, zero, suc, _+_, _-_, _≤_, _<_}
+use mathlib.Core.Path.{_≡_, refl, sym, ap, _∙_}
+use mathlib.Core.List.{List, [], _∷_, _++_}
+use Prim.Native.Nat.{ℕ, suc, _+_, _-_, _≤_, _<_}
 use native.Mathlib.Omega.{arith}
-use native.Mathlib.Numerals.{add-one}
 use native.Mathlib.Nat.{add-zero}
-use lib.ListN.{length, getD, drop, take, set, length-set, length-append, drop-of-length-le}
-use lib.Seq.{take-all, take-append-le, set-out, set-at, drop-cons, take-at}
+use lib.ListN.{length, set}
 use lib.Dec.{eqb, ltb}
 use borrow.Author.Tests.{lt-ltb, le-ltb, eq-eqb, ne-eqb}
-use Rattle.chars.specs.Utf8.{Sequence, read, broken, short, verdict, firstBad}
+use Rattle.chars.specs.Utf8.{read, broken, verdict, firstBad}
 use Rattle.chars.specs.Machine.{step, start, told, run}
 use Rattle.chars.specs.declared.Begun as begun
 use Rattle.chars.specs.declared.Step.{Step}
@@ -19,10 +16,9 @@ use Rattle.chars.specs.declared.Utf8.{Utf8}
 use Rattle.chars.specs.declared.Utf8.the-variants.{Good, Bad}
 use Rattle.chars.proofs.Run.{run-bad}
 use Rattle.laws.specs.Choice.{if_then_else_}
-use Rattle.laws.specs.Lent.{written}
 use Rattle.items.specs.Whole.{limit}
-use Rattle.lines.specs.Starts.{newline, startsFrom, starts, Outcome, ifGood, buildOf}
-use Rattle.lines.specs.Pieces.{Fed, fed, fresh, openOf, movedOf, stoppedOf, stepOf, noted, fedOf, pieceOf, endOf, pieces, joined}
+use Rattle.lines.specs.Starts.{newline, startsFrom, starts, ifGood, buildOf}
+use Rattle.lines.specs.Pieces.{Fed, fed, fresh, openOf, movedOf, stoppedOf, stepOf, noted, fedOf, endOf, pieces, joined}
 use Rattle.lines.specs.declared.State.{State}
 use Rattle.lines.specs.declared.Answer.{Answer}
 use Rattle.lines.specs.declared.Answer.the-variants.{Served, Refused}

@@ -2,9 +2,8 @@
 use Prim.Native.Nat.{ℕ}
 use mathlib.Core.Path.{_≡_, sym, ap, _∙_}
 use mathlib.Core.List.{List}
-use Rattle.lines.specs.Starts.{Outcome, outcome, buildOf}
+use Rattle.lines.specs.Starts.{Outcome, outcome}
 use Rattle.lines.specs.Place.{locateOf}
-use Rattle.lines.specs.Many.{locateAllOf}
 use Rattle.lines.specs.Pieces.{Fed, fed}
 use Rattle.lines.specs.declared.Answer.{Answer}
 use Rattle.lines.specs.declared.Located.{Located}

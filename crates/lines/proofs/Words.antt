@@ -1,14 +1,13 @@
 -- Calls on words one after the other are the calls by value one after the other, so what holds of those holds here: the answer of the
 -- declared end is the whole text's (`lent-answer`), and the memory holds the starts found (`lent-held`).
-use mathlib.Core.Path.{_≡_, refl, sym, ap, subst, _∙_}
-use mathlib.Core.Bool.{Bool, true, false, _&&_}
+use mathlib.Core.Path.{_≡_, refl, ap, _∙_}
+use mathlib.Core.Bool.{true, _&&_}
 use mathlib.Core.List.{List, [], _∷_, append-nil}
-use Prim.Native.Nat.{ℕ, _+_, _-_, _*_, _%_, _≤_, _<_}
+use Prim.Native.Nat.{ℕ, _+_, _-_, _≤_}
 use native.Mathlib.Omega.{arith}
 use lib.Dec.{eqb, leb, ltb}
 use lib.ListN.{length, set, drop-of-length-le}
 use borrow.Author.Tests.{eq-eqb, le-leb}
-use Rattle.laws.specs.Choice.{if_then_else_}
 use Rattle.laws.specs.Lent.{written}
 use Rattle.laws.specs.Quoted.{within}
 use Rattle.laws.proofs.Choice.{if-all}
@@ -20,11 +19,11 @@ use Rattle.chars.specs.declared.Step.{Step}
 use Rattle.chars.specs.declared.Step.the-variants as steps
 use Rattle.items.specs.Whole.{limit}
 use Rattle.lines.specs.Starts.{starts, buildOf}
-use Rattle.lines.specs.Pieces.{Fed, fed, fresh, openOf, movedOf, stoppedOf, stepOf, noted, fedOf, pieceOf, endOf, pieces, joined, before, laid}
+use Rattle.lines.specs.Pieces.{Fed, fresh, openOf, movedOf, stoppedOf, stepOf, noted, fedOf, pieceOf, endOf, pieces, joined, before, laid}
 use Rattle.lines.specs.declared.State.{State}
 use Rattle.lines.proofs.Joined.{cut, same-answer}
 use Rattle.lines.proofs.Held.{held}
-use Rattle.lines.specs.Words.{stateWords, listed, stateIn, isState, Left, left, kept, openLeft, pieceLeft, endFor, calls}
+use Rattle.lines.specs.Words.{stateWords, listed, isState, Left, left, openLeft, pieceLeft, endFor, calls}
 
 -- ---- the states that calls produce have bytes where the words ask for bytes
 

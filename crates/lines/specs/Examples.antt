@@ -6,7 +6,7 @@ use Rattle.laws.specs.Quoted.{within}
 use Rattle.laws.specs.Texts.{same}
 use Rattle.chars.specs.Utf8.{first, rest, front, sequences, firstBad}
 use Rattle.chars.specs.Encode.{utf8, bytesOf, spelled}
-use Rattle.lines.specs.Starts.{newline, startsFrom, Outcome, outcome, buildOf}
+use Rattle.lines.specs.Starts.{newline, startsFrom, outcome, buildOf}
 use Rattle.lines.specs.Place.{isIndex, lineOf, column, since, placeOf, locateOf}
 use Rattle.lines.specs.Many.{answers, locateAllOf}
 use Rattle.lines.specs.declared.Answer.the-variants as answer

@@ -1,6 +1,5 @@
 -- Answers as plain numbers, which is all that C passes on: a number and the values that come with it.
 use Prim.Native.Nat.{ℕ}
-use mathlib.Core.List.{List, [], _∷_}
 use Rattle.lines.specs.declared.Answer.{Answer}
 use Rattle.lines.specs.declared.Answer.the-variants as answer
 use Rattle.lines.specs.declared.Located.{Located}

@@ -1,20 +1,19 @@
 -- The calls on words, from what the calls by value say.
-use mathlib.Core.Path.{_≡_, refl, sym, ap, _∙_}
+use mathlib.Core.Path.{_≡_, refl, ap, _∙_}
 use mathlib.Core.Bool.{Bool, true, false, _&&_}
 use mathlib.Core.List.{List}
 use Prim.Native.Nat.{ℕ, _≤_, _<_}
-use native.Mathlib.Omega.{arith}
 use lib.Dec.{eqb, leb}
-use lib.ListN.{length, getD, set}
+use lib.ListN.{length, getD}
 use borrow.Author.Tests.{eq-eqb, ne-eqb, eqb-true, le-leb, lt-leb, leb-true}
 use Rattle.laws.specs.Lent.{written}
-use Rattle.laws.proofs.Choice.{and-true, if-yes, if-no}
+use Rattle.laws.proofs.Choice.{and-true, if-yes}
 use Rattle.refusal.specs.Refusals.{outOfBounds}
-use Rattle.lines.specs.Pieces.{Fed, fed, fresh, openOf, pieceOf, endOf}
+use Rattle.lines.specs.Pieces.{Fed, fed, openOf, pieceOf, endOf}
 use Rattle.lines.specs.declared.State.{State}
 use Rattle.lines.specs.declared.Answer.{Answer}
 use Rattle.lines.specs.declared.Answer.the-variants.{Refused}
-use Rattle.lines.specs.Words.{stateWords, listed, stateIn, isByte, isState, Left, left, kept, openLeft, pieceLeft, endFor}
+use Rattle.lines.specs.Words.{stateWords, listed, stateIn, isByte, isState, left, openLeft, pieceLeft, endFor}
 
 -- ---- which words are a state's
 

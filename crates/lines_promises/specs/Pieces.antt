@@ -10,8 +10,8 @@ use Rattle.chars.specs.Utf8.{first}
 use Rattle.chars.specs.Machine.{step, start}
 use Rattle.chars.specs.Encode.{utf8, bytesOf, spelled}
 use Rattle.lines.specs.Starts.{newline}
-use Rattle.lines.specs.Pieces.{Fed, fed, fresh, openOf, stepOf, fedOf, pieceOf, endOf, pieces}
-use Rattle.lines.specs.Words.{listed, isState, Left, left, openLeft, pieceLeft, endFor, calls}
+use Rattle.lines.specs.Pieces.{Fed, fed, openOf, stepOf, fedOf, pieceOf, endOf, pieces}
+use Rattle.lines.specs.Words.{isState, left, openLeft, pieceLeft, endFor, calls}
 use Rattle.lines.specs.declared.State.{State}
 use Rattle.lines.specs.declared.Answer.the-variants.{Served, Refused}
 

@@ -14,7 +14,6 @@ use Rattle.lines.specs.Place.{isIndex, lineOf, column, since, placeOf, locateOf
 use Rattle.lines.specs.Many.{answers, locateAllOf}
 use Rattle.lines.specs.declared.Answer.{Answer}
 use Rattle.lines.specs.declared.Answer.the-variants.{Served, Refused}
-use Rattle.lines.specs.declared.Located.{Located}
 use Rattle.lines.specs.declared.Located.the-variants as located
 
 -- `a`, a newline, λ (two bytes), `b`, a newline

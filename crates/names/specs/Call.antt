@@ -8,7 +8,7 @@ use Rattle.laws.specs.Choice.{if_then_else_}
 use Rattle.laws.specs.Lent.{written}
 use Rattle.refusal.specs.Refusals.{outOfBounds, noParty, noRoom, noName}
 use Rattle.names.specs.Layout.{halfNames, halfBytes, firstBound, firstSlot, indexSlots, halfWords, tableNames, tableBytes, tableWords}
-use Rattle.names.specs.Layout.{count, bound, used, slot, nowhere, cut, placeAt, bears, inBounds}
+use Rattle.names.specs.Layout.{count, used, slot, nowhere, cut, placeAt, bears, inBounds}
 use Rattle.names.specs.declared.Place.{Place}
 use Rattle.names.specs.declared.Entered.{Entered}
 use Rattle.names.specs.declared.Entered.the-variants.{Number, Refused}

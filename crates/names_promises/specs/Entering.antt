@@ -10,7 +10,7 @@ use Rattle.laws.specs.Texts.{same}
 use Rattle.refusal.specs.Refusals.{outOfBounds, noParty, noRoom}
 use Rattle.names.specs.Layout.{halfNames, halfBytes, firstSlot, tableWords, tableBytes, placeAt, nameAt, bears, halfBounds, inBounds}
 use Rattle.names.specs.Call.{rest, mix, slotOf, tagOf, slotWord, proposes, probe, scan, lookupOf, findOf, newWords, laid, newOf, Outcome, outcome, enterOf}
-use Rattle.names.specs.Book.{Book, book, place, size, numberIn, newIn, Reply, reply, ask}
+use Rattle.names.specs.Book.{book, place, size, numberIn, newIn, reply, ask}
 use Rattle.names.specs.declared.Entered.{Entered}
 use Rattle.names.specs.declared.Entered.the-variants.{Number, Refused}
 

@@ -1,16 +1,12 @@
 -- A text of one of the plainest shapes is a number: it has no @, no second sign and no `i`, so that it is one real, and that is an integer,
 -- a decimal, or a rational whose denominator does not begin with zero and so is not zero.
-use Rattle.numbers.specs.declared.Real.{Real}
-use Rattle.numbers.specs.declared.Real.the-variants.{Integer, Decimal, PosInf, NegInf, PosNan, NegNan}
 use Rattle.numbers.specs.declared.Parts.{Parts}
 use Rattle.numbers.specs.declared.Parts.the-variants.{Just}
-use Rattle.numbers.specs.declared.Parsed.{Parsed}
 use Rattle.numbers.specs.declared.Parsed.the-variants.{Is}
-use Rattle.numbers.specs.declared.Suffix.the-variants.{Empty}
 use Rattle.numbers.specs.declared.MaybeReal.{MaybeReal}
 use Rattle.numbers.specs.declared.MaybeReal.the-variants.{AReal, NoReal}
 use Rattle.numbers.specs.Reals.{exponentMarker, suffix, pointOf, dotted, undotted, decimal, infnan, integralOf, rationalOf, denominator, exact, orElse, ureal, real}
-use Rattle.numbers.specs.Grammar.{justOf, endsI, aloneOf, toSign, startsE, cut, rectangular, complex, zeroInt, zeroReal, zeroParts, judged, radixMark, prefix, parseNumber}
+use Rattle.numbers.specs.Grammar.{justOf, endsI, aloneOf, toSign, startsE, rectangular, complex, zeroInt, zeroReal, zeroParts, judged, prefix, parseNumber}
 use Rattle.numbers.specs.Plain.{fraction, ratio, unsignedPlain, plain}
 use Rattle.laws.specs.Choice.{if_then_else_}
 use Rattle.laws.specs.Quoted.{code, codes, within}
@@ -24,13 +20,12 @@ use Rattle.digits.proofs.Integers.{value-ge}
 use Rattle.laws.proofs.Compared.{starts-in}
 use Rattle.laws.proofs.Runs.{span-le}
 use Prim.Native.Nat.{ℕ, zero, suc, _+_, _-_, _*_, _≤_, _<_}
-use mathlib.Core.Path.{_≡_, refl, sym, ap, subst, _∙_}
-use mathlib.Core.Bool.{Bool, true, false, not, _&&_, _||_}
+use mathlib.Core.Path.{_≡_, refl, sym, ap, _∙_}
+use mathlib.Core.Bool.{Bool, true, false, _&&_}
 use mathlib.Core.List.{List, [], _∷_}
-use mathlib.Core.Logic.{_⊎_, inl, inr}
-use lib.ListN.{length, getD, take, drop, length-drop}
+use lib.ListN.{length, getD, take, drop}
 use lib.Seq.{drop-drop, drop-length, length-take-le}
-use lib.Dec.{eqb, ltb, leb}
+use lib.Dec.{eqb, ltb}
 use native.Mathlib.Omega.{arith}
 use borrow.Author.Tests.{eq-eqb, ne-eqb, lt-ltb, le-ltb, le-leb, eqb-true, ltb-true}
 

@@ -7,7 +7,7 @@ use Rattle.laws.proofs.Places.{past, cut-at}
 use Rattle.digits.specs.Digits.{digits, sign, uinteger}
 use Rattle.digits.proofs.Digits.{uinteger-past, uinteger-run}
 use Prim.Native.Nat.{ℕ, _+_, _≤_, _<_}
-use mathlib.Core.Path.{_≡_, refl, sym, ap, _∙_}
+use mathlib.Core.Path.{_≡_, refl, sym, _∙_}
 use mathlib.Core.Bool.{Bool, true, false, _&&_, _||_}
 use mathlib.Core.List.{List}
 use native.Mathlib.Nat.{zero-add}

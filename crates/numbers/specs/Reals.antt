@@ -14,8 +14,6 @@ use Rattle.digits.specs.declared.Span.{Span}
 use Rattle.digits.specs.declared.MaybeInt.{MaybeInt}
 use Rattle.digits.specs.declared.MaybeInt.the-variants.{AnInt, NoInt}
 use Rattle.digits.specs.Digits.{digits, sign, negative, uinteger, spanAt, wholeOf, integer}
-use Rattle.numbers.specs.declared.Exponent.{Exponent}
-use Rattle.numbers.specs.declared.Real.{Real}
 use Rattle.numbers.specs.declared.Real.the-variants.{Integer, Rational, Decimal, PosInf, NegInf, PosNan, NegNan, ImpliedZero, ImpliedOne}
 use Rattle.numbers.specs.declared.MaybePoint.{MaybePoint}
 use Rattle.numbers.specs.declared.MaybePoint.the-variants.{APoint, NoPoint}

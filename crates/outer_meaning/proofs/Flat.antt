@@ -4,13 +4,12 @@
 use Prim.Native.Nat.{ℕ, zero, suc, _+_, _*_, _-_, _≤_, _<_}
 use mathlib.Core.Path.{_≡_, refl, sym, ap, subst, _∙_}
 use mathlib.Core.Bool.{Bool, true, false}
-use mathlib.Core.List.{List, [], _∷_, _++_}
+use mathlib.Core.List.{List, [], _∷_}
 use lib.ListN.{length, take, drop, getD, length-append, length-drop, List·getD-append}
 use lib.Seq.{take-at}
 use lib.Dec.{eqb, leb, ltb}
 use native.Mathlib.Omega.{arith}
 use borrow.Author.Tests.{leb-true, le-ltb, eqb-true, ne-eqb}
-use Rattle.laws.specs.Choice.{if_then_else_}
 use Rattle.laws.specs.Lent.{written}
 use Rattle.laws.proofs.Choice.{and-true}
 use Rattle.chars.specs.Encode.{lay}
@@ -25,13 +24,13 @@ use Rattle.pieces.specs.Produced as by
 use Rattle.pieces.proofs.Demand.{demand-3}
 use Rattle.pieces.proofs.Fits.{text-fits, end-text-fits}
 use Rattle.lent.specs.declared.State.{State}
-use Rattle.lent.specs.Calls.{Said, lend, worded, openFor, pieceFor, endFor}
+use Rattle.lent.specs.Calls.{Said, lend, worded, pieceFor, endFor}
 use Rattle.lent.proofs.Same.{same-open, same-piece, same-end, is-full}
 use Rattle.flat.specs.Held.{Holds}
 use Rattle.flat.specs.Piece.{listed, isState, stateWords, openLeft, Memory, memory, Left, left, whatNumber, whatPlace, recordAfter, gives, isRoom, called, pieceLeft, endLeft}
 use Rattle.flat.proofs.Held.{open-held, call-held, next-held}
 use Rattle.flat.proofs.Left.{room-record}
-use Rattle.outer_meaning.specs.Flat.{pastWord, itemIn, heardIn, takenIn, pieceCallsIn, endCallsIn, handOverIn, openedIn, driveIn}
+use Rattle.outer_meaning.specs.Flat.{pastWord, heardIn, takenIn, pieceCallsIn, endCallsIn, handOverIn, openedIn, driveIn}
 use Rattle.outer_meaning.proofs.Told.{Tells, call-tells, end-call-tells}
 
 -- ---- memory read out

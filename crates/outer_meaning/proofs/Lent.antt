@@ -2,14 +2,13 @@
 -- of crate `lent`. So what crate `pieces` says of one call, on the definition of items alone, holds of a lent one.
 use Prim.Native.Nat.{ℕ, _≤_, _<_}
 use mathlib.Core.Path.{_≡_, refl, sym, ap, subst, _∙_}
-use mathlib.Core.Bool.{Bool, true, false}
-use mathlib.Core.List.{List, [], _++_}
+use mathlib.Core.Bool.{Bool, true}
+use mathlib.Core.List.{List, _++_}
 use lib.ListN.{length, take}
 use borrow.Author.Tests.{lt-ltb}
-use Rattle.laws.specs.Choice.{if_then_else_}
 use Rattle.items.specs.Whole.{inReport}
 use Rattle.pieces.specs.declared.State.{State as ByValue}
-use Rattle.pieces.specs.Calls.{What, more, finished, refused, Reply, fresh, openOf, pieceOf, endOf}
+use Rattle.pieces.specs.Calls.{more, finished, refused, fresh, openOf, pieceOf, endOf}
 use Rattle.pieces.specs.Due.{pieceAnswer, endAnswer, lateAnswer}
 use Rattle.pieces.specs.Expected.{longest}
 use Rattle.pieces.specs.Given.{Given}
@@ -21,9 +20,9 @@ use Rattle.pieces.proofs.Kept.{Stops}
 use Rattle.pieces.proofs.Means as means
 use Rattle.pieces.proofs.Stands as stands
 use Rattle.lent.specs.declared.State.{State}
-use Rattle.lent.specs.Calls.{Said, lend, worded, openFor, pieceFor, endFor}
+use Rattle.lent.specs.Calls.{Said, lend, worded, pieceFor, endFor}
 use Rattle.lent.specs.Drive.{Made}
-use Rattle.lent.proofs.Same.{same-open, same-piece, same-end, Stood, stood}
+use Rattle.lent.proofs.Same.{same-open, same-piece, same-end, stood}
 use Rattle.outer_meaning.specs.Lent.{Reading, begins, reads, Closing, read, closes, answered}
 
 -- ---- readings

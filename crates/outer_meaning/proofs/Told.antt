@@ -1,8 +1,8 @@
 -- What a call gives can be told by numbers: an item's record has ten words, of which the last but one is the length of its text, and a refusal's number is
 -- none of those that stand for an item, "more" and "finished".
 use Prim.Native.Nat.{ℕ, _+_, _-_, _≤_}
-use mathlib.Core.Path.{_≡_, refl, subst}
-use mathlib.Core.Bool.{Bool, true, false, _&&_}
+use mathlib.Core.Path.{_≡_, refl}
+use mathlib.Core.Bool.{Bool, true, _&&_}
 use mathlib.Core.List.{List, [], _∷_, _++_}
 use lib.ListN.{length, getD}
 use lib.Dec.{eqb, leb, ltb}
@@ -19,7 +19,7 @@ use Rattle.items.specs.declared.Next.{Next}
 use Rattle.items.specs.declared.Next.the-variants.{Eat, Stop}
 use Rattle.items.specs.declared.Outcome.{Outcome}
 use Rattle.items.specs.declared.Phase.the-variants.{AfterHash}
-use Rattle.items.specs.Items.{Place, Item, rangeAfter, extentItems, itemOf, recordWords}
+use Rattle.items.specs.Items.{Place, Item, rangeAfter, extentItems, recordWords}
 use Rattle.items.specs.Kinds as kind
 use Rattle.items.specs.Machine.{stepOf, finishOf}
 use Rattle.items.specs.Meaning.{Text, none, source, decoded}
@@ -33,7 +33,7 @@ use Rattle.pieces.specs.Bounds.{inBounds, numberBounds, partBounds, stageBounds
 use Rattle.pieces.specs.Calls.{What, item, more, finished, refused, Reply, Turn, on, off, gives, ends, onNext, onStage, turnOf, after, feedOf, partly, stopped, second, pieceStage, pieceOf}
 use Rattle.pieces.specs.Calls.{replied, declared, endUnlessStopped, endOf, itemSoFar, lastOf, report}
 use Rattle.pieces.specs.Expected.{longest}
-use Rattle.pieces.specs.Given.{Given, copied, copiedWords, given}
+use Rattle.pieces.specs.Given.{copied, copiedWords, given}
 use Rattle.outer_meaning.specs.Flat.{pastWord}
 
 abbrev pub Tells : What → Type 0

@@ -1,13 +1,12 @@
 -- Crate `lent`: two answers that a contract permits coincide, and so do the states and memories after them.
 use Prim.Native.Nat.{ℕ}
-use mathlib.Core.Path.{_≡_, refl, sym, ap, _∙_}
+use mathlib.Core.Path.{_≡_, sym, ap, _∙_}
 use mathlib.Core.Bool.{Bool}
 use mathlib.Core.List.{List, []}
 use lib.ListN.{length}
 use Rattle.pieces.specs.declared.Got.{Got}
 use Rattle.pieces.specs.declared.Start.{Start}
 use Rattle.pieces.specs.Calls.{textAfter, openOf}
-use Rattle.lent.specs.declared.Words.{Words}
 use Rattle.lent.specs.declared.State.{State}
 use Rattle.lent.specs.declared.Fresh.{Fresh}
 use Rattle.lent.specs.declared.Told.{Told}

@@ -1,6 +1,6 @@
 -- Programs that meet no promise of the calls from C, whatever else they do: each has one bad habit, and a row of specs/Exports contradicts it.
 use Prim.Native.Nat.{ℕ, _<_}
-use mathlib.Core.Path.{_≡_, refl, sym, ap, _∙_}
+use mathlib.Core.Path.{_≡_, ap, _∙_}
 use mathlib.Core.Bool.{Bool, true, false}
 use mathlib.Core.List.{List, [], _∷_}
 use lib.ListN.{length, drop, replicate, getD}
@@ -15,7 +15,7 @@ use Rattle.lexer.specs.Text.{textMark}
 use Rattle.exports.specs.Read.{readNumber, readValues}
 use Rattle.number_words.specs.Words.{bit, flattened, numberWords, numberOr}
 use Rattle.exports.specs.Utf8.{goodBytes, codeOr, nextOr}
-use Rattle.outer_promises.specs.Exports.{Rows, computed, unroomed, cutLambda, goodThenBad}
+use Rattle.outer_promises.specs.Exports.{computed, unroomed, cutLambda, goodThenBad}
 
 -- ---- `mihadrena_read`
 

@@ -1,14 +1,14 @@
 -- Programs that meet no promise of crate `flat`, nor of `mihadrena_open`, `mihadrena_piece` and `mihadrena_end`, which promise the same: each has one
 -- bad habit, and a row of specs/Flat contradicts it.
 use Prim.Native.Nat.{ℕ, _≤_}
-use mathlib.Core.Path.{_≡_, refl, sym, ap, _∙_}
+use mathlib.Core.Path.{_≡_, ap, _∙_}
 use mathlib.Core.Bool.{Bool, true, false}
 use mathlib.Core.List.{List, [], _∷_}
 use lib.ListN.{getD}
 use native.Mathlib.Omega.{arith}
 use Rattle.chars.specs.Encode.{spelled, lay}
 use Rattle.flat.specs.Piece.{Opened, openLeft, Memory, Left, pieceLeft, endLeft}
-use Rattle.outer_promises.specs.Flat.{Rows, computed, bytes, someWords, holding, halted}
+use Rattle.outer_promises.specs.Flat.{computed, bytes, someWords, holding, halted}
 use Rattle.outer_promises.specs.Lent.{new, afterError}
 
 -- ---- pieces

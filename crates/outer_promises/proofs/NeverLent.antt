@@ -1,7 +1,7 @@
 -- Programs that meet no promise of crate `lent`, whatever else they do: each has one bad habit, and a row of specs/Lent contradicts it.
 use Prim.Native.Nat.{ℕ}
-use mathlib.Core.Path.{_≡_, refl, sym, ap, _∙_}
-use mathlib.Core.Bool.{Bool, true, false}
+use mathlib.Core.Path.{_≡_, sym, ap, _∙_}
+use mathlib.Core.Bool.{Bool, false}
 use mathlib.Core.List.{List, [], _∷_}
 use lib.ListN.{replicate, getD}
 use native.Mathlib.Omega.{arith}
@@ -10,7 +10,7 @@ use Rattle.pieces.specs.Calls.{What, item, more, finished, refused}
 use Rattle.pieces.specs.Expected.{longest}
 use Rattle.lent.specs.declared.State.{State}
 use Rattle.lent.specs.Calls.{Said, openFor, pieceFor, endFor}
-use Rattle.outer_promises.specs.Lent.{Rows, computed, new, inWordA, unused, unknown}
+use Rattle.outer_promises.specs.Lent.{computed, new, inWordA, unused, unknown}
 
 -- what is given, told apart by a number
 abbrev sort : What → ℕ

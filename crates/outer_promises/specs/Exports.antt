@@ -4,8 +4,7 @@ use Prim.Native.Nat.{ℕ, _-_}
 use mathlib.Core.Path.{_≡_, refl}
 use mathlib.Core.Bool.{true, false}
 use mathlib.Core.List.{List, [], _∷_}
-use lib.ListN.{length, drop, replicate, getD}
-use lib.IntN.{ℤ, pos, negsuc, natAbs}
+use lib.ListN.{drop, replicate, getD}
 use Rattle.laws.specs.Quoted.{code, within}
 use Rattle.laws.specs.Texts.{span, starts, begins, same}
 use Rattle.chars.specs.Encode.{isScalar, utf8, width, encode, bytesOf, spelled, lay, laid}
@@ -22,7 +21,7 @@ use Rattle.items.specs.Readers.{hashAt, hashComma, unreturned, endsWith, hereEn
 use Rattle.items.specs.Readers.{readItem, readNest, readQuoted, wordOn, hashOn}
 use Rattle.items.specs.Meaning.{lookup, words, wordKind, wordMeans, runMeans, escaped, stringText, linedText, hereText, unescape}
 use Rattle.items.specs.Items.{extentItems, itemsFrom, pastLine, afterPound, items, kept, records, texts}
-use Rattle.items.specs.Whole.{Call, call, served, refused, deliver, readOf}
+use Rattle.items.specs.Whole.{Call, call, refused, deliver, readOf}
 use Rattle.lexer.specs.Text.{textMark}
 use Rattle.exports.specs.Read.{readNumber, readValues}
 use Rattle.number_words.specs.Words.{intWords, formed, realWords, joined, partsWords, refusalWords, flattened, numberWords, numberOr}

@@ -1,7 +1,7 @@
 -- Programs that meet no promise of a piece call, an end call or the opening call, whatever else they do. Each theorem takes a program that
 -- answers as the definition says and has one bad habit; a row of specs/Rows, where the definition answers otherwise, contradicts the habit.
 use Prim.Native.Nat.{ℕ, _<_}
-use mathlib.Core.Path.{_≡_, refl, sym, ap, _∙_}
+use mathlib.Core.Path.{_≡_, sym, ap, _∙_}
 use mathlib.Core.Bool.{Bool, true, false}
 use mathlib.Core.List.{List, [], _∷_}
 use lib.ListN.{length, getD}
@@ -11,7 +11,6 @@ use Rattle.items.specs.Kinds as kind
 use Rattle.pieces.specs.declared.State.{State}
 use Rattle.pieces.specs.Calls.{What, item, more, finished, refused, Reply, textAfter, pieceOf, endOf, openOf}
 use Rattle.pieces.specs.Expected.{longest}
-use Rattle.pieces.specs.Given.{Given}
 use Rattle.piece_promises.specs.Rows.{Rows, computed, new, inWordA, lent}
 
 -- what is given, told apart by a number

@@ -17,7 +17,7 @@ use Rattle.items.specs.Kinds as kind
 use Rattle.items.specs.Whole.{limit}
 use Rattle.pieces.specs.Calls.{refused}
 use Rattle.pieces.specs.Due.{answer, shown, due, lateAnswer}
-use Rattle.pieces.specs.Expected.{Expected, Ending, clean, stop, from, grown, unfinished, endingOf, LastWord, expected}
+use Rattle.pieces.specs.Expected.{Expected, clean, stop, from, grown, unfinished, endingOf, LastWord, expected}
 use Rattle.pieces.specs.Expected as word
 use Rattle.pieces.specs.Given.{Given, givenAll}
 

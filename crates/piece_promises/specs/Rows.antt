@@ -29,14 +29,13 @@ use Rattle.items.specs.Items.{extentItems, ownWords}
 use Rattle.items.specs.Kinds as kind
 use Rattle.items.specs.Whole.{limit}
 use Rattle.pieces.specs.declared.Stage.{Stage}
-use Rattle.pieces.specs.declared.Stage.the-variants.{Opening, Idle, Busy, Waiting, Stopped}
+use Rattle.pieces.specs.declared.Stage.the-variants.{Idle, Busy, Waiting, Stopped}
 use Rattle.pieces.specs.declared.Beyond.the-variants.{Char}
 use Rattle.pieces.specs.declared.State.{State}
 use Rattle.pieces.specs.Bounds.{inBounds}
 use Rattle.pieces.specs.Calls.{What, item, more, finished, refused, Reply, reply, fresh, whole, atDepth, textAfter, turnOf, feedOf, pieceOf, endOf, openOf}
 use Rattle.pieces.specs.Due.{answer, answered}
 use Rattle.pieces.specs.Expected.{longest}
-use Rattle.pieces.specs.Given.{Given}
 
 -- outside all brackets: an item with no text, an error with its place, and an item with its text
 abbrev pub bare : ℕ → ℕ → ℕ → ℕ → What

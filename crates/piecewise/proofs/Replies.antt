@@ -1,8 +1,8 @@
 -- What the calls' proofs share: how a reply follows from a turn, and which reply the tests choose.
-use Prim.Native.Nat.{ℕ, suc, _+_, _≤_, _<_, _^_}
+use Prim.Native.Nat.{ℕ, _+_, _≤_, _<_, _^_}
 use mathlib.Core.Path.{_≡_, refl, sym, ap, _∙_, subst}
 use mathlib.Core.Bool.{Bool, true, false, _&&_}
-use mathlib.Core.List.{List, [], _∷_}
+use mathlib.Core.List.{List, []}
 use mathlib.Core.Logic.{⊎-elim}
 use lib.ListN.{length, getD, drop, drop-of-length-le}
 use lib.Seq.{drop-cons}
@@ -28,8 +28,8 @@ use Rattle.pieces.specs.Bounds.{isPlace, beyondBounds, heldBounds, stageBounds,
 use Rattle.pieces.specs.Calls.{What, Reply, reply, Turn, on, off, textAfter, turnOf, after, feedOf, pieceStage, replied, endStage, endUnlessStopped}
 use Rattle.giving.specs.Answers.{whatOf, stateOf, turnBy, textTurned}
 use Rattle.piecewise.specs.Answers.{isMore, endDeclared}
-use Rattle.giving.specs.Inner.{HoldsItem, CharFits, BeyondFits}
-use Rattle.bounds.proofs.Bounded.{Numbers, numbers}
+use Rattle.giving.specs.Inner.{HoldsItem, BeyondFits}
+use Rattle.bounds.proofs.Bounded.{numbers}
 use Rattle.turns.proofs.Told.{told-numbers, told-held}
 
 no : {A : Type 0} → true ≡ false → A

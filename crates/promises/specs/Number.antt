@@ -22,7 +22,7 @@ use Rattle.numbers.specs.Plain.{plain}
 use Rattle.numbers.specs.declared.Real.{Real}
 use Rattle.numbers.specs.declared.Real.the-variants.{Integer, Rational}
 use Rattle.numbers.specs.declared.Parts.{Parts}
-use Rattle.numbers.specs.declared.Parts.the-variants.{Just, Complex, Polar}
+use Rattle.numbers.specs.declared.Parts.the-variants.{Just, Polar}
 use Rattle.numbers.specs.declared.NumberAnswer.{NumberAnswer}
 use Rattle.numbers.specs.Call.{Answer, parts, noNumber, error, refused, answered, given, number}
 use Rattle.numbers.proofs.Call.{answered-one}

@@ -1,9 +1,8 @@
 -- The machine's steps: `steps::step` ensures `r ≡ stepOf report phase (soFar raw at) c`, `first_phase` and `finish` the same of their
 -- definitions in crate `items`, and `scan` goes on by `scanOf`.
-use Prim.Native.Nat.{ℕ}
 use mathlib.Core.Path.{_≡_, refl}
 use mathlib.Core.Bool.{true, false}
-use mathlib.Core.List.{List, [], _∷_}
+use mathlib.Core.List.{[], _∷_}
 use Rattle.laws.specs.Quoted.{code, codes, within}
 use Rattle.laws.specs.Texts.{span, begins, same}
 use Rattle.chars.specs.Encode.{isScalar, utf8, width, encode, bytesOf, spelled}

@@ -6,7 +6,7 @@ use mathlib.Core.Bool.{true, false}
 use mathlib.Core.List.{List, [], _∷_, _++_, map}
 use lib.ListN.{length, drop}
 use Rattle.laws.specs.Texts.{span, same}
-use Rattle.laws.specs.Quoted.{code, codes, within}
+use Rattle.laws.specs.Quoted.{code, within}
 use Rattle.laws.specs.Lent.{written}
 use Rattle.chars.specs.Encode.{isScalar, utf8, encode, bytesOf, spelled}
 use Rattle.chars.specs.Utf8.{first, rest, front}
@@ -16,8 +16,7 @@ use Rattle.digits.specs.declared.Hex.the-variants as hex
 use Rattle.items.specs.Kinds as kind
 use Rattle.items.specs.Classes.{inQuotes, afterBackslash, stopsHex, inHex, inTrim}
 use Rattle.items.specs.Readers.{scalarOf, pastFailing}
-use Rattle.items.specs.Meaning.{lookup, words, wordKind, wordMeans, means, source, charNames, isDelimiter, nameless, hexNamed, spelledOut, characterOf, unescape}
-use Rattle.items.specs.declared.Quotes.{Quotes}
+use Rattle.items.specs.Meaning.{lookup, words, wordKind, source, charNames, isDelimiter, nameless, hexNamed, spelledOut, characterOf, unescape}
 use Rattle.items.specs.declared.Quotes.the-variants.{Double, Lines}
 use Rattle.items.specs.declared.CharValue.the-variants.{Scalar, Wrong, WrongAt}
 use Rattle.promises.specs.Shapes.{room}

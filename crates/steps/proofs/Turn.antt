@@ -18,7 +18,7 @@ use Rattle.items.specs.declared.Next.the-variants.{Eat, Stop}
 use Rattle.items.specs.Readers.{soFar}
 use Rattle.items.specs.Machine.{stepOf, finishOf, scanOf, depthOf}
 use Rattle.items.proofs.Deep.{deep-eat}
-use Rattle.steps.specs.Scan.{part, scanned, answer}
+use Rattle.steps.specs.Scan.{part, answer}
 
 -- a part goes on with the part behind it
 take-more : (l : List ℕ) (a b : ℕ) → take (a + b) l ≡ take a l ++ take b (drop a l)

@@ -6,7 +6,7 @@ use mathlib.Core.Bool.{Bool, true, false}
 use mathlib.Core.List.{List, [], _∷_}
 use lib.ListN.{length, take, drop, set, length-set, length-take, length-drop}
 use lib.Seq.{sets, drop-drop}
-use lib.Dec.{eqb, leb, ltb}
+use lib.Dec.{eqb}
 use native.Mathlib.Nat.{add-zero}
 use native.Mathlib.Numerals.{add-one}
 use native.Mathlib.Omega.{arith}
@@ -29,7 +29,7 @@ use Rattle.pieces.specs.declared.Stage.the-variants.{Opening, Pound, FirstLine,
 use Rattle.pieces.specs.declared.Marks.{Marks}
 use Rattle.pieces.specs.declared.State.{State}
 use Rattle.pieces.specs.Expected.{longest}
-use Rattle.pieces.specs.Calls.{Reply, Turn, on, becomes, lastOf, itemSoFar, laidAt, report, onStage, turnOf, after, feedOf}
+use Rattle.pieces.specs.Calls.{Turn, on, becomes, lastOf, itemSoFar, laidAt, report, onStage, turnOf, after, feedOf}
 use Rattle.giving.specs.Answers.{stateOf}
 use Rattle.turns.specs.Inner.{Sound}
 use Rattle.turns.specs.Passed.{kept, passedAt, passed}

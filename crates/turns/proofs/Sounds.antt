@@ -30,7 +30,6 @@ use Rattle.items.specs.declared.Phase.the-variants as ph
 use Rattle.items.specs.declared.Next.{Next}
 use Rattle.items.specs.declared.Next.the-variants.{Eat, Stop}
 use Rattle.items.specs.Classes.{firstOf}
-use Rattle.items.specs.Readers.{SoFar}
 use Rattle.items.specs.Meaning.{Meaning, meaningOf}
 use Rattle.items.specs.Items.{Place, rangeAfter, standing, itemsOf, extentItems}
 use Rattle.items.specs.Machine.{stepOf, finishOf, onFirst}

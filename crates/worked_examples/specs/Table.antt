@@ -4,14 +4,14 @@
 use Prim.Native.Nat.{ℕ, _+_, _-_}
 use Prim.Native.String.{String}
 use mathlib.Core.Path.{_≡_, refl}
-use mathlib.Core.Bool.{Bool, false}
+use mathlib.Core.Bool.{false}
 use mathlib.Core.List.{List, [], _∷_, _++_, map}
 use lib.ListN.{length, take, drop}
 use lib.IntN.{pos, negsuc}
 use lib.Dec.{eqb}
 use Rattle.laws.specs.Choice.{if_then_else_}
 use Rattle.laws.specs.Texts.{span, starts, begins, same}
-use Rattle.laws.specs.Quoted.{code, within}
+use Rattle.laws.specs.Quoted.{within}
 use Rattle.chars.specs.Encode.{isScalar, utf8, width, encode, bytesOf, spelled}
 use Rattle.chars.specs.Blank.{isBlank}
 use Rattle.chars.specs.Utf8.{first, rest, front, firstBad, sequences, chars}

@@ -1,7 +1,6 @@
 -- By the test.
 use borrow.Author.Needs.{needs}
-use mathlib.Core.Path.{_≡_, refl, sym, ap, _∙_}
-use borrow.Author.Tests.{lt-ltb, le-ltb, eq-eqb, ne-eqb}
+use borrow.Author.Tests.{eq-eqb, ne-eqb}
 use Rattle.lines.specs.Starts.{newline}
 use Rattle.line_pieces.proofs.moved.Statement.{statement}
 use Rattle.line_pieces.proofs.moved.Tie as tie

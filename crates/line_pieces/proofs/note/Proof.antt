@@ -1,7 +1,7 @@
 -- By the test.
 use borrow.Author.Needs.{needs}
 use borrow.Author.Tests.{lt-ltb, le-ltb}
-use mathlib.Core.Path.{_≡_, refl}
+use mathlib.Core.Path.{refl}
 use denote.Ref.{now}
 use lib.Dec.{ltb}
 use lib.ListN.{set}

@@ -1,6 +1,6 @@
 -- The store and the fresh state.
 use borrow.Author.Needs.{needs}
-use mathlib.Core.Path.{_≡_, refl, sym, ap, _∙_}
+use mathlib.Core.Path.{ap}
 use Rattle.lines.specs.Pieces.{fed}
 use Rattle.line_pieces.proofs.open.Statement.{statement}
 use Rattle.line_pieces.proofs.open.Tie as tie

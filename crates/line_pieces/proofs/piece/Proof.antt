@@ -1,6 +1,6 @@
 -- A state within its bounds is fed, any other stays.
 use borrow.Author.Needs.{needs}
-use mathlib.Core.Path.{_≡_, _∙_}
+use mathlib.Core.Path.{_∙_}
 use denote.Ref.{now}
 use Rattle.lines.proofs.Feeding.{piece-stays, piece-feeds}
 use Rattle.line_pieces.proofs.piece.Statement.{statement}

@@ -1,7 +1,6 @@
 -- By the cases of `stepOf`.
 use borrow.Author.Needs.{needs}
-use mathlib.Core.Path.{_≡_, refl, sym, ap, _∙_}
-use denote.Ref.{now}
+use mathlib.Core.Path.{sym, _∙_}
 use Rattle.lines.proofs.Feeding.{step-stands, step-full, step-counts, step-did}
 use Rattle.line_pieces.proofs.step.Statement.{statement}
 use Rattle.line_pieces.proofs.step.Tie as tie

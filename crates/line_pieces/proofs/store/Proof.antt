@@ -1,6 +1,6 @@
 -- A store past the end is none.
 use borrow.Author.Needs.{needs}
-use mathlib.Core.Path.{_≡_, refl, sym, ap, _∙_}
+use mathlib.Core.Path.{sym}
 use denote.Ref.{now}
 use lib.Seq.{set-out}
 use Rattle.line_pieces.proofs.store.Statement.{statement}

@@ -1,6 +1,5 @@
 -- The calls are counted down, and the text memory keeps its length.
 use borrow.Author.Needs.{needs}
-use Prim.Native.Nat.{_≤_}
 use mathlib.Core.Path.{_≡_}
 use lib.ListN.{length}
 use Rattle.listing.proofs.list_end.Statement.{statement}

@@ -1,6 +1,5 @@
 -- The digits after the sign are all there is, or what follows them is a fraction, or after some digits a slash and a denominator.
 use Rattle.numbers.proofs.PlainPlaces.{plain-digits, plain-fraction, plain-ratio, plain-none}
-use denote.Ref.{now}
 use mathlib.Core.Path.{sym, _∙_}
 use borrow.Author.Needs.{needs}
 use Rattle.numbers.proofs.is_plain.Statement.{statement}

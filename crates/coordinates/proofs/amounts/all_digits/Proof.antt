@@ -1,8 +1,7 @@
 -- The fraction digits are read on after the whole digits. If those are too large already, all are.
 use Rattle.coordinates.proofs.Totals.{within-is, all-in, all-out}
-use Prim.Native.Nat.{_≤_, _^_}
 use native.Mathlib.Omega.{arith}
-use mathlib.Core.Path.{_≡_, refl, sym, ap, _∙_}
+use mathlib.Core.Path.{sym, _∙_}
 use borrow.Author.Needs.{needs}
 use Rattle.coordinates.proofs.amounts.all_digits.Statement.{statement}
 use Rattle.coordinates.proofs.amounts.all_digits.Tie as tie

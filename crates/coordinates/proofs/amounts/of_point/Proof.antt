@@ -1,8 +1,7 @@
 -- m and the exponent as whole numbers decide; an exponent past 2^53 leaves s out of range, as a text has under 2^32 fraction digits.
 use Rattle.coordinates.proofs.Totals.{within-is, point-in, point-out, point-far}
-use Prim.Native.Nat.{_≤_, _^_}
 use native.Mathlib.Omega.{arith}
-use mathlib.Core.Path.{_≡_, refl, sym, ap, _∙_}
+use mathlib.Core.Path.{sym, _∙_}
 use borrow.Author.Needs.{needs}
 use Rattle.coordinates.proofs.amounts.of_point.Statement.{statement}
 use Rattle.coordinates.proofs.amounts.of_point.Tie as tie

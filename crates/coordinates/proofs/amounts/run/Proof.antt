@@ -8,7 +8,7 @@ use lib.ListN.{length, drop}
 use Prim.Native.Nat.{_-_, _^_, _≤_}
 use borrow.Author.Needs.{needs}
 use native.Mathlib.Omega.{arith}
-use mathlib.Core.Path.{_≡_, refl, sym, ap, _∙_}
+use mathlib.Core.Path.{_≡_, refl, _∙_}
 use Rattle.coordinates.proofs.amounts.run.Statement.{statement}
 use Rattle.coordinates.proofs.amounts.run.Tie as tie
 

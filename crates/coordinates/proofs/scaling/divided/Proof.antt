@@ -1,6 +1,4 @@
 -- Both operands are exact, so the quotient is the exact quotient rounded once.
-use mathlib.Core.Path.{_≡_, ap, _∙_, sym}
-use lib.Ieee.{binary64, mul, div}
 use Rattle.coordinates.proofs.Floats.{down-in, down-out}
 use borrow.Author.Needs.{needs}
 use Rattle.coordinates.proofs.scaling.divided.Statement.{statement}

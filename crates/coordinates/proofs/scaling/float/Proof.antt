@@ -1,7 +1,6 @@
 -- A whole number up to 2^53 is exact as a float, and the sign is put on what is rounded, zero included.
-use mathlib.Core.Path.{_≡_, ap, _∙_, sym}
 use lib.Dec.{le→leb}
-use lib.Ieee.{Float, binary64, round, neg, ofInt, inFloat}
+use lib.Ieee.{binary64, ofInt, inFloat}
 use Rattle.coordinates.proofs.Floats.{neg-round}
 use Rattle.coordinates.proofs.scaling.float.Statement.{statement}
 use Rattle.coordinates.proofs.scaling.float.Tie as tie

@@ -1,6 +1,4 @@
 -- Both operands are exact, so the product is the exact product rounded once.
-use mathlib.Core.Path.{_≡_, ap, _∙_, sym}
-use lib.Ieee.{binary64, mul, div}
 use Rattle.coordinates.proofs.Floats.{up-in, up-out}
 use borrow.Author.Needs.{needs}
 use Rattle.coordinates.proofs.scaling.multiplied.Statement.{statement}

@@ -1,7 +1,7 @@
 -- The exponent less the count of fraction digits is told by its sign and its size.
 use Rattle.coordinates.specs.Coordinate.{scaled}
 use Rattle.coordinates.proofs.Scales.{less-down, less-below, less-above}
-use mathlib.Core.Path.{_≡_, refl, sym, ap, _∙_}
+use mathlib.Core.Path.{sym, ap, _∙_}
 use borrow.Author.Needs.{needs}
 use Rattle.coordinates.proofs.scaling.shifted.Statement.{statement}
 use Rattle.coordinates.proofs.scaling.shifted.Tie as tie

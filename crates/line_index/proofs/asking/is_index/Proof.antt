@@ -1,6 +1,6 @@
 -- By the cases of `isIndex`.
 use borrow.Author.Needs.{needs}
-use mathlib.Core.Path.{_≡_, refl, sym, ap, subst, _∙_}
+use mathlib.Core.Path.{sym, _∙_}
 use denote.Ref.{now}
 use Rattle.line_index.proofs.Answers.{index-long, index-bad, index-good}
 use Rattle.line_index.proofs.asking.is_index.Statement.{statement}

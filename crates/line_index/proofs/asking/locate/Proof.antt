@@ -1,6 +1,6 @@
 -- By whether the index is the text's.
 use borrow.Author.Needs.{needs}
-use mathlib.Core.Path.{_≡_, refl, sym, ap, subst, _∙_}
+use mathlib.Core.Path.{sym, _∙_}
 use denote.Ref.{now}
 use Rattle.line_index.proofs.Answers.{locates-other, locates}
 use Rattle.line_index.proofs.asking.locate.Statement.{statement}

@@ -1,7 +1,7 @@
 -- By the cases of `locateAllOf`.
 use borrow.Author.Needs.{needs}
 use native.Mathlib.Omega.{arith}
-use mathlib.Core.Path.{_≡_, sym, _∙_}
+use mathlib.Core.Path.{sym, _∙_}
 use denote.Ref.{now}
 use Rattle.line_index.proofs.Answers.{all-other, all-short, all-served}
 use Rattle.line_index.proofs.asking.locate_all.Statement.{statement}

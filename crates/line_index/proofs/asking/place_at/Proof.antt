@@ -1,7 +1,7 @@
 -- The line is the one that the search finds, and from its start on the rest of the text has the characters that the text has (`since-line`).
 use borrow.Author.Needs.{needs}
-use Prim.Native.Nat.{ℕ, _+_, _-_, _*_, _≤_, _<_}
-use mathlib.Core.Path.{_≡_, refl, sym, ap, subst, _∙_}
+use Prim.Native.Nat.{_-_}
+use mathlib.Core.Path.{sym, _∙_}
 use denote.Ref.{now}
 use Rattle.line_index.proofs.Answers.{index-search, place-past, place-found}
 use Rattle.line_index.proofs.asking.place_at.Statement.{statement}

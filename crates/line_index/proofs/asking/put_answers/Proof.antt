@@ -1,11 +1,11 @@
 -- The loop keeps: what is left to answer leads to the memory that all answers lead to.
 use borrow.Author.Needs.{needs}
 use native.Mathlib.Omega.{arith}
-use Prim.Native.Nat.{ℕ, _+_, _-_, _*_, _≤_, _<_}
-use mathlib.Core.Path.{_≡_, refl, sym, ap, subst, _∙_}
+use Prim.Native.Nat.{_+_, _-_, _*_, _≤_}
+use mathlib.Core.Path.{_≡_, refl, _∙_}
 use denote.Ref.{now}
 use lib.ListN.{length, drop, set, length-set}
-use Rattle.lines.specs.Many.{lineWord, columnWord, answers}
+use Rattle.lines.specs.Many.{answers}
 use Rattle.line_index.specs.Left.{stored}
 use Rattle.line_index.proofs.Answers.{locates, answers-next, answers-all}
 use Rattle.line_index.proofs.asking.put_answers.Statement.{statement}

@@ -1,8 +1,8 @@
 -- The loop goes from one newline byte to the next and keeps that j starts were the same (`Comparing`).
 use borrow.Author.Needs.{needs}
 use native.Mathlib.Omega.{arith}
-use Prim.Native.Nat.{ℕ, _+_, _-_, _*_, _≤_, _<_}
-use mathlib.Core.Path.{_≡_, refl, sym, ap, subst, _∙_}
+use Prim.Native.Nat.{_-_}
+use mathlib.Core.Path.{sym}
 use denote.Ref.{now}
 use lib.ListN.{length}
 use Rattle.lines.specs.Starts.{startsFrom}

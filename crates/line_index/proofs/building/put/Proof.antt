@@ -1,7 +1,7 @@
 -- The loop keeps: what is left to store at place i leads to the memory that all starts lead to (`Storing`).
 use native.Mathlib.Omega.{arith}
-use Prim.Native.Nat.{ℕ, _+_, _-_, _*_, _≤_, _<_}
-use mathlib.Core.Path.{_≡_, refl, sym, ap, subst, _∙_}
+use Prim.Native.Nat.{_-_, _≤_}
+use mathlib.Core.Path.{_∙_}
 use denote.Ref.{now}
 use lib.ListN.{length, set, length-set}
 use Rattle.line_index.specs.Left.{Storing}

@@ -1,8 +1,6 @@
 -- A block without a newline byte has no start; any other goes byte by byte.
 use borrow.Author.Needs.{needs}
-use native.Mathlib.Omega.{arith}
-use Prim.Native.Nat.{ℕ, _+_, _-_, _*_, _≤_, _<_}
-use mathlib.Core.Path.{_≡_, refl, sym, ap, subst, _∙_}
+use Prim.Native.Nat.{_-_}
 use denote.Ref.{now}
 use Rattle.line_index.proofs.Stored.{storing-none}
 use Rattle.line_index.proofs.building.put_block.Statement.{statement}

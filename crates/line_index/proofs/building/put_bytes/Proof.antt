@@ -1,7 +1,7 @@
 -- The loop keeps: what is left to store at place i leads to the same memory (`Storing`).
 use native.Mathlib.Omega.{arith}
-use Prim.Native.Nat.{ℕ, _+_, _-_, _*_, _≤_, _<_}
-use mathlib.Core.Path.{_≡_, refl, sym, ap, subst, _∙_}
+use Prim.Native.Nat.{ℕ, _-_, _≤_, _<_}
+use mathlib.Core.Path.{_≡_, subst}
 use denote.Ref.{now}
 use lib.ListN.{length}
 use Rattle.line_index.specs.Left.{Storing}

@@ -1,5 +1,4 @@
 -- As `range_after`, from no range in report mode.
-use mathlib.Core.Path.{_∙_}
 use borrow.Author.Needs.{needs}
 use Rattle.meaning.proofs.places.range_shown.Statement.{statement}
 use Rattle.meaning.proofs.places.range_shown.Tie as tie

@@ -1,7 +1,6 @@
 -- The two tests of the definition, in its order.
 use borrow.Author.Needs.{needs}
 use borrow.Author.Tests.{eq-eqb, ne-eqb}
-use mathlib.Core.Path.{_≡_}
 use Rattle.laws.specs.Quoted.{within}
 use Rattle.texts.proofs.runs.is_blank.Statement.{statement}
 use Rattle.texts.proofs.runs.is_blank.Tie as tie

@@ -1,6 +1,5 @@
 -- The three tests of the definition, in its order.
 use borrow.Author.Needs.{needs}
-use mathlib.Core.Path.{_≡_, _∙_}
 use Rattle.texts.proofs.runs.is_plain.Statement.{statement}
 use Rattle.texts.proofs.runs.is_plain.Tie as tie
 

@@ -3,9 +3,8 @@ use borrow.Author.Needs.{needs}
 use native.Mathlib.Omega.{arith}
 use mathlib.Core.Path.{_≡_, ap, _∙_}
 use mathlib.Core.List.{List}
-use lib.ListN.{length}
 use denote.Ref.{now}
-use Prim.Native.Nat.{ℕ, _+_}
+use Prim.Native.Nat.{ℕ}
 use Rattle.pieces.specs.declared.Marks.{Marks}
 use Rattle.giving.specs.Answers.{stateOf}
 use Rattle.giving.proofs.Laid.{part-laid}
