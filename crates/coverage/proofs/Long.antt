@@ -6,7 +6,7 @@ use Rattle.items.specs.declared.Phase.the-variants.{AfterHash}
 use Rattle.items.specs.Items.{Place, items, byteCount}
 use Rattle.items.specs.Machine.{stepOf}
 use Rattle.items.specs.Readers.{SoFar, soFar}
-use Rattle.items.specs.Run.{Mode, opening, pound, skipping, idle, busy, State, state, fresh, begin, pounded, onNext, Fed, feed, feedMode, advance}
+use Rattle.items.specs.Run.{Mode, opening, pound, skipping, idle, busy, Running, state, fresh, begin, pounded, onNext, Fed, feed, feedMode, advance}
 use Rattle.items.proofs.Ready.{place-after}
 use Rattle.items.proofs.Run.{advance-after}
 use Rattle.laws.specs.Quoted.{code}
@@ -41,7 +41,7 @@ atStart (busy s p raw) = false
 
 -- What a character that ends at t makes of the machine's mode m: an item in which it then stands, longer than any character, is the one in
 -- which it stood; and it stands no longer at the start of the text
-record Moved (m : Mode) (t : ℕ) (u : State) : Type 0 where
+record Moved (m : Mode) (t : ℕ) (u : Running) : Type 0 where
   was : (s : ℕ) → startOf (u .mode) ≡ from s → longest < t - s → startOf m ≡ from s
   later : atStart (u .mode) ≡ false
 
@@ -70,7 +70,7 @@ module _ (report : Bool) where
   feed-moved (busy s p raw) at last c h = next-moved (busy s p raw) s refl (stepOf report p (soFar raw at) c) last (soFar raw at) c
 
   -- only before the first character does it stand at the start of the text
-  only-first : (s : State) (cs : List ℕ) → (atStart (s .mode) ≡ true → s .at ≡ 0)
+  only-first : (s : Running) (cs : List ℕ) → (atStart (s .mode) ≡ true → s .at ≡ 0)
       → atStart (advance report s cs .after .mode) ≡ true → advance report s cs .after .at ≡ 0
   unfolding advance
   only-first s [] h = h
@@ -83,13 +83,13 @@ module _ (report : Bool) where
   unfolding advance
   begun-before q c t s h e l =
       let k : List ℕ = q ++ (c ∷ []) in
-      let a : State = advance report fresh q .after in
-      let b : State = advance report fresh k .after in
+      let a : Running = advance report fresh q .after in
+      let b : Running = advance report fresh k .after in
       let before : a .at ≡ byteCount q = omega (arith, place-after report opening 0 (fresh .last) q) in
       let after : b .at ≡ byteCount k = omega (arith, place-after report opening 0 (fresh .last) k) in
       let next : b ≡ feed report a c .after = advance-after report fresh q (c ∷ []) in
       let stands : startOf (feed report a c .after .mode) ≡ from s
-      = ap (λ (u : State). startOf (u .mode)) (sym next)
+      = ap (λ (u : Running). startOf (u .mode)) (sym next)
       ∙ sym (breaks-off report k (b .mode) (byteCount k) (b .last) (ap (λ (n : ℕ). state (b .mode) n (b .last)) after) refl)
       ∙ ap (λ (n : ℕ). unfinished n (items report k)) (sym h)
       ∙ e in

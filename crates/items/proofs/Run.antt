@@ -5,7 +5,7 @@ use Rattle.items.specs.Classes.{firstOf}
 use Rattle.items.specs.Items.{unset, rangeAfter, extentItems, itemsFrom, itemsAt, pastLine, afterPound, items, Place, Item}
 use Rattle.items.specs.Machine.{stepOf, onFirst, scanOf}
 use Rattle.items.specs.Readers.{soFar, eat, readItem, SoFar, Read}
-use Rattle.items.specs.Run.{state, fresh, feed, advance, machineItems, pound, skipping, idle, busy, State}
+use Rattle.items.specs.Run.{state, fresh, feed, advance, machineItems, pound, skipping, idle, busy, Running}
 use Rattle.items.proofs.Cases.{by-next}
 use Rattle.items.proofs.Same.{item-same}
 use Rattle.laws.specs.Quoted.{code}
@@ -26,20 +26,20 @@ use Rattle.items.specs.declared.Phase.the-variants as ph
 module _ (report : Bool) where
   -- ---- running on after some characters
 
-  pub advance-on : (s : State) (xs ys : List ℕ)
+  pub advance-on : (s : Running) (xs ys : List ℕ)
       → advance report s (xs ++ ys) .out ≡ advance report s xs .out ++ advance report (advance report s xs .after) ys .out
   unfolding advance
   advance-on s [] ys = refl
   advance-on s (c ∷ xs) ys =
       ap (λ (l : List Item). feed report s c .out ++ l) (advance-on (feed report s c .after) xs ys) ∙ sym (append-assoc (feed report s c .out) _ _)
 
-  pub advance-after : (s : State) (xs ys : List ℕ) → advance report s (xs ++ ys) .after ≡ advance report (advance report s xs .after) ys .after
+  pub advance-after : (s : Running) (xs ys : List ℕ) → advance report s (xs ++ ys) .after ≡ advance report (advance report s xs .after) ys .after
   unfolding advance
   advance-after s [] ys = refl
   advance-after s (c ∷ xs) ys = advance-after (feed report s c .after) xs ys
 
   -- a text may be cut anywhere
-  pub cut : (s : State) (xs ys : List ℕ)
+  pub cut : (s : Running) (xs ys : List ℕ)
       → machineItems report s (xs ++ ys) ≡ advance report s xs .out ++ machineItems report (advance report s xs .after) ys
   cut s xs ys = rw (advance-on s xs ys, advance-after s xs ys) (append-assoc (advance report s xs .out) _ _)
 

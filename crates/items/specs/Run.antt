@@ -23,30 +23,30 @@ pub data Mode : Type 0 where
   busy : ℕ → Phase → List ℕ → Mode
 
 -- the mode, the place, and the last `error` range
-pub record State : Type 0 where
+pub record Running : Type 0 where
   pub mode : Mode
   pub at : ℕ
   pub last : Place
 
-abbrev pub state : Mode → ℕ → Place → State
+abbrev pub state : Mode → ℕ → Place → Running
 state m at last = record { mode = m; at = at; last = last }
 
-abbrev pub fresh : State
+abbrev pub fresh : Running
 fresh = state opening 0 unset
 
 -- a character between items: a blank is passed over, any other begins an item
 abbrev pub beginMode : ℕ → ℕ → Mode
 beginMode at c = if isBlank c then idle else busy at (onFirst (firstOf c)) (eat (soFar [] at) c .bytes)
 
-abbrev pub begin : ℕ → Place → ℕ → State
+abbrev pub begin : ℕ → Place → ℕ → Running
 begin at last c = state (beginMode at c) (at + width c) last
 
 -- what a character gives, items or none, and the state after it
 pub record Fed : Type 0 where
   pub out : List Item
-  pub after : State
+  pub after : Running
 
-abbrev pub quietly : State → Fed
+abbrev pub quietly : Running → Fed
 quietly s = record { out = []; after = s }
 
 -- in an item that started at s
@@ -68,7 +68,7 @@ feedMode report skipping at last c = quietly (if eqb c (code "\n") then begin at
 feedMode report idle at last c = quietly (begin at last c)
 feedMode report (busy s p raw) at last c = onNext report (stepOf report p (soFar raw at) c) last s (soFar raw at) c
 
-abbrev pub feed : Bool → State → ℕ → Fed
+abbrev pub feed : Bool → Running → ℕ → Fed
 feed report s c = feedMode report (s .mode) (s .at) (s .last) c
 
 -- the end of the text
@@ -79,11 +79,11 @@ lastMode report skipping at last = []
 lastMode report idle at last = []
 lastMode report (busy s p raw) at last = extentItems report last s (finishOf p raw) (soFar raw at)
 
-abbrev pub finish : Bool → State → List Item
+abbrev pub finish : Bool → Running → List Item
 finish report s = lastMode report (s .mode) (s .at) (s .last)
 
 -- the items that are ready after some characters, and the state then
-unfoldable pub advance : Bool → State → List ℕ → Fed
+unfoldable pub advance : Bool → Running → List ℕ → Fed
 advance report s [] = quietly s
 advance report s (c ∷ cs) =
     let f : Fed = feed report s c in
@@ -91,5 +91,5 @@ advance report s (c ∷ cs) =
     record { out = f .out ++ g .out; after = g .after }
 
 -- the items of a text that ends after these characters
-abbrev pub machineItems : Bool → State → List ℕ → List Item
+abbrev pub machineItems : Bool → Running → List ℕ → List Item
 machineItems report s cs = advance report s cs .out ++ finish report (advance report s cs .after)

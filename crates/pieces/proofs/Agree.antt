@@ -54,11 +54,11 @@ modeOf (Busy st p) raw = M.busy st p raw
 modeOf (Waiting st b) raw = M.idle
 modeOf (Stopped n p) raw = M.idle
 
-abbrev pub view : State → M.State
+abbrev pub view : State → M.Running
 view s = M.state (modeOf (s .marks .stage) (take (s .marks .len) (s .buf))) (s .marks .at) (lastOf s)
 
 -- the state t after s: the characters q were read, the machine stands at m, and d brackets are open
-pub record Arrives (s : State) (q : List ℕ) (m : M.State) (d : ℕ) (t : State) : Type 0 where
+pub record Arrives (s : State) (q : List ℕ) (m : M.Running) (d : ℕ) (t : State) : Type 0 where
   pub kept : Kept q [] t
   pub calm : Calm (t .marks .stage)
   pub same : view t ≡ m
