@@ -46,7 +46,7 @@ static void calls(void)
     size_t start = 7, end = 7;
     expect(open_table() == MIHADRENA_SERVED, "mihadrena_names_open");
     uint32_t mark = mihadrena_names_open(words, MIHADRENA_NAMES_WORDS - 1, bytes, MIHADRENA_NAMES_BYTES);
-    expect(mark == MIHADRENA_NAMES_OUTSIDE, "mihadrena_names_open, too little");
+    expect(mark == MIHADRENA_OUT_OF_BOUNDS, "mihadrena_names_open, too little");
     expect(enter(MIHADRENA_CONTRACTOR, fagus, 5, &number) == MIHADRENA_SERVED && number == 512, "mihadrena_names_enter");
     expect(enter(MIHADRENA_PLANNER, fagus, 5, &number) == MIHADRENA_SERVED && number == 512, "mihadrena_names_enter, shared");
     expect(enter(2, fagus, 5, &number) == MIHADRENA_NO_PARTY && number == 0, "mihadrena_names_enter, no party");
@@ -56,7 +56,7 @@ static void calls(void)
            "mihadrena_names_place");
     expect(place(513, &start, &end) == MIHADRENA_NO_NAME && start == 0 && end == 0, "mihadrena_names_place, no name");
     words[0] = 513;
-    expect(place(512, &start, &end) == MIHADRENA_NAMES_OUTSIDE, "mihadrena_names_place, outside");
+    expect(place(512, &start, &end) == MIHADRENA_OUT_OF_BOUNDS, "mihadrena_names_place, outside");
 }
 
 /* The identifiers of the records, asked for by a party. */

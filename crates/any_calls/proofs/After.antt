@@ -1,5 +1,6 @@
 -- Whatever calls were made: what they gave is a beginning of what is expected of the bytes that they took, and all of it, with its last word,
 -- once a call says "finished" or a stop. By `end-means` an end call would give the first item that is missing, so none is left out or given twice.
+use Rattle.refusal.specs.Refusals as refusal
 use Rattle.laws.proofs.Choice.{by-bool}
 use Rattle.items.specs.Whole.{inReport}
 use Rattle.pieces.specs.declared.State.{State}
@@ -51,7 +52,7 @@ no-more [] (word.refused m o) (word.refused n p) e = (refl, cc)
 same-number : {m o n p : ℕ} → refused m o ≡ refused n p → m ≡ n
 same-number e = cc
 
-no-stop : {n : ℕ} → n ≡ 24 → Stop n → ⊥
+no-stop : {n : ℕ} → n ≡ refusal.littleText → Stop n → ⊥
 no-stop e z = ⊎-elim (λ x. omega arith) (λ y. ⊎-elim (λ x. omega arith) (λ x. omega arith) y) z
 
 -- a reply that left a stop
@@ -147,7 +148,7 @@ module _ (mode : ℕ) (skip : Bool) (is : mode < 2) where
   finished-closed h z (end room) e = by-bool (leb longest room)
       (λ f. all-given z room (leb-true longest room f) word.finished e)
       (λ f. absurd
-      (let no : refused 24 0 ≡ finished = sym (ap (λ (r : Reply). r .what) (short-end (closing-made mode skip is z) room (leb-false longest room f))) ∙ e in
+      (let no : refused refusal.littleText 0 ≡ finished = sym (ap (λ (r : Reply). r .what) (short-end (closing-made mode skip is z) room (leb-false longest room f))) ∙ e in
       let y : _≡_ {A = ℕ} 0 1 = cc in omega arith))
 
   -- WHATEVER CALLS WERE MADE, when one says "finished" all items of the bytes taken were given, and the text has no stop.
@@ -253,6 +254,6 @@ module _ (mode : ℕ) (skip : Bool) (is : mode < 2) where
   refusals calls c n p e = refusal (sumOf mode skip calls) (closed mode skip is calls) c n p e
 
   -- a call without memory enough is refused with 24, whatever else would be said
-  pub short-refused : (calls : List Call) (c : Call) → memory c < longest → replyTo (sumOf mode skip calls .state) c .what ≡ refused 24 0
+  pub short-refused : (calls : List Call) (c : Call) → memory c < longest → replyTo (sumOf mode skip calls .state) c .what ≡ refused refusal.littleText 0
   short-refused calls (piece bs room) narrow = ap (λ (r : Reply). r .what) (short-piece (closing-made mode skip is (closed mode skip is calls)) room narrow bs)
   short-refused calls (end room) narrow = ap (λ (r : Reply). r .what) (short-end (closing-made mode skip is (closed mode skip is calls)) room narrow)

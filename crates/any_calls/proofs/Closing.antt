@@ -1,5 +1,6 @@
 -- Any calls are calls of crate `pieces`, specs/Produced: pieces with memory enough, then ends with memory enough, once those are left out that
 -- change nothing: the calls without memory enough, and the pieces after the end.
+use Rattle.refusal.specs.Refusals as refusal
 use Rattle.laws.proofs.Choice.{by-bool}
 use Rattle.pieces.specs.declared.Stage.{Stage}
 use Rattle.pieces.specs.declared.Stage.the-variants.{Opening, Pound, FirstLine, Idle, Busy, Waiting, Stopped}
@@ -26,11 +27,11 @@ use borrow.Author.Tests.{lt-ltb, lt-leb, leb-true, leb-false}
 -- ---- calls without memory enough
 
 module _ {s : State} (made : Produced s) (room : ℕ) (short : room < longest) where
-  pub short-piece : (bs : List ℕ) → pieceOf s bs room ≡ reply 0 (refused 24 0) s
+  pub short-piece : (bs : List ℕ) → pieceOf s bs room ≡ reply 0 (refused refusal.littleText 0) s
   unfolding pieceOf
   short-piece bs = rw (never-27 made, lt-ltb room longest short)
 
-  pub short-end : endOf s room ≡ reply 0 (refused 24 0) s
+  pub short-end : endOf s room ≡ reply 0 (refused refusal.littleText 0) s
   unfolding endOf
   short-end = rw (never-27 made, lt-ltb room longest short)
 
@@ -81,18 +82,18 @@ stage-stop {s} (halted m o h) n p f = subst (Staged (h .read) s) f (h .kept .sta
 pub record Refuses (s : State) (r : Reply) : Type 0 where
   pub number : ℕ
   pub place : ℕ
-  pub why : (number ≡ 26) ⊎ Stop number
+  pub why : (number ≡ refusal.afterEnd) ⊎ Stop number
   pub is : r ≡ reply 0 (refused number place) s
 
 late-stage : (s : State) (bs : List ℕ) → ((n p : ℕ) → s .marks .stage ≡ Stopped n p → Stop n) → (b : Stage) → s .marks .stage ≡ b
     → s .marks .ended ≡ true
     → Refuses s (pieceStage s b bs)
-late-stage s bs z Opening f e = record { number = 26; place = 0; why = inl refl; is = rw e }
-late-stage s bs z Pound f e = record { number = 26; place = 0; why = inl refl; is = rw e }
-late-stage s bs z FirstLine f e = record { number = 26; place = 0; why = inl refl; is = rw e }
-late-stage s bs z Idle f e = record { number = 26; place = 0; why = inl refl; is = rw e }
-late-stage s bs z (Busy st p) f e = record { number = 26; place = 0; why = inl refl; is = rw e }
-late-stage s bs z (Waiting st b) f e = record { number = 26; place = 0; why = inl refl; is = rw e }
+late-stage s bs z Opening f e = record { number = refusal.afterEnd; place = 0; why = inl refl; is = rw e }
+late-stage s bs z Pound f e = record { number = refusal.afterEnd; place = 0; why = inl refl; is = rw e }
+late-stage s bs z FirstLine f e = record { number = refusal.afterEnd; place = 0; why = inl refl; is = rw e }
+late-stage s bs z Idle f e = record { number = refusal.afterEnd; place = 0; why = inl refl; is = rw e }
+late-stage s bs z (Busy st p) f e = record { number = refusal.afterEnd; place = 0; why = inl refl; is = rw e }
+late-stage s bs z (Waiting st b) f e = record { number = refusal.afterEnd; place = 0; why = inl refl; is = rw e }
 late-stage s bs z (Stopped n p) f e = record { number = n; place = p; why = inr (z n p f); is = refl }
 
 late-piece : {s : State} → Produced s → Shut s → (bs : List ℕ) (room : ℕ) → longest ≤ room → Refuses s (pieceOf s bs room)
@@ -133,7 +134,7 @@ module _ (mode : ℕ) (skip : Bool) (is : mode < 2) where
       ∙ ap (λ (l : List ℕ). record { taken = l; items = h .items ++ []; ended = h .ended; state = h .state }) (append-nil (h .taken))
       ∙ ap (λ (l : List Given). record { taken = h .taken; items = l; ended = h .ended; state = h .state }) (append-nil (h .items))
 
-  pub same-end : (h : Sum) (room : ℕ) → room < longest → endOf (h .state) room ≡ reply 0 (refused 24 0) (h .state) → with h (end room) ≡ h
+  pub same-end : (h : Sum) (room : ℕ) → room < longest → endOf (h .state) room ≡ reply 0 (refused refusal.littleText 0) (h .state) → with h (end room) ≡ h
   same-end h room short e =
       ap (λ (r : Reply). record { taken = h .taken; items = h .items ++ givenBy (r .what); ended = with h (end room) .ended; state = r .state }) e
       ∙ ap (λ (l : List Given). record { taken = h .taken; items = l; ended = with h (end room) .ended; state = h .state }) (append-nil (h .items))

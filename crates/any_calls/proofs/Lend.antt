@@ -1,5 +1,6 @@
 -- A caller that lends another text memory at every call is given what the caller of crate `pieces` is given with one: a memory too short
 -- costs a call and changes nothing, and of those that are long enough every one serves alike. So `resumes` carries over, from whatever calls.
+use Rattle.refusal.specs.Refusals as refusal
 use Rattle.laws.specs.Choice.{if_then_else_}
 use Rattle.laws.proofs.Choice.{by-bool}
 use Rattle.items.specs.Whole.{inReport}
@@ -36,8 +37,8 @@ use borrow.Author.Tests.{ne-eqb, leb-true, leb-false}
 
 -- ---- a call with memory enough
 
-not-24 : {n : ℕ} → Stop n → eqb n 24 ≡ false
-not-24 {n} z = ne-eqb n 24 (λ e. ⊎-elim (λ x. omega arith) (λ y. ⊎-elim (λ x. omega arith) (λ x. omega arith) y) z)
+not-24 : {n : ℕ} → Stop n → eqb n refusal.littleText ≡ false
+not-24 {n} z = ne-eqb n refusal.littleText (λ e. ⊎-elim (λ x. omega arith) (λ y. ⊎-elim (λ x. omega arith) (λ x. omega arith) y) z)
 
 -- it is not refused with 24
 served : (e : Bool) (w : What) (s : State) → Left e w s → tooShort w ≡ false

@@ -1,5 +1,6 @@
 -- A lent call does what the call by value does, `same-piece` and `same-end` of crate `lent`, so any lent calls add up to what those by value add
 -- up to, with the state lent; and what crate `any_calls` says of these holds of them.
+use Rattle.refusal.specs.Refusals as refusal
 use Rattle.laws.specs.Choice.{if_then_else_}
 use Rattle.items.specs.Whole.{inReport}
 use Rattle.pieces.specs.declared.State.{State as ByValue}
@@ -92,7 +93,7 @@ module _ (mode : ℕ) (skip : Bool) (buf : List ℕ) (full : length buf ≡ long
         ∙ ap (λ (h : Sum). record { items = h .items; last = word.refused n p }) (sym (same-calls calls))
 
     -- a call without memory enough is refused with 24
-    pub short-refused-lent : (calls : List Call) (c : Call) → memory c < longest → saidTo (sumOf mode skip buf calls .state) c .what ≡ refused 24 0
+    pub short-refused-lent : (calls : List Call) (c : Call) → memory c < longest → saidTo (sumOf mode skip buf calls .state) c .what ≡ refused refusal.littleText 0
     short-refused-lent calls c narrow = ap (λ (u : Said). u .what) (same-answer calls c) ∙ by.short-refused mode skip is calls c narrow
 
     -- WHATEVER LENT CALLS WERE MADE, a call is refused with 24, by its memory, or with 26, after the end, and then nothing changes; or by a stop.

@@ -1,5 +1,6 @@
 -- Where a text stops: the whole characters before a stop are a front of it, within the limit, and stop 23 names the item that they break off in; a
 -- text without a stop is its characters. One induction over the sequences of the text.
+use Rattle.refusal.specs.Refusals as refusal
 use Rattle.items.specs.Items.{items, byteCount}
 use Rattle.items.specs.Whole.{limit}
 use Rattle.laws.proofs.Choice.{if-all, if-is}
@@ -27,7 +28,7 @@ use borrow.Author.Tests.{ltb-true, ltb-false}
 pub record Halts (report : Bool) (number place : ℕ) (q : List ℕ) : Type 0 where
   pub scalars : Scalars q
   pub short : byteCount q ≤ limit
-  pub named : number ≡ 23 → unfinished (byteCount q) (items report q) ≡ from place
+  pub named : number ≡ refusal.longItem → unfinished (byteCount q) (items report q) ≡ from place
 
 -- q are the characters before the bytes l
 pub data Told (report : Bool) (l q : List ℕ) : Ending → Type 0 where
@@ -45,7 +46,7 @@ scalars-on [] c h e = (e, tt)
 scalars-on (d ∷ q) c h e = (h .0, scalars-on q c (h .1) e)
 
 module _ (report : Bool) where
-  told-here : (l q : List ℕ) (at : ℕ) → Been q at → (number place : ℕ) → (number ≡ 23 → unfinished (byteCount q) (items report q) ≡ from place)
+  told-here : (l q : List ℕ) (at : ℕ) → Been q at → (number place : ℕ) → (number ≡ refusal.longItem → unfinished (byteCount q) (items report q) ≡ from place)
       → Told report l q (stop number place q)
   unfolding bytesOf
   told-here l q at z number place h =
@@ -66,18 +67,18 @@ module _ (report : Bool) where
       go : (here : Unfinished) → unfinished t (items report (q ++ (c ∷ []))) ≡ here → Told report l q (grown here t q on)
       go nothing f = h
       go (from s) f = if-is (Told report l q) (ltb longest (t - s))
-          (λ g. told-here l q at z 23 s (λ _. begun-before report q c t s e f (ltb-true longest (t - s) g)))
+          (λ g. told-here l q at z refusal.longItem s (λ _. begun-before report q c t s e f (ltb-true longest (t - s) g)))
           (λ g. h)
 
 module _ (report : Bool) (n : ℕ) where
   abbrev TellsOf : List ℕ → ℕ → List ℕ → Type 0
   TellsOf l at q = Told report l q (endingOf report n q (sequences 0 at l))
 
-  too-long : (l q : List ℕ) (at : ℕ) → Been q at → Told report l q (stop 20 limit q)
-  too-long l q at z = told-here report l q at z 20 limit (λ e. absurd (omega arith))
+  too-long : (l q : List ℕ) (at : ℕ) → Been q at → Told report l q (stop refusal.tooLong limit q)
+  too-long l q at z = told-here report l q at z refusal.tooLong limit (λ e. absurd (omega arith))
 
-  not-utf8 : (l q : List ℕ) (at : ℕ) → Been q at → Told report l q (stop 21 at q)
-  not-utf8 l q at z = told-here report l q at z 21 at (λ e. absurd (omega arith))
+  not-utf8 : (l q : List ℕ) (at : ℕ) → Been q at → Told report l q (stop refusal.notUtf8 at q)
+  not-utf8 l q at z = told-here report l q at z refusal.notUtf8 at (λ e. absurd (omega arith))
 
   -- the front of the bytes, and what is told of fewer of them
   told-front : (b : ℕ) (l : List ℕ) (at : ℕ) (q : List ℕ) → Been q at

@@ -1,5 +1,6 @@
 -- All calls together: from the words that opening wrote on, call after call gives the records of the whole-text call, but that every decoded text
 -- starts at 0 of the text memory. No position that the calls made is 27, whatever memory they were lent.
+use Rattle.refusal.specs.Refusals as refusal
 use Rattle.laws.specs.Lent.{written}
 use Rattle.laws.proofs.Lent.{length-written}
 use Rattle.laws.proofs.Choice.{by-bool, if-yes}
@@ -107,7 +108,7 @@ module _ (s : List ℕ) (short : length s ≤ limit) where
       unfolding nextOf giveOf
       reply-gives b = rw (le-ltb limit (length s) short) (ap (λ (t : Turn). giveOf (p .depth) t (m .text)) e ∙ rw b)
 
-      reply-stays : enough ≡ false → nextOf s p (m .text) ≡ replied (refuses 22 1 (length (memoryOf (i .text)))) (m .text)
+      reply-stays : enough ≡ false → nextOf s p (m .text) ≡ replied (refuses refusal.tooFew 1 (length (memoryOf (i .text)))) (m .text)
       unfolding nextOf giveOf
       reply-stays b = rw (le-ltb limit (length s) short) (ap (λ (t : Turn). giveOf (p .depth) t (m .text)) e ∙ rw b)
 

@@ -80,6 +80,20 @@ impl NotNested {
             _ => unreachable!("the library's own records are refused for nothing else"),
         }
     }
+
+    /// The number of the refusal.
+    #[must_use]
+    pub const fn number(self) -> u32 {
+        match self {
+            Self::BracketOpen(_) => raw::BRACKET_OPEN,
+            Self::WrongClose(_) => raw::WRONG_CLOSE,
+            Self::MisplacedDot(_) => raw::MISPLACED_DOT,
+            Self::MarkWaits(_) => raw::MARK_WAITS,
+            Self::TooDeep(_) => raw::TOO_DEEP,
+            Self::ErrorItem(_) => raw::ERROR_ITEM,
+            Self::FewNodes => raw::FEW_NODES,
+        }
+    }
 }
 
 impl fmt::Display for NotNested {

@@ -119,11 +119,14 @@ fn header_functions() -> Declared {
 }
 
 fn raw_functions() -> Declared {
-    let lines = RAW.lines().filter_map(|line| line.trim().strip_prefix("pub fn "));
-    lines
-        .map(|line| {
-            let (name, rest) = line.split_once('(').expect("parameters");
-            (name.to_string(), format!("({}", rest.trim_end_matches(';')))
+    let inside = RAW.split_once("extern \"C\" {").expect("the functions").1.split_once('}').expect("their end").0;
+    let declarations = inside.split(';').filter_map(|text| text.trim().strip_prefix("pub fn "));
+    declarations
+        .map(|declaration| {
+            let (name, rest) = declaration.split_once('(').expect("parameters");
+            let (parameters, answers) = rest.rsplit_once(')').expect("their end");
+            let parameters: Vec<&str> = parameters.split(',').map(str::trim).filter(|one| !one.is_empty()).collect();
+            (name.to_string(), format!("({}){answers}", parameters.join(", ")))
         })
         .collect()
 }
@@ -131,7 +134,7 @@ fn raw_functions() -> Declared {
 #[test]
 fn every_function_is_the_headers() {
     let functions = raw_functions();
-    assert!(functions.len() >= 11, "the functions are found");
+    assert!(functions.len() > 20, "the functions are found");
     assert_eq!(functions, header_functions());
 }
 
