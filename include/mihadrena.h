@@ -4,7 +4,7 @@
  * order of the text, and the decoded texts of those that have an escape. All memory is the caller's: the library allocates nothing, keeps
  * nothing between two calls, and writes only to the memory that a call is lent. Every call ends.
  *
- * Link with libmihadrena.a, which `.ci/archive` writes to target/staticlib. Nothing else is needed.
+ * Link with libmihadrena.a, which `.ci/archive` writes to target/staticlib. It needs `memcpy` and `memset` and nothing else.
  *
  * A pointer and the length after it are one slice. A pointer must not be NULL, not even where the length is 0, and memory that a call
  * writes to must overlap with no other memory that the same call is lent.
@@ -37,7 +37,7 @@ typedef struct mihadrena_record {
     uint32_t end;
     uint32_t place_start; /* the place: what an error points at, of any other item the extent. In report mode it is the error's own, and
                            * empty where digits of a hex escape are missing; in plain mode an error that sets none has that of the last
-                           * error before it that set one */
+                           * error before it that set one, or its extent if none did */
     uint32_t place_end;
     uint32_t text_source; /* MIHADRENA_NO_TEXT, MIHADRENA_IN_SOURCE or MIHADRENA_IN_MEMORY */
     uint32_t text_start;  /* where the text lies there, in bytes */
@@ -121,9 +121,10 @@ MIHADRENA_ASSERT(sizeof(mihadrena_record) == 4 * MIHADRENA_RECORD_WORDS, "a reco
 /* What a call answers that was served. */
 #define MIHADRENA_SERVED 0
 
-/* A refused call changes nothing that it was lent but its values, of mihadrena_number and mihadrena_number_by the first word. Reading in
- * pieces, a stop (20, 21 and 23) changes the state too, and mihadrena_open makes a plain state of a mode that is none. With each stands
- * what it comes with: a call that is lent values puts that into values[0], a second number into values[1]. */
+/* A refused call changes nothing that it was lent but its values; of mihadrena_number and mihadrena_number_by the first word, of the
+ * coordinate calls `place`, of the name table's calls the numbers that they tell, which are then 0. Reading in pieces, a stop (20, 21 and
+ * 23) changes the state too, and mihadrena_open makes a plain state of a mode that is none. With each stands what it comes with: a call
+ * that is lent values puts that into values[0], a second number into values[1]. */
 #define MIHADRENA_TOO_LONG 20      /* the text exceeds MIHADRENA_LONGEST bytes: MIHADRENA_LONGEST */
 #define MIHADRENA_NOT_UTF8 21      /* bytes aren't UTF-8: the start of the first bad sequence */
 #define MIHADRENA_TOO_FEW 22       /* records or text memory are too few: items and text bytes needed */
@@ -152,7 +153,7 @@ MIHADRENA_ASSERT(sizeof(mihadrena_record) == 4 * MIHADRENA_RECORD_WORDS, "a reco
  * there are, and MIHADRENA_FEW_NODES with 0. Where several hold, 48, 45, 43, 42, 41, 40 and 44 are tried in this order; 46 is last. */
 #define MIHADRENA_BRACKET_OPEN 40  /* the end with a bracket open: ( */
 #define MIHADRENA_WRONG_CLOSE 41   /* a wrong or stray close: ) */
-#define MIHADRENA_MISPLACED_DOT 42 /* a dot outside a list, a second one, or one without data on both sides: . */
+#define MIHADRENA_MISPLACED_DOT 42 /* a dot outside a list, a second one, or one without a datum before it and just one behind it: . */
 #define MIHADRENA_MARK_WAITS 43    /* a close, a dot or the end where a mark waits for its datum: ' */
 #define MIHADRENA_TOO_DEEP 44      /* a bracket, a mark or #; inside MIHADRENA_DEEPEST others */
 #define MIHADRENA_ERROR_ITEM 45    /* an error: ## */
@@ -182,7 +183,8 @@ MIHADRENA_ASSERT(sizeof(mihadrena_record) == 4 * MIHADRENA_RECORD_WORDS, "a reco
  *
  * MIHADRENA_SERVED: values[0] is how many items were written, values[1] how many bytes of text; all memory behind them stays as it was.
  * Refusals, in this order: MIHADRENA_NO_MODE, MIHADRENA_TOO_LONG, MIHADRENA_NOT_UTF8, MIHADRENA_TOO_FEW; `records` and `text` keep every
- * byte, and `values` gets what the refusal comes with, then 0. With fewer than MIHADRENA_READ_VALUES values none is written.
+ * byte, and `values` gets what the refusal comes with, and 0 where that is one number. With fewer than MIHADRENA_READ_VALUES values none
+ * is written.
  *
  * A text never has more items than bytes, and never needs more text memory than it has bytes. To be told how much it needs, lend none:
  *
@@ -236,8 +238,8 @@ typedef struct mihadrena_told {
 MIHADRENA_ASSERT(sizeof(mihadrena_told) == 8 * MIHADRENA_PIECE_VALUES, "these are two values");
 
 /* Opens a state, in a mode, with comments kept or skipped, and writes it whole: MIHADRENA_SERVED, or MIHADRENA_NO_MODE for another mode,
- * with a plain state; what that comes with is the `mode` that was passed. MIHADRENA_OUT_OF_BOUNDS, and nothing is written, if the two
- * slices have not the lengths of a state's.
+ * with a plain state; what that comes with is the `mode` that was passed. Before that MIHADRENA_OUT_OF_BOUNDS, and nothing is written, if
+ * the two slices have not the lengths of a state's.
  *
  *     mihadrena_state state;
  *     mihadrena_open(MIHADRENA_PLAIN, false, state.bytes, MIHADRENA_STATE_BYTES,
@@ -257,7 +259,9 @@ uint32_t mihadrena_open(uint32_t mode, bool skip_comments, uint8_t *bytes, size_
  *       nothing changes; where there are two values they are 1, the records needed, and 0, the bytes taken
  *   MIHADRENA_OUT_OF_BOUNDS (slices of other lengths too), MIHADRENA_LITTLE_TEXT, MIHADRENA_AFTER_END  nothing is taken, nothing changes
  *   MIHADRENA_TOO_LONG, MIHADRENA_NOT_UTF8, MIHADRENA_LONG_ITEM  the reading stops, at the byte that shows it, which is taken; every
- *       later call takes nothing and answers the same
+ *       later call with a state and memory enough takes nothing and answers the same
+ * After MIHADRENA_TOO_FEW they are tried in this order: MIHADRENA_OUT_OF_BOUNDS, MIHADRENA_LITTLE_TEXT, a stop that stands,
+ * MIHADRENA_AFTER_END.
  *
  *     uint8_t text[MIHADRENA_PIECE_TEXT];
  *     mihadrena_record record;
@@ -479,8 +483,9 @@ uint32_t mihadrena_number_by(uint32_t choice, const uint8_t *text, size_t text_l
  */
 uint32_t mihadrena_coordinate(const uint8_t *text, size_t text_length, double *value, uint64_t *place);
 
-/* The same for the extent of a record, by the record's kind and its extent: MIHADRENA_OUT_OF_BOUNDS if the extent is no part of the source,
- * MIHADRENA_NO_COORDINATE if the kind is not MIHADRENA_NUMBER. In pieces a number's text is copied: call mihadrena_coordinate on it. */
+/* The same for the extent of a record, by the record's kind and its extent: first MIHADRENA_OUT_OF_BOUNDS if the extent is no part of the
+ * source, MIHADRENA_NO_COORDINATE if the kind is not MIHADRENA_NUMBER. A place is counted from the extent's start. In pieces a number's
+ * text is copied: call mihadrena_coordinate on it. */
 uint32_t mihadrena_record_coordinate(const uint8_t *source, size_t source_length, uint32_t kind, uint32_t start, uint32_t end,
                                      double *value, uint64_t *place);
 
@@ -575,7 +580,7 @@ uint32_t mihadrena_locate_all(const uint8_t *text, size_t text_length, const uin
 /* The index of a text that comes in pieces, on a state that the caller keeps: opening, each piece in turn with the same index memory, the
  * declared end. No piece is refused: every refusal comes with the end, which answers what mihadrena_lines answers for the whole text. The
  * memory then holds the starts found before any byte that shows MIHADRENA_TOO_LONG or MIHADRENA_NOT_UTF8, as many as fit. A state of other
- * than MIHADRENA_LINES_STATE_WORDS words, or one that these calls did not leave, stays as it is with the memory, and the end answers
+ * than MIHADRENA_LINES_STATE_WORDS words, or outside the bounds of docs/STATE.md, stays as it is with the memory, and the end answers
  * MIHADRENA_OUT_OF_BOUNDS.
  *
  *     uint32_t state[MIHADRENA_LINES_STATE_WORDS];

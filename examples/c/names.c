@@ -41,6 +41,7 @@ static uint32_t place(uint32_t number, size_t *start, size_t *end)
 
 static void calls(void)
 {
+    static const uint8_t longer[MIHADRENA_NAMES_BYTES / 2 + 1];
     const uint8_t *fagus = (const uint8_t *)"Fagus";
     uint32_t number = 7;
     size_t start = 7, end = 7;
@@ -50,8 +51,7 @@ static void calls(void)
     expect(enter(MIHADRENA_CONTRACTOR, fagus, 5, &number) == MIHADRENA_SERVED && number == 512, "mihadrena_names_enter");
     expect(enter(MIHADRENA_PLANNER, fagus, 5, &number) == MIHADRENA_SERVED && number == 512, "mihadrena_names_enter, shared");
     expect(enter(2, fagus, 5, &number) == MIHADRENA_NO_PARTY && number == 0, "mihadrena_names_enter, no party");
-    expect(enter(MIHADRENA_PLANNER, bytes + 5, MIHADRENA_NAMES_BYTES - 5, &number) == MIHADRENA_NO_ROOM && number == 0,
-           "mihadrena_names_enter, no room");
+    expect(enter(MIHADRENA_PLANNER, longer, sizeof longer, &number) == MIHADRENA_NO_ROOM && number == 0, "mihadrena_names_enter, no room");
     expect(place(512, &start, &end) == MIHADRENA_SERVED && end - start == 5 && memcmp(bytes + start, fagus, 5) == 0,
            "mihadrena_names_place");
     expect(place(513, &start, &end) == MIHADRENA_NO_NAME && start == 0 && end == 0, "mihadrena_names_place, no name");

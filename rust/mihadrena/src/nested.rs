@@ -54,7 +54,7 @@ pub enum NotNested {
     BracketOpen(usize),
     /// A wrong or stray close: `)`
     WrongClose(usize),
-    /// A dot outside a list, a second one, or one without data on both sides: `.`
+    /// A dot outside a list, a second one, one without a datum before it, or not exactly one datum behind it: `.`
     MisplacedDot(usize),
     /// A close, a dot or the end where a mark waits for its datum: `'`
     MarkWaits(usize),

@@ -1,5 +1,5 @@
 //! The library as `include/mihadrena.h` declares it for C: its constants, its layouts and its functions. The rest of this crate is built
-//! on it; a program that keeps records for other programs needs it too.
+//! on it; a program that keeps records for other programs needs it too. The header says what each constant means and each function does.
 //!
 //! A pointer and the length behind it are one slice: the pointer is not null, not even where the length is 0, and memory that a call
 //! writes to overlaps with no other memory of that call.
@@ -7,7 +7,7 @@
 /// How many words a record has.
 pub const RECORD_WORDS: usize = 10;
 
-/// One item, as document 01 writes it down, and its depth.
+/// One item: docs/RULES.md, "Items and records".
 #[repr(C)]
 #[derive(Clone, Copy, Debug, Default, PartialEq, Eq, Hash)]
 pub struct Record {
