@@ -7,7 +7,8 @@
 //     s         prints the state                  -          from here on the text memory is a byte too short
 //
 // and a letter that makes the state one outside the bounds of docs/STATE.md: m its mode, a its place, t its range, b its character begun,
-// l its item's length, k the start of its item, x its stop, d its depth.
+// l its item's length, k the start of its item, x its stop, d its depth; z makes its place the last that a text has, which is inside them:
+// so 20 is shown without 4 GiB.
 use crate::standing;
 use chars::Begun;
 use cuttings::part;
@@ -187,6 +188,7 @@ fn forged(m: Marks, letter: u8) -> Marks {
     match letter {
         b'm' => next.mode = NO_MODE,
         b'a' => next.at = PAST_LIMIT,
+        b'z' => next.at = LIMIT,
         b't' => next.to = PAST_LIMIT,
         b'b' => next.part = full_part(),
         b'l' => next.len = PAST_LONGEST,

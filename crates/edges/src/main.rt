@@ -1,6 +1,6 @@
 // The whole-text call at its edges, run: each case prints what the call answers, then all words of the record memory and all bytes of the
 // text memory, so that the file `stdout` shows what was written and that the rest stayed. What it has to print is worked out by hand
-// from document 01. Refusal 20 wants a text of 4 GiB and is not run.
+// from document 01. Refusal 20 wants a text of 4 GiB and is not run; `call_edges` shows it in pieces.
 use lexer::ReadAnswer;
 use lexer::read;
 use meaning::records::WORDS;

@@ -156,18 +156,18 @@ pub returns-2 : (t : ℕ) → datum-lts.Need-returns-2 (datum-claims t) (datum-a
 returns-2 t c =
     let at-took = c .before .before in
     let at-shape-kind = at-took .before in
-    let told = at-shape-kind .before .before .before .before .before .before .before .before .before in
-    let b =
-    c .before .before .before .before .before .before .before .before .before .before .before .before .before .before .before .before .before .before .before in
+    let at-simples = at-shape-kind .before .before .before .before .before .before in
+    let told = at-simples .before .before .before in
+    let b = told .before .before .before .before .before .before .before in
     let s = b .args .records .now in let at = b .args .at in let depth = b .args .depth in let w = b .args .w in
     let f = b .args .f in let old = b .args .nodes .now in let in-text : at < countOf s = omega (arith, b .pre .1 .0, b .pre .1 .1) in
-    let R = c .before .before .before .before .before .before .before .before .before .simples .ensures in
-    let mid = c .before .before .before .before .before .before .before .before .before .simples .last .1 .1 .1 .0 in
-    let end = c .before .before .before .before .before .before .before .before .before .simples .result in
+    let R = at-simples .simples .ensures in
+    let mid = at-simples .simples .last .1 .1 .1 .0 in
+    let end = at-simples .simples .result in
     let q = at-shape-kind .before .before .before .closes-at .ensures (at-shape-kind .before .before .if2 .taken) in
     took-level s at depth w old mid (at-took .took2 .last .0) (Opens (told .k2 .given .0 .0)) (Fresh (told .k2 .given .0 .0)) in-text
     (sym (told .k2 .given .1) ∙ told .before .before .before .before .class-at .ensures) (λ g i ms ls. refl) refl
-    (at-shape-kind .before .before .before .before .before .before .simples .kept .1 .1 .1 .0) (Got (end + 1) (w + (end - at))
+    (at-simples .simples .kept .1 .1 .1 .0) (Got (end + 1) (w + (end - at))
     (at-shape-kind .shape-kind .result)) (at-took .took2 .result) f (opened-leaf s at (depth + 1) w (told .k2 .given .0 .0) old mid end
     (b .pre .1 .2) R (w + (end - at)) (at-shape-kind .shape-kind .result) (q .0) (q .1) refl (at-shape-kind .shape-kind .ensures))
     (at-took .took2 .ensures) (rw (told .k2 .given .1) at (sym (told .before .before .before .wrong-at .ensures) ∙ told .before .before .if1 .left))
@@ -183,13 +183,14 @@ begun-requires t c κs = search needs
 
 pub sequence-requires-3 : (t : ℕ) → datum-lts.Need-sequence-requires-3 (datum-claims t) (datum-at t) datum.Post
 sequence-requires-3 t c κs =
-    let told = c .before .before .before .before .before .before .before .before .before in
-    let b = c .before .before .before .before .before .before .before .before .before .before .before .before .before .before .before .before in
+    let at-simples = c .before .before .before .before .before .before in
+    let told = at-simples .before .before .before in
+    let b = told .before .before .before .before .before .before .before in
     let s = b .args .records .now in let at = b .args .at in let depth = b .args .depth in let w = b .args .w in
     let f = b .args .f in let old = b .args .nodes .now in let in-text : at < countOf s = omega (arith, b .pre .1 .0, b .pre .1 .1) in
-    let R = c .before .before .before .before .before .before .simples .ensures in
-    let mid = c .before .before .before .before .before .before .simples .last .1 .1 .1 .0 in
-    let end = c .before .before .before .before .before .before .simples .result in (
+    let R = at-simples .simples .ensures in
+    let mid = at-simples .simples .last .1 .1 .1 .0 in
+    let end = at-simples .simples .result in (
       omega (arith, b .pre .0, in-text, R .simples .count, R .simples .inside),
       begins-level s (b .args .count) end (depth + 1) (w + (end - at)) (c .before .begun .result) (b .pre .1 .0)
           (rest-inner s at (depth + 1) w (told .k2 .given .0 .0) old mid end (b .pre .1 .2) R (c .before .begun .result) (c .before .begun .ensures))
@@ -201,18 +202,18 @@ pub took-requires-3 : (t : ℕ) → datum-lts.Need-took-requires-3 (datum-claims
 took-requires-3 t c κs =
     let at-sequence = c .before .before .before in
     let at-begun = at-sequence .before .before in
-    let told = at-begun .before .before .before .before .before .before .before .before in
-    let b =
-    c .before .before .before .before .before .before .before .before .before .before .before .before .before .before .before .before .before .before .before .before in
+    let at-simples = at-begun .before .before .before .before .before in
+    let told = at-simples .before .before .before in
+    let b = told .before .before .before .before .before .before .before in
     let s = b .args .records .now in let at = b .args .at in let depth = b .args .depth in let w = b .args .w in
     let f = b .args .f in let old = b .args .nodes .now in let in-text : at < countOf s = omega (arith, b .pre .1 .0, b .pre .1 .1) in
-    let R = c .before .before .before .before .before .before .before .before .before .before .simples .ensures in
-    let mid = c .before .before .before .before .before .before .before .before .before .before .simples .last .1 .1 .1 .0 in
-    let end = c .before .before .before .before .before .before .before .before .before .before .simples .result in
+    let R = at-simples .simples .ensures in
+    let mid = at-simples .simples .last .1 .1 .1 .0 in
+    let end = at-simples .simples .result in
     above s at (depth + 1) (Fresh (told .k2 .given .0 .0)) w old (at-sequence .sequence3 .last .1 .1 .1 .1 .1 .0)
     (at-sequence .sequence3 .result) (opened-run s at (depth + 1) w (told .k2 .given .0 .0) old mid end
     (b .pre .1 .2) R (at-begun .begun .result) (w + (end - at)) (at-sequence .sequence3 .last .1 .1 .1 .1 .1 .0) (at-begun .begun .ensures) refl
-    (at-begun .before .before .before .before .before .simples .kept .1 .1 .1 .0) (at-sequence .sequence3 .result) (at-sequence .sequence3 .ensures))
+    (at-simples .simples .kept .1 .1 .1 .0) (at-sequence .sequence3 .result) (at-sequence .sequence3 .ensures))
 
 pub enum-known-k-3 : (t : ℕ) → datum-lts.Need-enum-known-k-3 (datum-claims t) (datum-at t) datum.Post
 enum-known-k-3 t c = search needs
@@ -302,13 +303,12 @@ returns-9 t c =
     let at-begun = at-sequence .before .before in
     let at-simples = at-begun .before .before .before .before .before in
     let told = at-simples .before .before .before in
-    let b =
-    c .before .before .before .before .before .before .before .before .before .before .before .before .before .before .before .before .before .before .before .before .before .before .before in
+    let b = told .before .before .before .before .before .before .before in
     let s = b .args .records .now in let at = b .args .at in let depth = b .args .depth in let w = b .args .w in
     let f = b .args .f in let old = b .args .nodes .now in let in-text : at < countOf s = omega (arith, b .pre .1 .0, b .pre .1 .1) in
-    let R = c .before .before .before .before .before .before .before .before .before .before .before .before .before .simples .ensures in
-    let mid = c .before .before .before .before .before .before .before .before .before .before .before .before .before .simples .last .1 .1 .1 .0 in
-    let end = c .before .before .before .before .before .before .before .before .before .before .before .before .before .simples .result in
+    let R = at-simples .simples .ensures in
+    let mid = at-simples .simples .last .1 .1 .1 .0 in
+    let end = at-simples .simples .result in
     took-level s at depth w old (at-sequence .sequence3 .last .1 .1 .1 .1 .1 .0) (at-took .took3 .last .0) (Opens (told .k2 .given .0 .0))
     (Fresh (told .k2 .given .0 .0)) in-text (sym (told .k2 .given .1) ∙ told .before .before .before .before .class-at .ensures)
     (λ g i ms ls. refl) refl (at-sequence .sequence3 .kept .1 .1 .1 .1 .1 .0 ∙ at-simples .simples .kept .1 .1 .1 .0)
