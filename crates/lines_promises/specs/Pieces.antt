@@ -55,7 +55,7 @@ one-too-many : stepOf (record { begun = start; from = 2; at = 4294967295; lines 
 unfolding stepOf
 one-too-many = refl
 
--- the end that a program gives which notes nothing, or refuses everything
+-- no program that notes nothing meets the promise, whatever state it gives
 never-unwritten : (t : State) → fed t room ≡ pieces (openOf room) parts → ⊥
 never-unwritten t h = let e : getD room 0 0 ≡ 0 = ap (λ (f : Fed). getD (f .memory) 0 0) (h ∙ fed-all) in omega (arith, e)
 
