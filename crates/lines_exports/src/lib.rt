@@ -3,6 +3,7 @@
 // Where there is no room for two values, they are left as they were. What the calls answer is the crate lines.
 use lines::Answer;
 use lines::Located;
+use refusal::SERVED;
 ghost use mathlib.Core.Path.{_≡_};
 ghost use mathlib.Core.List.{[], _∷_};
 ghost use lib.ListN.{length};
@@ -12,8 +13,6 @@ ghost use Rattle.lines.specs.Place.{locateOf};
 ghost use Rattle.lines.specs.Many.{locateAllOf};
 ghost use Rattle.lines.specs.Numbers.{answerNumber, answerValue, locatedNumber, locatedFirst, locatedSecond};
 ghost use Rattle.lines.specs.Words.{contents, openLeft, pieceLeft, endFor};
-
-const SERVED: u32 = 0;
 
 // How many values are written.
 const VALUES: usize = 2;
