@@ -18,7 +18,7 @@ use Rattle.pieces.proofs.Cuts.{Live, end-works, piece-going, piece-waits}
 use Rattle.pieces.proofs.Fewest.{unfinished}
 use Rattle.pieces.proofs.Resume.{Stuck, on-the-way, resumes}
 use Rattle.pieces.proofs.Stands.{Repeats, repeats, stop-stands}
-use Rattle.pieces.proofs.Turns.{Left, Safe, goes, waits, halted, safe, fed, end-going, end-waits, never-27}
+use Rattle.pieces.proofs.Turns.{StandsAfter, Safe, goes, waits, halted, safe, fed, end-going, end-waits, never-27}
 use Rattle.any_calls.specs.After.{Call, piece, end, memory, replyTo, Sum, with, sumOf, MayFollow, Begins, Stop, Refusal, short, late, stops}
 use Rattle.any_calls.proofs.Closing.{short-piece, short-end, halted-stop, closing-made, same-piece, same-end, Closed, closed}
 use Rattle.any_calls.proofs.Closing as closing
@@ -56,7 +56,7 @@ no-stop : {n : ℕ} → n ≡ refusal.littleText → Stop n → ⊥
 no-stop e z = ⊎-elim (λ x. omega arith) (λ y. ⊎-elim (λ x. omega arith) (λ x. omega arith) y) z
 
 -- a reply that left a stop
-left-stop : (e : Bool) (w : What) (s : State) → Left e w s → (n p : ℕ) → w ≡ refused n p → Stop n
+left-stop : (e : Bool) (w : What) (s : State) → StandsAfter e w s → (n p : ℕ) → w ≡ refused n p → Stop n
 left-stop e (item g) s h n p f = absurd (let z : _≡_ {A = ℕ} 0 1 = cc in omega arith)
 left-stop e more s h n p f = absurd (let z : _≡_ {A = ℕ} 0 1 = cc in omega arith)
 left-stop e finished s h n p f = absurd (let z : _≡_ {A = ℕ} 0 1 = cc in omega arith)
@@ -229,7 +229,7 @@ module _ (mode : ℕ) (skip : Bool) (is : mode < 2) where
       worked : endUnlessStopped s (s .marks .stage) .what ≡ refused n p
       worked = sym (ap (λ (r : Reply). r .what) (end-works room wide s b)) ∙ f
 
-      left : Left true (endUnlessStopped s (s .marks .stage) .what) (endUnlessStopped s (s .marks .stage) .state) → Stop n
+      left : StandsAfter true (endUnlessStopped s (s .marks .stage) .what) (endUnlessStopped s (s .marks .stage) .state) → Stop n
       left y = left-stop true (endUnlessStopped s (s .marks .stage) .what) (endUnlessStopped s (s .marks .stage) .state) y n p worked
 
       go : Safe s → Stop n

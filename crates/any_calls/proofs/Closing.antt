@@ -12,7 +12,7 @@ use Rattle.pieces.specs.Produced.{Produced, opened, pieced, ended, givenBy, Rea
 use Rattle.pieces.proofs.Cuts.{piece-works, end-works}
 use Rattle.pieces.proofs.Kept.{Staged}
 use Rattle.pieces.proofs.Stands.{repeats}
-use Rattle.pieces.proofs.Turns.{Halted, Left, Safe, goes, waits, halted, safe, end-going, end-waits, never-27}
+use Rattle.pieces.proofs.Turns.{Halted, StandsAfter, Safe, goes, waits, halted, safe, end-going, end-waits, never-27}
 use Rattle.any_calls.specs.After.{Sum, Call, piece, end, with, after, sumOf, Stop}
 use Rattle.any_calls.specs.After as sum
 use Prim.Native.Nat.{ℕ, _≤_, _<_}
@@ -46,7 +46,7 @@ abbrev ShutIf : Bool → State → Type 0
 ShutIf true s = Shut s
 ShutIf false s = Unit {0}
 
-shut-left : (w : What) (s : State) → Left true w s → Shut s
+shut-left : (w : What) (s : State) → StandsAfter true w s → Shut s
 shut-left (item g) s (inl h) = declared (h .ended)
 shut-left (item g) s (inr w) = declared (w .ended)
 shut-left more s h = declared (h .ended)
@@ -59,7 +59,7 @@ shut-end {s} made room wide = go (safe made)
     worked : endOf s room ≡ endUnlessStopped s (s .marks .stage)
     worked = end-works room wide s (never-27 made)
 
-    left : Left true (endUnlessStopped s (s .marks .stage) .what) (endUnlessStopped s (s .marks .stage) .state) → Shut (endOf s room .state)
+    left : StandsAfter true (endUnlessStopped s (s .marks .stage) .what) (endUnlessStopped s (s .marks .stage) .state) → Shut (endOf s room .state)
     left z =
         subst (λ (r : Reply). Shut (r .state)) (sym worked)
         (shut-left (endUnlessStopped s (s .marks .stage) .what) (endUnlessStopped s (s .marks .stage) .state) z)

@@ -17,7 +17,7 @@ use Rattle.pieces.proofs.Cuts.{Live, final, settled, ending, end-works, piece-w
 use Rattle.pieces.proofs.Fewest.{feed-least}
 use Rattle.pieces.proofs.Resume.{Stuck, on-the-way, resumes}
 use Rattle.pieces.proofs.Stands.{Repeats, repeats}
-use Rattle.pieces.proofs.Turns.{Going, Waits, Left, Safe, goes, waits, halted, safe, fed, going-on, end-going, end-waits, never-27}
+use Rattle.pieces.proofs.Turns.{Going, Waits, StandsAfter, Safe, goes, waits, halted, safe, fed, going-on, end-going, end-waits, never-27}
 use Rattle.any_calls.specs.After.{Call, Sum, sumOf, Stop}
 use Rattle.any_calls.specs.After as sum
 use Rattle.any_calls.specs.Lend.{tooShort, pieceCalls, endCalls, handOver, drive, wide, callsFor}
@@ -41,7 +41,7 @@ not-24 : {n : ℕ} → Stop n → eqb n refusal.littleText ≡ false
 not-24 {n} z = ne-eqb n refusal.littleText (λ e. ⊎-elim (λ x. omega arith) (λ y. ⊎-elim (λ x. omega arith) (λ x. omega arith) y) z)
 
 -- it is not refused with 24
-served : (e : Bool) (w : What) (s : State) → Left e w s → tooShort w ≡ false
+served : (e : Bool) (w : What) (s : State) → StandsAfter e w s → tooShort w ≡ false
 served e (item g) s h = refl
 served e more s h = refl
 served e finished s h = refl
@@ -95,7 +95,7 @@ unless-same : (l : List ℕ) {a b : Expected} (f g : List ℕ → Expected) → 
 unless-same [] f g e h = e
 unless-same (x ∷ left) f g e h = h x left refl
 
-heed-same : (w : What) (t : State) {a b : Expected} → Left false w t → (Live t → a ≡ b) → heed w a ≡ heed w b
+heed-same : (w : What) (t : State) {a b : Expected} → StandsAfter false w t → (Live t → a ≡ b) → heed w a ≡ heed w b
 heed-same (item g) t h f = ap (heed (item g)) (f h)
 heed-same more t h f = f (inl h)
 heed-same finished t h f = refl
@@ -132,7 +132,7 @@ module _ (n : ℕ) (next : List ℕ → State → Expected) (follow : State → 
   heededOne f bs r = heed (r .what) (unlessTaken (drop (r .taken) bs) (follow (r .state)) (λ left. one.pieceCalls longest f (r .state) left follow))
 
   -- a call that is served
-  serves : (rooms : List ℕ) (f : ℕ) (bs : List ℕ) (r : Reply) → Produced (r .state) → Left false (r .what) (r .state) → n ≤ wide rooms
+  serves : (rooms : List ℕ) (f : ℕ) (bs : List ℕ) (r : Reply) → Produced (r .state) → StandsAfter false (r .what) (r .state) → n ≤ wide rooms
       → ((x : ℕ) (left : List ℕ) → x ∷ left ≡ drop (r .taken) bs → Live (r .state)
       → pieceCalls rooms (r .state) (x ∷ left) next ≡ one.pieceCalls longest f (r .state) (x ∷ left) follow)
       → heeded next rooms bs r ≡ heededOne f bs r

@@ -24,8 +24,10 @@ use edge_cases::show::number;
 use edge_cases::show::print;
 use edge_cases::show::record;
 use edge_cases::show::runs;
+use items::modes::PLAIN;
 use pieces::Answer;
 use pieces::Got;
+use pieces::LONGEST;
 use pieces::Marks;
 use pieces::Part;
 use pieces::Stage;
@@ -41,18 +43,16 @@ use refusal::TOO_FEW;
 const MARK: u8 = 7;
 
 // The text memory that the calls ask for, and a byte less.
-const ENOUGH: usize = 4096;
+const ENOUGH: usize = LONGEST;
 
-const SHORT: usize = 4095;
-
-const PLAIN: u32 = 0;
+const SHORT: usize = LONGEST - 1;
 
 // What no bound allows: a mode, a place, a length of an item, a stop, and of a short text a depth.
 const NO_MODE: u32 = 2;
 
 const PAST_LIMIT: usize = LIMIT + 1;
 
-const PAST_LONGEST: usize = 4097;
+const PAST_LONGEST: usize = LONGEST + 1;
 
 const NO_STOP: u32 = TOO_FEW;
 

@@ -26,7 +26,7 @@ ghost use mathlib.Core.Bool.{true, false};
 ghost use Prim.Native.Nat.{_+_, _*_, _-_, _<_, _≤_};
 ghost use lib.ListN.{length};
 ghost use Rattle.nested.specs.Items.{countOf};
-ghost use Rattle.nested.specs.Grammar.{deepest, node};
+ghost use Rattle.nested.specs.Grammar.{deepest};
 ghost use Rattle.nested.specs.Lent.{outcome, nestedOf};
 ghost use Rattle.nested.specs.Said.{Put, Above, Took, Simples, Run, TurnSaid, Begins, SequenceSaid, PlanSaid};
 

@@ -12,6 +12,7 @@ use native.Mathlib.Omega.{arith}
 use borrow.Author.Tests.{leb-true, le-ltb, eqb-true, ne-eqb}
 use Rattle.laws.specs.Lent.{written}
 use Rattle.laws.proofs.Choice.{and-true}
+use Rattle.refusal.specs.Refusals as refusal
 use Rattle.chars.specs.Encode.{lay}
 use Rattle.items.specs.Items.{recordWords}
 use Rattle.items.specs.Whole.{inReport}
@@ -61,7 +62,7 @@ heard-what (item g) n buf words text i values h two = item-read g text i (h .0) 
 heard-what more n buf words text i values h two = refl
 heard-what finished n buf words text i values h two = refl
 heard-what (refused m p) n buf words text i values h two =
-    rw (ne-eqb m 10 (λ e. omega arith), ne-eqb m 11 (λ e. omega arith), ne-eqb m 12 (λ e. omega arith))
+    rw (ne-eqb m refusal.item (λ e. omega arith), ne-eqb m refusal.more (λ e. omega arith), ne-eqb m refusal.finished (λ e. omega arith))
     (ap (λ (l : List ℕ). refused m (getD l 0 0)) (laid-two p n values two))
 
 -- ---- memory keeps its lengths

@@ -74,16 +74,16 @@ pub record Halted (n p : ℕ) (s : State) : Type 0 where
   pub stage : s .marks .stage ≡ Stopped n p
   pub deep : Deep s
 
--- after something was given
-abbrev pub Left : Bool → What → State → Type 0
-Left e (item g) s = Going e s ⊎ Waits e s
-Left e more s = Going e s
-Left e finished s = Going e s
-Left e (refused n p) s = Halted n p s
+-- how a state stands after something was given
+abbrev pub StandsAfter : Bool → What → State → Type 0
+StandsAfter e (item g) s = Going e s ⊎ Waits e s
+StandsAfter e more s = Going e s
+StandsAfter e finished s = Going e s
+StandsAfter e (refused n p) s = Halted n p s
 
 abbrev pub Turned : Bool → Turn → Type 0
 Turned e (on s) = Going e s
-Turned e (off s w) = Left e w s
+Turned e (off s w) = StandsAfter e w s
 
 -- the bytes that are held are as many as it says
 pub held-length : {q g : List ℕ} {s : State} → Kept q g s → length (take (s .marks .len) (s .buf)) ≡ s .marks .len
@@ -230,7 +230,7 @@ going-on {e} {s} w =
     rw (← w .ended) (going-beyond k (omega (arith, w .deep)) (w .beyond) (subst (Staged (w .read) s) (w .stage) (k .staged) .1 .1 .1) (lastOf s) (k .last))
 
 abbrev pub Leaves : Bool → Reply → Type 0
-Leaves e r = Left e (r .what) (r .state)
+Leaves e r = StandsAfter e (r .what) (r .state)
 
 pub fed : (bs : List ℕ) {e : Bool} {s : State} (n : ℕ) → Going e s → Leaves e (feedOf s bs n)
 unfolding feedOf
@@ -301,7 +301,7 @@ pub data Safe (s : State) : Type 0 where
   waits : (e : Bool) → Waits e s → Safe s
   halted : (n p : ℕ) → Halted n p s → Safe s
 
-left-safe : (e : Bool) (w : What) (s : State) → Left e w s → Safe s
+left-safe : (e : Bool) (w : What) (s : State) → StandsAfter e w s → Safe s
 left-safe e (item g) s z = ⊎-elim (λ h. goes e h) (λ h. waits e h) z
 left-safe e more s z = goes e z
 left-safe e finished s z = goes e z

@@ -53,11 +53,11 @@ module _ (words old i values text : List ℕ) where
   lent = memory words old i values
 
   pub item-told : (r : List ℕ) (p : Position) {q : Reply} {w k v : List ℕ} → q ≡ item r p → w ≡ written (listed p) words → k ≡ written r i → v ≡ told 0 0 values
-      → left 10 (memory w text k v) ≡ gives lent q text
+      → left refusal.item (memory w text k v) ≡ gives lent q text
   item-told r p e f g h = left-is f g h ∙ ap (λ (x : Reply). gives lent x text) (sym e)
 
-  pub end-told : {q : Reply} {v : List ℕ} → q ≡ finished → v ≡ told 0 0 values → left 12 (memory words text i v) ≡ gives lent q text
-  end-told e h = ap (λ (x : List ℕ). left 12 (memory words text i x)) h ∙ ap (λ (x : Reply). gives lent x text) (sym e)
+  pub end-told : {q : Reply} {v : List ℕ} → q ≡ finished → v ≡ told 0 0 values → left refusal.finished (memory words text i v) ≡ gives lent q text
+  end-told e h = ap (λ (x : List ℕ). left refusal.finished (memory words text i x)) h ∙ ap (λ (x : Reply). gives lent x text) (sym e)
 
   pub stop-told : (n a b : ℕ) {q : Reply} {v : List ℕ} → q ≡ refuses n a b → v ≡ told a b values → left n (memory words text i v) ≡ gives lent q text
   stop-told n a b e h = ap (λ (x : List ℕ). left n (memory words text i x)) h ∙ ap (λ (x : Reply). gives lent x text) (sym e)

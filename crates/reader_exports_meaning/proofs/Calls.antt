@@ -112,7 +112,7 @@ module _ (s : List ℕ) (short : length s ≤ limit) where
       unfolding nextOf giveOf
       reply-stays b = rw (le-ltb limit (length s) short) (ap (λ (t : Turn). giveOf (p .depth) t (m .text)) e ∙ rw b)
 
-      call-gives : room ≡ true → enough ≡ true → nextLeft s m ≡ left 10 then
+      call-gives : room ≡ true → enough ≡ true → nextLeft s m ≡ left refusal.item then
       call-gives b f = call-at b ∙ ap (given m) (reply-gives f)
 
       held-then : HoldsPosition to (written (listed to) (m .words))
@@ -122,7 +122,7 @@ module _ (s : List ℕ) (short : length s ≤ limit) where
         depth = depth-fits (i .kind) (p .depth) (h .depth);
       }
 
-    call-ends : room ≡ true → nextAt s (p .spot) ≡ ends → nextLeft s m ≡ left 12 (memory (m .words) (m .text) (m .item) (told 0 0 (m .values)))
+    call-ends : room ≡ true → nextAt s (p .spot) ≡ ends → nextLeft s m ≡ left refusal.finished (memory (m .words) (m .text) (m .item) (told 0 0 (m .values)))
     call-ends b e = call-at b ∙ ap (given m) (reply-ends e)
 
     same : {w : List ℕ} → w ≡ m .words → (q : Position) × HoldsPosition q w
@@ -153,7 +153,7 @@ module _ (s : List ℕ) (short : length s ≤ limit) where
       fits : length (memoryOf (i .text)) ≤ length (m .text)
       fits = let k : Moved s (p .spot) i q = next-moved s (p .spot) q i e in omega (arith, k .memory, k .inside, r .text)
 
-      ready-gives : nextLeft s m ≡ left 10 (then p m (r .held) i q e)
+      ready-gives : nextLeft s m ≡ left refusal.item (then p m (r .held) i q e)
       ready-gives = call-gives p m (r .held) i q e roomy (le-leb (length (memoryOf (i .text))) (length (m .text)) fits)
 
       ready-then : Ready (to p m (r .held) i q e) (then p m (r .held) i q e)
