@@ -17,7 +17,7 @@ use Rattle.digits.specs.Hex.{empty as nothing}
 use Rattle.items.specs.declared.Quotes.{Quotes}
 use Rattle.items.specs.declared.Quotes.the-variants.{Double, Lines}
 use Rattle.items.specs.declared.CharValue.the-variants.{Scalar}
-use Rattle.items.specs.Classes.{delimOf, inQuotes, afterBackslash, inHex, inTrim, plain, digit, closes}
+use Rattle.items.specs.Classes.{delimOf, inQuotes, afterBackslash, inHex, inTrim, plain, closes}
 use Rattle.items.specs.Readers.{SoFar, eat, scalarOf, failing, unclosed, cut, readQuoted, readEscape, readBrace, readHex, readTrim}
 use Rattle.items.specs.Kinds as kind
 use Rattle.items.proofs.Cases.{by-quotes, by-backslash, by-hex, by-trim, by-value}

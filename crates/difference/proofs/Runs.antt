@@ -7,7 +7,7 @@ use native.Mathlib.Numerals.{add-one}
 use native.Mathlib.Nat.{add-zero, zero-add}
 use native.Mathlib.Omega.{arith}
 use lib.ListN.{drop, length, take}
-use borrow.Author.Tests.{eq-eqb, eqb-true, le-ltb, lt-ltb, ltb-false, ltb-true}
+use borrow.Author.Tests.{eq-eqb, eqb-true, le-ltb, lt-ltb, ltb-true}
 use lib.Dec.{eqb, ltb}
 use Rattle.laws.specs.Texts.{before, span}
 use Rattle.laws.proofs.Choice.{by-bool}
@@ -38,11 +38,6 @@ all-cons f c s e h = rw e h
 pub all-append : (f : ℕ → Bool) (a b : List ℕ) → all f a ≡ true → all f b ≡ true → all f (a ++ b) ≡ true
 all-append f [] b h k = k
 all-append f (c ∷ a) b h k = all-cons f c (a ++ b) (all-head f c a h) (all-append f a b (all-tail f c a h) k)
-
-all-front : (f : ℕ → Bool) (a b : List ℕ) → all f (a ++ b) ≡ true → all f a ≡ true
-unfolding all
-all-front f [] b h = refl
-all-front f (c ∷ a) b h = all-cons f c a (all-head f c (a ++ b) h) (all-front f a b (all-tail f c (a ++ b) h))
 
 pub all-imp : (f g : ℕ → Bool) → ((c : ℕ) → f c ≡ true → g c ≡ true) → (a : List ℕ) → all f a ≡ true → all g a ≡ true
 unfolding all
@@ -88,14 +83,6 @@ before-none b s h = le-ltb (before b s) (length s) (rw (span-whole (λ c. not (e
 
 pub before-here : (b : ℕ) (s t : List ℕ) → all (λ c. not (eqb c b)) s ≡ true → before b (s ++ b ∷ t) ≡ length s
 before-here b s t h = span-at (λ c. not (eqb c b)) s b t h (ap not (eq-eqb b b refl))
-
-none-before : (b : ℕ) (s : List ℕ) → ltb (before b s) (length s) ≡ false → all (λ c. not (eqb c b)) s ≡ true
-unfolding span all
-none-before b [] h = refl
-none-before b (c ∷ s) h =
-    by-bool (eqb c b)
-    (λ e. no (sym (lt-ltb 0 (suc (length s)) (omega arith)) ∙ (rw e at h)))
-    (λ e. rw e (none-before b s (le-ltb (before b s) (length s) (omega (arith, ltb-false (suc (before b s)) (suc (length s)) (rw e at h))))))
 
 -- a digit is none of the characters that are no digits
 pub digit-differs : (R c x : ℕ) → digitOf c < R → R ≤ digitOf x → c ≡ x → ⊥

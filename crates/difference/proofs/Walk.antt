@@ -319,7 +319,3 @@ walk-i R {c} m = walk-free R c [] (i-other m .2) ∙ by-bool (eqb R 16) (λ e. r
     last : (b : Bool) → 1 + toSign b [] ≡ 1
     last true = refl
     last false = refl
-
-walk-nil : (R : ℕ) → walk R false [] ≡ 0
-unfolding walk span toSign
-walk-nil R = by-bool (eqb R 16) (λ e. rw e) (λ e. rw e)
