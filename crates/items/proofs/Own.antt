@@ -176,7 +176,7 @@ digits-fail t n (hex.Value v) = if-all (λ (x : CharValue). Fails t (later n x))
 digits-fail t n (hex.Wrong d p) = inl refl
 
 -- a delimiter is one byte
-delimiter-small : (c : ℕ) → isDelimiter c ≡ true → c < 0x80
+pub delimiter-small : (c : ℕ) → isDelimiter c ≡ true → c < 0x80
 unfolding isDelimiter
 delimiter-small c h = by-bool (ltb c 0x80) (λ e. ltb-true c 0x80 e) (λ e. absurd (none-large (ltb-false c 0x80 e)))
   where
