@@ -237,13 +237,13 @@ module _ (mode : ℕ) (skip : Bool) (is : mode < 2) where
       go (waits e w) = left (end-waits w)
       go (halted m o h) = subst Stop (same-number (sym (ap (λ (r : Reply). r .what) (repeats h [] room wide .1)) ∙ f)) (halted-stop h)
 
-  refused-by : (h : Sum) → Closed mode skip is h → (c : Call) (n p : ℕ) → replyTo (h .state) c .what ≡ refused n p → Refusal h c n
-  refused-by h z (piece bs room) n p e = by-bool (leb longest room)
+  why-refused : (h : Sum) → Closed mode skip is h → (c : Call) (n p : ℕ) → replyTo (h .state) c .what ≡ refused n p → Refusal h c n
+  why-refused h z (piece bs room) n p e = by-bool (leb longest room)
       (λ g. refused-piece z bs room (leb-true longest room g) n p e)
       (λ g. let narrow : room < longest = leb-false longest room g in
       let r = short-piece (closing-made mode skip is z) room narrow bs in
       short narrow (sym (same-number (sym (ap (λ (r : Reply). r .what) r) ∙ e))) (same-piece mode skip is h bs room r))
-  refused-by h z (end room) n p e = by-bool (leb longest room)
+  why-refused h z (end room) n p e = by-bool (leb longest room)
       (λ g. let made = closing-made mode skip is z in stops (refused-end (safe made) room (leb-true longest room g) n p (never-27 made) e))
       (λ g. let narrow : room < longest = leb-false longest room g in
       let r = short-end (closing-made mode skip is z) room narrow in
@@ -251,7 +251,7 @@ module _ (mode : ℕ) (skip : Bool) (is : mode < 2) where
 
   -- WHATEVER CALLS WERE MADE, a call is refused with 24, by its memory, or with 26, after the end, and then nothing changes; or by a stop.
   pub refusals : (calls : List Call) (c : Call) (n p : ℕ) → let h : Sum = sumOf mode skip calls in replyTo (h .state) c .what ≡ refused n p → Refusal h c n
-  refusals calls c n p e = refused-by (sumOf mode skip calls) (closed mode skip is calls) c n p e
+  refusals calls c n p e = why-refused (sumOf mode skip calls) (closed mode skip is calls) c n p e
 
   -- a call without memory enough is refused with 24, whatever else would be said
   pub short-refused : (calls : List Call) (c : Call) → memory c < longest → replyTo (sumOf mode skip calls .state) c .what ≡ refused refusal.littleText 0

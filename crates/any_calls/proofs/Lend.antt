@@ -13,7 +13,7 @@ use Rattle.pieces.specs.Expected.{LastWord, Expected, expected, longest}
 use Rattle.pieces.specs.Expected as word
 use Rattle.pieces.specs.Given.{Given}
 use Rattle.pieces.specs.Produced.{Produced, pieced, ended, givenBy, Reading, Closing, read, closes}
-use Rattle.pieces.proofs.Cuts.{Live, final, settled, ending, end-works, piece-works, piece-going, piece-waits}
+use Rattle.pieces.proofs.Cuts.{Live, Enough, enough, final, settled, ending, end-works, piece-works, piece-going, piece-waits}
 use Rattle.pieces.proofs.Fewest.{feed-least}
 use Rattle.pieces.proofs.Resume.{Stuck, on-the-way, resumes}
 use Rattle.pieces.proofs.Stands.{Repeats, repeats}
@@ -81,14 +81,6 @@ end-calls-same (room ∷ rooms) {s} made = by-bool (leb longest room)
     ∙ end-calls-same rooms made))
 
 -- ---- a piece
-
--- enough calls for a piece of n bytes, as proofs/Cuts of crate `pieces` counts them
-abbrev Enough : ℕ → State → ℕ → Type 0
-Enough f s n = (Going false s × (2 * n + 1 ≤ f)) ⊎ (Waits false s × (2 * n + 2 ≤ f))
-
-enough : (f : ℕ) (s : State) (n : ℕ) → Live s → 2 * n + 2 ≤ f → Enough f s n
-enough f s n (inl h) l = inl (h, omega arith)
-enough f s n (inr w) l = inr (w, l)
 
 unless-same : (l : List ℕ) {a b : Expected} (f g : List ℕ → Expected) → a ≡ b → ((x : ℕ) (left : List ℕ) → x ∷ left ≡ l → f (x ∷ left) ≡ g (x ∷ left))
     → unlessTaken l a f ≡ unlessTaken l b g

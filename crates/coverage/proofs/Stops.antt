@@ -4,7 +4,7 @@ use Rattle.refusal.specs.Refusals as refusal
 use Rattle.items.specs.Items.{items, byteCount}
 use Rattle.items.specs.Whole.{limit}
 use Rattle.laws.proofs.Choice.{if-all, if-is}
-use Rattle.chars.specs.Encode.{isScalar, utf8, width, bytesOf}
+use Rattle.chars.specs.Encode.{utf8, width, bytesOf}
 use Rattle.chars.specs.Utf8.{Front, char, bad, cut, none, front, sequences, chars}
 use Rattle.chars.proofs.Chars.{chars-char}
 use Rattle.chars.proofs.Good.{Scalars}
@@ -12,11 +12,11 @@ use Rattle.chars.proofs.Sequences.{char-some, not-none, sequences-char, sequenc
 use Rattle.chars.proofs.Spells.{Spells, spells}
 use Rattle.chars.proofs.Width.{width-utf8}
 use Rattle.pieces.specs.Expected.{Unfinished, nothing, from, unfinished, Ending, clean, stop, grown, endingOf, longest}
-use Rattle.pieces.proofs.Kept.{count-snoc}
+use Rattle.pieces.proofs.Kept.{count-snoc, scalars-snoc}
 use Rattle.coverage.proofs.Long.{begun-before}
 use Prim.Native.Nat.{ℕ, zero, suc, _+_, _-_, _≤_}
 use mathlib.Core.Path.{_≡_, refl, sym, ap, subst, _∙_}
-use mathlib.Core.Bool.{Bool, true}
+use mathlib.Core.Bool.{Bool}
 use mathlib.Core.List.{List, [], _∷_, _++_, append-assoc, append-nil}
 use lib.ListN.{length, drop, length-drop, take-append-drop}
 use lib.Seq.{length-take-le}
@@ -40,10 +40,6 @@ record Been (q : List ℕ) (at : ℕ) : Type 0 where
   scalars : Scalars q
   count : at ≡ byteCount q
   short : at ≤ limit
-
-scalars-on : (q : List ℕ) (c : ℕ) → Scalars q → isScalar c ≡ true → Scalars (q ++ (c ∷ []))
-scalars-on [] c h e = (e, tt)
-scalars-on (d ∷ q) c h e = (h .0, scalars-on q c (h .1) e)
 
 module _ (report : Bool) where
   told-here : (l q : List ℕ) (at : ℕ) → Been q at → (number place : ℕ) → (number ≡ refusal.longItem → unfinished (byteCount q) (items report q) ≡ from place)
@@ -93,7 +89,7 @@ module _ (report : Bool) (n : ℕ) where
       (if-is (Told report (b ∷ l) q) (ltb limit (at + m)) (λ _. too-long (b ∷ l) q at z)
       (λ h. told-grown report (b ∷ l) q at z c (at + m) _ e
       (told-on report (b ∷ l) q c m w f
-      (fewer (drop m (b ∷ l)) (at + m) (q ++ (c ∷ [])) (record { scalars = scalars-on q c (z .scalars) (w .1); count = e; short = ltb-false limit (at + m) h })
+      (fewer (drop m (b ∷ l)) (at + m) (q ++ (c ∷ [])) (record { scalars = scalars-snoc q c (z .scalars) (w .1); count = e; short = ltb-false limit (at + m) h })
       (omega (arith, length-drop m (b ∷ l), char-some (b ∷ l) c m f))))))
   told-front b l at q z fewer (bad m) f =
       rw (sequences-bad at (b ∷ l) m f) (if-all (Told report (b ∷ l) q) (ltb limit (at + m)) (too-long (b ∷ l) q at z) (not-utf8 (b ∷ l) q at z))

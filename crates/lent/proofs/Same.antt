@@ -104,7 +104,7 @@ never-27-lent m =
 
 -- ---- a caller
 
-unless-same : (l : List ℕ) {a b : Expected} {f g : List ℕ → Expected} → a ≡ b → ((left : List ℕ) → f left ≡ g left) → unlessTaken l a f ≡ unlessTaken l b g
+pub unless-same : (l : List ℕ) {a b : Expected} {f g : List ℕ → Expected} → a ≡ b → ((left : List ℕ) → f left ≡ g left) → unlessTaken l a f ≡ unlessTaken l b g
 unless-same [] e h = e
 unless-same (x ∷ left) e h = h (x ∷ left)
 

@@ -1,6 +1,6 @@
 -- The calls on words, from what the calls by value say.
-use mathlib.Core.Path.{_≡_, refl, ap, _∙_}
-use mathlib.Core.Bool.{Bool, true, false, _&&_}
+use mathlib.Core.Path.{_≡_, ap, _∙_}
+use mathlib.Core.Bool.{true, false, _&&_}
 use mathlib.Core.List.{List}
 use Prim.Native.Nat.{ℕ, _≤_, _<_}
 use lib.Dec.{eqb, leb}
@@ -16,10 +16,6 @@ use Rattle.lines.specs.declared.Answer.the-variants.{Refused}
 use Rattle.lines.specs.Words.{stateWords, listed, stateIn, isByte, isState, contents, openLeft, pieceLeft, endFor}
 
 -- ---- which words are a state's
-
-and-false : (x : Bool) → (x && false) ≡ false
-and-false true = refl
-and-false false = refl
 
 module _ (w : List ℕ) where
   pub other-length : (length w ≡ stateWords → ⊥) → false ≡ isState w

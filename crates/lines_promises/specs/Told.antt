@@ -1,7 +1,7 @@
 -- What C gets: a call's result, the two values lent, and the memory. `mihadrena_lines`, `mihadrena_locate_all` and `mihadrena_lines_end`
 -- ensure `r ≡ answerNumber a` and `values′ ≡ lay (answerValue a ∷ 0 ∷ []) values`, a being the answer of `buildOf`, `locateAllOf` and
 -- `endFor`, and the memory of these; `mihadrena_locate` the same with `locatedNumber`, `locatedFirst` and `locatedSecond` of `locateOf`;
--- `mihadrena_lines_open` that `left state′ index′ ≡ openLeft state index`, `mihadrena_lines_piece` that it is `pieceLeft state piece index`.
+-- `mihadrena_lines_open` that `contents state′ index′ ≡ openLeft state index`, `mihadrena_lines_piece` that it is `pieceLeft state piece index`.
 use Prim.Native.Nat.{ℕ, _<_}
 use mathlib.Core.Path.{_≡_, refl, ap, _∙_}
 use mathlib.Core.List.{List, [], _∷_, _++_}
@@ -16,7 +16,7 @@ use Rattle.lines.specs.Starts.{newline, startsFrom, Outcome, buildOf}
 use Rattle.lines.specs.Place.{isIndex, lineOf, column, since, placeOf, locateOf}
 use Rattle.lines.specs.Many.{answers, locateAllOf}
 use Rattle.lines.specs.Pieces.{stepOf, fedOf, pieceOf, endOf}
-use Rattle.lines.specs.Words.{isState, Left, left, openLeft, pieceLeft, endFor}
+use Rattle.lines.specs.Words.{isState, Contents, contents, openLeft, pieceLeft, endFor}
 use Rattle.lines.specs.Numbers.{answerNumber, answerValue, locatedNumber, locatedFirst, locatedSecond}
 use Rattle.lines.specs.declared.Answer.{Answer}
 use Rattle.lines.specs.declared.Located.{Located}
@@ -90,12 +90,12 @@ all-short = refl
 abbrev opened : List ℕ
 opened = replicate 8 0
 
-open-left : openLeft (replicate 8 7) room ≡ left opened (0 ∷ 9 ∷ 9 ∷ 9 ∷ [])
+open-left : openLeft (replicate 8 7) room ≡ contents opened (0 ∷ 9 ∷ 9 ∷ 9 ∷ [])
 unfolding openLeft
 open-left = refl
 
 -- `a` and a newline: two bytes, one newline, and the start after it is noted
-piece-left : pieceLeft opened (spelled "a" ++ newline ∷ []) room ≡ left (0 ∷ 0 ∷ 0 ∷ 0 ∷ 2 ∷ 2 ∷ 1 ∷ 0 ∷ []) (9 ∷ 2 ∷ 9 ∷ 9 ∷ [])
+piece-left : pieceLeft opened (spelled "a" ++ newline ∷ []) room ≡ contents (0 ∷ 0 ∷ 0 ∷ 0 ∷ 2 ∷ 2 ∷ 1 ∷ 0 ∷ []) (9 ∷ 2 ∷ 9 ∷ 9 ∷ [])
 unfolding within first step utf8 bytesOf stepOf fedOf pieceOf isState pieceLeft
 piece-left = refl
 
@@ -125,11 +125,11 @@ never-refuses-all : (n : ℕ) (v m : List ℕ) → 0 < n → sees n v m ≡ seen
 never-refuses-all n v m l h = let e : n ≡ 0 = ap (λ (s : Seen). s .said .number) (h ∙ all-told) in omega (arith, e, l)
 
 -- the state's words are left as they were, by opening and by a piece
-never-unopened : (m : List ℕ) → left (replicate 8 7) m ≡ openLeft (replicate 8 7) room → ⊥
-never-unopened m h = let e : _≡_ {A = ℕ} 7 0 = ap (λ (l : Left). getD (l .words) 0 0) (h ∙ open-left) in omega (arith, e)
+never-unopened : (m : List ℕ) → contents (replicate 8 7) m ≡ openLeft (replicate 8 7) room → ⊥
+never-unopened m h = let e : _≡_ {A = ℕ} 7 0 = ap (λ (l : Contents). getD (l .words) 0 0) (h ∙ open-left) in omega (arith, e)
 
-never-stays : (m : List ℕ) → left opened m ≡ pieceLeft opened (spelled "a" ++ newline ∷ []) room → ⊥
-never-stays m h = let e : _≡_ {A = ℕ} 0 2 = ap (λ (l : Left). getD (l .words) 4 0) (h ∙ piece-left) in omega (arith, e)
+never-stays : (m : List ℕ) → contents opened m ≡ pieceLeft opened (spelled "a" ++ newline ∷ []) room → ⊥
+never-stays m h = let e : _≡_ {A = ℕ} 0 2 = ap (λ (l : Contents). getD (l .words) 4 0) (h ∙ piece-left) in omega (arith, e)
 
 -- every end is served
 never-serves : (v : List ℕ) → told 0 v ≡ tells (endFor (replicate 7 7) 4) → ⊥

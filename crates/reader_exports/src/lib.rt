@@ -3,7 +3,6 @@
 // with. What the calls leave is defined in specs/Reader.
 use lexer::NextAnswer;
 use lexer::OpenAnswer;
-use lexer::Position;
 use lexer::next_at;
 use meaning::records::WORDS;
 use meaning::records::put;

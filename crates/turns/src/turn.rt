@@ -31,7 +31,7 @@ ghost use lib.ListN.{length};
 ghost use Rattle.pieces.specs.Expected.{longest};
 ghost use Rattle.pieces.specs.Bounds.{phaseBounds};
 ghost use Rattle.pieces.specs.Calls as calls;
-ghost use Rattle.giving.specs.Answers.{stateOf, turnIn, textTurned, goesOn, stops};
+ghost use Rattle.giving.specs.Answers.{stateOf, turnIn, textTurned, stops};
 ghost use Rattle.giving.specs.Inner.{HoldsItem, CharFits};
 ghost use Rattle.turns.specs.Inner.{Sound};
 
