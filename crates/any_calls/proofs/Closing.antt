@@ -13,7 +13,8 @@ use Rattle.pieces.proofs.Cuts.{piece-works, end-works}
 use Rattle.pieces.proofs.Kept.{Staged}
 use Rattle.pieces.proofs.Stands.{repeats}
 use Rattle.pieces.proofs.Turns.{Halted, StandsAfter, Safe, goes, waits, halted, safe, end-going, end-waits, never-27}
-use Rattle.any_calls.specs.After.{Sum, Call, piece, end, with, after, sumOf, Stop}
+use Rattle.pieces.specs.Bounds.{Stops}
+use Rattle.any_calls.specs.After.{Sum, Call, piece, end, with, after, sumOf}
 use Rattle.any_calls.specs.After as sum
 use Prim.Native.Nat.{ℕ, _≤_, _<_}
 use mathlib.Core.Path.{_≡_, refl, sym, ap, subst, _∙_}
@@ -70,10 +71,10 @@ shut-end {s} made room wide = go (safe made)
     go (halted n p h) = subst (λ (r : Reply). Shut (r .state)) (sym (repeats h [] room wide .1)) (stuck n p h)
 
 -- only 20, 21 and 23 stand
-pub halted-stop : {n p : ℕ} {s : State} → Halted n p s → Stop n
+pub halted-stop : {n p : ℕ} {s : State} → Halted n p s → Stops n
 halted-stop {n} {p} {s} h = subst (Staged (h .read) s) (h .stage) (h .kept .staged) .0
 
-stage-stop : {s : State} → Safe s → (n p : ℕ) → s .marks .stage ≡ Stopped n p → Stop n
+stage-stop : {s : State} → Safe s → (n p : ℕ) → s .marks .stage ≡ Stopped n p → Stops n
 stage-stop {s} (goes e h) n p f = subst (Staged (h .read) s) f (h .kept .staged) .0
 stage-stop {s} (waits e h) n p f = subst (Staged (h .read) s) f (h .kept .staged) .0
 stage-stop {s} (halted m o h) n p f = subst (Staged (h .read) s) f (h .kept .staged) .0
@@ -82,10 +83,10 @@ stage-stop {s} (halted m o h) n p f = subst (Staged (h .read) s) f (h .kept .sta
 pub record Refuses (s : State) (r : Reply) : Type 0 where
   pub number : ℕ
   pub place : ℕ
-  pub why : (number ≡ refusal.afterEnd) ⊎ Stop number
+  pub why : (number ≡ refusal.afterEnd) ⊎ Stops number
   pub is : r ≡ reply 0 (refused number place) s
 
-late-stage : (s : State) (bs : List ℕ) → ((n p : ℕ) → s .marks .stage ≡ Stopped n p → Stop n) → (b : Stage) → s .marks .stage ≡ b
+late-stage : (s : State) (bs : List ℕ) → ((n p : ℕ) → s .marks .stage ≡ Stopped n p → Stops n) → (b : Stage) → s .marks .stage ≡ b
     → s .marks .ended ≡ true
     → Refuses s (pieceStage s b bs)
 late-stage s bs z Opening f e = record { number = refusal.afterEnd; place = 0; why = inl refl; is = rw e }

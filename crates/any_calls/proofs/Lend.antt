@@ -18,7 +18,8 @@ use Rattle.pieces.proofs.Fewest.{feed-least}
 use Rattle.pieces.proofs.Resume.{Stuck, on-the-way, resumes}
 use Rattle.pieces.proofs.Stands.{Repeats, repeats}
 use Rattle.pieces.proofs.Turns.{Going, Waits, StandsAfter, Safe, goes, waits, halted, safe, fed, going-on, end-going, end-waits, never-27}
-use Rattle.any_calls.specs.After.{Call, Sum, sumOf, Stop}
+use Rattle.pieces.specs.Bounds.{Stops}
+use Rattle.any_calls.specs.After.{Call, Sum, sumOf}
 use Rattle.any_calls.specs.After as sum
 use Rattle.any_calls.specs.Lend.{tooShort, pieceCalls, endCalls, handOver, drive, wide, callsFor}
 use Rattle.any_calls.proofs.Closing.{short-piece, short-end, halted-stop, closing-made, closed}
@@ -37,7 +38,7 @@ use borrow.Author.Tests.{ne-eqb, leb-true, leb-false}
 
 -- ---- a call with memory enough
 
-not-24 : {n : ℕ} → Stop n → eqb n refusal.littleText ≡ false
+not-24 : {n : ℕ} → Stops n → eqb n refusal.littleText ≡ false
 not-24 {n} z = ne-eqb n refusal.littleText (λ e. ⊎-elim (λ x. omega arith) (λ y. ⊎-elim (λ x. omega arith) (λ x. omega arith) y) z)
 
 -- it is not refused with 24
@@ -191,7 +192,7 @@ hand-over-same (p ∷ ps) rooms s made h l =
     (λ later t z live k. hand-over-same ps later t z live k) rooms (2 * length p + 2) made p (enough (2 * length p + 2) s (length p) h (le-refl (2 * length p + 2))) l
 
 -- where a stop stands, the first memory that is long enough tells it
-module _ {n p : ℕ} {s : State} (made : Produced s) (h : Repeats n p s) (z : Stop n) where
+module _ {n p : ℕ} {s : State} (made : Produced s) (h : Repeats n p s) (z : Stops n) where
   stays-end : (rooms : List ℕ) → 1 ≤ wide rooms → endCalls rooms s ≡ record { items = []; last = word.refused n p }
   unfolding endCalls wide
   stays-end [] l = absurd (omega arith)

@@ -10,7 +10,8 @@ use Rattle.pieces.specs.Expected as word
 use Rattle.pieces.specs.Produced.{Produced, opened, pieced, ended, givenBy}
 use Rattle.lent.specs.Calls.{Said, lend, worded}
 use Rattle.lent.proofs.Same.{same-open, same-piece, same-end}
-use Rattle.any_calls.specs.After.{Call, piece, end, memory, Begins, Stop, replyTo}
+use Rattle.pieces.specs.Bounds.{Stops}
+use Rattle.any_calls.specs.After.{Call, piece, end, memory, Begins, replyTo}
 use Rattle.any_calls.specs.After as value
 use Rattle.any_calls.proofs.After as by
 use Rattle.any_lent_calls.specs.After.{saidTo, Sum, with, after, sumOf, Refusal, short, late, stops}
@@ -84,7 +85,7 @@ module _ (mode : ℕ) (skip : Bool) (buf : List ℕ) (full : length buf ≡ long
 
     -- WHATEVER LENT CALLS WERE MADE, when one says a stop all items before it were given.
     pub stop-all-lent : (calls : List Call) (c : Call) (n p : ℕ) (behind : List ℕ) → let h : Sum = sumOf mode skip buf calls in
-        saidTo (h .state) c .what ≡ refused n p → Stop n → (with h c .ended ≡ true → behind ≡ [])
+        saidTo (h .state) c .what ≡ refused n p → Stops n → (with h c .ended ≡ true → behind ≡ [])
         → expected (inReport mode) skip (with h c .taken ++ behind) ≡ record { items = h .items; last = word.refused n p }
     stop-all-lent calls c n p behind e z f =
         ap (λ (h : Sum). expected (inReport mode) skip (h .taken ++ behind)) (with-lent calls c)

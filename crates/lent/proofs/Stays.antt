@@ -22,11 +22,10 @@ use Rattle.pieces.specs.declared.Marks.{Marks}
 use Rattle.pieces.specs.declared.Stage.{Stage}
 use Rattle.pieces.specs.declared.Stage.the-variants.{Opening, Pound, FirstLine, Idle, Busy, Waiting, Stopped}
 use Rattle.pieces.specs.declared.State.{State as ByValue}
-use Rattle.pieces.specs.Bounds.{inBounds}
+use Rattle.pieces.specs.Bounds.{Stops, inBounds}
 use Rattle.pieces.specs.Expected.{longest}
 use Rattle.pieces.specs.Calls.{What, item, more, finished, refused, Turn, on, off, Reply, reply, lastOf, itemSoFar, stopped, gives, report, ends, onNext}
 use Rattle.pieces.specs.Calls.{onStage, partly, turnOf, after, feedOf, pieceStage, pieceOf, declared, replied, unlessCut, endUnlessStopped, endOf}
-use Rattle.pieces.proofs.Kept.{Stops}
 use Rattle.piecewise.specs.Answers.{stateOf, pieceIn, endIn}
 use Rattle.lent.specs.declared.State.{State}
 use Rattle.lent.specs.declared.Words.{Words}

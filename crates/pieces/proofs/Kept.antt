@@ -25,7 +25,7 @@ use Rattle.pieces.specs.declared.Beyond.the-variants.{End, Char}
 use Rattle.pieces.specs.declared.Stage.{Stage}
 use Rattle.pieces.specs.declared.Stage.the-variants.{Opening, Pound, FirstLine, Idle, Busy, Waiting, Stopped}
 use Rattle.pieces.specs.declared.State.{State}
-use Rattle.pieces.specs.Bounds.{doneBounds, phaseBounds, beyondBounds, stageBounds, inBounds}
+use Rattle.pieces.specs.Bounds.{Stops, doneBounds, phaseBounds, beyondBounds, stageBounds, inBounds}
 use Rattle.pieces.specs.Calls.{report, lastOf, itemSoFar, laidAt}
 use Rattle.pieces.specs.Expected.{longest}
 use Rattle.pieces.proofs.Parts.{BytesTaken, part-bounded}
@@ -89,9 +89,6 @@ Held q s st = HeldIn q (s .buf) (s .marks .len) (s .marks .at) st
 abbrev pub Beyonds : Beyond → ℕ → Type 0
 Beyonds End at = Unit {0}
 Beyonds (Char c) at = (isScalar c ≡ true) × (at + width c ≤ limit)
-
-abbrev pub Stops : ℕ → Type 0
-Stops n = (n ≡ refusal.tooLong) ⊎ ((n ≡ refusal.notUtf8) ⊎ (n ≡ refusal.longItem))
 
 abbrev pub Staged : List ℕ → State → Stage → Type 0
 Staged q s Opening = q ≡ []

@@ -26,7 +26,7 @@ use Rattle.pieces.specs.declared.Beyond.the-variants.{End, Char}
 use Rattle.pieces.specs.declared.Stage.{Stage}
 use Rattle.pieces.specs.declared.Stage.the-variants.{Opening, Pound, FirstLine, Idle, Busy, Waiting, Stopped}
 use Rattle.pieces.specs.declared.State.{State}
-use Rattle.pieces.specs.Bounds.{inBounds}
+use Rattle.pieces.specs.Bounds.{Stops, inBounds}
 use Rattle.pieces.specs.Calls.{What, item, more, finished, refused, Reply, reply, lastOf, itemSoFar, laidAt, becomes, deeper, Turn, on, off, begin, beyond}
 use Rattle.pieces.specs.Calls.{gives, report, ends, onNext, onStage, partly, stopped, turnOf, after, feedOf, pieceStage, pieceOf, declared, replied, unlessCut}
 use Rattle.pieces.specs.Calls.{endStage, endUnlessStopped, endOf, fresh, openOf}
@@ -112,7 +112,7 @@ module _ {q g : List ℕ} {s : State} (k : Kept q g s) where
   going-beyond low (Char c) h last w = going-begin low c (h .0) (h .1) last w
   going-beyond low End h last w = record { read = q; begun = []; kept = kept-end k last w; calm = tt; deep = omega arith; ended = refl }
 
-  halts : Low → (n p : ℕ) → (n ≡ refusal.tooLong) ⊎ ((n ≡ refusal.notUtf8) ⊎ (n ≡ refusal.longItem)) → p ≤ limit → Halted n p (becomes s (s .buf) (Stopped n p) (s .marks .at) 0 (lastOf s))
+  halts : Low → (n p : ℕ) → Stops n → p ≤ limit → Halted n p (becomes s (s .buf) (Stopped n p) (s .marks .at) 0 (lastOf s))
   halts low n p h l = record { read = q; kept = kept-stopped k n p h l; stage = refl; deep = omega arith }
 
 -- a character in an item, and a pound sign at the start of the text
