@@ -4,7 +4,7 @@
  * order of the text, and the decoded texts of those that have an escape. All memory is the caller's: the library allocates nothing, keeps
  * nothing between two calls, and writes only to the memory that a call is lent. Every call ends.
  *
- * Link with libmihadrena.a, which `.ci/archive` writes to target/staticlib. Nothing else is needed.
+ * Link with libmihadrena.a, which `.ci/archive` writes to target/staticlib. It needs `memcpy` and `memset` and nothing else.
  *
  * A pointer and the length after it are one slice. A pointer must not be NULL, not even where the length is 0, and memory that a call
  * writes to must overlap with no other memory that the same call is lent.
@@ -25,7 +25,7 @@ extern "C" {
 #define MIHADRENA_ALIGN_OF(type) _Alignof(type)
 #endif
 
-/* -- The record of an item ---------------------------------------------------------------------------------------------------- */
+/* -- The record of an item ------------------------------------------------------------------------------------------------- */
 
 /* How many words a record has. */
 #define MIHADRENA_RECORD_WORDS 10
@@ -35,9 +35,9 @@ typedef struct mihadrena_record {
     uint32_t detail;      /* a character's code point; 0 or 1 of a boolean; a bracket; what an error comes with; else 0 */
     uint32_t start;       /* the extent: where the item stands in the source, in bytes */
     uint32_t end;
-    uint32_t place_start; /* the place: what an error points at, of any other item the extent. In report mode it is the error's own, and empty
-                           * where digits of a hex escape are missing; in plain mode an error that sets none has that of the last error
-                           * before it that set one */
+    uint32_t place_start; /* the place: what an error points at, of any other item the extent. In report mode it is the error's own, and
+                           * empty where digits of a hex escape are missing; in plain mode an error that sets none has that of the last
+                           * error before it that set one, or its extent if none did */
     uint32_t place_end;
     uint32_t text_source; /* MIHADRENA_NO_TEXT, MIHADRENA_IN_SOURCE or MIHADRENA_IN_MEMORY */
     uint32_t text_start;  /* where the text lies there, in bytes */
@@ -116,26 +116,57 @@ MIHADRENA_ASSERT(sizeof(mihadrena_record) == 4 * MIHADRENA_RECORD_WORDS, "a reco
 #define MIHADRENA_HEX_INVALID_DIGIT 2
 #define MIHADRENA_HEX_OVERFLOW 3
 
-/* -- Refusals ----------------------------------------------------------------------------------------------------------------- */
+/* -- Refusals -------------------------------------------------------------------------------------------------------------- */
 
 /* What a call answers that was served. */
 #define MIHADRENA_SERVED 0
 
-/* A refused call changes nothing that it was lent but its values, of mihadrena_number and mihadrena_number_by the first word. Reading in
- * pieces, a stop (20, 21 and 23) changes the state too, and mihadrena_open makes a plain state of a mode that is none. With each stands
- * what it comes with: a call that is lent values puts that into values[0], a second number into values[1]. */
-#define MIHADRENA_TOO_LONG 20     /* the text exceeds MIHADRENA_LONGEST bytes: MIHADRENA_LONGEST */
-#define MIHADRENA_NOT_UTF8 21     /* bytes aren't UTF-8: the start of the first bad sequence */
-#define MIHADRENA_TOO_FEW 22      /* records or text memory are too few: items and text bytes needed */
-#define MIHADRENA_LONG_ITEM 23    /* in pieces, an item exceeds MIHADRENA_STATE_BYTES bytes: its start */
-#define MIHADRENA_LITTLE_TEXT 24  /* in pieces, there are under MIHADRENA_PIECE_TEXT bytes of text memory: 0 */
-#define MIHADRENA_NO_MODE 25      /* the mode is neither of the two: the mode */
-#define MIHADRENA_AFTER_END 26    /* a piece after the declared end: 0 */
-#define MIHADRENA_BAD_STATE 27    /* a state or a position is outside its bounds: 0; of mihadrena_text_mark: there is no such text */
+/* A refused call changes nothing that it was lent but its values; of mihadrena_number and mihadrena_number_by the first word, of the
+ * coordinate calls `place`, of the name table's calls the numbers that they tell, which are then 0. Reading in pieces, a stop (20, 21 and
+ * 23) changes the state too, and mihadrena_open makes a plain state of a mode that is none. With each stands what it comes with: a call
+ * that is lent values puts that into values[0], a second number into values[1]. */
+#define MIHADRENA_TOO_LONG 20      /* the text exceeds MIHADRENA_LONGEST bytes: MIHADRENA_LONGEST */
+#define MIHADRENA_NOT_UTF8 21      /* bytes aren't UTF-8: the start of the first bad sequence */
+#define MIHADRENA_TOO_FEW 22       /* records or text memory are too few: items and text bytes needed */
+#define MIHADRENA_LONG_ITEM 23     /* in pieces, an item exceeds MIHADRENA_STATE_BYTES bytes: its start */
+#define MIHADRENA_LITTLE_TEXT 24   /* in pieces, there are under MIHADRENA_PIECE_TEXT bytes of text memory: 0 */
+#define MIHADRENA_NO_MODE 25       /* the mode is neither of the two: the mode */
+#define MIHADRENA_AFTER_END 26     /* a piece after the declared end: 0 */
+#define MIHADRENA_OUT_OF_BOUNDS 27 /* a state, a position, a text, an extent or a table outside its bounds: 0 */
 
+/* Of the coordinate calls. */
+#define MIHADRENA_NO_COORDINATE 28 /* no decimal, or too many digits or too large an exponent for one exact step: 0 */
+
+/* Of the line calls. */
+#define MIHADRENA_LINES_NO_ROOM 33 /* the line starts, or the answers, don't fit: how many words are needed */
+#define MIHADRENA_NO_PLACE 34      /* the place lies past the end or inside a character: the place */
+
+/* Of the name table. */
+#define MIHADRENA_NO_PARTY 35 /* the party is neither of the two: 0 */
+#define MIHADRENA_NO_ROOM 36  /* the name is absent, and the party's own half lacks the entry or the bytes: 0 */
+#define MIHADRENA_NO_NAME 37  /* there is no such number: 0 */
+
+/* Of mihadrena_number_by. */
+#define MIHADRENA_UNKNOWN_CHOICE 39 /* the choice of reader is neither of the two: 0, and no word is written */
+
+/* Of mihadrena_nest, at the first record that rules a reading out. Each comes with that record's number, at the end with how many records
+ * there are, and MIHADRENA_FEW_NODES with 0. Where several hold, 48, 45, 43, 42, 41, 40 and 44 are tried in this order; 46 is last. */
+#define MIHADRENA_BRACKET_OPEN 40  /* the end with a bracket open: ( */
+#define MIHADRENA_WRONG_CLOSE 41   /* a wrong or stray close: ) */
+#define MIHADRENA_MISPLACED_DOT 42 /* a dot outside a list, a second one, or one without a datum before it and just one behind it: . */
+#define MIHADRENA_MARK_WAITS 43    /* a close, a dot or the end where a mark waits for its datum: ' */
+#define MIHADRENA_TOO_DEEP 44      /* a bracket, a mark or #; inside MIHADRENA_DEEPEST others */
+#define MIHADRENA_ERROR_ITEM 45    /* an error: ## */
+#define MIHADRENA_FEW_NODES 46     /* the nodes do not fit */
+
+/* What is lent is not what it should be: of mihadrena_nest a kind or a detail that no record has, of the line calls an index that isn't the
+ * text's, which comes with 0. */
+#define MIHADRENA_ALIEN 48
+
+/* The longest text, in bytes. */
 #define MIHADRENA_LONGEST 4294967295
 
-/* -- Reading a whole text ----------------------------------------------------------------------------------------------------- */
+/* -- Reading a whole text -------------------------------------------------------------------------------------------------- */
 
 /* The modes. In report mode `;`, `"` and `|` also end a number: 14.7;gps is a number and a comment, where plain mode has an identifier;
  * 12|Birch| is a number and an identifier, where plain mode has an error. An error points at its own place there, a bad hex digit to the
@@ -152,7 +183,8 @@ MIHADRENA_ASSERT(sizeof(mihadrena_record) == 4 * MIHADRENA_RECORD_WORDS, "a reco
  *
  * MIHADRENA_SERVED: values[0] is how many items were written, values[1] how many bytes of text; all memory behind them stays as it was.
  * Refusals, in this order: MIHADRENA_NO_MODE, MIHADRENA_TOO_LONG, MIHADRENA_NOT_UTF8, MIHADRENA_TOO_FEW; `records` and `text` keep every
- * byte, and `values` gets what the refusal comes with, then 0. With fewer than MIHADRENA_READ_VALUES values none is written.
+ * byte, and `values` gets what the refusal comes with, and 0 where that is one number. With fewer than MIHADRENA_READ_VALUES values none
+ * is written.
  *
  * A text never has more items than bytes, and never needs more text memory than it has bytes. To be told how much it needs, lend none:
  *
@@ -173,7 +205,7 @@ uint32_t mihadrena_read(const uint8_t *source, size_t source_length, uint32_t mo
                         uint32_t *records, size_t records_length, uint8_t *text, size_t text_length,
                         uint64_t *values, size_t values_length);
 
-/* -- Reading in pieces -------------------------------------------------------------------------------------------------------- */
+/* -- Reading in pieces ----------------------------------------------------------------------------------------------------- */
 
 /* What a piece or end call answers beside refusals. */
 #define MIHADRENA_ITEM 10     /* an item is given: its record and its text are written */
@@ -185,7 +217,7 @@ uint32_t mihadrena_read(const uint8_t *source, size_t source_length, uint32_t mo
 #define MIHADRENA_PIECE_VALUES 2
 
 /* The state of a reading, which the caller keeps from call to call. docs/STATE.md says what its words mean, and outside which bounds a
- * state is refused with MIHADRENA_BAD_STATE: none that the calls made is. */
+ * state is refused with MIHADRENA_OUT_OF_BOUNDS: none that the calls made is. */
 #define MIHADRENA_STATE_BYTES 4096
 #define MIHADRENA_STATE_WORDS 19
 #define MIHADRENA_STATE_SIZE 4248
@@ -206,8 +238,8 @@ typedef struct mihadrena_told {
 MIHADRENA_ASSERT(sizeof(mihadrena_told) == 8 * MIHADRENA_PIECE_VALUES, "these are two values");
 
 /* Opens a state, in a mode, with comments kept or skipped, and writes it whole: MIHADRENA_SERVED, or MIHADRENA_NO_MODE for another mode,
- * with a plain state; what that comes with is the `mode` that was passed. MIHADRENA_BAD_STATE, and nothing is written, if the two slices
- * have not the lengths of a state's.
+ * with a plain state; what that comes with is the `mode` that was passed. Before that MIHADRENA_OUT_OF_BOUNDS, and nothing is written, if
+ * the two slices have not the lengths of a state's.
  *
  *     mihadrena_state state;
  *     mihadrena_open(MIHADRENA_PLAIN, false, state.bytes, MIHADRENA_STATE_BYTES,
@@ -225,9 +257,11 @@ uint32_t mihadrena_open(uint32_t mode, bool skip_comments, uint8_t *bytes, size_
  * Refusals: values[0] is what they come with, as in all calls, values[1] is how many bytes were taken here too.
  *   MIHADRENA_TOO_FEW  `record` has under MIHADRENA_RECORD_WORDS words or `values` under MIHADRENA_PIECE_VALUES: before anything else, and
  *       nothing changes; where there are two values they are 1, the records needed, and 0, the bytes taken
- *   MIHADRENA_BAD_STATE (slices of other lengths too), MIHADRENA_LITTLE_TEXT, MIHADRENA_AFTER_END  nothing is taken, nothing changes
+ *   MIHADRENA_OUT_OF_BOUNDS (slices of other lengths too), MIHADRENA_LITTLE_TEXT, MIHADRENA_AFTER_END  nothing is taken, nothing changes
  *   MIHADRENA_TOO_LONG, MIHADRENA_NOT_UTF8, MIHADRENA_LONG_ITEM  the reading stops, at the byte that shows it, which is taken; every
- *       later call takes nothing and answers the same
+ *       later call with a state and memory enough takes nothing and answers the same
+ * After MIHADRENA_TOO_FEW they are tried in this order: MIHADRENA_OUT_OF_BOUNDS, MIHADRENA_LITTLE_TEXT, a stop that stands,
+ * MIHADRENA_AFTER_END.
  *
  *     uint8_t text[MIHADRENA_PIECE_TEXT];
  *     mihadrena_record record;
@@ -281,7 +315,7 @@ static inline uint32_t mihadrena_state_end(mihadrena_state *state, uint8_t *text
                          (uint32_t *)record, MIHADRENA_RECORD_WORDS, (uint64_t *)told, MIHADRENA_PIECE_VALUES);
 }
 
-/* -- Reading one item a call -------------------------------------------------------------------------------------------------- */
+/* -- Reading one item a call ----------------------------------------------------------------------------------------------- */
 
 /* A whole text, one item a call: memory for one record and one text is enough. The caller keeps a position from call to call, as
  * MIHADRENA_READER_WORDS words; docs/STATE.md says what they mean, and outside which bounds words are no position: none that the calls
@@ -292,7 +326,7 @@ static inline uint32_t mihadrena_state_end(mihadrena_state *state, uint8_t *text
 #define MIHADRENA_READER_VALUES 2
 
 /* Opens a source, in a mode, with comments kept or skipped: MIHADRENA_SERVED, and `position` gets the words of its start. Refusals, in
- * this order: MIHADRENA_BAD_STATE if `position` has not MIHADRENA_READER_WORDS words, MIHADRENA_NO_MODE, MIHADRENA_TOO_LONG,
+ * this order: MIHADRENA_OUT_OF_BOUNDS if `position` has not MIHADRENA_READER_WORDS words, MIHADRENA_NO_MODE, MIHADRENA_TOO_LONG,
  * MIHADRENA_NOT_UTF8; `position` keeps every word. values[0] is what a refusal comes with, else 0, and values[1] is 0; with fewer than
  * MIHADRENA_READER_VALUES values none is written.
  *
@@ -312,7 +346,7 @@ uint32_t mihadrena_reader_open(const uint8_t *source, size_t source_length, uint
  * Refusals; `position`, `text` and `record` stay as they were:
  *   MIHADRENA_TOO_FEW  `record` has under MIHADRENA_RECORD_WORDS words or `values` under MIHADRENA_READER_VALUES: before anything else;
  *       where there are two values they are 1, the records needed, and 0
- *   MIHADRENA_BAD_STATE  the words of `position` are no position's: 0 and 0
+ *   MIHADRENA_OUT_OF_BOUNDS  the words of `position` are no position's: 0 and 0
  *   MIHADRENA_TOO_LONG  MIHADRENA_LONGEST and 0: a source that was not opened
  *   MIHADRENA_TOO_FEW  the item's text does not fit: 1 and the bytes that it needs. The next call is for the same item
  * Any other answer writes 0 and 0.
@@ -328,16 +362,16 @@ uint32_t mihadrena_reader_next(const uint8_t *source, size_t source_length, uint
                                uint8_t *text, size_t text_length, uint32_t *record, size_t record_length,
                                uint64_t *values, size_t values_length);
 
-/* -- The text of an item ------------------------------------------------------------------------------------------------------ */
+/* -- The text of an item --------------------------------------------------------------------------------------------------- */
 
 /* Whether a record's text lies where its three text words say: MIHADRENA_SERVED if it is the part from `start` to `end` of the source
- * (text source MIHADRENA_IN_SOURCE) or of the text memory (MIHADRENA_IN_MEMORY), else MIHADRENA_BAD_STATE. Records that mihadrena_read
+ * (text source MIHADRENA_IN_SOURCE) or of the text memory (MIHADRENA_IN_MEMORY), else MIHADRENA_OUT_OF_BOUNDS. Records that mihadrena_read
  * wrote and that have text always get MIHADRENA_SERVED with the same source and text memory, and those that a piece or end call wrote
  * with the same text memory, until the next call: their text is always in it, so that `source` may be any pointer but NULL, with length 0.
  *
  *     // of the second record above, the identifier `corner` at 1..7
  *     mihadrena_text_mark(source, sizeof source - 1, text, sizeof text, MIHADRENA_IN_SOURCE, 1, 7);   // MIHADRENA_SERVED
- *     mihadrena_text_mark(source, sizeof source - 1, text, sizeof text, MIHADRENA_IN_SOURCE, 1, 99);  // MIHADRENA_BAD_STATE
+ *     mihadrena_text_mark(source, sizeof source - 1, text, sizeof text, MIHADRENA_IN_SOURCE, 1, 99);  // MIHADRENA_OUT_OF_BOUNDS
  */
 uint32_t mihadrena_text_mark(const uint8_t *source, size_t source_length, const uint8_t *text, size_t text_length,
                              uint32_t text_source, uint32_t start, uint32_t end);
@@ -352,7 +386,7 @@ static inline const uint8_t *mihadrena_text(const mihadrena_record *record, cons
     return (record->text_source == MIHADRENA_IN_SOURCE ? source : text) + record->text_start;
 }
 
-/* -- The parts of a number ---------------------------------------------------------------------------------------------------- */
+/* -- The parts of a number ------------------------------------------------------------------------------------------------- */
 
 /* What mihadrena_number answers beside MIHADRENA_TOO_LONG, MIHADRENA_NOT_UTF8 and MIHADRENA_TOO_FEW. */
 #define MIHADRENA_A_NUMBER 0
@@ -378,7 +412,7 @@ typedef struct mihadrena_figure {
 #define MIHADRENA_NO_REAL 0
 #define MIHADRENA_INTEGER 1      /* 5       one: the integer */
 #define MIHADRENA_RATIONAL 2     /* 1/2     one: the numerator; two: the denominator */
-#define MIHADRENA_DECIMAL 3      /* 1.5e2   one: the digits before the dot; two: those behind it; three: the exponent's. Places, maybe empty */
+#define MIHADRENA_DECIMAL 3      /* 1.5e2   one: the digits before the dot; two: behind it; three: the exponent's. Places, maybe empty */
 #define MIHADRENA_INFINITY 4     /* +inf.0  one: the sign */
 #define MIHADRENA_NAN 5          /* +nan.0  one: the sign */
 #define MIHADRENA_IMPLIED_ZERO 6 /* the real part of +5i */
@@ -416,7 +450,53 @@ MIHADRENA_ASSERT(sizeof(mihadrena_parts) == 8 * MIHADRENA_NUMBER_WORDS, "a numbe
  */
 uint32_t mihadrena_number(const uint8_t *text, size_t text_length, uint64_t *words, size_t words_length);
 
-/* -- Characters --------------------------------------------------------------------------------------------------------------- */
+/* -- The parts of a number by a choice of reader --------------------------------------------------------------------------- */
+
+/* The readers. They differ on the texts of docs/DIFFERENCES.md's three conditions alone. */
+#define MIHADRENA_BOUGHT 0   /* as mihadrena_number reads, and the items' Number: 1@1/-2 is a number, +I and #xe+1i are none */
+#define MIHADRENA_STANDARD 1 /* by the number grammar of R7RS 7.1.1: +I and #xe+1i are numbers, 1@1/-2 is none */
+
+/* What a text is as a number by the reader of a choice: MIHADRENA_UNKNOWN_CHOICE, before every other refusal, if it is neither; else as
+ * mihadrena_number.
+ *
+ *     mihadrena_parts parts;
+ *     uint32_t answer =
+ *         mihadrena_number_by(MIHADRENA_STANDARD, (const uint8_t *)"#xe+1i", 6, (uint64_t *)&parts, MIHADRENA_NUMBER_WORDS);
+ *     // answer == MIHADRENA_A_NUMBER, parts.form == MIHADRENA_COMPLEX,
+ *     // parts.one.one is { MIHADRENA_VALUE, 0, 14, 0 }, parts.two.one is { MIHADRENA_VALUE, 0, 1, 0 }
+ */
+uint32_t mihadrena_number_by(uint32_t choice, const uint8_t *text, size_t text_length, uint64_t *words, size_t words_length);
+
+/* -- Coordinates ----------------------------------------------------------------------------------------------------------- */
+
+/* The coordinate of a text that is one decimal, such as 6892014.7: its exact value rounded once, to the nearest double, ties to even, the
+ * sign kept also on zero. The value goes to `value`; what a refusal comes with goes to `place`; the other keeps what it has.
+ *
+ * MIHADRENA_NO_COORDINATE exactly if the text is no decimal (12, #d1.5 and +inf.0 are none), or all its digits, without the dot, are a
+ * number over 9,007,199,254,740,992, or its exponent less the count of its digits behind the dot is not from -22 to 22. Up to 15 digits
+ * are always few enough; 17 or more, zeros in front not counted, are always too many. Read such a number with mihadrena_number.
+ *
+ *     double value;
+ *     uint64_t place;
+ *     mihadrena_coordinate((const uint8_t *)"6892014.7", 9, &value, &place);  // MIHADRENA_SERVED, value == 6892014.7
+ *     mihadrena_coordinate((const uint8_t *)"12", 2, &value, &place);         // MIHADRENA_NO_COORDINATE, place == 0
+ */
+uint32_t mihadrena_coordinate(const uint8_t *text, size_t text_length, double *value, uint64_t *place);
+
+/* The same for the extent of a record, by the record's kind and its extent: first MIHADRENA_OUT_OF_BOUNDS if the extent is no part of the
+ * source, MIHADRENA_NO_COORDINATE if the kind is not MIHADRENA_NUMBER. A place is counted from the extent's start. In pieces a number's
+ * text is copied: call mihadrena_coordinate on it. */
+uint32_t mihadrena_record_coordinate(const uint8_t *source, size_t source_length, uint32_t kind, uint32_t start, uint32_t end,
+                                     double *value, uint64_t *place);
+
+/* The same with the record itself. */
+static inline uint32_t mihadrena_coordinate_of(const mihadrena_record *record, const uint8_t *source, size_t source_length,
+                                               double *value, uint64_t *place)
+{
+    return mihadrena_record_coordinate(source, source_length, record->kind, record->start, record->end, value, place);
+}
+
+/* -- Characters ------------------------------------------------------------------------------------------------------------ */
 
 /* What mihadrena_code_at answers where no character stands. */
 #define MIHADRENA_CODE_BAD 0x110000 /* the bytes there are no UTF-8 */
@@ -454,7 +534,68 @@ bool mihadrena_is_blank(uint32_t code);
  */
 size_t mihadrena_put_char(uint32_t code, uint8_t *text, size_t text_length);
 
-/* -- Nested lists ------------------------------------------------------------------------------------------------------------- */
+/* -- Line and column ------------------------------------------------------------------------------------------------------- */
+
+/* A line starts at place 0 and after every newline byte. Lines and columns count from 1, columns in characters. An index of a text holds
+ * the byte place of each line start. */
+
+/* How many values these calls write. Where fewer are lent, they are left as they were. */
+#define MIHADRENA_LINES_VALUES 2
+
+/* Builds the index of a whole text: MIHADRENA_SERVED, and values[0] is how many line starts were written; or MIHADRENA_TOO_LONG,
+ * MIHADRENA_NOT_UTF8 or MIHADRENA_LINES_NO_ROOM, in this order, and nothing is written. Of the index asked about later pass as many words
+ * as were served. A text has at most one line start more than it has bytes.
+ *
+ *     uint32_t index[8];
+ *     uint64_t values[MIHADRENA_LINES_VALUES];
+ *     mihadrena_lines((const uint8_t *)"a\n\xce\xbb" "b\n", 6, index, 8, values, 2);  // MIHADRENA_SERVED: 3 starts, 0, 2 and 6
+ */
+uint32_t mihadrena_lines(const uint8_t *text, size_t text_length, uint32_t *index, size_t index_length,
+                         uint64_t *values, size_t values_length);
+
+/* Line and column of a byte place, in values[0] and values[1]; the end of the text is a place. MIHADRENA_ALIEN, also of a text that has no
+ * index, before MIHADRENA_NO_PLACE. Each call holds the index against the text, one pass over it: for many places see
+ * mihadrena_locate_all.
+ *
+ *     mihadrena_locate((const uint8_t *)"a\n\xce\xbb" "b\n", 6, index, 3, 4, values, 2);  // line 2, column 2
+ */
+uint32_t mihadrena_locate(const uint8_t *text, size_t text_length, const uint32_t *index, size_t index_length, size_t place,
+                          uint64_t *values, size_t values_length);
+
+/* The same for many places, in any order, with one look at the index. `found` gets two numbers for each place, in their order: line and
+ * column, or 0 and the refusal's number. MIHADRENA_SERVED, and values[0] is how many places were answered; or MIHADRENA_ALIEN or
+ * MIHADRENA_LINES_NO_ROOM, and nothing is written to `found`.
+ *
+ *     uint32_t places[2] = {4, 3};
+ *     size_t found[4];
+ *     mihadrena_locate_all((const uint8_t *)"a\n\xce\xbb" "b\n", 6, index, 3, places, 2, found, 4, values, 2);  // 2, 2, 0, 34
+ */
+uint32_t mihadrena_locate_all(const uint8_t *text, size_t text_length, const uint32_t *index, size_t index_length,
+                              const uint32_t *places, size_t places_length, size_t *found, size_t found_length,
+                              uint64_t *values, size_t values_length);
+
+/* The words of a state of an index from pieces. docs/STATE.md lists them. */
+#define MIHADRENA_LINES_STATE_WORDS 8
+
+/* The index of a text that comes in pieces, on a state that the caller keeps: opening, each piece in turn with the same index memory, the
+ * declared end. No piece is refused: every refusal comes with the end, which answers what mihadrena_lines answers for the whole text. The
+ * memory then holds the starts found before any byte that shows MIHADRENA_TOO_LONG or MIHADRENA_NOT_UTF8, as many as fit. A state of other
+ * than MIHADRENA_LINES_STATE_WORDS words, or outside the bounds of docs/STATE.md, stays as it is with the memory, and the end answers
+ * MIHADRENA_OUT_OF_BOUNDS.
+ *
+ *     uint32_t state[MIHADRENA_LINES_STATE_WORDS];
+ *     mihadrena_lines_open(state, 8, index, 8);
+ *     mihadrena_lines_piece(state, 8, (const uint8_t *)"a\n\xce", 3, index, 8);
+ *     mihadrena_lines_piece(state, 8, (const uint8_t *)"\xbb" "b\n", 3, index, 8);
+ *     mihadrena_lines_end(state, 8, index, 8, values, 2);  // MIHADRENA_SERVED: 3 starts
+ */
+void mihadrena_lines_open(uint32_t *state, size_t state_length, uint32_t *index, size_t index_length);
+void mihadrena_lines_piece(uint32_t *state, size_t state_length, const uint8_t *piece, size_t piece_length,
+                           uint32_t *index, size_t index_length);
+uint32_t mihadrena_lines_end(const uint32_t *state, size_t state_length, const uint32_t *index, size_t index_length,
+                             uint64_t *values, size_t values_length);
+
+/* -- Nested lists ---------------------------------------------------------------------------------------------------------- */
 
 /* A node: a datum of R7RS 7.1.2. A datum that #; drops, a comment and a dot leave none. */
 typedef struct mihadrena_node {
@@ -480,17 +621,7 @@ MIHADRENA_ASSERT(sizeof(mihadrena_node) == 4 * MIHADRENA_NODE_WORDS, "a node is 
 #define MIHADRENA_NODE_BYTE_LIST 8   /* #u8() */
 #define MIHADRENA_NODE_MARK 9        /* 'a: a quoting mark, its datum lies beneath it; its item tells which of the eight */
 
-/* What mihadrena_nest refuses, at the first record that rules a reading out. It comes with that record's number, at the end with how many
- * records there are, and MIHADRENA_FEW_NODES with 0. Where several hold, 48, 45, 43, 42, 41, 40 and 44 are tried in this order; 46 is last. */
-#define MIHADRENA_BRACKET_OPEN 40  /* the end with a bracket open: ( */
-#define MIHADRENA_WRONG_CLOSE 41   /* a wrong or stray close: ) */
-#define MIHADRENA_MISPLACED_DOT 42 /* a dot outside a list, a second one, or one without data on both sides: . */
-#define MIHADRENA_MARK_WAITS 43    /* a close, a dot or the end where a mark waits for its datum: ' */
-#define MIHADRENA_TOO_DEEP 44      /* a bracket, a mark or #; inside MIHADRENA_DEEPEST others */
-#define MIHADRENA_ERROR_ITEM 45    /* an error: ## */
-#define MIHADRENA_FEW_NODES 46     /* the nodes do not fit */
-#define MIHADRENA_ALIEN 48         /* a kind or a detail that no record has */
-
+/* How many brackets, marks and #; may lie inside one another. */
 #define MIHADRENA_DEEPEST 64
 
 /* How many values mihadrena_nest writes. */
@@ -511,117 +642,12 @@ MIHADRENA_ASSERT(sizeof(mihadrena_node) == 4 * MIHADRENA_NODE_WORDS, "a node is 
  */
 uint32_t mihadrena_nest(const uint32_t *records, size_t records_length, uint32_t *nodes, size_t nodes_length, uint64_t *values,
                         size_t values_length);
-/* -- The parts of a number by a choice of reader ------------------------------------------------------------------------------- */
 
-/* The readers. They differ on the texts of docs/DIFFERENCES.md's three conditions alone. */
-#define MIHADRENA_BOUGHT 0   /* as mihadrena_number reads, and the items' Number: 1@1/-2 is a number, +I and #xe+1i are none */
-#define MIHADRENA_STANDARD 1 /* by the number grammar of R7RS 7.1.1: +I and #xe+1i are numbers, 1@1/-2 is none */
-
-/* Refused: the choice is neither. It goes before every other refusal, and no word is written. */
-#define MIHADRENA_NO_CHOICE 39
-
-/* What a text is as a number by the reader of a choice; else as mihadrena_number.
- *
- *     mihadrena_parts parts;
- *     uint32_t answer =
- *         mihadrena_number_by(MIHADRENA_STANDARD, (const uint8_t *)"#xe+1i", 6, (uint64_t *)&parts, MIHADRENA_NUMBER_WORDS);
- *     // answer == MIHADRENA_A_NUMBER, parts.form == MIHADRENA_COMPLEX,
- *     // parts.one.one is { MIHADRENA_VALUE, 0, 14, 0 }, parts.two.one is { MIHADRENA_VALUE, 0, 1, 0 }
- */
-uint32_t mihadrena_number_by(uint32_t choice, const uint8_t *text, size_t text_length, uint64_t *words, size_t words_length);
-/* -- Line and column --------------------------------------------------------------------------------------------------------- */
-
-/* A line starts at place 0 and after every newline byte. Lines and columns count from 1, columns in characters. An index of a text holds
- * the byte place of each line start. */
-
-/* Refusals of these calls, beside MIHADRENA_TOO_LONG, MIHADRENA_NOT_UTF8 and MIHADRENA_BAD_STATE, each with what it comes with. */
-#define MIHADRENA_LINES_NO_ROOM 33 /* the line starts, or the answers, don't fit: how many words are needed */
-#define MIHADRENA_NO_PLACE 34      /* the place lies past the end or inside a character: the place */
-#define MIHADRENA_NOT_ITS_INDEX 48 /* the index isn't that text's: 0 */
-
-/* How many values these calls write. Where fewer are lent, they are left as they were. */
-#define MIHADRENA_LINES_VALUES 2
-
-/* Builds the index of a whole text: MIHADRENA_SERVED, and values[0] is how many line starts were written; or a refusal and what it comes
- * with, and nothing is written. Of the index asked about later pass as many words as were served. A text has at most one line start more
- * than it has bytes.
- *
- *     uint32_t index[8];
- *     uint64_t values[MIHADRENA_LINES_VALUES];
- *     mihadrena_lines((const uint8_t *)"a\n\xce\xbb" "b\n", 6, index, 8, values, 2);  // MIHADRENA_SERVED: 3 starts, 0, 2 and 6
- */
-uint32_t mihadrena_lines(const uint8_t *text, size_t text_length, uint32_t *index, size_t index_length, uint64_t *values, size_t values_length);
-
-/* Line and column of a byte place, in values[0] and values[1]; the end of the text is a place. Each call holds the index against the
- * text, one pass over it: for many places see mihadrena_locate_all.
- *
- *     mihadrena_locate((const uint8_t *)"a\n\xce\xbb" "b\n", 6, index, 3, 4, values, 2);  // line 2, column 2
- */
-uint32_t mihadrena_locate(const uint8_t *text, size_t text_length, const uint32_t *index, size_t index_length, size_t place, uint64_t *values, size_t values_length);
-
-/* The same for many places, in any order, with one look at the index. `found` gets two numbers for each place, in their order: line and
- * column, or 0 and the refusal's number. MIHADRENA_SERVED, and values[0] is how many places were answered; or MIHADRENA_NOT_ITS_INDEX or
- * MIHADRENA_LINES_NO_ROOM, and nothing is written to `found`.
- *
- *     uint32_t places[2] = {4, 3};
- *     size_t found[4];
- *     mihadrena_locate_all((const uint8_t *)"a\n\xce\xbb" "b\n", 6, index, 3, places, 2, found, 4, values, 2);  // 2, 2, 0, 34
- */
-uint32_t mihadrena_locate_all(const uint8_t *text, size_t text_length, const uint32_t *index, size_t index_length, const uint32_t *places, size_t places_length, size_t *found, size_t found_length, uint64_t *values, size_t values_length);
-
-/* The words of a state of an index from pieces. docs/STATE.md lists them. */
-#define MIHADRENA_LINES_STATE_WORDS 8
-
-/* The index of a text that comes in pieces, on a state that the caller keeps: opening, each piece in turn with the same index memory, the
- * declared end. No piece is refused: every refusal comes with the end, which answers what mihadrena_lines answers for the whole text. The
- * memory then holds the starts found before any byte that shows MIHADRENA_TOO_LONG or MIHADRENA_NOT_UTF8, as many as fit. A state of other
- * than MIHADRENA_LINES_STATE_WORDS words, or one that these calls did not leave, stays as it is with the memory, and the end answers
- * MIHADRENA_BAD_STATE.
- *
- *     uint32_t state[MIHADRENA_LINES_STATE_WORDS];
- *     mihadrena_lines_open(state, 8, index, 8);
- *     mihadrena_lines_piece(state, 8, (const uint8_t *)"a\n\xce", 3, index, 8);
- *     mihadrena_lines_piece(state, 8, (const uint8_t *)"\xbb" "b\n", 3, index, 8);
- *     mihadrena_lines_end(state, 8, index, 8, values, 2);  // MIHADRENA_SERVED: 3 starts
- */
-void mihadrena_lines_open(uint32_t *state, size_t state_length, uint32_t *index, size_t index_length);
-void mihadrena_lines_piece(uint32_t *state, size_t state_length, const uint8_t *piece, size_t piece_length, uint32_t *index, size_t index_length);
-uint32_t mihadrena_lines_end(const uint32_t *state, size_t state_length, const uint32_t *index, size_t index_length, uint64_t *values, size_t values_length);
-/* -- Coordinates -------------------------------------------------------------------------------------------------------------- */
-
-/* What the two calls answer beside MIHADRENA_SERVED, MIHADRENA_TOO_LONG and MIHADRENA_NOT_UTF8. */
-#define MIHADRENA_NO_EXTENT 27     /* the extent goes back or passes the source: 0 */
-#define MIHADRENA_NO_COORDINATE 28 /* no decimal, or too many digits or too large an exponent for one exact step: 0 */
-
-/* The coordinate of a text that is one decimal, such as 6892014.7: its exact value rounded once, to the nearest double, ties to even, the
- * sign kept also on zero. The value goes to `value`; what a refusal comes with goes to `place`; the other keeps what it has.
- *
- * MIHADRENA_NO_COORDINATE exactly if the text is no decimal (12, #d1.5 and +inf.0 are none), or all its digits, without the dot, are a
- * number over 9,007,199,254,740,992, or its exponent less the count of its digits behind the dot is not from -22 to 22. Up to 15 digits
- * are always few enough; 17 or more, zeros in front not counted, are always too many. Read such a number with mihadrena_number.
- *
- *     double value;
- *     uint64_t place;
- *     mihadrena_coordinate((const uint8_t *)"6892014.7", 9, &value, &place);  // MIHADRENA_SERVED, value == 6892014.7
- *     mihadrena_coordinate((const uint8_t *)"12", 2, &value, &place);         // MIHADRENA_NO_COORDINATE, place == 0
- */
-uint32_t mihadrena_coordinate(const uint8_t *text, size_t text_length, double *value, uint64_t *place);
-
-/* The same for the extent of a record, by the record's kind and its extent: MIHADRENA_NO_EXTENT if the extent is no part of the source,
- * MIHADRENA_NO_COORDINATE if the kind is not MIHADRENA_NUMBER. In pieces a number's text is copied: call mihadrena_coordinate on it. */
-uint32_t mihadrena_record_coordinate(const uint8_t *source, size_t source_length, uint32_t kind, uint32_t start, uint32_t end,
-                                     double *value, uint64_t *place);
-
-/* The same with the record itself. */
-static inline uint32_t mihadrena_coordinate_of(const mihadrena_record *record, const uint8_t *source, size_t source_length,
-                                               double *value, uint64_t *place)
-{
-    return mihadrena_record_coordinate(source, source_length, record->kind, record->start, record->end, value, place);
-}
-/* -- One name table for planner and contractor ---------------------------------------------------------------------------------- */
+/* -- One name table for planner and contractor ----------------------------------------------------------------------------- */
 
 /* A table gives each distinct name a number, the same for both parties. It lies in memory that the caller keeps: this many words and bytes,
- * or more. docs/NAMES.md says what they hold, and outside which bounds they are refused: none that the calls made is. */
+ * or more. docs/NAMES.md says what they hold, and outside which bounds they are refused: none that the calls made is. A call tries its
+ * refusals in the order of their numbers; refused, it leaves the table as it was. */
 #define MIHADRENA_NAMES_WORDS 3078
 #define MIHADRENA_NAMES_BYTES 32768
 
@@ -631,13 +657,7 @@ static inline uint32_t mihadrena_coordinate_of(const mihadrena_record *record, c
 #define MIHADRENA_PLANNERS_FIRST 0
 #define MIHADRENA_CONTRACTORS_FIRST 512
 
-/* The refusals of these calls, in their order; all come with 0, and the table stays as it was. */
-#define MIHADRENA_NAMES_OUTSIDE 27 /* the lent memory is outside the table's bounds */
-#define MIHADRENA_NO_PARTY 35      /* the party is neither of the two */
-#define MIHADRENA_NO_ROOM 36       /* the name is absent, and the party's own half lacks the entry or the bytes */
-#define MIHADRENA_NO_NAME 37       /* there is no such number */
-
-/* Opens a table: its words are cleared, and no byte is written. MIHADRENA_SERVED, or MIHADRENA_NAMES_OUTSIDE for too little memory.
+/* Opens a table: its words are cleared, and no byte is written. MIHADRENA_SERVED, or MIHADRENA_OUT_OF_BOUNDS for too little memory.
  *
  *     static uint32_t words[MIHADRENA_NAMES_WORDS];
  *     static uint8_t bytes[MIHADRENA_NAMES_BYTES];
@@ -646,7 +666,7 @@ static inline uint32_t mihadrena_coordinate_of(const mihadrena_record *record, c
 uint32_t mihadrena_names_open(uint32_t *words, size_t words_length, const uint8_t *bytes, size_t bytes_length);
 
 /* A party asks for a name's number. A name that neither has entered is entered in the party's own half, with its next number.
- * MIHADRENA_SERVED, or MIHADRENA_NAMES_OUTSIDE, MIHADRENA_NO_PARTY, MIHADRENA_NO_ROOM; `number` is then 0.
+ * MIHADRENA_SERVED, or MIHADRENA_OUT_OF_BOUNDS, MIHADRENA_NO_PARTY, MIHADRENA_NO_ROOM; `number` is then 0.
  *
  *     uint32_t number;
  *     mihadrena_names_enter(words, MIHADRENA_NAMES_WORDS, bytes, MIHADRENA_NAMES_BYTES, MIHADRENA_CONTRACTOR,
@@ -657,7 +677,7 @@ uint32_t mihadrena_names_open(uint32_t *words, size_t words_length, const uint8_
 uint32_t mihadrena_names_enter(uint32_t *words, size_t words_length, uint8_t *bytes, size_t bytes_length, uint32_t party,
                                const uint8_t *name, size_t name_length, uint32_t *number);
 
-/* Where a number's name lies in `bytes`. MIHADRENA_SERVED, or MIHADRENA_NAMES_OUTSIDE, MIHADRENA_NO_NAME; both places are then 0.
+/* Where a number's name lies in `bytes`. MIHADRENA_SERVED, or MIHADRENA_OUT_OF_BOUNDS, MIHADRENA_NO_NAME; both places are then 0.
  *
  *     size_t start, end;
  *     mihadrena_names_place(words, MIHADRENA_NAMES_WORDS, bytes, MIHADRENA_NAMES_BYTES, 512, &start, &end);  // MIHADRENA_SERVED

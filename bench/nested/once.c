@@ -52,8 +52,10 @@ int main(int count, char **words)
     if (file == NULL)
         return EXIT_FAILURE;
     size_t length = fread(source, 1, sizeof source, file);
-    answer = mihadrena_read(source, length, MIHADRENA_PLAIN, false, (uint32_t *)records, LONGEST_FILE * MIHADRENA_RECORD_WORDS, text, sizeof text,
-                            values, MIHADRENA_READ_VALUES);
+    if (ferror(file))
+        return EXIT_FAILURE;
+    answer = mihadrena_read(source, length, MIHADRENA_PLAIN, false, (uint32_t *)records, LONGEST_FILE * MIHADRENA_RECORD_WORDS, text,
+                            sizeof text, values, MIHADRENA_READ_VALUES);
     items = values[0];
     if (strcmp(words[2], "--stack") == 0) {
         printf("%zu\n", stack_used(1) - stack_used(0));

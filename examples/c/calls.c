@@ -37,7 +37,7 @@ static void read_and_text(void)
     answer = mihadrena_text_mark(source, sizeof source - 1, text, sizeof text, MIHADRENA_IN_SOURCE, 1, 7);
     expect(answer == MIHADRENA_SERVED, "mihadrena_text_mark");
     answer = mihadrena_text_mark(source, sizeof source - 1, text, sizeof text, MIHADRENA_IN_SOURCE, 1, 99);
-    expect(answer == MIHADRENA_BAD_STATE, "mihadrena_text_mark, no text");
+    expect(answer == MIHADRENA_OUT_OF_BOUNDS, "mihadrena_text_mark, no text");
 }
 
 static void pieces(void)
@@ -62,7 +62,7 @@ static void pieces(void)
     expect(answer == MIHADRENA_TOO_FEW && values[0] == 1 && values[1] == 0, "mihadrena_piece, too few");
     answer = mihadrena_piece(state.bytes, MIHADRENA_STATE_BYTES - 1, state.words, MIHADRENA_STATE_WORDS, (const uint8_t *)"or", 2, text,
                              sizeof text, (uint32_t *)&record, MIHADRENA_RECORD_WORDS, values, MIHADRENA_PIECE_VALUES);
-    expect(answer == MIHADRENA_BAD_STATE && values[0] == 0 && values[1] == 0, "mihadrena_piece, no state");
+    expect(answer == MIHADRENA_OUT_OF_BOUNDS && values[0] == 0 && values[1] == 0, "mihadrena_piece, no state");
 }
 
 static void states(void)
@@ -202,7 +202,7 @@ static void reader(void)
     position[3] = 2;
     answer = mihadrena_reader_next(source, length, position, MIHADRENA_READER_WORDS, text, 2, words, MIHADRENA_RECORD_WORDS, values,
                                    MIHADRENA_READER_VALUES);
-    expect(answer == MIHADRENA_BAD_STATE && values[0] == 0 && values[1] == 0, "mihadrena_reader_next, no position");
+    expect(answer == MIHADRENA_OUT_OF_BOUNDS && values[0] == 0 && values[1] == 0, "mihadrena_reader_next, no position");
 }
 
 int main(void)

@@ -34,7 +34,7 @@ static void worked_calls(void)
     answer = mihadrena_record_coordinate((const uint8_t *)"(1.5)", 5, MIHADRENA_NUMBER, 1, 4, &value, &place);
     expect(answer == MIHADRENA_SERVED && value == 1.5, "a record's value");
     answer = mihadrena_record_coordinate((const uint8_t *)"(1.5)", 5, MIHADRENA_NUMBER, 1, 6, &value, &place);
-    expect(answer == MIHADRENA_NO_EXTENT && value == 1.5 && place == 0, "an extent past the source");
+    expect(answer == MIHADRENA_OUT_OF_BOUNDS && value == 1.5 && place == 0, "an extent past the source");
 }
 
 int main(int count, char **words)

@@ -9,6 +9,7 @@
 #include <stdlib.h>
 #include <string.h>
 
+#include "file.h"
 #include "mihadrena.h"
 
 static const char *const KINDS[] = {
@@ -53,19 +54,12 @@ static FILE *opened(const char *path)
     return file;
 }
 
-static source file_bytes(const char *path)
+static source whole(const char *path)
 {
-    FILE *file = opened(path);
-    if (fseek(file, 0, SEEK_END) != 0)
-        fail("cannot tell the file's size");
-    long size = ftell(file);
-    if (size < 0)
-        fail("cannot tell the file's size");
-    rewind(file);
-    source got = {memory((size_t)size, 1), (size_t)size};
-    if (fread(got.bytes, 1, got.length, file) != got.length)
+    source got;
+    got.bytes = file_bytes(path, &got.length);
+    if (got.bytes == NULL)
         fail("cannot read the file");
-    fclose(file);
     return got;
 }
 
@@ -240,7 +234,7 @@ int main(int count, char **words)
         print_pieces(words[at], mode, size);
         return EXIT_SUCCESS;
     }
-    source from = file_bytes(words[at]);
+    source from = whole(words[at]);
     print_whole(from, mode);
     free(from.bytes);
     return EXIT_SUCCESS;

@@ -29,7 +29,7 @@ static void whole(void)
     answer = mihadrena_locate(text, 6, index, 3, 3, values, 2);
     expect(answer == MIHADRENA_NO_PLACE && values[0] == 3, "mihadrena_locate, inside a character");
     answer = mihadrena_locate(text, 6, index, 2, 4, values, 2);
-    expect(answer == MIHADRENA_NOT_ITS_INDEX && values[0] == 0, "mihadrena_locate, another index");
+    expect(answer == MIHADRENA_ALIEN && values[0] == 0, "mihadrena_locate, another index");
     const uint32_t places[2] = {4, 3};
     size_t found[4];
     answer = mihadrena_locate_all(text, 6, index, 3, places, 2, found, 4, values, 2);
@@ -52,7 +52,7 @@ static void pieces(void)
     answer = mihadrena_lines_end(state, 8, index, 8, values, 2);
     expect(answer == MIHADRENA_NOT_UTF8 && values[0] == 6, "mihadrena_lines_end, not UTF-8");
     answer = mihadrena_lines_end(state, 7, index, 8, values, 2);
-    expect(answer == MIHADRENA_BAD_STATE && values[0] == 0, "mihadrena_lines_end, no state");
+    expect(answer == MIHADRENA_OUT_OF_BOUNDS && values[0] == 0, "mihadrena_lines_end, no state");
 }
 
 int main(void)

@@ -41,22 +41,22 @@ static uint32_t place(uint32_t number, size_t *start, size_t *end)
 
 static void calls(void)
 {
+    static const uint8_t longer[MIHADRENA_NAMES_BYTES / 2 + 1];
     const uint8_t *fagus = (const uint8_t *)"Fagus";
     uint32_t number = 7;
     size_t start = 7, end = 7;
     expect(open_table() == MIHADRENA_SERVED, "mihadrena_names_open");
     uint32_t mark = mihadrena_names_open(words, MIHADRENA_NAMES_WORDS - 1, bytes, MIHADRENA_NAMES_BYTES);
-    expect(mark == MIHADRENA_NAMES_OUTSIDE, "mihadrena_names_open, too little");
+    expect(mark == MIHADRENA_OUT_OF_BOUNDS, "mihadrena_names_open, too little");
     expect(enter(MIHADRENA_CONTRACTOR, fagus, 5, &number) == MIHADRENA_SERVED && number == 512, "mihadrena_names_enter");
     expect(enter(MIHADRENA_PLANNER, fagus, 5, &number) == MIHADRENA_SERVED && number == 512, "mihadrena_names_enter, shared");
     expect(enter(2, fagus, 5, &number) == MIHADRENA_NO_PARTY && number == 0, "mihadrena_names_enter, no party");
-    expect(enter(MIHADRENA_PLANNER, bytes + 5, MIHADRENA_NAMES_BYTES - 5, &number) == MIHADRENA_NO_ROOM && number == 0,
-           "mihadrena_names_enter, no room");
+    expect(enter(MIHADRENA_PLANNER, longer, sizeof longer, &number) == MIHADRENA_NO_ROOM && number == 0, "mihadrena_names_enter, no room");
     expect(place(512, &start, &end) == MIHADRENA_SERVED && end - start == 5 && memcmp(bytes + start, fagus, 5) == 0,
            "mihadrena_names_place");
     expect(place(513, &start, &end) == MIHADRENA_NO_NAME && start == 0 && end == 0, "mihadrena_names_place, no name");
     words[0] = 513;
-    expect(place(512, &start, &end) == MIHADRENA_NAMES_OUTSIDE, "mihadrena_names_place, outside");
+    expect(place(512, &start, &end) == MIHADRENA_OUT_OF_BOUNDS, "mihadrena_names_place, outside");
 }
 
 /* The identifiers of the records, asked for by a party. */

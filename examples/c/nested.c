@@ -7,6 +7,7 @@
 #include <stdlib.h>
 #include <string.h>
 
+#include "file.h"
 #include "mihadrena.h"
 
 typedef struct plan {
@@ -35,16 +36,9 @@ static void *memory(size_t count, size_t size)
 
 static void load(plan *p, const char *path)
 {
-    FILE *file = fopen(path, "rb");
-    if (file == NULL || fseek(file, 0, SEEK_END) != 0)
-        fail("cannot open the file", 0);
-    p->length = (size_t)ftell(file);
-    uint8_t *bytes = memory(p->length, 1);
-    rewind(file);
-    if (fread(bytes, 1, p->length, file) != p->length)
+    p->source = file_bytes(path, &p->length);
+    if (p->source == NULL)
         fail("cannot read the file", 0);
-    fclose(file);
-    p->source = bytes;
 }
 
 /* There are never more records than bytes, nor more nodes than records. */
@@ -53,14 +47,14 @@ static void nest(plan *p)
     uint64_t values[MIHADRENA_READ_VALUES];
     p->records = memory(p->length, sizeof *p->records);
     p->text = memory(p->length, 1);
-    uint32_t answer = mihadrena_read(p->source, p->length, MIHADRENA_PLAIN, true, (uint32_t *)p->records, p->length * MIHADRENA_RECORD_WORDS,
-                                     p->text, p->length, values, MIHADRENA_READ_VALUES);
+    uint32_t answer = mihadrena_read(p->source, p->length, MIHADRENA_PLAIN, true, (uint32_t *)p->records,
+                                     p->length * MIHADRENA_RECORD_WORDS, p->text, p->length, values, MIHADRENA_READ_VALUES);
     if (answer != MIHADRENA_SERVED)
         fail("refusal", answer);
     size_t items = values[0];
     p->nodes = memory(items, sizeof *p->nodes);
-    answer = mihadrena_nest((const uint32_t *)p->records, items * MIHADRENA_RECORD_WORDS, (uint32_t *)p->nodes, items * MIHADRENA_NODE_WORDS,
-                            values, MIHADRENA_NEST_VALUES);
+    answer = mihadrena_nest((const uint32_t *)p->records, items * MIHADRENA_RECORD_WORDS, (uint32_t *)p->nodes,
+                            items * MIHADRENA_NODE_WORDS, values, MIHADRENA_NEST_VALUES);
     if (answer != MIHADRENA_SERVED) {
         fprintf(stderr, "refusal %" PRIu32 ", ", answer);
         fail("record", values[0]);

@@ -45,8 +45,8 @@ int main(void)
     expect(by(MIHADRENA_STANDARD, "1/0") == MIHADRENA_ZERO, "1/0");
     parts.one.form = MIHADRENA_NAN;
     expect(by(MIHADRENA_STANDARD, "1\xff") == MIHADRENA_NOT_UTF8 && parts.form == 1 && parts.one.form == MIHADRENA_NAN, "not UTF-8");
-    expect(by(2, "1\xff") == MIHADRENA_NO_CHOICE && parts.form == 1, "no choice, before not UTF-8");
-    expect(few(2, "1") == MIHADRENA_NO_CHOICE, "no choice, before too few words");
+    expect(by(2, "1\xff") == MIHADRENA_UNKNOWN_CHOICE && parts.form == 1, "no choice, before not UTF-8");
+    expect(few(2, "1") == MIHADRENA_UNKNOWN_CHOICE, "no choice, before too few words");
     expect(few(MIHADRENA_STANDARD, "\xff") == MIHADRENA_NOT_UTF8 && parts.form == 0, "not UTF-8, before too few words");
     expect(few(MIHADRENA_STANDARD, "1@2") == MIHADRENA_TOO_FEW && parts.form == 0, "too few words");
     puts("the number call with a choice of reader: ok");

@@ -1,5 +1,5 @@
-/* Prints an outline of a plan: a line for each list, indented by its depth, with what stands in it up to the next bracket. What stands behind
- * a list that is closed has a line of its own, as deep as that list.
+/* Prints an outline of a plan: a line for each list, indented by its depth, with what stands in it up to the next bracket. What stands
+ * behind a list that is closed has a line of its own, as deep as that list.
  *
  *     outline FILE
  */

@@ -7,30 +7,13 @@
 #include <stdio.h>
 #include <stdlib.h>
 
+#include "file.h"
 #include "mihadrena.h"
 
 static void fail(const char *what)
 {
     fprintf(stderr, "reader: %s\n", what);
     exit(EXIT_FAILURE);
-}
-
-/* The bytes of a file and how many, with one byte more: a slice's pointer must not be NULL. */
-static uint8_t *file_bytes(const char *path, size_t *length)
-{
-    FILE *file = fopen(path, "rb");
-    if (file == NULL || fseek(file, 0, SEEK_END) != 0)
-        fail("cannot open the file");
-    long size = ftell(file);
-    if (size < 0)
-        fail("cannot tell the file's size");
-    rewind(file);
-    *length = (size_t)size;
-    uint8_t *bytes = malloc(*length + 1);
-    if (bytes == NULL || fread(bytes, 1, *length, file) != *length)
-        fail("cannot read the file");
-    fclose(file);
-    return bytes;
 }
 
 static void print_item(const mihadrena_record *record, const uint8_t *source, size_t source_length, const uint8_t *text,
@@ -51,6 +34,8 @@ int main(int count, char **words)
         fail("usage: reader FILE");
     size_t length;
     uint8_t *source = file_bytes(words[1], &length);
+    if (source == NULL)
+        fail("cannot read the file");
     uint64_t position[MIHADRENA_READER_WORDS];
     uint64_t values[MIHADRENA_READER_VALUES];
     uint32_t answer = mihadrena_reader_open(source, length, MIHADRENA_PLAIN, false, position, MIHADRENA_READER_WORDS, values,

@@ -6,7 +6,7 @@
 //! Before a stop the part of the text before the unfinished item must come out: up to the place of 23, and for 21 up to the start of the
 //! item in which the Rust's reading of the good bytes breaks off.
 use crate::lexer::{self, rust, Read, MODES};
-use crate::pieces::{drive, Answer, Cutting, Lent, What, NOT_UTF8, TOO_BIG};
+use crate::pieces::{drive, Answer, Cutting, Lent, What, LONG_ITEM, NOT_UTF8};
 use crate::tally::{shown, Count, Tally};
 use crate::Options;
 use gen::Random;
@@ -92,7 +92,7 @@ fn records(items: &[Given]) -> Vec<Record> {
 /// The part of a text that is covered when the calls ended with this word; none where the Rust panics.
 fn before_stop<'a>(judge: Read, text: &'a [u8], last: &What, tally: &mut Tally) -> Option<&'a [u8]> {
     match *last {
-        What::Refused(TOO_BIG, place) => text.get(..place),
+        What::Refused(LONG_ITEM, place) => text.get(..place),
         What::Refused(NOT_UTF8, place) => {
             let good = str::from_utf8(text.get(..place)?).ok()?;
             let reading = rust(judge, good, false, tally)?;

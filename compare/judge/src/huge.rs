@@ -167,7 +167,7 @@ fn line_index(text: &mut [u8]) -> Count {
     let too_long = told(proved::TOO_LONG, LONGEST as u64);
     tally.same(too_long, lines::build(text, &mut index), || "build, one byte too many".into());
     tally.same([OLD; 4], index, || "build, nothing written".into());
-    tally.same(told(lines::NOT_ITS_INDEX, 0), lines::locate(text, &starts, 0), || "locate, one byte too many".into());
+    tally.same(told(lines::ALIEN, 0), lines::locate(text, &starts, 0), || "locate, one byte too many".into());
     let mut state = [0; lines::STATE_WORDS];
     lines::open(&mut state, &mut index);
     for piece in longest.chunks(1 << 30) {

@@ -4,7 +4,7 @@
 //! that is too small, and indexes and states that are another text's. The last line has the counts; a difference makes the exit status
 //! non-zero.
 use gen::{Random, FAMILIES};
-use proved::lines::{self, Answer, BAD_STATE, NOT_ITS_INDEX, NOT_UTF8, NO_PLACE, NO_ROOM, SERVED, STATE_WORDS};
+use proved::lines::{self, Answer, ALIEN, NOT_UTF8, NO_PLACE, NO_ROOM, OUT_OF_BOUNDS, SERVED, STATE_WORDS};
 use std::process::ExitCode;
 use std::{env, str};
 
@@ -77,7 +77,7 @@ fn pieced(text: &[u8], room: usize, random: &mut Random) -> (Answer, Vec<u32>) {
         rest = behind;
     }
     let answer = lines::end(&state, &memory);
-    assert_eq!(lines::end(&state[1..], &memory).0, BAD_STATE, "seven words are no state");
+    assert_eq!(lines::end(&state[1..], &memory).0, OUT_OF_BOUNDS, "seven words are no state");
     (answer, memory)
 }
 
@@ -117,9 +117,9 @@ fn judge_good(tally: &mut Tally, text: &str, random: &mut Random) {
     let other = random.below(needed);
     let mut index = starts;
     index[other] += 1;
-    tally.same("locate, other index", bytes, &(NOT_ITS_INDEX, [0, 0]), &lines::locate(bytes, &index, 0));
+    tally.same("locate, other index", bytes, &(ALIEN, [0, 0]), &lines::locate(bytes, &index, 0));
     index.pop();
-    tally.same("locate, short index", bytes, &(NOT_ITS_INDEX, [0, 0]), &lines::locate(bytes, &index, 0));
+    tally.same("locate, short index", bytes, &(ALIEN, [0, 0]), &lines::locate(bytes, &index, 0));
 }
 
 /// A text that is no UTF-8: its starts before the byte after which no valid text can follow are in the memory from pieces.
@@ -130,7 +130,7 @@ fn judge_bad(tally: &mut Tally, bytes: &[u8], error: str::Utf8Error, random: &mu
     tally.same("build, bad", bytes, &(answer, laid(&[], room)), &whole(bytes, room));
     let starts = expected(str::from_utf8(&bytes[..good]).expect("the good part")).starts;
     tally.same("pieces, bad", bytes, &(answer, laid(&starts, room)), &pieced(bytes, room, random));
-    tally.same("locate, bad", bytes, &(NOT_ITS_INDEX, [0, 0]), &lines::locate(bytes, &starts, 0));
+    tally.same("locate, bad", bytes, &(ALIEN, [0, 0]), &lines::locate(bytes, &starts, 0));
 }
 
 fn main() -> ExitCode {

@@ -5,10 +5,10 @@ pub const STATE_WORDS: usize = 8;
 
 pub const SERVED: u32 = 0;
 pub const NOT_UTF8: u32 = 21;
-pub const BAD_STATE: u32 = 27;
+pub const OUT_OF_BOUNDS: u32 = 27;
 pub const NO_ROOM: u32 = 33;
 pub const NO_PLACE: u32 = 34;
-pub const NOT_ITS_INDEX: u32 = 48;
+pub const ALIEN: u32 = 48;
 
 /// An answer's number and its two values.
 pub type Answer = (u32, [u64; 2]);

@@ -7,6 +7,8 @@ use lib.ListN.{length, drop, length-append}
 use lib.Seq.{take-at}
 use lib.Dec.{ltb}
 use native.Mathlib.Omega.{arith}
+use Rattle.coverage.proofs.Bytes.{bytes-append}
+use Rattle.items.proofs.Splits.{length-bytes}
 use Rattle.chars.specs.Encode.{bytesOf}
 use Rattle.items.specs.declared.Quotes.{Quotes}
 use Rattle.items.specs.declared.Quotes.the-variants.{Double, Lines}
@@ -14,7 +16,7 @@ use Rattle.items.specs.Classes.{delimOf}
 use Rattle.items.specs.Items.{byteCount}
 use Rattle.items.specs.Meaning.{escaped, unescape, source}
 use Rattle.agreement.specs.Reading.{spelling, bytes}
-use Rattle.agreement.proofs.Bytes.{utf8-low, bytes-length, bytes-append, bytes-ascii}
+use Rattle.agreement.proofs.Bytes.{utf8-low, bytes-ascii}
 use Rattle.agreement.proofs.Quoted.{Quoted}
 use Rattle.agreement.proofs.Unescaped.{unescaped, escaped-none}
 
@@ -31,7 +33,7 @@ module _ (k : Quotes) where
   between-bytes t = bytes-ascii (delimOf k) (t ++ (delimOf k ∷ [])) closing-ascii ∙ rw (bytes-append t (delimOf k ∷ []), utf8-low (delimOf k) closing-ascii)
 
   between-count : (t : List ℕ) → byteCount (between t) ≡ length (bytesOf t) + 2
-  between-count t = sym (bytes-length (between t)) ∙ rw (between-bytes t, length-append (bytesOf t) (delimOf k ∷ [])) (omega arith)
+  between-count t = sym (length-bytes (between t)) ∙ rw (between-bytes t, length-append (bytesOf t) (delimOf k ∷ [])) (omega arith)
 
   -- its text, where that lies in the source
   pub spells-between : (at : ℕ) (t : List ℕ) → spelling at (bytesOf (between t)) (source (at + 1) (at + byteCount (between t) - 1)) ≡ bytes (bytesOf t)

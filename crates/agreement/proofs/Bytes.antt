@@ -2,16 +2,17 @@
 use Prim.Native.Nat.{ℕ, _+_, _-_, _≤_}
 use mathlib.Core.Path.{_≡_, refl, ap}
 use mathlib.Core.Bool.{true, false}
-use mathlib.Core.List.{List, [], _∷_, _++_, append-assoc}
-use lib.ListN.{length, length-append}
+use mathlib.Core.List.{List, [], _∷_, _++_}
+use lib.ListN.{length}
 use lib.Seq.{take-all}
 use lib.Dec.{eqb, leb, ltb}
 use native.Mathlib.Omega.{arith}
 use native.Mathlib.Nat.{le-refl}
 use borrow.Author.Tests.{lt-ltb, ne-eqb, ltb-true, leb-true}
 use Rattle.laws.proofs.Choice.{by-bool, if-all}
+use Rattle.items.proofs.Splits.{length-bytes}
 use Rattle.chars.specs.Encode.{two, three, four, utf8, width, bytesOf}
-use Rattle.chars.proofs.Width.{wide, width-utf8}
+use Rattle.chars.proofs.Width.{wide}
 use Rattle.items.specs.Items.{byteCount}
 use Rattle.items.specs.Meaning.{source}
 use Rattle.items.specs.Readers.{firstIs}
@@ -47,29 +48,19 @@ module _ (c : ℕ) where
   unfolding utf8
   utf8-high h = rw h (if-all Beyond (ltb c 0x800) two-high (if-all Beyond (ltb c 0x10000) three-high four-high))
 
-pub bytes-length : (t : List ℕ) → length (bytesOf t) ≡ byteCount t
-unfolding bytesOf
-bytes-length [] = refl
-bytes-length (c ∷ t) = rw (length-append (utf8 c) (bytesOf t), width-utf8 c, bytes-length t)
-
-pub bytes-append : (t u : List ℕ) → bytesOf (t ++ u) ≡ bytesOf t ++ bytesOf u
-unfolding bytesOf
-bytes-append [] u = refl
-bytes-append (c ∷ t) u = rw (bytes-append t u, append-assoc (utf8 c) (bytesOf t) (bytesOf u))
-
 pub bytes-ascii : (c : ℕ) (t : List ℕ) → ltb c 0x80 ≡ true → bytesOf (c ∷ t) ≡ c ∷ bytesOf t
 unfolding bytesOf
 bytes-ascii c t h = rw (utf8-low c h)
 
 pub bytes-some : (c : ℕ) (t : List ℕ) → ltb 0 (length (bytesOf (c ∷ t))) ≡ true
-bytes-some c t = rw (bytes-length (c ∷ t)) (lt-ltb 0 (width c + byteCount t) (omega (arith, wide c)))
+bytes-some c t = rw (length-bytes (c ∷ t)) (lt-ltb 0 (width c + byteCount t) (omega (arith, wide c)))
 
 -- the text of an item that is the item
 pub spells-whole : (at : ℕ) (t : List ℕ) → spelling at (bytesOf t) (source at (at + byteCount t)) ≡ bytes (bytesOf t)
 spells-whole at t =
     let e : at + byteCount t - at ≡ byteCount t = omega arith in
     let f : at - at ≡ 0 = omega arith in
-    rw (e, f) (ap bytes (take-all (byteCount t) (bytesOf t) (rw (bytes-length t) (le-refl (byteCount t)))))
+    rw (e, f) (ap bytes (take-all (byteCount t) (bytesOf t) (rw (length-bytes t) (le-refl (byteCount t)))))
 
 -- whether a text starts with an ASCII character is seen by its first byte
 high-differs : (b : ℕ) (t : List ℕ) {bs : List ℕ} → ltb b 0x80 ≡ true → Beyond bs → firstIs b (bs ++ t) ≡ false

@@ -1,7 +1,7 @@
 -- <character>: after `#\` the next character is taken whatever it is, and then all up to a delimiter; what that spells is the character.
 use Prim.Native.Nat.{ℕ, _<_}
 use mathlib.Core.Path.{_≡_, refl, _∙_}
-use mathlib.Core.Bool.{Bool, true, false, _&&_, _||_}
+use mathlib.Core.Bool.{Bool, true, false, _||_}
 use mathlib.Core.List.{List, [], _∷_, _++_, map, append-nil}
 use lib.ListN.{length, getD}
 use lib.Dec.{ltb}
@@ -9,7 +9,7 @@ use native.Mathlib.Omega.{arith}
 use borrow.Author.Tests.{lt-ltb, le-leb, lt-leb, eq-eqb, ltb-true}
 use Rattle.laws.specs.Quoted.{codes, code}
 use Rattle.laws.specs.Texts.{begins, same}
-use Rattle.laws.proofs.Choice.{by-bool}
+use Rattle.laws.proofs.Choice.{by-bool, and-no}
 use Rattle.laws.proofs.Compared.{same-differ}
 use Rattle.chars.specs.Blank.{isBlank}
 use Rattle.chars.specs.Encode.{isScalar, utf8, width, bytesOf}
@@ -101,11 +101,6 @@ unfolding charNames bytesOf utf8
 beyond-unnamed (all-high {b = b} {bs = bs} h m) =
     rw (high-lower b h) (lookup-none (b ∷ map lower bs) unnamed (λ w. ltb (getD w 0 0) 0x80) (λ w l. ascii-first b (map lower bs) w h l) charNames refl)
 
--- <any character>
-and-false : (b : Bool) → (b && false) ≡ false
-and-false true = refl
-and-false false = refl
-
 alone-back : (c : ℕ) → isScalar c ≡ true → front (utf8 c) ≡ char c (width c)
 alone-back c h = rw append-nil at (back c [] h)
 
@@ -114,7 +109,7 @@ is-one report c h = rw (alone-back c h, width-utf8 c) (rw (eq-eqb (width c) (wid
 
 low-out : (report : Bool) (c : ℕ) → isScalar c ≡ true → ltb c 0x80 ≡ true → spelledOut report (c ∷ []) ≡ Scalar c
 unfolding spelledOut
-low-out report c h l = rw (and-false (firstIs (code "u") (c ∷ []) || firstIs (code "x") (c ∷ []))) (rw (utf8-low c l) at (is-one report c h))
+low-out report c h l = rw (and-no (firstIs (code "u") (c ∷ []) || firstIs (code "x") (c ∷ []))) (rw (utf8-low c l) at (is-one report c h))
 
 high-out : (report : Bool) (c : ℕ) → isScalar c ≡ true → ltb c 0x80 ≡ false → spelledOut report (utf8 c) ≡ Scalar c
 unfolding spelledOut

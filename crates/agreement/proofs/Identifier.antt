@@ -3,29 +3,24 @@ use Prim.Native.Nat.{ℕ, _+_}
 use mathlib.Core.Path.{_≡_, refl, _∙_}
 use mathlib.Core.Bool.{Bool, true}
 use mathlib.Core.List.{List, [], _∷_}
-use lib.Dec.{eqb}
-use borrow.Author.Tests.{eqb-true}
 use Rattle.laws.specs.Quoted.{codes, code, oneOf}
-use Rattle.laws.specs.Texts.{same}
-use Rattle.laws.proofs.Choice.{by-bool}
 use Rattle.chars.specs.Blank.{isBlank}
-use Rattle.chars.specs.Encode.{utf8, bytesOf}
+use Rattle.chars.specs.Encode.{bytesOf}
 use Rattle.numbers.specs.declared.Parsed.the-variants as parsed
 use Rattle.numbers.specs.Grammar.{parseNumber}
 use Rattle.items.specs.declared.Outcome.the-variants.{Word}
 use Rattle.items.specs.Classes.{breaksWord, inWord}
 use Rattle.items.specs.Items.{byteCount}
-use Rattle.items.specs.Meaning.{lookup, words, wordKind, source}
+use Rattle.items.specs.Meaning.{wordKind, source}
 use Rattle.items.specs.Readers.{readItem}
 use Rattle.items.specs.Kinds as kind
 use Rattle.agreement.specs.Delimiter.{delimiters, Ends}
 use Rattle.agreement.specs.Identifier.{explicitSigns, special, initial, Plain, plain, SignSubsequent, DotSubsequent, sign, dot-again}
-use Rattle.agreement.specs.Identifier.{Peculiar, alone, signed, signed-dot, dotted, Unsplit, plus, other}
+use Rattle.agreement.specs.Identifier.{Peculiar, alone, signed, signed-dot, dotted, Unsplit}
 use Rattle.agreement.specs.Reading.{bytes, ReadAs}
 use Rattle.agreement.specs.Repeated.{Many, done, more}
 use Rattle.agreement.proofs.Bytes.{spells-whole}
 use Rattle.agreement.proofs.Classes.{at-one-of}
-use Rattle.agreement.proofs.Computed.{lone-no-number}
 use Rattle.agreement.proofs.Reading.{got-whole, read-one}
 use Rattle.agreement.proofs.Words.{one-goes, initial-goes, initial-begins, initial-nonblank, initial-no-plus, all-go, word-on, word-ends, word-means, unsplit-plain, unsplit, run-read, Goes}
 
@@ -82,11 +77,3 @@ module _ (report : Bool) where
   pub peculiar-identifier : {t : List ℕ} (cs : List ℕ) → Peculiar t → Unsplit t → parseNumber (bytesOf t) ≡ parsed.NoNumber
       → wordKind (bytesOf t) ≡ kind.Identifier → Ends delimiters cs → ReadAs report t cs kind.Identifier 0 (bytes (bytesOf t))
   peculiar-identifier cs p u n k e = led-word cs (peculiar-led p) u n k e
-
-  -- a sign alone
-  pub sign-identifier : (c : ℕ) (cs : List ℕ) → oneOf explicitSigns c ≡ true → Ends delimiters cs
-      → ReadAs report (c ∷ []) cs kind.Identifier 0 (bytes (bytesOf (c ∷ [])))
-  unfolding wordKind lookup words same bytesOf utf8
-  sign-identifier c cs h e =
-      let u : Unsplit (c ∷ []) = by-bool (eqb c (code "+")) (λ g. rw (eqb-true c (code "+") g) plus) (λ g. other g) in
-      peculiar-identifier cs (alone h) u (lone-no-number c (sign-leads c h)) (at-one-of (λ k. wordKind (bytesOf (k ∷ []))) kind.Identifier explicitSigns c refl h) e

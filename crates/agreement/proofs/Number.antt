@@ -8,25 +8,24 @@ use native.Mathlib.Omega.{arith}
 use Rattle.laws.specs.Quoted.{codes, code, oneOf}
 use Rattle.chars.specs.Blank.{isBlank}
 use Rattle.chars.specs.Encode.{bytesOf}
-use Rattle.numbers.specs.declared.Real.the-variants.{Integer}
 use Rattle.numbers.specs.declared.Parts.{Parts}
 use Rattle.numbers.specs.declared.Parts.the-variants.{Just}
 use Rattle.numbers.specs.declared.Parsed.the-variants as parsed
-use Rattle.numbers.specs.Grammar.{justOf, zeroReal, zeroParts, judged, parseNumber}
+use Rattle.numbers.specs.Grammar.{justOf, zeroParts, judged, parseNumber}
 use Rattle.items.specs.declared.Outcome.the-variants.{Run}
 use Rattle.items.specs.Classes.{startsRun, firstOf, staysRun, endsRun, inRun, afterHash, number, stopsRun}
 use Rattle.items.specs.Meaning.{runMeans, none}
 use Rattle.items.specs.Readers.{got, readRun, readHash, readItem, SoFar}
 use Rattle.items.specs.Kinds as kind
 use Rattle.agreement.specs.Delimiter.{numberDelimiters, Ends, atEnd, before}
-use Rattle.agreement.specs.Number.{Digit, Sign, no-sign, plus-sign, minus-sign, is-integer, Infnan, plus-inf, minus-inf, plus-nan, minus-nan, RealText, a-real, an-infnan}
+use Rattle.agreement.specs.Number.{Sign, no-sign, plus-sign, minus-sign, Infnan, plus-inf, minus-inf, plus-nan, minus-nan, RealText, a-real, an-infnan}
 use Rattle.agreement.specs.Reading.{nothing, ReadAs}
-use Rattle.agreement.specs.Repeated.{Many, done, more, Some}
+use Rattle.agreement.specs.Repeated.{Many, done, more}
 use Rattle.agreement.proofs.Classes.{at-one-of, many-all}
 use Rattle.agreement.proofs.Computed.{infnan-number}
 use Rattle.agreement.proofs.Reading.{eats, got-whole, read-one}
 use Rattle.agreement.proofs.Reals.{many-map, many-append, Numeral, numeral-is, leaders, sign-numerals, shape, signed-text, real-parse, Shape}
-use Rattle.agreement.proofs.Ureal.{integerOf, integer-ureal, ureal-real}
+use Rattle.agreement.proofs.Ureal.{ureal-real}
 
 -- ---- runs
 
@@ -85,13 +84,6 @@ module _ (report : Bool) (c : ℕ) {t cs : List ℕ} where
   }
 
 -- ---- <real 10>
-
--- the value of an integer is that of its digits by place; where it is too large, its digits' places stand for it
-pub integer-number : {s d : List ℕ} {b : Bool} → Sign s b → Some Digit d → parseNumber (bytesOf (s ++ d)) ≡ parsed.Is (Just (Integer (integerOf b (length s) d)))
-unfolding judged justOf zeroParts zeroReal
-integer-number {s} {d} {b} g m =
-    let h = shape (is-integer m) in
-    real-parse (many-append (sign-numerals g) (h .all)) (signed-text g h) ∙ rw (integer-ureal b (length s) m)
 
 pub real-number : {t : List ℕ} → RealText t → (p : Parts) × (parseNumber (bytesOf t) ≡ parsed.Is p)
 unfolding judged justOf zeroParts

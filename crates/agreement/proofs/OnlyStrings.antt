@@ -8,6 +8,7 @@ use lib.Dec.{eqb}
 use native.Mathlib.Omega.{arith}
 use borrow.Author.Tests.{eqb-true}
 use Rattle.laws.specs.Quoted.{codes, code}
+use Rattle.items.proofs.Splits.{length-bytes}
 use Rattle.chars.specs.Encode.{utf8, bytesOf}
 use Rattle.coverage.specs.Covered.{past}
 use Rattle.coverage.proofs.Bytes.{first-char}
@@ -29,7 +30,6 @@ use Rattle.agreement.specs.Converse as foreign-string
 use Rattle.agreement.specs.Reading.{spelling}
 use Rattle.agreement.specs.String as standard-string
 use Rattle.agreement.proofs.Back.{begins-chars, same-front}
-use Rattle.agreement.proofs.Bytes.{bytes-length}
 use Rattle.agreement.proofs.Converse.{of-items}
 use Rattle.agreement.proofs.Inside.{Inside, closes, departs, isStr, scan-back}
 use Rattle.agreement.proofs.String.{elements, string-spells}
@@ -50,7 +50,7 @@ module _ (s e : ℕ) where
       → StringRead (code "\"" ∷ t) (spelling s (bytesOf (code "\"" ∷ t)) (stringText s e (bytesOf (code "\"" ∷ t))))
   quotes-read (closes u {v = v} h) p =
       let w : List ℕ = code "\"" ∷ u ++ codes "\"" in
-      let end : e ≡ s + byteCount w = p ∙ ap (λ (n : ℕ). s + n) (bytes-length w) in
+      let end : e ≡ s + byteCount w = p ∙ ap (λ (n : ℕ). s + n) (length-bytes w) in
       rw (end, string-spells u (elements h) s) (standard (standard-string.quoted h))
   quotes-read (departs u h d) p = foreign (foreign-string.quoted u h d)
 

@@ -8,6 +8,7 @@ use lib.Dec.{eqb, ltb}
 use borrow.Author.Tests.{eqb-true}
 use Rattle.laws.specs.Quoted.{code, oneOf}
 use Rattle.laws.proofs.Choice.{by-bool}
+use Rattle.coverage.proofs.Bytes.{bytes-append}
 use Rattle.chars.specs.Encode.{utf8, encode, bytesOf}
 use Rattle.items.specs.declared.Quotes.{Quotes}
 use Rattle.items.specs.declared.Quotes.the-variants.{Double, Lines}
@@ -16,7 +17,7 @@ use Rattle.items.specs.Meaning.{escaped, unescape, unescapeNext, unescapeHex, u
 use Rattle.agreement.specs.Escape.{HexScalar}
 use Rattle.agreement.specs.Repeated.{Many, done, more}
 use Rattle.agreement.specs.String.{intraline, Intraline, indented}
-use Rattle.agreement.proofs.Bytes.{High, utf8-low, utf8-high, bytes-append, Beyond, all-high}
+use Rattle.agreement.proofs.Bytes.{High, utf8-low, utf8-high, Beyond, all-high}
 use Rattle.agreement.proofs.Classes.{at-one-of, beyond-differs, beyond-none}
 use Rattle.agreement.proofs.Hex.{is-scalar, scalar-of, scalar-digits, digits-bytes, digit-in-escape, Hexadecimal}
 use Rattle.agreement.proofs.Quoted.{quotes-escape, newline-plain, intraline-space, intraline-blank, solid-or-line, closing-solid, Quoted, empty, character, escape, hexadecimal, continued}

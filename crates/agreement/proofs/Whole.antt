@@ -6,7 +6,7 @@ use mathlib.Core.Bool.{Bool, true, false}
 use mathlib.Core.List.{List, [], _∷_, _++_}
 use lib.ListN.{length}
 use native.Mathlib.Nat.{add-assoc, add-zero, le-refl}
-use Rattle.laws.specs.Quoted.{codes, code, oneOf}
+use Rattle.laws.specs.Quoted.{code, oneOf}
 use Rattle.chars.specs.Blank.{isBlank}
 use Rattle.chars.specs.Encode.{width}
 use Rattle.items.specs.Items.{Item, unset, itemsAt, pastLine, afterPound, items, byteCount}

@@ -10,7 +10,7 @@ use lib.Dec.{eqb, ltb}
 use native.Mathlib.Omega.{arith}
 use borrow.Author.Tests.{eqb-true, lt-ltb, ne-eqb}
 use Rattle.laws.specs.Quoted.{codes, code, oneOf, within}
-use Rattle.laws.proofs.Choice.{by-bool, within-is}
+use Rattle.laws.proofs.Choice.{by-bool, within-is, yes-no}
 use Rattle.chars.specs.Encode.{bytesOf}
 use Rattle.digits.specs.Digits.{digitOf}
 use Rattle.numbers.specs.declared.Real.{Real}
@@ -23,7 +23,7 @@ use Rattle.standard.proofs.Letters.{lower-is, UpperOf}
 use Rattle.difference.specs.Productions.{Letter, Sign, Prefix}
 use Rattle.difference.specs.R7rs.{Infnan, RealAt, ImaginaryAt, ComplexAt, URealAt}
 use Rattle.difference.specs.Conditions.{capital, signAfterOddE, somewhere, isCapital}
-use Rattle.difference.proofs.Runs.{no, all, all-head, all-tail, all-cons, all-append, all-imp}
+use Rattle.difference.proofs.Runs.{all, all-head, all-tail, all-cons, all-append, all-imp}
 use Rattle.difference.proofs.Derived.{plain, plain-sign, plain-ureal, Head, head-ureal}
 use Rattle.difference.proofs.Walk.{other, radix-le}
 use Rattle.difference.proofs.Whole.{prefix-radix, Seen, seen}
@@ -47,7 +47,7 @@ digit-low c h =
     by-bool (within (code "0") (code "9") c) (λ e. let w = within-is (code "0") (code "9") c e in omega (arith, w .1)) (λ a.
     by-bool (within (code "A") (code "F") c) (λ e. let w = within-is (code "A") (code "F") c e in omega (arith, w .1)) (λ b.
     by-bool (within (code "a") (code "f") c) (λ e. let w = within-is (code "a") (code "f") c e in omega (arith, w .1)) (λ d.
-    no (sym (rw (a, b, d) at h)))))
+    yes-no (sym (rw (a, b, d) at h)))))
 
 plain-low : (c : ℕ) → plain c ≡ true → c < 128
 unfolding plain isSign
@@ -148,7 +148,7 @@ unfolding somewhere
 all-stay b [] k h = done
 all-stay b (c ∷ s) k h =
     by-bool (isCapital b c)
-    (λ e. no (rw e at k))
+    (λ e. yes-no (rw e at k))
     (λ e. more (loose-stays b c (all-head loose c s h) e) (all-stay _ s (rw e at k) (all-tail loose c s h)))
 
 stays-ascii : (c : ℕ) → staysRun c ≡ true → ltb c 0x80 ≡ true

@@ -22,7 +22,7 @@ hashDelimiters = codes " \t\n\r()"
 -- and a comment
 abbrev pub numberDelimiters : Bool → List ℕ
 numberDelimiters true = codes " \t\n\r|()\";"
-numberDelimiters false = hashDelimiters
+numberDelimiters false = codes " \t\n\r()"
 
 -- the rest of a text that ends a token: nothing, or one of these characters and whatever follows it
 pub data Ends (ks : List ℕ) : List ℕ → Type 0 where

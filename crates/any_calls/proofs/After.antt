@@ -1,9 +1,9 @@
 -- Whatever calls were made: what they gave is a beginning of what is expected of the bytes that they took, and all of it, with its last word,
 -- once a call says "finished" or a stop. By `end-means` an end call would give the first item that is missing, so none is left out or given twice.
+use Rattle.refusal.specs.Refusals as refusal
 use Rattle.laws.proofs.Choice.{by-bool}
 use Rattle.items.specs.Whole.{inReport}
 use Rattle.pieces.specs.declared.State.{State}
-use Rattle.pieces.specs.Bounds.{inBounds}
 use Rattle.pieces.specs.Calls.{What, item, more, finished, refused, Reply, pieceOf, feedOf, endUnlessStopped, endOf}
 use Rattle.pieces.specs.Drive.{heed, prepend, unlessTaken, pieceCalls, endCalls, handOver, joined}
 use Rattle.pieces.specs.Due.{lastOf, endAnswer}
@@ -17,8 +17,9 @@ use Rattle.pieces.proofs.Cuts.{Live, end-works, piece-going, piece-waits}
 use Rattle.pieces.proofs.Fewest.{unfinished}
 use Rattle.pieces.proofs.Resume.{Stuck, on-the-way, resumes}
 use Rattle.pieces.proofs.Stands.{Repeats, repeats, stop-stands}
-use Rattle.pieces.proofs.Turns.{Left, Safe, goes, waits, halted, safe, fed, end-going, end-waits, never-27}
-use Rattle.any_calls.specs.After.{Call, piece, end, memory, replyTo, Sum, with, sumOf, MayFollow, Begins, Stop, Refusal, short, late, stops}
+use Rattle.pieces.proofs.Turns.{StandsAfter, Safe, goes, waits, halted, safe, fed, end-going, end-waits, never-27}
+use Rattle.pieces.specs.Bounds.{inBounds, Stops}
+use Rattle.any_calls.specs.After.{Call, piece, end, memory, replyTo, Sum, with, sumOf, MayFollow, Begins, Refusal, short, late, stops}
 use Rattle.any_calls.proofs.Closing.{short-piece, short-end, halted-stop, closing-made, same-piece, same-end, Closed, closed}
 use Rattle.any_calls.proofs.Closing as closing
 use Prim.Native.Nat.{ℕ, suc, _+_, _*_, _≤_, _<_}
@@ -51,15 +52,15 @@ no-more [] (word.refused m o) (word.refused n p) e = (refl, cc)
 same-number : {m o n p : ℕ} → refused m o ≡ refused n p → m ≡ n
 same-number e = cc
 
-no-stop : {n : ℕ} → n ≡ 24 → Stop n → ⊥
+no-stop : {n : ℕ} → n ≡ refusal.littleText → Stops n → ⊥
 no-stop e z = ⊎-elim (λ x. omega arith) (λ y. ⊎-elim (λ x. omega arith) (λ x. omega arith) y) z
 
 -- a reply that left a stop
-left-stop : (e : Bool) (w : What) (s : State) → Left e w s → (n p : ℕ) → w ≡ refused n p → Stop n
+left-stop : (e : Bool) (w : What) (s : State) → StandsAfter e w s → (n p : ℕ) → w ≡ refused n p → Stops n
 left-stop e (item g) s h n p f = absurd (let z : _≡_ {A = ℕ} 0 1 = cc in omega arith)
 left-stop e more s h n p f = absurd (let z : _≡_ {A = ℕ} 0 1 = cc in omega arith)
 left-stop e finished s h n p f = absurd (let z : _≡_ {A = ℕ} 0 1 = cc in omega arith)
-left-stop e (refused m o) s h n p f = subst Stop (same-number f) (halted-stop h)
+left-stop e (refused m o) s h n p f = subst Stops (same-number f) (halted-stop h)
 
 -- where a stop stands it is all that a caller is told
 pub stays : {n p : ℕ} {s : State} → Repeats n p s → (ps : List (List ℕ)) → handOver longest s ps ≡ record { items = []; last = word.refused n p }
@@ -147,7 +148,7 @@ module _ (mode : ℕ) (skip : Bool) (is : mode < 2) where
   finished-closed h z (end room) e = by-bool (leb longest room)
       (λ f. all-given z room (leb-true longest room f) word.finished e)
       (λ f. absurd
-      (let no : refused 24 0 ≡ finished = sym (ap (λ (r : Reply). r .what) (short-end (closing-made mode skip is z) room (leb-false longest room f))) ∙ e in
+      (let no : refused refusal.littleText 0 ≡ finished = sym (ap (λ (r : Reply). r .what) (short-end (closing-made mode skip is z) room (leb-false longest room f))) ∙ e in
       let y : _≡_ {A = ℕ} 0 1 = cc in omega arith))
 
   -- WHATEVER CALLS WERE MADE, when one says "finished" all items of the bytes taken were given, and the text has no stop.
@@ -157,7 +158,7 @@ module _ (mode : ℕ) (skip : Bool) (is : mode < 2) where
 
   -- a stop that a piece call shows
   shown : {taken : List ℕ} {gs : List Given} {s : State} → Reading mode skip taken gs s → (bs : List ℕ) (room : ℕ) → longest ≤ room → (n p : ℕ)
-      → pieceOf s bs room .what ≡ refused n p → Stop n → (behind : List ℕ)
+      → pieceOf s bs room .what ≡ refused n p → Stops n → (behind : List ℕ)
       → told ((taken ++ take (pieceOf s bs room .taken) bs) ++ behind) ≡ record { items = gs; last = word.refused n p }
   unfolding joined
   shown {taken} {gs} {s} h bs room wide n p e z behind =
@@ -170,7 +171,7 @@ module _ (mode : ℕ) (skip : Bool) (is : mode < 2) where
       ∙ ap (λ (l : List Given). record { items = l; last = word.refused n p }) (append-nil (gs ++ []) ∙ append-nil gs)
 
   stop-piece : {taken : List ℕ} {e : Bool} {gs : List Given} {s : State} → Closing mode skip taken e gs s → (bs : List ℕ) (room : ℕ) → longest ≤ room → (n p : ℕ)
-      → pieceOf s bs room .what ≡ refused n p → Stop n → (behind : List ℕ) → (e ≡ true → behind ≡ [])
+      → pieceOf s bs room .what ≡ refused n p → Stops n → (behind : List ℕ) → (e ≡ true → behind ≡ [])
       → told ((taken ++ take (pieceOf s bs room .taken) bs) ++ behind) ≡ record { items = gs; last = word.refused n p }
   stop-piece (read h) bs room wide n p e z behind f = shown h bs room wide n p e z behind
   stop-piece {taken} {e} {gs} {s} (closes c lent fits) bs room wide n p q z behind f =
@@ -184,7 +185,7 @@ module _ (mode : ℕ) (skip : Bool) (is : mode < 2) where
       ∙ ap told (append-nil taken)
       ∙ all-given all longest (le-refl longest) (word.refused n p) (ap (λ (r : Reply). r .what) (stands [] longest (le-refl longest) .1))
 
-  stop-closed : (h : Sum) → Closed mode skip is h → (c : Call) (n p : ℕ) → replyTo (h .state) c .what ≡ refused n p → Stop n
+  stop-closed : (h : Sum) → Closed mode skip is h → (c : Call) (n p : ℕ) → replyTo (h .state) c .what ≡ refused n p → Stops n
       → (behind : List ℕ) → MayFollow (with h c) behind
       → told (with h c .taken ++ behind) ≡ record { items = h .items; last = word.refused n p }
   stop-closed h z (piece bs room) n p e y behind f = by-bool (leb longest room)
@@ -199,7 +200,7 @@ module _ (mode : ℕ) (skip : Bool) (is : mode < 2) where
   -- WHATEVER CALLS WERE MADE, when one says a stop all items before it were given: of the bytes taken, that call's too, and whatever may
   -- still follow them.
   pub stop-all : (calls : List Call) (c : Call) (n p : ℕ) (behind : List ℕ) → let h : Sum = sumOf mode skip calls in
-      replyTo (h .state) c .what ≡ refused n p → Stop n → MayFollow (with h c) behind
+      replyTo (h .state) c .what ≡ refused n p → Stops n → MayFollow (with h c) behind
       → expected (inReport mode) skip (with h c .taken ++ behind) ≡ record { items = h .items; last = word.refused n p }
   stop-all calls c n p behind e z f = stop-closed (sumOf mode skip calls) (closed mode skip is calls) c n p e z behind f
 
@@ -210,39 +211,39 @@ module _ (mode : ℕ) (skip : Bool) (is : mode < 2) where
       → pieceOf s bs room .what ≡ refused n p → Refusal (record { taken = taken; items = gs; ended = e; state = s }) (piece bs room) n
   refused-piece {s = s} (read z) bs room wide n p f = stops (go (on-the-way mode skip is z))
     where
-      go : Live s ⊎ Stuck s → Stop n
+      go : Live s ⊎ Stuck s → Stops n
       go (inl (inl g)) =
           left-stop false (feedOf s bs 0 .what) (feedOf s bs 0 .state) (fed bs 0 g) n p (sym (ap (λ (r : Reply). r .what) (piece-going room wide g bs)) ∙ f)
       go (inl (inr w)) =
           left-stop false (item _) s (inr w) n p (sym (ap (λ (r : Reply). r .what) (piece-waits room wide w bs)) ∙ f)
-      go (inr k) = subst Stop (same-number (sym (ap (λ (r : Reply). r .what) (repeats (k .stuck) bs room wide .0)) ∙ f)) (halted-stop (k .stuck))
+      go (inr k) = subst Stops (same-number (sym (ap (λ (r : Reply). r .what) (repeats (k .stuck) bs room wide .0)) ∙ f)) (halted-stop (k .stuck))
   refused-piece {taken} {e} {gs} {s} (closes c lent fits) bs room wide n p f =
       let y = closing.late mode skip is (closes c lent fits) bs room wide in
       let number : y .number ≡ n = same-number (sym (ap (λ (r : Reply). r .what) (y .is)) ∙ f) in
       ⊎-elim (λ a. late refl (sym number ∙ a) (same-piece mode skip is (record { taken = taken; items = gs; ended = true; state = s }) bs room (y .is)))
-      (λ a. stops (subst Stop number a)) (y .why)
+      (λ a. stops (subst Stops number a)) (y .why)
 
-  refused-end : {s : State} → Safe s → (room : ℕ) → longest ≤ room → (n p : ℕ) → inBounds s ≡ true → endOf s room .what ≡ refused n p → Stop n
+  refused-end : {s : State} → Safe s → (room : ℕ) → longest ≤ room → (n p : ℕ) → inBounds s ≡ true → endOf s room .what ≡ refused n p → Stops n
   refused-end {s} z room wide n p b f = go z
     where
       worked : endUnlessStopped s (s .marks .stage) .what ≡ refused n p
       worked = sym (ap (λ (r : Reply). r .what) (end-works room wide s b)) ∙ f
 
-      left : Left true (endUnlessStopped s (s .marks .stage) .what) (endUnlessStopped s (s .marks .stage) .state) → Stop n
+      left : StandsAfter true (endUnlessStopped s (s .marks .stage) .what) (endUnlessStopped s (s .marks .stage) .state) → Stops n
       left y = left-stop true (endUnlessStopped s (s .marks .stage) .what) (endUnlessStopped s (s .marks .stage) .state) y n p worked
 
-      go : Safe s → Stop n
+      go : Safe s → Stops n
       go (goes e h) = left (end-going h)
       go (waits e w) = left (end-waits w)
-      go (halted m o h) = subst Stop (same-number (sym (ap (λ (r : Reply). r .what) (repeats h [] room wide .1)) ∙ f)) (halted-stop h)
+      go (halted m o h) = subst Stops (same-number (sym (ap (λ (r : Reply). r .what) (repeats h [] room wide .1)) ∙ f)) (halted-stop h)
 
-  refusal : (h : Sum) → Closed mode skip is h → (c : Call) (n p : ℕ) → replyTo (h .state) c .what ≡ refused n p → Refusal h c n
-  refusal h z (piece bs room) n p e = by-bool (leb longest room)
+  why-refused : (h : Sum) → Closed mode skip is h → (c : Call) (n p : ℕ) → replyTo (h .state) c .what ≡ refused n p → Refusal h c n
+  why-refused h z (piece bs room) n p e = by-bool (leb longest room)
       (λ g. refused-piece z bs room (leb-true longest room g) n p e)
       (λ g. let narrow : room < longest = leb-false longest room g in
       let r = short-piece (closing-made mode skip is z) room narrow bs in
       short narrow (sym (same-number (sym (ap (λ (r : Reply). r .what) r) ∙ e))) (same-piece mode skip is h bs room r))
-  refusal h z (end room) n p e = by-bool (leb longest room)
+  why-refused h z (end room) n p e = by-bool (leb longest room)
       (λ g. let made = closing-made mode skip is z in stops (refused-end (safe made) room (leb-true longest room g) n p (never-27 made) e))
       (λ g. let narrow : room < longest = leb-false longest room g in
       let r = short-end (closing-made mode skip is z) room narrow in
@@ -250,9 +251,9 @@ module _ (mode : ℕ) (skip : Bool) (is : mode < 2) where
 
   -- WHATEVER CALLS WERE MADE, a call is refused with 24, by its memory, or with 26, after the end, and then nothing changes; or by a stop.
   pub refusals : (calls : List Call) (c : Call) (n p : ℕ) → let h : Sum = sumOf mode skip calls in replyTo (h .state) c .what ≡ refused n p → Refusal h c n
-  refusals calls c n p e = refusal (sumOf mode skip calls) (closed mode skip is calls) c n p e
+  refusals calls c n p e = why-refused (sumOf mode skip calls) (closed mode skip is calls) c n p e
 
   -- a call without memory enough is refused with 24, whatever else would be said
-  pub short-refused : (calls : List Call) (c : Call) → memory c < longest → replyTo (sumOf mode skip calls .state) c .what ≡ refused 24 0
+  pub short-refused : (calls : List Call) (c : Call) → memory c < longest → replyTo (sumOf mode skip calls .state) c .what ≡ refused refusal.littleText 0
   short-refused calls (piece bs room) narrow = ap (λ (r : Reply). r .what) (short-piece (closing-made mode skip is (closed mode skip is calls)) room narrow bs)
   short-refused calls (end room) narrow = ap (λ (r : Reply). r .what) (short-end (closing-made mode skip is (closed mode skip is calls)) room narrow)

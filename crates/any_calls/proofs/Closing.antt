@@ -1,5 +1,6 @@
 -- Any calls are calls of crate `pieces`, specs/Produced: pieces with memory enough, then ends with memory enough, once those are left out that
 -- change nothing: the calls without memory enough, and the pieces after the end.
+use Rattle.refusal.specs.Refusals as refusal
 use Rattle.laws.proofs.Choice.{by-bool}
 use Rattle.pieces.specs.declared.Stage.{Stage}
 use Rattle.pieces.specs.declared.Stage.the-variants.{Opening, Pound, FirstLine, Idle, Busy, Waiting, Stopped}
@@ -11,8 +12,9 @@ use Rattle.pieces.specs.Produced.{Produced, opened, pieced, ended, givenBy, Rea
 use Rattle.pieces.proofs.Cuts.{piece-works, end-works}
 use Rattle.pieces.proofs.Kept.{Staged}
 use Rattle.pieces.proofs.Stands.{repeats}
-use Rattle.pieces.proofs.Turns.{Halted, Left, Safe, goes, waits, halted, safe, end-going, end-waits, never-27}
-use Rattle.any_calls.specs.After.{Sum, Call, piece, end, with, after, sumOf, Stop}
+use Rattle.pieces.proofs.Turns.{Halted, StandsAfter, Safe, goes, waits, halted, safe, end-going, end-waits, never-27}
+use Rattle.pieces.specs.Bounds.{Stops}
+use Rattle.any_calls.specs.After.{Sum, Call, piece, end, with, after, sumOf}
 use Rattle.any_calls.specs.After as sum
 use Prim.Native.Nat.{ℕ, _≤_, _<_}
 use mathlib.Core.Path.{_≡_, refl, sym, ap, subst, _∙_}
@@ -26,11 +28,11 @@ use borrow.Author.Tests.{lt-ltb, lt-leb, leb-true, leb-false}
 -- ---- calls without memory enough
 
 module _ {s : State} (made : Produced s) (room : ℕ) (short : room < longest) where
-  pub short-piece : (bs : List ℕ) → pieceOf s bs room ≡ reply 0 (refused 24 0) s
+  pub short-piece : (bs : List ℕ) → pieceOf s bs room ≡ reply 0 (refused refusal.littleText 0) s
   unfolding pieceOf
   short-piece bs = rw (never-27 made, lt-ltb room longest short)
 
-  pub short-end : endOf s room ≡ reply 0 (refused 24 0) s
+  pub short-end : endOf s room ≡ reply 0 (refused refusal.littleText 0) s
   unfolding endOf
   short-end = rw (never-27 made, lt-ltb room longest short)
 
@@ -45,7 +47,7 @@ abbrev ShutIf : Bool → State → Type 0
 ShutIf true s = Shut s
 ShutIf false s = Unit {0}
 
-shut-left : (w : What) (s : State) → Left true w s → Shut s
+shut-left : (w : What) (s : State) → StandsAfter true w s → Shut s
 shut-left (item g) s (inl h) = declared (h .ended)
 shut-left (item g) s (inr w) = declared (w .ended)
 shut-left more s h = declared (h .ended)
@@ -58,7 +60,7 @@ shut-end {s} made room wide = go (safe made)
     worked : endOf s room ≡ endUnlessStopped s (s .marks .stage)
     worked = end-works room wide s (never-27 made)
 
-    left : Left true (endUnlessStopped s (s .marks .stage) .what) (endUnlessStopped s (s .marks .stage) .state) → Shut (endOf s room .state)
+    left : StandsAfter true (endUnlessStopped s (s .marks .stage) .what) (endUnlessStopped s (s .marks .stage) .state) → Shut (endOf s room .state)
     left z =
         subst (λ (r : Reply). Shut (r .state)) (sym worked)
         (shut-left (endUnlessStopped s (s .marks .stage) .what) (endUnlessStopped s (s .marks .stage) .state) z)
@@ -69,10 +71,10 @@ shut-end {s} made room wide = go (safe made)
     go (halted n p h) = subst (λ (r : Reply). Shut (r .state)) (sym (repeats h [] room wide .1)) (stuck n p h)
 
 -- only 20, 21 and 23 stand
-pub halted-stop : {n p : ℕ} {s : State} → Halted n p s → Stop n
+pub halted-stop : {n p : ℕ} {s : State} → Halted n p s → Stops n
 halted-stop {n} {p} {s} h = subst (Staged (h .read) s) (h .stage) (h .kept .staged) .0
 
-stage-stop : {s : State} → Safe s → (n p : ℕ) → s .marks .stage ≡ Stopped n p → Stop n
+stage-stop : {s : State} → Safe s → (n p : ℕ) → s .marks .stage ≡ Stopped n p → Stops n
 stage-stop {s} (goes e h) n p f = subst (Staged (h .read) s) f (h .kept .staged) .0
 stage-stop {s} (waits e h) n p f = subst (Staged (h .read) s) f (h .kept .staged) .0
 stage-stop {s} (halted m o h) n p f = subst (Staged (h .read) s) f (h .kept .staged) .0
@@ -81,18 +83,18 @@ stage-stop {s} (halted m o h) n p f = subst (Staged (h .read) s) f (h .kept .sta
 pub record Refuses (s : State) (r : Reply) : Type 0 where
   pub number : ℕ
   pub place : ℕ
-  pub why : (number ≡ 26) ⊎ Stop number
+  pub why : (number ≡ refusal.afterEnd) ⊎ Stops number
   pub is : r ≡ reply 0 (refused number place) s
 
-late-stage : (s : State) (bs : List ℕ) → ((n p : ℕ) → s .marks .stage ≡ Stopped n p → Stop n) → (b : Stage) → s .marks .stage ≡ b
+late-stage : (s : State) (bs : List ℕ) → ((n p : ℕ) → s .marks .stage ≡ Stopped n p → Stops n) → (b : Stage) → s .marks .stage ≡ b
     → s .marks .ended ≡ true
     → Refuses s (pieceStage s b bs)
-late-stage s bs z Opening f e = record { number = 26; place = 0; why = inl refl; is = rw e }
-late-stage s bs z Pound f e = record { number = 26; place = 0; why = inl refl; is = rw e }
-late-stage s bs z FirstLine f e = record { number = 26; place = 0; why = inl refl; is = rw e }
-late-stage s bs z Idle f e = record { number = 26; place = 0; why = inl refl; is = rw e }
-late-stage s bs z (Busy st p) f e = record { number = 26; place = 0; why = inl refl; is = rw e }
-late-stage s bs z (Waiting st b) f e = record { number = 26; place = 0; why = inl refl; is = rw e }
+late-stage s bs z Opening f e = record { number = refusal.afterEnd; place = 0; why = inl refl; is = rw e }
+late-stage s bs z Pound f e = record { number = refusal.afterEnd; place = 0; why = inl refl; is = rw e }
+late-stage s bs z FirstLine f e = record { number = refusal.afterEnd; place = 0; why = inl refl; is = rw e }
+late-stage s bs z Idle f e = record { number = refusal.afterEnd; place = 0; why = inl refl; is = rw e }
+late-stage s bs z (Busy st p) f e = record { number = refusal.afterEnd; place = 0; why = inl refl; is = rw e }
+late-stage s bs z (Waiting st b) f e = record { number = refusal.afterEnd; place = 0; why = inl refl; is = rw e }
 late-stage s bs z (Stopped n p) f e = record { number = n; place = p; why = inr (z n p f); is = refl }
 
 late-piece : {s : State} → Produced s → Shut s → (bs : List ℕ) (room : ℕ) → longest ≤ room → Refuses s (pieceOf s bs room)
@@ -133,7 +135,7 @@ module _ (mode : ℕ) (skip : Bool) (is : mode < 2) where
       ∙ ap (λ (l : List ℕ). record { taken = l; items = h .items ++ []; ended = h .ended; state = h .state }) (append-nil (h .taken))
       ∙ ap (λ (l : List Given). record { taken = h .taken; items = l; ended = h .ended; state = h .state }) (append-nil (h .items))
 
-  pub same-end : (h : Sum) (room : ℕ) → room < longest → endOf (h .state) room ≡ reply 0 (refused 24 0) (h .state) → with h (end room) ≡ h
+  pub same-end : (h : Sum) (room : ℕ) → room < longest → endOf (h .state) room ≡ reply 0 (refused refusal.littleText 0) (h .state) → with h (end room) ≡ h
   same-end h room short e =
       ap (λ (r : Reply). record { taken = h .taken; items = h .items ++ givenBy (r .what); ended = with h (end room) .ended; state = r .state }) e
       ∙ ap (λ (l : List Given). record { taken = h .taken; items = l; ended = with h (end room) .ended; state = h .state }) (append-nil (h .items))

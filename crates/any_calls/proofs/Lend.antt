@@ -1,5 +1,6 @@
 -- A caller that lends another text memory at every call is given what the caller of crate `pieces` is given with one: a memory too short
 -- costs a call and changes nothing, and of those that are long enough every one serves alike. So `resumes` carries over, from whatever calls.
+use Rattle.refusal.specs.Refusals as refusal
 use Rattle.laws.specs.Choice.{if_then_else_}
 use Rattle.laws.proofs.Choice.{by-bool}
 use Rattle.items.specs.Whole.{inReport}
@@ -12,12 +13,13 @@ use Rattle.pieces.specs.Expected.{LastWord, Expected, expected, longest}
 use Rattle.pieces.specs.Expected as word
 use Rattle.pieces.specs.Given.{Given}
 use Rattle.pieces.specs.Produced.{Produced, pieced, ended, givenBy, Reading, Closing, read, closes}
-use Rattle.pieces.proofs.Cuts.{Live, final, settled, ending, end-works, piece-works, piece-going, piece-waits}
+use Rattle.pieces.proofs.Cuts.{Live, Enough, enough, final, settled, ending, end-works, piece-works, piece-going, piece-waits}
 use Rattle.pieces.proofs.Fewest.{feed-least}
 use Rattle.pieces.proofs.Resume.{Stuck, on-the-way, resumes}
 use Rattle.pieces.proofs.Stands.{Repeats, repeats}
-use Rattle.pieces.proofs.Turns.{Going, Waits, Left, Safe, goes, waits, halted, safe, fed, going-on, end-going, end-waits, never-27}
-use Rattle.any_calls.specs.After.{Call, Sum, sumOf, Stop}
+use Rattle.pieces.proofs.Turns.{Going, Waits, StandsAfter, Safe, goes, waits, halted, safe, fed, going-on, end-going, end-waits, never-27}
+use Rattle.pieces.specs.Bounds.{Stops}
+use Rattle.any_calls.specs.After.{Call, Sum, sumOf}
 use Rattle.any_calls.specs.After as sum
 use Rattle.any_calls.specs.Lend.{tooShort, pieceCalls, endCalls, handOver, drive, wide, callsFor}
 use Rattle.any_calls.proofs.Closing.{short-piece, short-end, halted-stop, closing-made, closed}
@@ -36,11 +38,11 @@ use borrow.Author.Tests.{ne-eqb, leb-true, leb-false}
 
 -- ---- a call with memory enough
 
-not-24 : {n : ℕ} → Stop n → eqb n 24 ≡ false
-not-24 {n} z = ne-eqb n 24 (λ e. ⊎-elim (λ x. omega arith) (λ y. ⊎-elim (λ x. omega arith) (λ x. omega arith) y) z)
+not-24 : {n : ℕ} → Stops n → eqb n refusal.littleText ≡ false
+not-24 {n} z = ne-eqb n refusal.littleText (λ e. ⊎-elim (λ x. omega arith) (λ y. ⊎-elim (λ x. omega arith) (λ x. omega arith) y) z)
 
 -- it is not refused with 24
-served : (e : Bool) (w : What) (s : State) → Left e w s → tooShort w ≡ false
+served : (e : Bool) (w : What) (s : State) → StandsAfter e w s → tooShort w ≡ false
 served e (item g) s h = refl
 served e more s h = refl
 served e finished s h = refl
@@ -81,20 +83,12 @@ end-calls-same (room ∷ rooms) {s} made = by-bool (leb longest room)
 
 -- ---- a piece
 
--- enough calls for a piece of n bytes, as proofs/Cuts of crate `pieces` counts them
-abbrev Enough : ℕ → State → ℕ → Type 0
-Enough f s n = (Going false s × (2 * n + 1 ≤ f)) ⊎ (Waits false s × (2 * n + 2 ≤ f))
-
-enough : (f : ℕ) (s : State) (n : ℕ) → Live s → 2 * n + 2 ≤ f → Enough f s n
-enough f s n (inl h) l = inl (h, omega arith)
-enough f s n (inr w) l = inr (w, l)
-
 unless-same : (l : List ℕ) {a b : Expected} (f g : List ℕ → Expected) → a ≡ b → ((x : ℕ) (left : List ℕ) → x ∷ left ≡ l → f (x ∷ left) ≡ g (x ∷ left))
     → unlessTaken l a f ≡ unlessTaken l b g
 unless-same [] f g e h = e
 unless-same (x ∷ left) f g e h = h x left refl
 
-heed-same : (w : What) (t : State) {a b : Expected} → Left false w t → (Live t → a ≡ b) → heed w a ≡ heed w b
+heed-same : (w : What) (t : State) {a b : Expected} → StandsAfter false w t → (Live t → a ≡ b) → heed w a ≡ heed w b
 heed-same (item g) t h f = ap (heed (item g)) (f h)
 heed-same more t h f = f (inl h)
 heed-same finished t h f = refl
@@ -131,7 +125,7 @@ module _ (n : ℕ) (next : List ℕ → State → Expected) (follow : State → 
   heededOne f bs r = heed (r .what) (unlessTaken (drop (r .taken) bs) (follow (r .state)) (λ left. one.pieceCalls longest f (r .state) left follow))
 
   -- a call that is served
-  serves : (rooms : List ℕ) (f : ℕ) (bs : List ℕ) (r : Reply) → Produced (r .state) → Left false (r .what) (r .state) → n ≤ wide rooms
+  serves : (rooms : List ℕ) (f : ℕ) (bs : List ℕ) (r : Reply) → Produced (r .state) → StandsAfter false (r .what) (r .state) → n ≤ wide rooms
       → ((x : ℕ) (left : List ℕ) → x ∷ left ≡ drop (r .taken) bs → Live (r .state)
       → pieceCalls rooms (r .state) (x ∷ left) next ≡ one.pieceCalls longest f (r .state) (x ∷ left) follow)
       → heeded next rooms bs r ≡ heededOne f bs r
@@ -198,7 +192,7 @@ hand-over-same (p ∷ ps) rooms s made h l =
     (λ later t z live k. hand-over-same ps later t z live k) rooms (2 * length p + 2) made p (enough (2 * length p + 2) s (length p) h (le-refl (2 * length p + 2))) l
 
 -- where a stop stands, the first memory that is long enough tells it
-module _ {n p : ℕ} {s : State} (made : Produced s) (h : Repeats n p s) (z : Stop n) where
+module _ {n p : ℕ} {s : State} (made : Produced s) (h : Repeats n p s) (z : Stops n) where
   stays-end : (rooms : List ℕ) → 1 ≤ wide rooms → endCalls rooms s ≡ record { items = []; last = word.refused n p }
   unfolding endCalls wide
   stays-end [] l = absurd (omega arith)

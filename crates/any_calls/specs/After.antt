@@ -4,12 +4,12 @@ use Prim.Native.Nat.{ℕ, _<_}
 use mathlib.Core.Path.{_≡_}
 use mathlib.Core.Bool.{Bool, true, false}
 use mathlib.Core.List.{List, [], _∷_, _++_}
-use mathlib.Core.Logic.{_⊎_}
 use lib.ListN.{take}
 use lib.Dec.{leb}
 use Rattle.laws.specs.Choice.{if_then_else_}
 use Rattle.refusal.specs.Refusals as refusal
 use Rattle.pieces.specs.declared.State.{State}
+use Rattle.pieces.specs.Bounds.{Stops}
 use Rattle.pieces.specs.Calls.{Reply, pieceOf, endOf, openOf}
 use Rattle.pieces.specs.Expected.{longest}
 use Rattle.pieces.specs.Given.{Given}
@@ -68,12 +68,8 @@ MayFollow h behind = h .ended ≡ true → behind ≡ []
 abbrev pub Begins : List Given → List Given → Type 0
 Begins gs all = (later : List Given) × (gs ++ later ≡ all)
 
--- 20, 21 and 23
-abbrev pub Stop : ℕ → Type 0
-Stop n = (n ≡ refusal.tooLong) ⊎ ((n ≡ refusal.notUtf8) ⊎ (n ≡ refusal.longItem))
-
 -- Why a call was refused. 24 and 26 leave everything as it was, and there is no 27
 pub data Refusal (h : Sum) (c : Call) (n : ℕ) : Type 0 where
   short : memory c < longest → n ≡ refusal.littleText → with h c ≡ h → Refusal h c n
   late : h .ended ≡ true → n ≡ refusal.afterEnd → with h c ≡ h → Refusal h c n
-  stops : Stop n → Refusal h c n
+  stops : Stops n → Refusal h c n

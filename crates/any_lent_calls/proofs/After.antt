@@ -1,5 +1,6 @@
 -- A lent call does what the call by value does, `same-piece` and `same-end` of crate `lent`, so any lent calls add up to what those by value add
 -- up to, with the state lent; and what crate `any_calls` says of these holds of them.
+use Rattle.refusal.specs.Refusals as refusal
 use Rattle.laws.specs.Choice.{if_then_else_}
 use Rattle.items.specs.Whole.{inReport}
 use Rattle.pieces.specs.declared.State.{State as ByValue}
@@ -9,7 +10,8 @@ use Rattle.pieces.specs.Expected as word
 use Rattle.pieces.specs.Produced.{Produced, opened, pieced, ended, givenBy}
 use Rattle.lent.specs.Calls.{Said, lend, worded}
 use Rattle.lent.proofs.Same.{same-open, same-piece, same-end}
-use Rattle.any_calls.specs.After.{Call, piece, end, memory, Begins, Stop, replyTo}
+use Rattle.pieces.specs.Bounds.{Stops}
+use Rattle.any_calls.specs.After.{Call, piece, end, memory, Begins, replyTo}
 use Rattle.any_calls.specs.After as value
 use Rattle.any_calls.proofs.After as by
 use Rattle.any_lent_calls.specs.After.{saidTo, Sum, with, after, sumOf, Refusal, short, late, stops}
@@ -83,7 +85,7 @@ module _ (mode : ℕ) (skip : Bool) (buf : List ℕ) (full : length buf ≡ long
 
     -- WHATEVER LENT CALLS WERE MADE, when one says a stop all items before it were given.
     pub stop-all-lent : (calls : List Call) (c : Call) (n p : ℕ) (behind : List ℕ) → let h : Sum = sumOf mode skip buf calls in
-        saidTo (h .state) c .what ≡ refused n p → Stop n → (with h c .ended ≡ true → behind ≡ [])
+        saidTo (h .state) c .what ≡ refused n p → Stops n → (with h c .ended ≡ true → behind ≡ [])
         → expected (inReport mode) skip (with h c .taken ++ behind) ≡ record { items = h .items; last = word.refused n p }
     stop-all-lent calls c n p behind e z f =
         ap (λ (h : Sum). expected (inReport mode) skip (h .taken ++ behind)) (with-lent calls c)
@@ -92,7 +94,7 @@ module _ (mode : ℕ) (skip : Bool) (buf : List ℕ) (full : length buf ≡ long
         ∙ ap (λ (h : Sum). record { items = h .items; last = word.refused n p }) (sym (same-calls calls))
 
     -- a call without memory enough is refused with 24
-    pub short-refused-lent : (calls : List Call) (c : Call) → memory c < longest → saidTo (sumOf mode skip buf calls .state) c .what ≡ refused 24 0
+    pub short-refused-lent : (calls : List Call) (c : Call) → memory c < longest → saidTo (sumOf mode skip buf calls .state) c .what ≡ refused refusal.littleText 0
     short-refused-lent calls c narrow = ap (λ (u : Said). u .what) (same-answer calls c) ∙ by.short-refused mode skip is calls c narrow
 
     -- WHATEVER LENT CALLS WERE MADE, a call is refused with 24, by its memory, or with 26, after the end, and then nothing changes; or by a stop.

@@ -13,7 +13,8 @@ use Rattle.pieces.specs.Given.{Given}
 use Rattle.pieces.specs.Produced.{givenBy}
 use Rattle.lent.specs.declared.State.{State}
 use Rattle.lent.specs.Calls.{Said, pieceFor, endFor, openFor}
-use Rattle.any_calls.specs.After.{Call, piece, end, memory, Stop}
+use Rattle.pieces.specs.Bounds.{Stops}
+use Rattle.any_calls.specs.After.{Call, piece, end, memory}
 
 abbrev pub saidTo : State → Call → Said
 saidTo s (piece bs room) = pieceFor s bs room
@@ -51,4 +52,4 @@ sumOf mode skip buf calls = after (record { taken = []; items = []; ended = fals
 pub data Refusal (h : Sum) (c : Call) (n : ℕ) : Type 0 where
   short : memory c < longest → n ≡ refusal.littleText → with h c ≡ h → Refusal h c n
   late : h .ended ≡ true → n ≡ refusal.afterEnd → with h c ≡ h → Refusal h c n
-  stops : Stop n → Refusal h c n
+  stops : Stops n → Refusal h c n

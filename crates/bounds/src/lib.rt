@@ -1,12 +1,12 @@
-// Whether a state is within the field bounds: refusal 27 is for those outside. docs/STATE.md lists the bounds. `limits` has the numbers of
-// document 01 that the piece calls speak of.
-use crate::limits::*;
+// Whether a state is within the field bounds: refusal 27 is for those outside. docs/STATE.md lists the bounds.
 use chars::char_width;
 use chars::is_scalar;
 use items::Outcome;
 use items::Phase;
 use items::kinds;
+use items::modes::REPORT;
 use pieces::Beyond;
+use pieces::LONGEST;
 use pieces::Marks;
 use pieces::Part;
 use pieces::Stage;
@@ -21,8 +21,6 @@ ghost use Prim.Native.Nat.{ℕ, _+_, _-_, _*_, _^_, _≤_};
 ghost use lib.Dec.{leb};
 ghost use Rattle.items.specs.Whole.{limit};
 ghost use Rattle.pieces.specs.Bounds.{isPlace, partBounds, doneBounds, phaseBounds, beyondBounds, heldBounds, stopBounds, stageBounds, numberBounds, inBounds};
-
-pub mod limits;
 
 // How many bytes a character has at most.
 const WIDEST: usize = 4;

@@ -7,7 +7,8 @@
 //     s         prints the state                  -          from here on the text memory is a byte too short
 //
 // and a letter that makes the state one outside the bounds of docs/STATE.md: m its mode, a its place, t its range, b its character begun,
-// l its item's length, k the start of its item, x its stop, d its depth.
+// l its item's length, k the start of its item, x its stop, d its depth; z makes its place the last that a text has, which is inside them:
+// so 20 is shown without 4 GiB.
 use crate::standing;
 use chars::Begun;
 use cuttings::part;
@@ -23,8 +24,10 @@ use edge_cases::show::number;
 use edge_cases::show::print;
 use edge_cases::show::record;
 use edge_cases::show::runs;
+use items::modes::PLAIN;
 use pieces::Answer;
 use pieces::Got;
+use pieces::LONGEST;
 use pieces::Marks;
 use pieces::Part;
 use pieces::Stage;
@@ -40,18 +43,16 @@ use refusal::TOO_FEW;
 const MARK: u8 = 7;
 
 // The text memory that the calls ask for, and a byte less.
-const ENOUGH: usize = 4096;
+const ENOUGH: usize = LONGEST;
 
-const SHORT: usize = 4095;
-
-const PLAIN: u32 = 0;
+const SHORT: usize = LONGEST - 1;
 
 // What no bound allows: a mode, a place, a length of an item, a stop, and of a short text a depth.
 const NO_MODE: u32 = 2;
 
 const PAST_LIMIT: usize = LIMIT + 1;
 
-const PAST_LONGEST: usize = 4097;
+const PAST_LONGEST: usize = LONGEST + 1;
 
 const NO_STOP: u32 = TOO_FEW;
 
@@ -187,6 +188,7 @@ fn forged(m: Marks, letter: u8) -> Marks {
     match letter {
         b'm' => next.mode = NO_MODE,
         b'a' => next.at = PAST_LIMIT,
+        b'z' => next.at = LIMIT,
         b't' => next.to = PAST_LIMIT,
         b'b' => next.part = full_part(),
         b'l' => next.len = PAST_LONGEST,

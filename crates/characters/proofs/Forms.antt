@@ -1,7 +1,7 @@
 -- The forms of a character that has no name, by what the code finds: one character alone, and hexadecimal digits.
 use Prim.Native.Nat.{ℕ, suc, _+_, _-_, _≤_, _<_}
 use mathlib.Core.Path.{_≡_, refl, sym, ap, subst, _∙_}
-use mathlib.Core.Bool.{Bool, true, false, _&&_, _||_}
+use mathlib.Core.Bool.{Bool, true, false, _||_}
 use mathlib.Core.List.{List}
 use native.Mathlib.Nat.{zero-add}
 use native.Mathlib.Omega.{arith}
@@ -12,6 +12,7 @@ use borrow.Author.Tests.{eq-eqb, ne-eqb, lt-ltb, le-ltb}
 use Rattle.laws.specs.Choice.{if_then_else_}
 use Rattle.laws.specs.Quoted.{code}
 use Rattle.laws.proofs.Lent.{part-rest}
+use Rattle.laws.proofs.Choice.{and-no}
 use Rattle.chars.specs.Utf8 as Utf8
 use Rattle.chars.specs.Utf8.{Front, front, placed}
 use Rattle.chars.specs.declared.Decoded.{Decoded}
@@ -108,10 +109,6 @@ part-place t from to e d p h g f =
 
 -- ---- which of them
 
-and-false : (b : Bool) → (b && false) ≡ false
-and-false true = refl
-and-false false = refl
-
 pub short-alone : (report : Bool) (t : List ℕ) → length t ≤ 1 → spelledOut report t ≡ onlyOne report (front t) t
 unfolding spelledOut
-short-alone report t h = rw (le-ltb 1 (length t) h) (rw (and-false (eqb (getD t 0 0) (code "u") || eqb (getD t 0 0) (code "x"))))
+short-alone report t h = rw (le-ltb 1 (length t) h) (rw (and-no (eqb (getD t 0 0) (code "u") || eqb (getD t 0 0) (code "x"))))

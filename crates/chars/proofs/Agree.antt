@@ -5,7 +5,7 @@ use native.Mathlib.Nat.{add-assoc}
 use native.Mathlib.Numerals.{sub-one, add-one}
 use mathlib.Core.Path.{_≡_, refl}
 use mathlib.Core.List.{List, [], _∷_}
-use mathlib.Core.Bool.{Bool, true, false, _&&_}
+use mathlib.Core.Bool.{Bool, true, false}
 use lib.ListN.{length, getD, drop}
 use lib.Seq.{drop-cons}
 use lib.Dec.{eqb·suc-zero}
@@ -16,6 +16,7 @@ use Rattle.chars.specs.declared.Step.{Step}
 use Rattle.chars.specs.declared.Step.the-variants as steps
 use Rattle.chars.specs.declared.Decoded.the-variants as decoded
 use Rattle.laws.specs.Quoted.{within}
+use Rattle.laws.proofs.Choice.{and-yes}
 use Rattle.chars.specs.Utf8.{more, first, bad, rest, after, front, placed}
 use Rattle.chars.specs.Machine.{step, start, told, reads}
 use Rattle.chars.proofs.Table.{Small, Wanting, Fine, first-fine}
@@ -40,17 +41,13 @@ abbrev pub goes-on : ℕ → ℕ → Step
 goes-on zero d = steps.Char d
 goes-on (suc n) d = more (suc n) 0x80 0xBF d
 
-and-true : (x : Bool) → (x && true) ≡ x
-and-true true = refl
-and-true false = refl
-
 -- the step within a character that a text leads to
 pub step-within : (n lo hi c b : ℕ) → Small (suc n) c
     → step (at-state (suc n) lo hi c) b ≡ (if within lo hi b then goes-on n (c * 64 + b % 64) else steps.Bad)
 unfolding step
-step-within zero lo hi c b h = simp (le-leb c 0x7FFF h, and-true)
+step-within zero lo hi c b h = simp (le-leb c 0x7FFF h, and-yes)
 step-within (suc n) lo hi c b h =
-    simp (eqb·suc-zero (suc n), le-leb c 0x7FFF (small-top (suc n) c h), and-true, ne-eqb (suc (suc n)) 1 (λ e. omega arith), sub-one)
+    simp (eqb·suc-zero (suc n), le-leb c 0x7FFF (small-top (suc n) c h), and-yes, ne-eqb (suc (suc n)) 1 (λ e. omega arith), sub-one)
 
 -- within a character that starts at f, k bytes into it
 inner : (s : List ℕ) (n lo hi c f k : ℕ) → Small (suc n) c → reads (at-state (suc n) lo hi c) (f + k) s ≡ placed f (rest (suc n) lo hi c k s)

@@ -4,11 +4,11 @@ ghost use Prim.Native.Nat.{_+_, _%_};
 ghost use Rattle.chars.specs.Encode.{isScalar, width, encode, lay, laid};
 
 // The first code points of two, three and four bytes, and the first past them all.
-const TWO_FROM: u32 = 0x80;
+pub const TWO_FROM: u32 = 0x80;
 
-const THREE_FROM: u32 = 0x800;
+pub const THREE_FROM: u32 = 0x800;
 
-const FOUR_FROM: u32 = 0x10000;
+pub const FOUR_FROM: u32 = 0x10000;
 
 const ALL_END: u32 = 0x110000;
 
@@ -18,19 +18,19 @@ const SURROGATES: u32 = 0xD800;
 const SURROGATES_END: u32 = 0xE000;
 
 // The marks of a first byte, 110xxxxx, 1110xxxx and 11110xxx, and of a later one, 10xxxxxx, which holds six bits.
-const MARK_TWO: u32 = 0xC0;
+pub const MARK_TWO: u32 = 0xC0;
 
-const MARK_THREE: u32 = 0xE0;
+pub const MARK_THREE: u32 = 0xE0;
 
-const MARK_FOUR: u32 = 0xF0;
+pub const MARK_FOUR: u32 = 0xF0;
 
 const MARK_LATER: u32 = 0x80;
 
-const SIX_BITS: u32 = 64;
+pub const SIX_BITS: u32 = 64;
 
-const TWELVE_BITS: u32 = 64 * 64;
+pub const TWELVE_BITS: u32 = 64 * 64;
 
-const EIGHTEEN_BITS: u32 = 64 * 64 * 64;
+pub const EIGHTEEN_BITS: u32 = 64 * 64 * 64;
 
 // Whether a number is a character's.
 pub fn is_scalar(c: u32) -> bool
@@ -62,7 +62,7 @@ pub fn char_width(c: u32) -> usize
 }
 
 // A later byte, with the last six bits of `bits`.
-fn later(bits: u32) -> u8
+pub fn later(bits: u32) -> u8
     ensures { λ r. ⌜ r ≡ 0x80 + bits % 64 ⌝ }
 {
     (MARK_LATER + bits % SIX_BITS) as u8

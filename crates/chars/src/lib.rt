@@ -40,7 +40,7 @@ pub enum Utf8 {
 
 mod blank;
 mod decode;
-mod encode;
+pub mod encode;
 
 pub use blank::is_blank;
 pub use decode::byte_step;

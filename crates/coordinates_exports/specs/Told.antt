@@ -1,11 +1,12 @@
 -- An answer of the coordinate calls as a number, and the two places of lent memory after it.
 use Prim.Native.Nat.{ℕ}
 use lib.Ieee.{Float}
+use Rattle.refusal.specs.Refusals as refusal
 use Rattle.coordinates.specs.Answers.{Answer, float, refused}
 
--- 0 for a value, else the refusal's number
+-- `served` for a value, else the refusal's number
 abbrev pub numberOf : Answer → ℕ
-numberOf (float x) = 0
+numberOf (float x) = refusal.served
 numberOf (refused n p) = n
 
 -- the value, where there is one; else what was there

@@ -1,20 +1,15 @@
 // What C and Rust call of the crate `coordinates`: the answer is a number, its value and what a refusal comes with go to lent memory.
 use coordinates::CoordinateAnswer;
-use refusal::LIMIT;
+use refusal::LIMIT_VALUE;
 use refusal::NO_COORDINATE;
 use refusal::NOT_UTF8;
 use refusal::OUT_OF_BOUNDS;
+use refusal::SERVED;
 use refusal::TOO_LONG;
 ghost use mathlib.Core.Path.{_≡_};
 ghost use Rattle.coordinates.specs.Answers.{answered};
 ghost use Rattle.coordinates.specs.Coordinate.{coordinate, recordCoordinate};
 ghost use Rattle.coordinates_exports.specs.Told.{numberOf, valueOr, placeOr};
-
-// What the calls answer beside refusals.
-const SERVED: u32 = 0;
-
-// What refusal 20 comes with.
-const LONGEST: u64 = LIMIT as u64;
 
 // A value goes to `value`, what a refusal comes with to `place`; the other keeps what it has. The result is the answer's number.
 fn tell(a: CoordinateAnswer, value: &mut f64, place: &mut u64) -> u32
@@ -26,7 +21,7 @@ fn tell(a: CoordinateAnswer, value: &mut f64, place: &mut u64) -> u32
             SERVED
         }
         CoordinateAnswer::TooLong => {
-            *place = LONGEST;
+            *place = LIMIT_VALUE;
             TOO_LONG
         }
         CoordinateAnswer::NotUtf8(at) => {

@@ -5,7 +5,7 @@ use mathlib.Core.Bool.{false}
 use lib.Dec.{lit≤, lit<}
 use lib.IntN.{pos, negsuc}
 use lib.Ieee.{fin}
-use Rattle.coordinates.specs.Nearest.{Rounded, Nearest}
+use Rattle.coordinates.specs.Nearest.{Nearest}
 
 -- 0.1 in units of 2 ^ -56
 abbrev tenthUnits : ℕ

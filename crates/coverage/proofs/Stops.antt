@@ -1,9 +1,10 @@
 -- Where a text stops: the whole characters before a stop are a front of it, within the limit, and stop 23 names the item that they break off in; a
 -- text without a stop is its characters. One induction over the sequences of the text.
+use Rattle.refusal.specs.Refusals as refusal
 use Rattle.items.specs.Items.{items, byteCount}
 use Rattle.items.specs.Whole.{limit}
 use Rattle.laws.proofs.Choice.{if-all, if-is}
-use Rattle.chars.specs.Encode.{isScalar, utf8, width, bytesOf}
+use Rattle.chars.specs.Encode.{utf8, width, bytesOf}
 use Rattle.chars.specs.Utf8.{Front, char, bad, cut, none, front, sequences, chars}
 use Rattle.chars.proofs.Chars.{chars-char}
 use Rattle.chars.proofs.Good.{Scalars}
@@ -11,11 +12,11 @@ use Rattle.chars.proofs.Sequences.{char-some, not-none, sequences-char, sequenc
 use Rattle.chars.proofs.Spells.{Spells, spells}
 use Rattle.chars.proofs.Width.{width-utf8}
 use Rattle.pieces.specs.Expected.{Unfinished, nothing, from, unfinished, Ending, clean, stop, grown, endingOf, longest}
-use Rattle.pieces.proofs.Kept.{count-snoc}
+use Rattle.pieces.proofs.Kept.{count-snoc, scalars-snoc}
 use Rattle.coverage.proofs.Long.{begun-before}
 use Prim.Native.Nat.{ℕ, zero, suc, _+_, _-_, _≤_}
 use mathlib.Core.Path.{_≡_, refl, sym, ap, subst, _∙_}
-use mathlib.Core.Bool.{Bool, true}
+use mathlib.Core.Bool.{Bool}
 use mathlib.Core.List.{List, [], _∷_, _++_, append-assoc, append-nil}
 use lib.ListN.{length, drop, length-drop, take-append-drop}
 use lib.Seq.{length-take-le}
@@ -27,7 +28,7 @@ use borrow.Author.Tests.{ltb-true, ltb-false}
 pub record Halts (report : Bool) (number place : ℕ) (q : List ℕ) : Type 0 where
   pub scalars : Scalars q
   pub short : byteCount q ≤ limit
-  pub named : number ≡ 23 → unfinished (byteCount q) (items report q) ≡ from place
+  pub named : number ≡ refusal.longItem → unfinished (byteCount q) (items report q) ≡ from place
 
 -- q are the characters before the bytes l
 pub data Told (report : Bool) (l q : List ℕ) : Ending → Type 0 where
@@ -40,12 +41,8 @@ record Been (q : List ℕ) (at : ℕ) : Type 0 where
   count : at ≡ byteCount q
   short : at ≤ limit
 
-scalars-on : (q : List ℕ) (c : ℕ) → Scalars q → isScalar c ≡ true → Scalars (q ++ (c ∷ []))
-scalars-on [] c h e = (e, tt)
-scalars-on (d ∷ q) c h e = (h .0, scalars-on q c (h .1) e)
-
 module _ (report : Bool) where
-  told-here : (l q : List ℕ) (at : ℕ) → Been q at → (number place : ℕ) → (number ≡ 23 → unfinished (byteCount q) (items report q) ≡ from place)
+  told-here : (l q : List ℕ) (at : ℕ) → Been q at → (number place : ℕ) → (number ≡ refusal.longItem → unfinished (byteCount q) (items report q) ≡ from place)
       → Told report l q (stop number place q)
   unfolding bytesOf
   told-here l q at z number place h =
@@ -66,18 +63,18 @@ module _ (report : Bool) where
       go : (here : Unfinished) → unfinished t (items report (q ++ (c ∷ []))) ≡ here → Told report l q (grown here t q on)
       go nothing f = h
       go (from s) f = if-is (Told report l q) (ltb longest (t - s))
-          (λ g. told-here l q at z 23 s (λ _. begun-before report q c t s e f (ltb-true longest (t - s) g)))
+          (λ g. told-here l q at z refusal.longItem s (λ _. begun-before report q c t s e f (ltb-true longest (t - s) g)))
           (λ g. h)
 
 module _ (report : Bool) (n : ℕ) where
   abbrev TellsOf : List ℕ → ℕ → List ℕ → Type 0
   TellsOf l at q = Told report l q (endingOf report n q (sequences 0 at l))
 
-  too-long : (l q : List ℕ) (at : ℕ) → Been q at → Told report l q (stop 20 limit q)
-  too-long l q at z = told-here report l q at z 20 limit (λ e. absurd (omega arith))
+  too-long : (l q : List ℕ) (at : ℕ) → Been q at → Told report l q (stop refusal.tooLong limit q)
+  too-long l q at z = told-here report l q at z refusal.tooLong limit (λ e. absurd (omega arith))
 
-  not-utf8 : (l q : List ℕ) (at : ℕ) → Been q at → Told report l q (stop 21 at q)
-  not-utf8 l q at z = told-here report l q at z 21 at (λ e. absurd (omega arith))
+  not-utf8 : (l q : List ℕ) (at : ℕ) → Been q at → Told report l q (stop refusal.notUtf8 at q)
+  not-utf8 l q at z = told-here report l q at z refusal.notUtf8 at (λ e. absurd (omega arith))
 
   -- the front of the bytes, and what is told of fewer of them
   told-front : (b : ℕ) (l : List ℕ) (at : ℕ) (q : List ℕ) → Been q at
@@ -92,7 +89,7 @@ module _ (report : Bool) (n : ℕ) where
       (if-is (Told report (b ∷ l) q) (ltb limit (at + m)) (λ _. too-long (b ∷ l) q at z)
       (λ h. told-grown report (b ∷ l) q at z c (at + m) _ e
       (told-on report (b ∷ l) q c m w f
-      (fewer (drop m (b ∷ l)) (at + m) (q ++ (c ∷ [])) (record { scalars = scalars-on q c (z .scalars) (w .1); count = e; short = ltb-false limit (at + m) h })
+      (fewer (drop m (b ∷ l)) (at + m) (q ++ (c ∷ [])) (record { scalars = scalars-snoc q c (z .scalars) (w .1); count = e; short = ltb-false limit (at + m) h })
       (omega (arith, length-drop m (b ∷ l), char-some (b ∷ l) c m f))))))
   told-front b l at q z fewer (bad m) f =
       rw (sequences-bad at (b ∷ l) m f) (if-all (Told report (b ∷ l) q) (ltb limit (at + m)) (too-long (b ∷ l) q at z) (not-utf8 (b ∷ l) q at z))

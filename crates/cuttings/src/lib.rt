@@ -4,7 +4,6 @@ use items::Nine;
 use items::Record;
 use meaning::records::WORDS;
 use meaning::records::put;
-use pieces::Answer;
 use pieces::Got;
 use pieces::State;
 use piecewise::calls::end;

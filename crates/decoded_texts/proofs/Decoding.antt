@@ -11,6 +11,7 @@ use borrow.Author.Tests.{eqb-true}
 use Rattle.laws.specs.Choice.{if_then_else_}
 use Rattle.laws.specs.Quoted.{code, codes, oneOf}
 use Rattle.laws.proofs.Choice.{by-bool}
+use Rattle.coverage.proofs.Bytes.{bytes-append}
 use Rattle.chars.specs.Encode.{utf8, encode, bytesOf}
 use Rattle.digits.specs.Hex.{hexValue}
 use Rattle.items.specs.declared.Quotes.{Quotes}
@@ -18,16 +19,17 @@ use Rattle.items.specs.declared.Quotes.the-variants.{Double, Lines}
 use Rattle.items.specs.Classes.{startsRun, firstOf, delimOf, inQuotes, plain, afterBackslash, simple, inHex, closes, digit, inTrim}
 use Rattle.items.specs.Meaning.{source, decoded, escaped, stringText, linedText, unescape, unescapeNext, unescapeBrace, unescapeHex, unescapeTrim}
 use Rattle.items.specs.Readers.{SoFar, soFar, eat, Read, scalarOf, readQuoted, readItem}
+use Rattle.items.proofs.Shorter.{scalar-is}
 use Rattle.agreement.specs.Repeated.{Many, done}
 use Rattle.agreement.specs.Repeated as many
 use Rattle.agreement.specs.String.{intraline, Intraline}
-use Rattle.agreement.proofs.Bytes.{High, utf8-low, Beyond, all-high, utf8-high, bytes-append}
+use Rattle.agreement.proofs.Bytes.{High, utf8-low, Beyond, all-high, utf8-high}
 use Rattle.agreement.proofs.Classes.{at-one-of, beyond-none}
 use Rattle.agreement.proofs.Quoted.{quotes-escape, newline-plain, intraline-space, intraline-blank, solid-or-line}
 use Rattle.agreement.proofs.Reading.{eats, eats-all, eats-append}
 use Rattle.decoded_texts.specs.Elements.{Digit, Spells, Solid, Element, itself, escape, hex, unicode, braced, line, Part, written, value, Elements, none, more}
 use Rattle.decoded_texts.specs.Elements.{Ends, closing, text-over, closer, Well, Decoded}
-use Rattle.decoded_texts.proofs.Letters.{no-brace, high-plain, high-digit, escape-low, scalar-is}
+use Rattle.decoded_texts.proofs.Letters.{no-brace, high-plain, high-digit, escape-low}
 use Rattle.decoded_texts.proofs.Reading.{Seen, reads-through, well-read}
 
 module _ (k : Quotes) where

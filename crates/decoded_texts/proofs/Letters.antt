@@ -10,13 +10,8 @@ use Rattle.laws.specs.Quoted.{code, codes, oneOf}
 use Rattle.laws.proofs.Choice.{by-bool, if-all, if-is}
 use Rattle.items.specs.declared.Quotes.{Quotes}
 use Rattle.items.specs.declared.Quotes.the-variants.{Double, Lines}
-use Rattle.items.specs.declared.CharValue.the-variants.{Scalar}
-use Rattle.chars.specs.Encode.{isScalar}
-use Rattle.digits.specs.declared.Hex.{Hex}
-use Rattle.digits.specs.declared.Hex.the-variants as digits
 use Rattle.items.specs.Classes.{delimOf, InQuotes, inQuotes, ends, escapes, plain, AfterBackslash, afterBackslash, simple, hexX, hexU, blank, newline, invalid}
 use Rattle.items.specs.Classes.{stopsHex, InHex, inHex, closes, digit, InTrim, inTrim, space, line, solid}
-use Rattle.items.specs.Readers.{scalarOf}
 use Rattle.agreement.specs.String.{intraline, Intraline}
 use Rattle.agreement.proofs.Classes.{beyond-differs, beyond-none}
 
@@ -161,12 +156,3 @@ escape-low c x e =
     by-bool (ltb c 0x80)
     (λ f. f)
     (λ f. absurd (let y : simple x ≡ invalid = sym e ∙ high-invalid c (ltb-false c 0x80 f) in let z : _≡_ {A = ℕ} 0 1 = cc in omega arith))
-
--- digits that spell a character spell a scalar value
-pub scalar-is : (d : Hex) (v : ℕ) → scalarOf d ≡ Scalar v → isScalar v ≡ true
-unfolding scalarOf
-scalar-is (digits.Value n) v e =
-    by-bool (isScalar n)
-    (λ f. let g : Scalar n ≡ Scalar v = rw f at e in let y : n ≡ v = cc in rw (← y) f)
-    (λ f. let g = rw f at e in absurd (let z : _≡_ {A = ℕ} 0 1 = cc in omega arith))
-scalar-is (digits.Wrong d p) v e = absurd (let z : _≡_ {A = ℕ} 0 1 = cc in omega arith)

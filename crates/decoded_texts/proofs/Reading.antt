@@ -11,20 +11,20 @@ use native.Mathlib.Omega.{arith}
 use borrow.Author.Tests.{eqb-true}
 use Rattle.laws.specs.Quoted.{code, codes, oneOf}
 use Rattle.laws.proofs.Choice.{by-bool}
+use Rattle.pieces.proofs.Kept.{bytes-snoc}
 use Rattle.chars.specs.Encode.{utf8, bytesOf}
 use Rattle.digits.specs.Hex.{hexValue}
 use Rattle.digits.specs.Hex.{empty as nothing}
 use Rattle.items.specs.declared.Quotes.{Quotes}
 use Rattle.items.specs.declared.Quotes.the-variants.{Double, Lines}
 use Rattle.items.specs.declared.CharValue.the-variants.{Scalar}
-use Rattle.items.specs.Classes.{delimOf, inQuotes, afterBackslash, inHex, inTrim, plain, digit, closes}
+use Rattle.items.specs.Classes.{delimOf, inQuotes, afterBackslash, inHex, inTrim, plain, closes}
 use Rattle.items.specs.Readers.{SoFar, eat, scalarOf, failing, unclosed, cut, readQuoted, readEscape, readBrace, readHex, readTrim}
 use Rattle.items.specs.Kinds as kind
 use Rattle.items.proofs.Cases.{by-quotes, by-backslash, by-hex, by-trim, by-value}
 use Rattle.agreement.specs.Repeated.{Many, done}
 use Rattle.agreement.specs.Repeated as many
 use Rattle.agreement.specs.String.{intraline, Intraline}
-use Rattle.agreement.proofs.Bytes.{bytes-append}
 use Rattle.agreement.proofs.Quoted.{quotes-escape, newline-plain, intraline-space, intraline-blank, solid-or-line}
 use Rattle.agreement.proofs.Reading.{eats, eats-all, eats-append}
 use Rattle.decoded_texts.specs.Elements.{Digit, Spells, Solid, Element, itself, escape, hex, unicode, braced, line, Part, written, Elements, none, more}
@@ -251,10 +251,6 @@ unindented k c cs h z = record { indent = []; blanks = done; behind = c ∷ cs; 
 
 newline-itself : (k : Quotes) (c : ℕ) → c ≡ code "\n" → inQuotes k c ≡ plain
 newline-itself k c e = ap (inQuotes k) e ∙ newline-plain k
-
-bytes-snoc : (ds : List ℕ) (c : ℕ) → bytesOf (ds ++ (c ∷ [])) ≡ bytesOf ds ++ utf8 c
-unfolding bytesOf
-bytes-snoc ds c = bytes-append ds (c ∷ []) ∙ ap (λ (l : List ℕ). bytesOf ds ++ l) (append-nil (utf8 c))
 
 -- a hex escape that fails is an error in both modes
 failing-ill : (report : Bool) (e d from to at : ℕ) (rest : List ℕ) → Well (failing report e d from to at rest) → ⊥

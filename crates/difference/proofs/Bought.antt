@@ -17,7 +17,7 @@ use Rattle.numbers.specs.declared.Parts.{Parts}
 use Rattle.numbers.specs.declared.Real.{Real}
 use Rattle.numbers.specs.declared.MaybeParts.the-variants.{SomeParts}
 use Rattle.laws.specs.Texts.{before, same, starts}
-use Rattle.laws.proofs.Choice.{by-bool}
+use Rattle.laws.proofs.Choice.{by-bool, yes-no}
 use Rattle.laws.specs.Quoted.{code, within}
 use Rattle.numbers.specs.Grammar.{complexOf, cut, init, justOf, polarOf, startsE, toSign}
 use Rattle.standard.specs.Grammar.{endsI, joint}
@@ -32,7 +32,7 @@ use Rattle.difference.specs.Productions.{Letter, Sign}
 use Rattle.difference.proofs.Reals.{Read, below-plain, real-low, real-read}
 use Rattle.difference.proofs.WithParts.{Side}
 use Rattle.difference.specs.Conditions.{SignedBelow, capital, isCapital, isN, oddE, signAfter, signAfterOddE, somewhere}
-use Rattle.difference.proofs.Runs.{before-split, no}
+use Rattle.difference.proofs.Runs.{before-split}
 use Rattle.difference.proofs.Odd.{below-cut, below-odd, imaginary-odd, mark-facts, odd-hit, odd-next, real-odd, toSign-odd}
 use Rattle.difference.proofs.Somewhere.{Mark, cap-hit, cap-next, plain-capital, reset-back, reset-join}
 use Rattle.difference.proofs.Sound.{real-imaginary}
@@ -47,7 +47,7 @@ endsI-snoc s c = rw (drop-at s (c ∷ []) (length (s ++ c ∷ []) - 1) (omega (a
 
 endsI-split : (s : List ℕ) → bought-grammar.endsI s ≡ true → s ≡ init s ++ code "i" ∷ []
 unfolding bought-grammar.endsI starts
-endsI-split [] h = no (sym h)
+endsI-split [] h = yes-no (sym h)
 endsI-split (x ∷ s) h = go (snoc (x ∷ s) (λ e. ne e))
   where
     ne : x ∷ s ≡ [] → ⊥
@@ -68,7 +68,7 @@ endsI-both : (s : List ℕ) → bought-grammar.endsI s ≡ true → endsI s ≡ 
 endsI-both s h = ap endsI (endsI-split s h) ∙ ends-i (init s) letter-low
 
 pub endsI-no : (s : List ℕ) → endsI s ≡ false → bought-grammar.endsI s ≡ false
-endsI-no s h = by-bool (bought-grammar.endsI s) (λ e. no (sym (endsI-both s e) ∙ h)) (λ e. e)
+endsI-no s h = by-bool (bought-grammar.endsI s) (λ e. yes-no (sym (endsI-both s e) ∙ h)) (λ e. e)
 
 joint-ten : (s : List ℕ) → joint 10 s ≡ cut s
 unfolding joint

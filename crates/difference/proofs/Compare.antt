@@ -19,7 +19,7 @@ use Rattle.numbers.specs.declared.Parts.the-variants.{Polar}
 use Rattle.numbers.specs.declared.Real.{Real}
 use Rattle.standard.proofs.Letters.{UpperOf, lower-is}
 use Rattle.laws.specs.Texts.{before}
-use Rattle.laws.proofs.Choice.{by-bool}
+use Rattle.laws.proofs.Choice.{by-bool, yes-no}
 use Rattle.laws.specs.Quoted.{code}
 use Rattle.standard.specs.Grammar.{complex, numberParts, parseStandard}
 use Rattle.laws.specs.Choice.{if_then_else_}
@@ -33,7 +33,7 @@ use Rattle.difference.specs.R7rs.{Number}
 use Rattle.difference.proofs.Bought.{ReadC, complex-read}
 use Rattle.difference.proofs.Whole.{Prefixed, Seen, complex-inv, complex-is, no-parts, parts-inv, parts-is, parts-seen, prefix-hash, prefix-made, prefix-mark, prefix-radix, seen}
 use Rattle.difference.specs.Conditions.{SignedBelow, capital, isCapital, isN, signAfterOddE, somewhere}
-use Rattle.difference.proofs.Runs.{all, all-append, all-cons, before-here, no}
+use Rattle.difference.proofs.Runs.{all, all-append, all-cons, before-here}
 use Rattle.difference.proofs.Reals.{below-not, below-plain, below-real, real-low}
 use Rattle.difference.proofs.Low.{complex-low}
 use Rattle.difference.proofs.Derived.{plain-not}
@@ -283,7 +283,7 @@ upper-alone s u = (standard-accepts s (u .parts) (parts-is (u .number)), bought-
   where
     rejects : (v : MaybeParts) → boughtParts s ≡ v → boughtParts s ≡ NoParts
     rejects NoParts e = e
-    rejects (SomeParts a) e = no (sym (u .upper) ∙ read-capital s (split s) a e)
+    rejects (SomeParts a) e = yes-no (sym (u .upper) ∙ read-capital s (split s) a e)
 
 hex-alone : {s : List ℕ} → HexE s → StandardAlone s
 hex-alone (HexE.hexE {c = c} {s = t} {a = a} m n o) =
@@ -294,7 +294,7 @@ hex-alone (HexE.hexE {c = c} {s = t} {a = a} m n o) =
 
     rejects : (v : MaybeParts) → boughtParts (code "#" ∷ c ∷ t) ≡ v → boughtParts (code "#" ∷ c ∷ t) ≡ NoParts
     rejects NoParts e = e
-    rejects (SomeParts b) e = no (sym o ∙ read-odd (code "#" ∷ c ∷ t) hexed b e refl)
+    rejects (SomeParts b) e = yes-no (sym o ∙ read-odd (code "#" ∷ c ∷ t) hexed b e refl)
 
 pub other-alone : (s : List ℕ) → Upper s ⊎ HexE s → StandardAlone s
 other-alone s (inl c) = upper-alone s c

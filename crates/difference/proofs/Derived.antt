@@ -19,7 +19,7 @@ use Rattle.numbers.specs.declared.Real.{Real}
 use Rattle.digits.specs.declared.Span.{Span}
 use Rattle.standard.proofs.Letters.{UpperOf, lower-is}
 use Rattle.laws.specs.Texts.{before, same, span, starts}
-use Rattle.laws.proofs.Choice.{by-bool}
+use Rattle.laws.proofs.Choice.{by-bool, yes-no}
 use Rattle.laws.specs.Quoted.{code, within}
 use Rattle.numbers.specs.Reals.{decimal, dotted, exponent, exponentMarker, integralOf, orElse, pointOf, rationalOf, suffix, undotted}
 use Rattle.digits.specs.Digits.{digitOf, digits, negative, sign, spanAt, wholeOf}
@@ -30,7 +30,7 @@ use Rattle.standard.specs.Characters.{isSign, lower}
 use Rattle.difference.specs.R7rs.{DecimalAt, ImaginaryAt, Infnan, RealAt, SuffixAt, URealAt, intOf, pointed}
 use Rattle.difference.specs.Productions.{Digits, Letter, Sign, UInteger}
 use Rattle.difference.proofs.Runs.{all, all-append, all-cons, all-imp, before-here, before-none, digit-differs, digits-all}
-use Rattle.difference.proofs.Runs.{digits-end, isDigit, no, span-at, span-stop, span-whole, uint-digits, uint-pos, uint-test}
+use Rattle.difference.proofs.Runs.{digits-end, isDigit, span-at, span-stop, span-whole, uint-digits, uint-pos, uint-test}
 use Rattle.numbers.specs.Reals as bought
 
 pub marker-e : {c : ℕ} → Letter "e" c → exponentMarker c ≡ true
@@ -92,7 +92,7 @@ plain-ureal h (URealAt.decimal e d) = plain-decimal d
 
 -- plain characters are none of the others
 pub plain-not : (x : ℕ) → plain x ≡ false → (s : List ℕ) → all plain s ≡ true → all (λ c. not (eqb c x)) s ≡ true
-plain-not x h s a = all-imp plain (λ c. not (eqb c x)) (λ c e. ap not (ne-eqb c x (λ q. no (sym e ∙ ap plain q ∙ h)))) s a
+plain-not x h s a = all-imp plain (λ c. not (eqb c x)) (λ c e. ap not (ne-eqb c x (λ q. yes-no (sym e ∙ ap plain q ∙ h)))) s a
 
 -- the first character of a <ureal R>
 abbrev pub Head : ℕ → List ℕ → Type 0
@@ -179,7 +179,7 @@ ten-not : (c : ℕ) → exponentMarker c ≡ true → (ltb (digitOf c) 10 ≡ fa
 unfolding exponentMarker digitOf within
 ten-not c h =
     by-bool (eqb c (code "e")) (λ e. rw (eqb-true c (code "e") e) (refl, refl)) (λ e.
-    by-bool (eqb c (code "E")) (λ f. rw (eqb-true c (code "E") f) (refl, refl)) (λ f. no (sym (rw (e, f) at h))))
+    by-bool (eqb c (code "E")) (λ f. rw (eqb-true c (code "E") f) (refl, refl)) (λ f. yes-no (sym (rw (e, f) at h))))
 
 suffix-stops : {p : ℕ} {x : List ℕ} {e : Exponent} → SuffixAt p x e → digits 10 x ≡ 0
 unfolding span

@@ -12,7 +12,7 @@ use Rattle.numbers.specs.declared.MaybeReal.{MaybeReal}
 use Rattle.numbers.specs.declared.Real.the-variants.{NegInf, NegNan, PosInf, PosNan}
 use Rattle.numbers.specs.declared.Real.{Real}
 use Rattle.standard.proofs.Letters.{UpperOf, lower-is}
-use Rattle.laws.proofs.Choice.{by-bool}
+use Rattle.laws.proofs.Choice.{by-bool, yes-no}
 use Rattle.laws.specs.Quoted.{code, codes, within}
 use Rattle.laws.specs.Choice.{if_then_else_}
 use Rattle.standard.specs.Reals.{infnan}
@@ -21,7 +21,6 @@ use Rattle.laws.specs.Texts.{same}
 use Rattle.laws.proofs.Compared.{same-is}
 use Rattle.difference.specs.R7rs.{Infnan}
 use Rattle.difference.specs.Conditions.{capital, isCapital, isN, somewhere}
-use Rattle.difference.proofs.Runs.{no}
 use Rattle.difference.proofs.Sound.{none}
 use Rattle.numbers.specs.Reals as bought
 
@@ -55,7 +54,7 @@ low-exact f (c ∷ s) [] h e k = let z : _≡_ {A = ℕ} 0 1 = cc in absurd (ome
 low-exact f (c ∷ s) (x ∷ w) h e k =
     let a : lower c ≡ x = cc in
     let b : map lower s ≡ w = cc in
-    by-bool (isCapital f c) (λ q. no (rw q at k)) (λ q.
+    by-bool (isCapital f c) (λ q. yes-no (rw q at k)) (λ q.
     let k′ : capital (isN f c) s ≡ false = rw q at k in
     let m : c ≡ x = kept (lower-is c x a) q in
     cons m (low-exact (isN f x) s w rest b (rw m at k′)))
@@ -65,10 +64,10 @@ low-exact f (c ∷ s) (x ∷ w) h e k =
     kept (inr m) q =
         let z : x - 32 ≡ c = omega arith in
         let y : ltb x (code "a") ≡ false = le-ltb x (code "a") (omega arith) in
-        no (sym (rw (y, z, q) at h))
+        yes-no (sym (rw (y, z, q) at h))
 
     rest : lettered (isN f x) w ≡ true
-    rest = by-bool (ltb x (code "a")) (λ y. rw y at h) (λ y. by-bool (isCapital f (x - 32)) (λ q. rw (y, q) at h) (λ q. no (sym (rw (y, q) at h))))
+    rest = by-bool (ltb x (code "a")) (λ y. rw y at h) (λ y. by-bool (isCapital f (x - 32)) (λ q. rw (y, q) at h) (λ q. yes-no (sym (rw (y, q) at h))))
 
     cons : c ≡ x → s ≡ w → c ∷ s ≡ x ∷ w
     cons p q = cc

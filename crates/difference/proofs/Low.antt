@@ -16,6 +16,7 @@ use Rattle.numbers.specs.declared.MaybeParts.the-variants.{SomeParts}
 use Rattle.standard.proofs.Letters.{UpperOf, lower-is}
 use Rattle.laws.specs.Texts.{before, span}
 use Rattle.laws.specs.Quoted.{code}
+use Rattle.laws.proofs.Choice.{yes-no}
 use Rattle.numbers.specs.Grammar.{complexOf, cut, justOf, polarOf, startsE, toSign}
 use Rattle.numbers.specs.Reals.{exponentMarker}
 use Rattle.standard.specs.Characters.{isSign}
@@ -26,7 +27,7 @@ use Rattle.difference.specs.Productions.{Letter}
 use Rattle.difference.proofs.Walk.{Radix, Signed, all-nil, foreign-at, free, i-other, imaginary-joint, imaginary-other}
 use Rattle.difference.proofs.Walk.{imaginary-signed, joint-cons, other, radix-le, real-joint, real-other, sign-marker, signed-sign}
 use Rattle.difference.proofs.Walk.{signed-walk, walk, walk-hex, walk-i, walk-ten}
-use Rattle.difference.proofs.Runs.{all, all-append, all-cons, before-here, before-none, no, span-full}
+use Rattle.difference.proofs.Runs.{all, all-append, all-cons, before-here, before-none, span-full}
 use Rattle.difference.proofs.Bought.{cap-back, cap-join, cap-nil, endsI-no, endsI-snoc, imaginary-low, sign-mark}
 use Rattle.difference.specs.Conditions.{capital, isCapital, isN, oddE, signAfter, signAfterOddE, somewhere}
 use Rattle.difference.proofs.Whole.{ends-not, init-snoc}
@@ -78,7 +79,7 @@ low-i {c} s (Letter.letter m) h = go (lower-is c (code "i") m)
   where
     go : (c ≡ code "i") ⊎ UpperOf c (code "i") → c ≡ code "i"
     go (inl e) = e
-    go (inr e) = let z : c ≡ code "I" = omega arith in let k = some-last isCapital isN false s c h in no (sym (capital-i (k .0)) ∙ ap (isCapital (k .0)) (sym z) ∙ k .1)
+    go (inr e) = let z : c ≡ code "I" = omega arith in let k = some-last isCapital isN false s c h in yes-no (sym (capital-i (k .0)) ∙ ap (isCapital (k .0)) (sym z) ∙ k .1)
 
 cap-part : (a b x : List ℕ) → Signed b → capital false (a ++ (b ++ x)) ≡ false → capital false b ≡ false
 cap-part a b x g k =

@@ -7,7 +7,7 @@ use native.Mathlib.Omega.{arith}
 use lib.ListN.{drop, length, length-append, take}
 use lib.Dec.{eqb, lit≤}
 use Rattle.numbers.specs.declared.Real.{Real}
-use Rattle.laws.proofs.Choice.{by-bool}
+use Rattle.laws.proofs.Choice.{by-bool, yes-no}
 use Rattle.laws.specs.Quoted.{code}
 use Rattle.numbers.specs.Grammar.{cut, startsE, toSign}
 use Rattle.numbers.specs.Reals.{exponentMarker}
@@ -16,15 +16,15 @@ use Rattle.laws.specs.Texts.{span}
 use Rattle.difference.specs.R7rs.{ImaginaryAt, Infnan, RealAt, URealAt}
 use Rattle.difference.specs.Productions.{Sign}
 use Rattle.difference.specs.Conditions.{SignedBelow, oddE, signAfter, signAfterOddE, somewhere}
-use Rattle.difference.proofs.Runs.{all, all-append, all-cons, all-imp, no, span-whole, uint-digits, uint-pos}
+use Rattle.difference.proofs.Runs.{all, all-append, all-cons, all-imp, span-whole, uint-digits, uint-pos}
 use Rattle.difference.proofs.Walk.{all-nil, free, free-digits, infnan-quiet, marks, quiet, quiet-free}
 use Rattle.difference.proofs.Somewhere.{reset-join, some-none}
 
 -- where the bought reader's cut would stop
 below-walk : (f : Bool) (x : List ℕ) (c : ℕ) (z : List ℕ) → isSign c ≡ true → toSign f (x ++ code "/" ∷ c ∷ z) ≤ length x + 1
 unfolding toSign isSign exponentMarker
-below-walk true [] c z e = by-bool (eqb c (code "+")) (λ g. rw g (lit≤ tt)) (λ g. by-bool (eqb c (code "-")) (λ h. rw (g, h) (lit≤ tt)) (λ h. no (sym (rw (g, h) at e))))
-below-walk false [] c z e = by-bool (eqb c (code "+")) (λ g. rw g (lit≤ tt)) (λ g. by-bool (eqb c (code "-")) (λ h. rw (g, h) (lit≤ tt)) (λ h. no (sym (rw (g, h) at e))))
+below-walk true [] c z e = by-bool (eqb c (code "+")) (λ g. rw g (lit≤ tt)) (λ g. by-bool (eqb c (code "-")) (λ h. rw (g, h) (lit≤ tt)) (λ h. yes-no (sym (rw (g, h) at e))))
+below-walk false [] c z e = by-bool (eqb c (code "+")) (λ g. rw g (lit≤ tt)) (λ g. by-bool (eqb c (code "-")) (λ h. rw (g, h) (lit≤ tt)) (λ h. yes-no (sym (rw (g, h) at e))))
 below-walk true (d ∷ x) c z e = omega (arith, below-walk false x c z e)
 below-walk false (d ∷ x) c z e =
     let r = below-walk (exponentMarker d) x c z e in
@@ -46,7 +46,7 @@ unfolding signAfter
 free-odd f s h = some-none signAfter oddE free go f s h
   where
     go : (f : Bool) (c : ℕ) → free c ≡ true → signAfter f c ≡ false
-    go true c e = by-bool (isSign c) (λ q. no (sym (rw q at e))) (λ q. q)
+    go true c e = by-bool (isSign c) (λ q. yes-no (sym (rw q at e))) (λ q. q)
     go false c e = refl
 
 tail-odd : (c : ℕ) (t : List ℕ) → all free t ≡ true → signAfterOddE false (c ∷ t) ≡ false
@@ -104,7 +104,7 @@ pub toSign-odd : (f : Bool) (s : List ℕ) → toSign f s < length s
     → signAfterOddE f (take (toSign f s) s) ≡ false → signAfterOddE false (drop (toSign f s) s) ≡ false → signAfterOddE f s ≡ false
 unfolding toSign somewhere signAfter oddE exponentMarker
 toSign-odd f [] h p q = refl
-toSign-odd true (c ∷ s) h p q = by-bool (isSign c) (λ e. no (rw e at p)) (λ e. rw e (toSign-odd false s (omega arith) (rw e at p) q))
+toSign-odd true (c ∷ s) h p q = by-bool (isSign c) (λ e. yes-no (rw e at p)) (λ e. rw e (toSign-odd false s (omega arith) (rw e at p) q))
 toSign-odd false (c ∷ s) h p q =
     by-bool (eqb c (code "+")) (λ e. rw e at q) (λ e.
     by-bool (eqb c (code "-")) (λ f. rw (e, f) at q) (λ f.
@@ -114,7 +114,7 @@ pub toSign-span : (f : Bool) (s : List ℕ) → signAfterOddE f s ≡ false → 
 unfolding toSign somewhere signAfter oddE span isSign exponentMarker
 toSign-span true [] h = refl
 toSign-span false [] h = refl
-toSign-span true (c ∷ s) h = by-bool (isSign c) (λ e. no (rw e at h)) (λ e. rw e (ap suc (toSign-span false s (rw e at h))))
+toSign-span true (c ∷ s) h = by-bool (isSign c) (λ e. yes-no (rw e at h)) (λ e. rw e (ap suc (toSign-span false s (rw e at h))))
 toSign-span false (c ∷ s) h =
     by-bool (eqb c (code "+")) (λ e. rw e) (λ e.
     by-bool (eqb c (code "-")) (λ f. rw (e, f)) (λ f. rw (e, f) (ap suc (toSign-span (exponentMarker c) s h))))

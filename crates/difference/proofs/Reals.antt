@@ -18,7 +18,7 @@ use Rattle.digits.specs.declared.MaybeInt.{MaybeInt}
 use Rattle.numbers.specs.declared.MaybeReal.{MaybeReal}
 use Rattle.numbers.specs.declared.Real.{Real}
 use Rattle.laws.specs.Texts.{before, starts}
-use Rattle.laws.proofs.Choice.{by-bool}
+use Rattle.laws.proofs.Choice.{by-bool, yes-no}
 use Rattle.laws.specs.Quoted.{code, within}
 use Rattle.numbers.specs.Reals.{decimal, denominator, exact, integralOf, orElse, rationalOf}
 use Rattle.digits.specs.Digits.{digitOf, integer, negative, sign, wholeOf}
@@ -30,7 +30,7 @@ use Rattle.difference.specs.R7rs.{RealAt, URealAt, intOf}
 use Rattle.difference.specs.Productions.{Sign, UInteger}
 use Rattle.difference.proofs.Walk.{Signed, digit-sign, other}
 use Rattle.difference.specs.Conditions.{SignedBelow, capital}
-use Rattle.difference.proofs.Runs.{all, all-append, all-cons, before-here, before-none, before-split, no, uint-digits}
+use Rattle.difference.proofs.Runs.{all, all-append, all-cons, before-here, before-none, before-split, uint-digits}
 use Rattle.difference.proofs.Sound.{decimal-inv, infnan-inv, none, sign-inv, sign-length, whole-inv}
 use Rattle.difference.proofs.Letters.{infnan-exact, infnan-low, infnan-same}
 use Rattle.difference.proofs.Somewhere.{plain-capital}
@@ -101,7 +101,7 @@ sign-negative (c ∷ d) h =
 
 sign-one : (c : ℕ) (t : List ℕ) → isSign c ≡ true → sign (c ∷ t) ≡ 1
 unfolding sign isSign
-sign-one c t h = by-bool (eqb c (code "+")) (λ e. rw e) (λ e. by-bool (eqb c (code "-")) (λ f. rw (e, f)) (λ f. no (sym (rw (e, f) at h))))
+sign-one c t h = by-bool (eqb c (code "+")) (λ e. rw e) (λ e. by-bool (eqb c (code "-")) (λ f. rw (e, f)) (λ f. yes-no (sym (rw (e, f) at h))))
 
 denominator-inv : (R q : ℕ) (d : List ℕ) (m : Int) → denominator R q d ≡ AnInt m → UInteger R (drop (sign d) d) × (m ≡ intOf R (negative d) (q + sign d) (drop (sign d) d))
 unfolding denominator integer
@@ -219,7 +219,7 @@ whole-sign R q c b l e = go (wholeOf R false q (c ∷ b)) refl
 
     go : (x : MaybeInt) → wholeOf R false q (c ∷ b) ≡ x → wholeOf R false q (c ∷ b) ≡ NoInt
     go NoInt f = f
-    go (AnInt n) f = no (sym e ∙ digit-sign R c l (uint-head (whole-inv R false q (c ∷ b) n f .0)))
+    go (AnInt n) f = yes-no (sym e ∙ digit-sign R c l (uint-head (whole-inv R false q (c ∷ b) n f .0)))
 
 ratio-cut : (R : ℕ) (neg : Bool) (p : ℕ) (w x : List ℕ) → all (other (code "/")) w ≡ true → ratio R neg p (w ++ code "/" ∷ x) ≡ rationalOf (wholeOf R neg p w) (wholeOf R false (p + length w + 1) x)
 unfolding ratio
@@ -254,7 +254,7 @@ below-not {R} p l (SignedBelow.ratio {g = g} {a = a} {b = b} {n = n} z u c e v) 
 
 sign-plain : (c : ℕ) → isSign c ≡ true → plain c ≡ true
 unfolding isSign plain digitOf within
-sign-plain c e = by-bool (eqb c (code "+")) (λ f. rw (eqb-true c (code "+") f)) (λ f. by-bool (eqb c (code "-")) (λ g. rw (eqb-true c (code "-") g)) (λ g. no (sym (rw (f, g) at e))))
+sign-plain c e = by-bool (eqb c (code "+")) (λ f. rw (eqb-true c (code "+") f)) (λ f. by-bool (eqb c (code "-")) (λ g. rw (eqb-true c (code "-") g)) (λ g. yes-no (sym (rw (f, g) at e))))
 
 pub below-plain : {R : ℕ} {s : List ℕ} → R ≤ 16 → SignedBelow R s → all plain s ≡ true
 below-plain {R} l (SignedBelow.ratio {g = g} {a = a} {b = b} z u c e v) =

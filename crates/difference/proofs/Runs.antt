@@ -7,16 +7,13 @@ use native.Mathlib.Numerals.{add-one}
 use native.Mathlib.Nat.{add-zero, zero-add}
 use native.Mathlib.Omega.{arith}
 use lib.ListN.{drop, length, take}
-use borrow.Author.Tests.{eq-eqb, eqb-true, le-ltb, lt-ltb, ltb-false, ltb-true}
+use borrow.Author.Tests.{eq-eqb, eqb-true, le-ltb, lt-ltb, ltb-true}
 use lib.Dec.{eqb, ltb}
 use Rattle.laws.specs.Texts.{before, span}
-use Rattle.laws.proofs.Choice.{by-bool}
+use Rattle.laws.proofs.Choice.{by-bool, yes-no}
 use Rattle.digits.specs.Digits.{digitOf, digits, uinteger}
 use Rattle.laws.specs.Choice.{if_then_else_}
 use Rattle.difference.specs.Productions.{Digits, UInteger}
-
-pub no : {A : Type 0} → true ≡ false → A
-no e = let z : _≡_ {A = ℕ} 0 1 = ap (λ (b : Bool). if b then 0 else 1) e in absurd (omega arith)
 
 -- every character passes the test
 unfoldable pub all : (ℕ → Bool) → List ℕ → Bool
@@ -25,7 +22,7 @@ all f (c ∷ s) = if f c then all f s else false
 
 pub all-head : (f : ℕ → Bool) (c : ℕ) (s : List ℕ) → all f (c ∷ s) ≡ true → f c ≡ true
 unfolding all
-all-head f c s h = by-bool (f c) (λ e. e) (λ e. no (sym (rw e at h)))
+all-head f c s h = by-bool (f c) (λ e. e) (λ e. yes-no (sym (rw e at h)))
 
 pub all-tail : (f : ℕ → Bool) (c : ℕ) (s : List ℕ) → all f (c ∷ s) ≡ true → all f s ≡ true
 unfolding all
@@ -38,11 +35,6 @@ all-cons f c s e h = rw e h
 pub all-append : (f : ℕ → Bool) (a b : List ℕ) → all f a ≡ true → all f b ≡ true → all f (a ++ b) ≡ true
 all-append f [] b h k = k
 all-append f (c ∷ a) b h k = all-cons f c (a ++ b) (all-head f c a h) (all-append f a b (all-tail f c a h) k)
-
-all-front : (f : ℕ → Bool) (a b : List ℕ) → all f (a ++ b) ≡ true → all f a ≡ true
-unfolding all
-all-front f [] b h = refl
-all-front f (c ∷ a) b h = all-cons f c a (all-head f c (a ++ b) h) (all-front f a b (all-tail f c (a ++ b) h))
 
 pub all-imp : (f g : ℕ → Bool) → ((c : ℕ) → f c ≡ true → g c ≡ true) → (a : List ℕ) → all f a ≡ true → all g a ≡ true
 unfolding all
@@ -74,7 +66,7 @@ span-is f (c ∷ s) = by-bool (f c) (λ e. rw e (all-cons f c (take (span f s) s
 
 pub before-split : (b : ℕ) (s : List ℕ) → ltb (before b s) (length s) ≡ true → s ≡ take (before b s) s ++ b ∷ drop (before b s + 1) s
 unfolding span
-before-split b [] h = no (sym h)
+before-split b [] h = yes-no (sym h)
 before-split b (c ∷ s) h =
     by-bool (eqb c b)
     (λ e. rw e (ap (λ (x : ℕ). x ∷ s) (eqb-true c b e)))
@@ -88,14 +80,6 @@ before-none b s h = le-ltb (before b s) (length s) (rw (span-whole (λ c. not (e
 
 pub before-here : (b : ℕ) (s t : List ℕ) → all (λ c. not (eqb c b)) s ≡ true → before b (s ++ b ∷ t) ≡ length s
 before-here b s t h = span-at (λ c. not (eqb c b)) s b t h (ap not (eq-eqb b b refl))
-
-none-before : (b : ℕ) (s : List ℕ) → ltb (before b s) (length s) ≡ false → all (λ c. not (eqb c b)) s ≡ true
-unfolding span all
-none-before b [] h = refl
-none-before b (c ∷ s) h =
-    by-bool (eqb c b)
-    (λ e. no (sym (lt-ltb 0 (suc (length s)) (omega arith)) ∙ (rw e at h)))
-    (λ e. rw e (none-before b s (le-ltb (before b s) (length s) (omega (arith, ltb-false (suc (before b s)) (suc (length s)) (rw e at h))))))
 
 -- a digit is none of the characters that are no digits
 pub digit-differs : (R c x : ℕ) → digitOf c < R → R ≤ digitOf x → c ≡ x → ⊥
@@ -134,7 +118,7 @@ span-full f (c ∷ s) e = by-bool (f c) (λ h. rw h (span-full f s (omega (arith
 
 pub test-uint : (R : ℕ) (s : List ℕ) → uinteger R s ≡ true → UInteger R s
 unfolding uinteger
-test-uint R [] h = no (sym h)
+test-uint R [] h = yes-no (sym h)
 test-uint R (c ∷ s) h =
     let k : all (isDigit R) (c ∷ s) ≡ true = span-full (isDigit R) (c ∷ s) (eqb-true (digits R (c ∷ s)) (suc (length s)) (rw (lt-ltb 0 (suc (length s)) (omega arith)) at h)) in
     UInteger.uint (ltb-true (digitOf c) R (all-head (isDigit R) c s k)) (all-digits R s (all-tail (isDigit R) c s k))

@@ -8,12 +8,12 @@ use lib.Dec.{lit<}
 use lib.ListN.{drop}
 use Rattle.laws.specs.Quoted.{code, codes, within}
 use Rattle.laws.specs.Texts.{starts}
+use Rattle.laws.proofs.Choice.{yes-no}
 use Rattle.digits.specs.Digits.{digitOf}
 use Rattle.standard.specs.Characters.{lower, isSign}
 use Rattle.difference.specs.Productions.{Letter, Digits, UInteger, Sign, Prefix}
 use Rattle.difference.specs.Conditions.{URealText, RealText, ImaginaryText, ComplexText, NumberText, somewhere, isCapital, isN}
 use Rattle.difference.specs.Conditions.{signAfter, oddE, signAfterOddE, SignedBelow, SideText, SignBelowSlash, UpperCase, OddE}
-use Rattle.difference.proofs.Runs.{no}
 use Rattle.difference.proofs.Differs.{exclusive}
 
 one-digit : {R : ℕ} (c : ℕ) → digitOf c < R → UInteger R (c ∷ [])
@@ -55,11 +55,11 @@ only-1 = ((λ c. exclusive (codes "1@1/-2") shows-1 (inl c)), (λ c. exclusive (
 
 pub only-2 : (SignBelowSlash (codes "+I") → ⊥) × (OddE (codes "+I") → ⊥)
 unfolding starts
-only-2 = ((λ c. exclusive (codes "+I") c (inl shows-2)), (λ c. no (sym (odd-hash c))))
+only-2 = ((λ c. exclusive (codes "+I") c (inl shows-2)), (λ c. yes-no (sym (odd-hash c))))
 
 pub only-3 : (SignBelowSlash (codes "#xe+1i") → ⊥) × (UpperCase (codes "#xe+1i") → ⊥)
 unfolding somewhere isCapital isN
-only-3 = ((λ c. exclusive (codes "#xe+1i") c (inr shows-3)), (λ c. no (sym (c .upper))))
+only-3 = ((λ c. exclusive (codes "#xe+1i") c (inr shows-3)), (λ c. yes-no (sym (c .upper))))
 
 -- what meets the third has such a sign after its prefix
 odd-sign : {s : List ℕ} → OddE s → signAfterOddE false (drop 2 s) ≡ true
@@ -68,7 +68,7 @@ odd-sign (OddE.odd m n o) = o
 -- after an even number of e's the third is not met: `#xee+1i`
 pub even-e : OddE (codes "#xee+1i") → ⊥
 unfolding somewhere signAfter oddE isSign
-even-e c = no (sym (odd-sign c))
+even-e c = yes-no (sym (odd-sign c))
 
 -- an A right after an n counts: `+nAn.0` meets the second
 pub upper-nan : UpperCase (codes "+nAn.0")

@@ -5,12 +5,12 @@ use mathlib.Core.Path.{_∙_, _≡_, ap, refl, sym}
 use mathlib.Core.Logic.{_⊎_, inl, inr}
 use borrow.Author.Tests.{ne-eqb}
 use Prim.Native.Nat.{ℕ}
-use Rattle.laws.proofs.Choice.{by-bool}
+use Rattle.laws.proofs.Choice.{by-bool, yes-no}
 use Rattle.laws.specs.Quoted.{code, within}
 use Rattle.digits.specs.Digits.{digitOf}
 use Rattle.laws.specs.Choice.{if_then_else_}
 use Rattle.standard.specs.Characters.{isSign}
-use Rattle.difference.proofs.Runs.{all, all-head, all-tail, no}
+use Rattle.difference.proofs.Runs.{all, all-head, all-tail}
 use Rattle.difference.specs.Conditions.{capital, isCapital, isN, somewhere}
 use Rattle.difference.proofs.Derived.{plain}
 
@@ -19,7 +19,7 @@ module _ (hit next : Bool → ℕ → Bool) where
   pub some-front : (f : Bool) (a b : List ℕ) → somewhere hit next f (a ++ b) ≡ false → somewhere hit next f a ≡ false
   unfolding somewhere
   some-front f [] b h = refl
-  some-front f (c ∷ a) b h = by-bool (hit f c) (λ e. no (rw e at h)) (λ e. rw e (some-front (next f c) a b (rw e at h)))
+  some-front f (c ∷ a) b h = by-bool (hit f c) (λ e. yes-no (rw e at h)) (λ e. rw e (some-front (next f c) a b (rw e at h)))
 
   -- a character that is never hit and after which nothing is remembered
   module _ (x : ℕ) (h : (f : Bool) → hit f x ≡ false) (n : (f : Bool) → next f x ≡ false) where
@@ -33,7 +33,7 @@ module _ (hit next : Bool → ℕ → Bool) where
 
     pub reset-back : (f : Bool) (a b : List ℕ) → somewhere hit next f (a ++ x ∷ b) ≡ false → somewhere hit next false b ≡ false
     reset-back f a b e =
-        by-bool (somewhere hit next f a) (λ q. no (sym (some-reset f a b ∙ ap (λ (z : Bool). if z then true else somewhere hit next false b) q) ∙ e))
+        by-bool (somewhere hit next f a) (λ q. yes-no (sym (some-reset f a b ∙ ap (λ (z : Bool). if z then true else somewhere hit next false b) q) ∙ e))
         (λ q. sym (some-reset f a b ∙ ap (λ (z : Bool). if z then true else somewhere hit next false b) q) ∙ e)
 
   -- characters that are never hit
@@ -44,8 +44,8 @@ module _ (hit next : Bool → ℕ → Bool) where
 
   pub some-last : (f : Bool) (a : List ℕ) (c : ℕ) → somewhere hit next f (a ++ c ∷ []) ≡ false → (g : Bool) × (hit g c ≡ false)
   unfolding somewhere
-  some-last f [] c h = (f, by-bool (hit f c) (λ e. no (rw e at h)) (λ e. e))
-  some-last f (x ∷ a) c h = some-last (next f x) a c (by-bool (hit f x) (λ e. no (rw e at h)) (λ e. rw e at h))
+  some-last f [] c h = (f, by-bool (hit f c) (λ e. yes-no (rw e at h)) (λ e. e))
+  some-last f (x ∷ a) c h = some-last (next f x) a c (by-bool (hit f x) (λ e. yes-no (rw e at h)) (λ e. rw e at h))
 
 -- the marks between parts and after them
 abbrev pub Mark : ℕ → Type 0
@@ -75,7 +75,7 @@ cap-next x (inr (inr (inr (inr e)))) f = rw e
 
 -- plain characters hold no capital
 not-plain : (c x : ℕ) → plain x ≡ false → plain c ≡ true → c ≡ x → ⊥
-not-plain c x f p e = no (sym p ∙ ap plain e ∙ f)
+not-plain c x f p e = yes-no (sym p ∙ ap plain e ∙ f)
 
 others : (plain (code "I") ≡ false) × (plain (code "N") ≡ false) × (plain (code "n") ≡ false)
 unfolding plain digitOf isSign within

@@ -21,7 +21,7 @@ use Rattle.numbers.specs.declared.Real.{Real}
 use Rattle.digits.specs.declared.Span.{Span}
 use Rattle.numbers.specs.declared.Suffix.{Suffix}
 use Rattle.laws.specs.Texts.{before, same, starts}
-use Rattle.laws.proofs.Choice.{by-bool}
+use Rattle.laws.proofs.Choice.{by-bool, yes-no}
 use Rattle.laws.specs.Quoted.{code, codes, within}
 use Rattle.numbers.specs.Reals.{decimal, dotted, exponent, exponentMarker, integralOf, orElse, pointOf, rationalOf, suffix, undotted}
 use Rattle.digits.specs.Digits.{digits, negative, sign, spanAt, uinteger, wholeOf}
@@ -32,7 +32,7 @@ use Rattle.laws.proofs.Compared.{same-is}
 use Rattle.laws.proofs.Runs.{span-le}
 use Rattle.difference.specs.R7rs.{DecimalAt, ImaginaryAt, Infnan, RealAt, SuffixAt, URealAt, intOf, pointed}
 use Rattle.difference.specs.Productions.{Digits, Letter, Sign, UInteger}
-use Rattle.difference.proofs.Runs.{all-digits, before-split, isDigit, no, span-is, test-uint}
+use Rattle.difference.proofs.Runs.{all-digits, before-split, isDigit, span-is, test-uint}
 use Rattle.difference.proofs.Derived.{head-sign, head-ureal}
 use Rattle.numbers.specs.Reals as bought
 
@@ -70,7 +70,7 @@ e-marker : (c : ℕ) → exponentMarker c ≡ true → Letter "e" c
 unfolding exponentMarker lower within
 e-marker c h =
     by-bool (eqb c (code "e")) (λ e. rw (eqb-true c (code "e") e) (Letter.letter refl)) (λ e.
-    by-bool (eqb c (code "E")) (λ f. rw (eqb-true c (code "E") f) (Letter.letter refl)) (λ f. no (sym (rw (e, f) at h))))
+    by-bool (eqb c (code "E")) (λ f. rw (eqb-true c (code "E") f) (Letter.letter refl)) (λ f. yes-no (sym (rw (e, f) at h))))
 
 exp-inv : (p c : ℕ) (t : List ℕ) (e : Exponent) → exponentMarker c ≡ true → exponent (p + 1) t ≡ Marked e → SuffixAt p (c ∷ t) e
 unfolding exponent
@@ -205,7 +205,7 @@ decimal-inv neg p s r h =
   where
     dots : (x : List ℕ) → drop (digits 10 s) s ≡ x → starts (code ".") (drop (digits 10 s) s) ≡ true
         → dotted neg p (digits 10 s) (p + digits 10 s + 1) (drop (digits 10 s + 1) s) ≡ AReal r → DecimalAt neg p s r
-    dots [] q e k = no (sym (rw q at e))
+    dots [] q e k = yes-no (sym (rw q at e))
     dots (c ∷ x) q e k =
         let c-dot : c ≡ code "." = eqb-true c (code ".") (rw q at e) in
         let after : drop (digits 10 s + 1) s ≡ x = sym (drop-drop 1 (digits 10 s) s) ∙ ap (drop 1) q in

@@ -12,7 +12,7 @@ use native.Mathlib.Nat.{zero-add}
 use Rattle.numbers.specs.declared.Exponent.{Exponent}
 use Rattle.numbers.specs.declared.Real.{Real}
 use Rattle.standard.proofs.Letters.{UpperOf, lower-is}
-use Rattle.laws.proofs.Choice.{by-bool}
+use Rattle.laws.proofs.Choice.{by-bool, yes-no}
 use Rattle.laws.specs.Quoted.{code, codes, within}
 use Rattle.digits.specs.Digits.{digitOf, sign}
 use Rattle.numbers.specs.Reals.{exponentMarker}
@@ -24,7 +24,7 @@ use Rattle.numbers.specs.Grammar.{startsE, toSign}
 use Rattle.difference.specs.R7rs.{DecimalAt, ImaginaryAt, Infnan, RealAt, SuffixAt, URealAt}
 use Rattle.difference.specs.Productions.{Digits, Letter, Sign, UInteger}
 use Rattle.difference.proofs.Derived.{Head, head-ureal, marker-e, plain, plain-not, plain-sign, plain-ureal}
-use Rattle.difference.proofs.Runs.{all, all-append, all-cons, all-head, all-imp, all-tail, digit-differs, digits-all, isDigit, no, span-all, uint-digits}
+use Rattle.difference.proofs.Runs.{all, all-append, all-cons, all-head, all-imp, all-tail, digit-differs, digits-all, isDigit, span-all, uint-digits}
 
 -- the radix of a <prefix R>
 abbrev pub Radix : ℕ → Type 0
@@ -61,7 +61,7 @@ low-all f (c ∷ s) h = all-cons (λ c. f (lower c)) c s (all-head f (lower c) (
 
 low-other : (x : ℕ) (s w : List ℕ) → lower x ≡ x → map lower s ≡ w → all (other x) w ≡ true → all (other x) s ≡ true
 low-other x s w l e h =
-    all-imp (λ c. other x (lower c)) (other x) (λ c k. by-bool (eqb c x) (λ q. no (sym k ∙ ap (other x) (ap lower (eqb-true c x q) ∙ l) ∙ ap not (eq-eqb x x refl))) (λ q. ap not q)) s
+    all-imp (λ c. other x (lower c)) (other x) (λ c k. by-bool (eqb c x) (λ q. yes-no (sym k ∙ ap (other x) (ap lower (eqb-true c x q) ∙ l) ∙ ap not (eq-eqb x x refl))) (λ q. ap not q)) s
     (low-all (other x) s (rw e h))
 
 infnan-other : {s : List ℕ} {r : Real} (x : ℕ) → Foreign x → Infnan s r → all (other x) s ≡ true
@@ -114,14 +114,14 @@ toSign-quiet [] y h = sym (zero-add (toSign false y))
 toSign-quiet (c ∷ a) y h =
     let q : quiet c ≡ true = all-head quiet c a h in
     let r = toSign-quiet a y (all-tail quiet c a h) in
-    by-bool (eqb c (code "+")) (λ e. no (sym (rw e at q))) (λ e.
-    by-bool (eqb c (code "-")) (λ f. no (sym (rw (e, f) at q))) (λ f.
-    by-bool (exponentMarker c) (λ g. no (sym (rw (e, f, g) at q))) (λ g. rw (e, f, g) (ap suc r ∙ omega arith))))
+    by-bool (eqb c (code "+")) (λ e. yes-no (sym (rw e at q))) (λ e.
+    by-bool (eqb c (code "-")) (λ f. yes-no (sym (rw (e, f) at q))) (λ f.
+    by-bool (exponentMarker c) (λ g. yes-no (sym (rw (e, f, g) at q))) (λ g. rw (e, f, g) (ap suc r ∙ omega arith))))
 
 -- a character that is no sign
 toSign-free : (c : ℕ) (t : List ℕ) → isSign c ≡ false → toSign false (c ∷ t) ≡ suc (toSign (exponentMarker c) t)
 unfolding toSign isSign
-toSign-free c t h = by-bool (eqb c (code "+")) (λ e. no (rw e at h)) (λ e. by-bool (eqb c (code "-")) (λ f. no (rw (e, f) at h)) (λ f. rw (e, f)))
+toSign-free c t h = by-bool (eqb c (code "+")) (λ e. yes-no (rw e at h)) (λ e. by-bool (eqb c (code "-")) (λ f. yes-no (rw (e, f) at h)) (λ f. rw (e, f)))
 
 walk-free : (R c : ℕ) (t : List ℕ) → isSign c ≡ false → walk R false (c ∷ t) ≡ 1 + walk R (exponentMarker c) t
 unfolding walk span
@@ -129,7 +129,7 @@ walk-free R c t h = by-bool (eqb R 16) (λ e. rw (e, h) (omega arith)) (λ e. rw
 
 walk-sign : (R c : ℕ) (t : List ℕ) → isSign c ≡ true → walk R false (c ∷ t) ≡ 0
 unfolding walk span toSign isSign
-walk-sign R c t h = by-bool (eqb R 16) (λ e. rw (e, h)) (λ e. by-bool (eqb c (code "+")) (λ f. rw (e, f)) (λ f. by-bool (eqb c (code "-")) (λ g. rw (e, f, g)) (λ g. no (sym (rw (f, g) at h)))))
+walk-sign R c t h = by-bool (eqb R 16) (λ e. rw (e, h)) (λ e. by-bool (eqb c (code "+")) (λ f. rw (e, f)) (λ f. by-bool (eqb c (code "-")) (λ g. rw (e, f, g)) (λ g. yes-no (sym (rw (f, g) at h)))))
 
 pub digit-sign : (R c : ℕ) → R ≤ 16 → digitOf c < R → isSign c ≡ false
 unfolding isSign digitOf within
@@ -234,10 +234,10 @@ signed-joint {R} {s = s} y h Sign.negative u = minus-joint R (s ++ y) ∙ omega 
 low-quiet : (c : ℕ) → quiet (lower c) ≡ true → quiet c ≡ true
 unfolding quiet isSign exponentMarker lower within
 low-quiet c h =
-    by-bool (eqb c (code "+")) (λ e. no (sym (rw (eqb-true c (code "+") e) at h))) (λ e.
-    by-bool (eqb c (code "-")) (λ f. no (sym (rw (eqb-true c (code "-") f) at h))) (λ f.
-    by-bool (eqb c (code "e")) (λ g. no (sym (rw (eqb-true c (code "e") g) at h))) (λ g.
-    by-bool (eqb c (code "E")) (λ i. no (sym (rw (eqb-true c (code "E") i) at h))) (λ i. rw (e, f, g, i)))))
+    by-bool (eqb c (code "+")) (λ e. yes-no (sym (rw (eqb-true c (code "+") e) at h))) (λ e.
+    by-bool (eqb c (code "-")) (λ f. yes-no (sym (rw (eqb-true c (code "-") f) at h))) (λ f.
+    by-bool (eqb c (code "e")) (λ g. yes-no (sym (rw (eqb-true c (code "e") g) at h))) (λ g.
+    by-bool (eqb c (code "E")) (λ i. yes-no (sym (rw (eqb-true c (code "E") i) at h))) (λ i. rw (e, f, g, i)))))
 
 abbrev Quiet : List ℕ → Type 0
 Quiet s = (c : ℕ) × (t : List ℕ) × (s ≡ c ∷ t) × (isSign c ≡ true) × (all quiet t ≡ true)
@@ -265,11 +265,11 @@ infnan-quiet {s} (Infnan.minus-nan e) = word-quiet s _ _ e (inr refl) refl
 
 pub quiet-free : (c : ℕ) → quiet c ≡ true → free c ≡ true
 unfolding quiet
-quiet-free c h = by-bool (isSign c) (λ e. no (sym (rw e at h))) (λ e. ap not e)
+quiet-free c h = by-bool (isSign c) (λ e. yes-no (sym (rw e at h))) (λ e. ap not e)
 
 pub sign-marker : (c : ℕ) → isSign c ≡ true → exponentMarker c ≡ false
 unfolding isSign exponentMarker
-sign-marker c h = by-bool (eqb c (code "+")) (λ e. rw (eqb-true c (code "+") e)) (λ e. by-bool (eqb c (code "-")) (λ f. rw (eqb-true c (code "-") f)) (λ f. no (sym (rw (e, f) at h))))
+sign-marker c h = by-bool (eqb c (code "+")) (λ e. rw (eqb-true c (code "+") e)) (λ e. by-bool (eqb c (code "-")) (λ f. rw (eqb-true c (code "-") f)) (λ f. yes-no (sym (rw (e, f) at h))))
 
 quiet-joint : (R : ℕ) (s y : List ℕ) → Quiet s → joint R (s ++ y) ≡ length s + walk R false y
 unfolding walk
@@ -310,7 +310,7 @@ unfolding sign isSign
 signed-sign s y d e = go (rw (d .2) at e) (d .3)
   where
     go : sign (d .0 ∷ (d .1 ++ y)) ≡ 0 → isSign (d .0) ≡ true → ⊥
-    go q h = by-bool (eqb (d .0) (code "+")) (λ f. omega (arith, rw f at q)) (λ f. by-bool (eqb (d .0) (code "-")) (λ g. omega (arith, rw (f, g) at q)) (λ g. no (sym (rw (f, g) at h))))
+    go q h = by-bool (eqb (d .0) (code "+")) (λ f. omega (arith, rw f at q)) (λ f. by-bool (eqb (d .0) (code "-")) (λ g. omega (arith, rw (f, g) at q)) (λ g. yes-no (sym (rw (f, g) at h))))
 
 pub walk-i : (R : ℕ) {c : ℕ} → Letter "i" c → walk R false (c ∷ []) ≡ 1
 unfolding walk span toSign
@@ -319,7 +319,3 @@ walk-i R {c} m = walk-free R c [] (i-other m .2) ∙ by-bool (eqb R 16) (λ e. r
     last : (b : Bool) → 1 + toSign b [] ≡ 1
     last true = refl
     last false = refl
-
-walk-nil : (R : ℕ) → walk R false [] ≡ 0
-unfolding walk span toSign
-walk-nil R = by-bool (eqb R 16) (λ e. rw e) (λ e. rw e)

@@ -20,7 +20,7 @@ use Rattle.numbers.specs.declared.Real.{Real}
 use Rattle.standard.proofs.Letters.{UpperOf, lower-is}
 use Rattle.standard.specs.Grammar.{aloneOf, complex, endsI, imaginary, joint, numberParts, pairOf, rectangular}
 use Rattle.laws.specs.Texts.{before, span, starts}
-use Rattle.laws.proofs.Choice.{by-bool}
+use Rattle.laws.proofs.Choice.{by-bool, yes-no}
 use Rattle.laws.specs.Quoted.{code, within}
 use Rattle.numbers.specs.Grammar.{complexOf, init, justOf, polarOf, prefix, radixMark, toSign}
 use Rattle.digits.specs.Digits.{digitOf, sign}
@@ -32,7 +32,7 @@ use Rattle.difference.specs.R7rs.{ComplexAt, ImaginaryAt, Infnan, Number
 use Rattle.difference.specs.Productions.{Letter, Prefix}
 use Rattle.difference.proofs.Walk.{Radix, Signed, all-nil, foreign-at, foreign-hash, free, i-other, imaginary-joint, imaginary-other}
 use Rattle.difference.proofs.Walk.{imaginary-signed, joint-cons, other, radix-le, real-joint, real-other, signed-sign, signed-walk, walk, walk-i}
-use Rattle.difference.proofs.Runs.{all, all-append, all-cons, all-head, all-tail, before-here, before-none, before-split, no}
+use Rattle.difference.proofs.Runs.{all, all-append, all-cons, all-head, all-tail, before-here, before-none, before-split}
 use Rattle.difference.proofs.Sound.{imaginary-inv, real-inv}
 use Rattle.difference.proofs.Derived.{imaginary-is, plain, plain-sign, plain-ureal, real-is}
 
@@ -66,8 +66,8 @@ unfolding plain isSign digitOf within
 plain-i c h = ne-eqb (lower c) (code "i") (λ e. go (lower-is c (code "i") e))
   where
     go : (c ≡ code "i") ⊎ UpperOf c (code "i") → ⊥
-    go (inl e) = no (sym (rw e at h))
-    go (inr e) = let z : c ≡ code "I" = omega arith in no (sym (rw z at h))
+    go (inl e) = yes-no (sym (rw e at h))
+    go (inr e) = let z : c ≡ code "I" = omega arith in yes-no (sym (rw z at h))
 
 plain-ends : (s : List ℕ) → all plain s ≡ true → endsI s ≡ false
 unfolding endsI starts
@@ -151,7 +151,7 @@ no-parts e = let z : _≡_ {A = ℕ} 0 1 = cc in absurd (omega arith)
 
 ends-split : (s : List ℕ) → endsI s ≡ true → (c : ℕ) × Letter "i" c × (s ≡ init s ++ c ∷ [])
 unfolding endsI starts
-ends-split [] h = no (sym h)
+ends-split [] h = yes-no (sym h)
 ends-split (x ∷ s) h = go (snoc (x ∷ s) (λ e. ne e))
   where
     ne : x ∷ s ≡ [] → ⊥
@@ -167,13 +167,13 @@ ends-split (x ∷ s) h = go (snoc (x ∷ s) (λ e. ne e))
 
 sign-zero : (c : ℕ) (t : List ℕ) → isSign c ≡ true → sign (c ∷ t) ≡ 0 → ⊥
 unfolding sign isSign
-sign-zero c t h e = by-bool (eqb c (code "+")) (λ f. omega (arith, rw f at e)) (λ f. by-bool (eqb c (code "-")) (λ g. omega (arith, rw (f, g) at e)) (λ g. no (sym (rw (f, g) at h))))
+sign-zero c t h e = by-bool (eqb c (code "+")) (λ f. omega (arith, rw f at e)) (λ f. by-bool (eqb c (code "-")) (λ g. omega (arith, rw (f, g) at e)) (λ g. yes-no (sym (rw (f, g) at h))))
 
 -- a signed part that ends in i: its sign stands before the i
 init-sign : (c : ℕ) (t : List ℕ) → isSign c ≡ true → endsI (c ∷ t) ≡ true → sign (init (c ∷ t)) ≡ 0 → ⊥
 unfolding endsI starts isSign lower within
-init-sign c [] h k e = by-bool (eqb c (code "+")) (λ f. no (sym (rw (eqb-true c (code "+") f) at k)))
-    (λ f. by-bool (eqb c (code "-")) (λ g. no (sym (rw (eqb-true c (code "-") g) at k))) (λ g. no (sym (rw (f, g) at h))))
+init-sign c [] h k e = by-bool (eqb c (code "+")) (λ f. yes-no (sym (rw (eqb-true c (code "+") f) at k)))
+    (λ f. by-bool (eqb c (code "-")) (λ g. yes-no (sym (rw (eqb-true c (code "-") g) at k))) (λ g. yes-no (sym (rw (f, g) at h))))
 init-sign c (x ∷ t) h k e = let n : suc (suc (length t)) - 1 ≡ suc (length t) = omega arith in sign-zero c (take (length t) (x ∷ t)) h (rw n at e)
 
 -- where the walk stops, a sign stands
@@ -212,7 +212,7 @@ pub sign-signed : (s : List ℕ) → (sign s ≡ 0 → ⊥) → Signed s
 unfolding sign isSign
 sign-signed [] h = absurd (h refl)
 sign-signed (c ∷ t) h = by-bool (isSign c) (λ e. (c, t, refl, e))
-    (λ e. absurd (h (by-bool (eqb c (code "+")) (λ f. no (rw f at e)) (λ f. by-bool (eqb c (code "-")) (λ g. no (rw (f, g) at e)) (λ g. rw (f, g))))))
+    (λ e. absurd (h (by-bool (eqb c (code "+")) (λ f. yes-no (rw f at e)) (λ f. by-bool (eqb c (code "-")) (λ g. yes-no (rw (f, g) at e)) (λ g. rw (f, g))))))
 
 complex-of : (R p q : ℕ) (s t : List ℕ) (a : Parts) → R ≤ 16 → (sign t ≡ 0 → ⊥) → complexOf (real R p s) (imaginary R q t) ≡ SomeParts a
     → (x : Real) × (y : Real) × RealAt R p s x × ImaginaryAt R q t y × (a ≡ Complex x y)
@@ -291,7 +291,7 @@ complex-inv R p s a l h =
 no-hash : (s : List ℕ) → all (other (code "#")) s ≡ true → prefix s ≡ 0
 unfolding prefix
 no-hash [] h = refl
-no-hash (c ∷ s) h = rw (ne-eqb c (code "#") (λ e. no (sym (all-head (other (code "#")) c s h) ∙ ap not (eq-eqb c (code "#") e))))
+no-hash (c ∷ s) h = rw (ne-eqb c (code "#") (λ e. yes-no (sym (all-head (other (code "#")) c s h) ∙ ap not (eq-eqb c (code "#") e))))
 
 complex-hash : {R p : ℕ} {s : List ℕ} {a : Parts} → R ≤ 16 → ComplexAt R p s a → all (other (code "#")) s ≡ true
 unfolding all

@@ -15,7 +15,7 @@ const OVERFLOW: u32 = 3;
 const RADIX: u64 = 16;
 
 // The first value that 32 bits do not hold.
-const LIMIT: u64 = 0x1_0000_0000;
+const OVERFLOW_FROM: u64 = 0x1_0000_0000;
 
 // The value of the digits from a place on.
 fn hex_digits(t: &[u8], from: usize) -> Hex
@@ -29,7 +29,7 @@ fn hex_digits(t: &[u8], from: usize) -> Hex
             return Hex::Wrong(BAD_DIGIT, i);
         }
         let next = v * RADIX + d;
-        if LIMIT <= next {
+        if OVERFLOW_FROM <= next {
             return Hex::Wrong(OVERFLOW, i);
         }
         v = next;

@@ -4,9 +4,8 @@ use cuttings::Reading;
 use cuttings::part;
 use cuttings::record_at;
 use items::Record;
+use items::modes::PLAIN;
 use libc::STDOUT_FILENO;
-
-const PLAIN: u32 = 0;
 
 // The words or bytes of the memories that a reading is written to.
 const ROOM: usize = 8192;

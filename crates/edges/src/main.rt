@@ -1,12 +1,15 @@
 // The whole-text call at its edges, run: each case prints what the call answers, then all words of the record memory and all bytes of the
 // text memory, so that the file `stdout` shows what was written and that the rest stayed. What it has to print is worked out by hand
-// from document 01. Refusal 20 wants a text of 4 GiB and is not run.
+// from document 01. Refusal 20 wants a text of 4 GiB and is not run; `call_edges` shows it in pieces.
+use items::modes::PLAIN;
+use items::modes::REPORT;
 use lexer::ReadAnswer;
 use lexer::read;
 use meaning::records::WORDS;
-use refusal::LIMIT;
+use refusal::LIMIT_VALUE;
 use refusal::NO_MODE;
 use refusal::NOT_UTF8;
+use refusal::SERVED;
 use refusal::TOO_FEW;
 use refusal::TOO_LONG;
 ghost use Prim.Native.Nat.{_*_, _≤_};
@@ -24,13 +27,6 @@ const MARK_BYTE: u8 = 7;
 const ROOM: usize = 2 * WORDS;
 
 const BYTES: usize = 6;
-
-const PLAIN: u32 = 0;
-
-const REPORT: u32 = 1;
-
-// What is printed of a call that was served.
-const SERVED: u32 = 0;
 
 fn number(n: u64) {
     io::print_decimal(OUT, n);
@@ -64,7 +60,7 @@ fn show_answer(answer: ReadAnswer) {
     match answer {
         ReadAnswer::Served(items, text) => show_numbers(SERVED, items as u64, text as u64),
         ReadAnswer::NoMode(mode) => show_numbers(NO_MODE, mode as u64, 0),
-        ReadAnswer::TooLong => show_numbers(TOO_LONG, LIMIT as u64, 0),
+        ReadAnswer::TooLong => show_numbers(TOO_LONG, LIMIT_VALUE, 0),
         ReadAnswer::NotUtf8(at) => show_numbers(NOT_UTF8, at as u64, 0),
         ReadAnswer::NoRoom(items, text) => show_numbers(TOO_FEW, items as u64, text as u64),
     }

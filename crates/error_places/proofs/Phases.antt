@@ -19,7 +19,6 @@ use Rattle.items.specs.declared.Quotes.the-variants.{Double, Lines}
 use Rattle.items.specs.declared.Outcome.{Outcome}
 use Rattle.items.specs.declared.Outcome.the-variants.{Token, Str, HereStr, Word, Run, Lined, Keyword, Character, Error, ErrorAt}
 use Rattle.items.specs.declared.Phase.{Phase}
-use Rattle.items.specs.declared.Phase.the-variants as ph
 use Rattle.items.specs.declared.Next.{Next}
 use Rattle.items.specs.declared.Next.the-variants.{Eat, Stop}
 use Rattle.items.specs.declared.HashKind.{HashKind}
@@ -27,6 +26,7 @@ use Rattle.items.specs.declared.HashKind.the-variants.{Decided, Bracket, Undeci
 use Rattle.items.specs.Kinds as kind
 use Rattle.items.specs.Machine.{hashLast}
 use Rattle.items.specs.Readers.{eat, firstIs, lastIs, linedOf, closed, unclosed, cut, pastFailing, boolKind, quoteKind, formKind, orElse, hashKind, SoFar}
+use Rattle.items.proofs.Phases.{InPhase}
 
 -- what stands after the digits: nothing, or a byte of ASCII
 pub data Stops : List ℕ → Type 0 where
@@ -76,31 +76,14 @@ pub record Opened (raw : List ℕ) (n : ℕ) : Type 0 where
   pub count : n ≡ length x + 1
 
 abbrev pub Holds : ℕ → SoFar → Phase → Type 0
-Holds s i ph.InLine = Unit {0}
-Holds s i ph.AfterComma = Unit {0}
-Holds s i ph.AfterHash = Unit {0}
-Holds s i ph.AfterAngle = Unit {0}
-Holds s i ph.HereDelim = Unit {0}
-Holds s i ph.HereStart = Unit {0}
-Holds s i ph.HereBody = Unit {0}
-Holds s i ph.InWord = Unit {0}
-Holds s i ph.WordEscape = Unit {0}
-Holds s i ph.InRun = Unit {0}
-Holds s i ph.InHash = Unit {0}
-Holds s i ph.HashEscape = Unit {0}
-Holds s i ph.HashTick = Unit {0}
-Holds s i ph.HashComma = Unit {0}
-Holds s i (ph.Nest d) = Unit {0}
-Holds s i (ph.NestBar d) = Unit {0}
-Holds s i (ph.NestSharp d) = Unit {0}
-Holds s i (ph.Quoted k) = Unit {0}
-Holds s i (ph.Closed k) = Unit {0}
-Holds s i (ph.TrimBefore k) = Unit {0}
-Holds s i (ph.TrimAfter k) = Unit {0}
-Holds s i (ph.Escape k from) = Unit {0}
-Holds s i (ph.Brace k from) = Opened (i .bytes) (length (i .bytes))
-Holds s i (ph.Hex k closer from m) = Opened (i .bytes) m × (closer < 0x80)
-Holds s i (ph.Done o) = Told s (i .bytes) o
+Holds s i = InPhase (record {
+  nest = λ d. Unit {0};
+  closed = λ k. Unit {0};
+  escape = λ from. Unit {0};
+  brace = λ from. Opened (i .bytes) (length (i .bytes));
+  digits = λ closer from m. Opened (i .bytes) m × (closer < 0x80);
+  done = Told s (i .bytes);
+})
 
 abbrev pub Goes : ℕ → SoFar → ℕ → Next → Type 0
 Goes s i c (Eat q) = Holds s (eat i c) q

@@ -8,7 +8,6 @@ use lib.ListN.{length, drop, take, length-append, take-append-drop, length-drop}
 use lib.Seq.{drop-append-seam, length-take-le, drop-append-le, drop-drop}
 use lib.Dec.{eqb, ltb}
 use native.Mathlib.Omega.{arith}
-use borrow.Author.Tests.{lt-ltb, le-leb}
 use Rattle.laws.specs.Quoted.{code}
 use Rattle.laws.proofs.Choice.{if-all}
 use Rattle.chars.specs.Encode.{utf8, bytesOf, isScalar}
@@ -25,13 +24,14 @@ use Rattle.items.specs.declared.Outcome.{Outcome}
 use Rattle.items.specs.declared.Outcome.the-variants.{Token, Str, HereStr, Word, Run, Lined, Keyword, Character, Error, ErrorAt}
 use Rattle.items.specs.declared.CharValue.{CharValue}
 use Rattle.items.specs.declared.CharValue.the-variants.{Scalar, Wrong, WrongAt}
-use Rattle.items.specs.Items.{Place, range, unset, placeOf, characterSets, rangeAfter, itemsOf, extentItems, items}
+use Rattle.items.specs.Items.{Place, range, unset, characterSets, rangeAfter, itemsOf, extentItems, items}
 use Rattle.items.specs.Meaning.{Text, none, source, Meaning, one, wordKind, wordMeans, runMeans, stringText, linedText, hereText}
 use Rattle.items.specs.Meaning.{characterOf, charInside, characterMeans, meaningOf}
 use Rattle.items.specs.Readers.{SoFar, Read, firstIs, scalarOf, pastFailing, readItem}
 use Rattle.items.proofs.Every.{Every}
 use Rattle.items.proofs.Failing.{past-within, Inside, hex-inside}
 use Rattle.items.proofs.Meanings.{word-le}
+use Rattle.items.proofs.Pointed.{set-place}
 use Rattle.items.proofs.Splits.{read-at}
 use Rattle.coverage.proofs.Bytes.{bytes-append, passed}
 use Rattle.coverage.proofs.Extents.{Taken, taken}
@@ -163,10 +163,6 @@ digits-fail whole s raw rest stands cs chars good d a b g =
     ∙ append-assoc (g .x ++ (g .k ∷ [])) (g .ds ++ g .ys) rest ∙ ap (λ (l : List ℕ). (g .x ++ (g .k ∷ [])) ++ l) (append-assoc (g .ds) (g .ys) rest) in
     fails-there whole s (g .x) (g .k) (g .ascii) (g .ds) (g .ys ++ rest) there (g .zs) a b (g .p)
     (omega (arith, g .from, length-append (g .x) (g .k ∷ []))) d (subst Known (g .fails) (known (g .ds))) w (g .fails) (g .to)
-
--- a place of its own that is set
-set-place : (n a b : ℕ) (x : Place) → 0 < b → placeOf true (kind.firstError + n) (range a b) x ≡ range a b
-set-place n a b x h = rw (le-leb kind.firstError (kind.firstError + n) (omega arith), lt-ltb 0 b h)
 
 module _ (whole : List ℕ) (s : ℕ) (rest : List ℕ) (cs : List ℕ) (good : Every IsChar cs) (i : SoFar) (chars : i .bytes ≡ bytesOf cs)
     (long : i .at ≡ s + length (i .bytes)) (stands : drop s whole ≡ i .bytes ++ rest) where

@@ -10,19 +10,15 @@ use lib.Seq.{take-suc, getD-drop}
 use borrow.Author.Tests.{eq-eqb, ne-eqb}
 use Rattle.laws.specs.Quoted.{code}
 use Rattle.laws.specs.Texts.{starts}
-use Rattle.laws.proofs.Choice.{by-bool}
 use Rattle.laws.proofs.Places.{past, here}
 use Rattle.laws.proofs.Compared.{starts-here, starts-in}
-use Rattle.chars.specs.Encode.{isScalar}
 use Rattle.digits.specs.Hex.{hexValue}
-use Rattle.digits.specs.declared.Hex.{Hex}
-use Rattle.digits.specs.declared.Hex.the-variants as hex
 use Rattle.items.specs.declared.Quotes.{Quotes}
-use Rattle.items.specs.declared.CharValue.the-variants.{Scalar}
 use Rattle.items.specs.Classes.{delimOf, stopsHex, inHex, closes, stops, digit}
 use Rattle.items.specs.Readers.{scalarOf}
 use Rattle.items.specs.Meaning.{unescapeBrace, unescapeHex}
 use Rattle.items.proofs.Cases.{by-hex, by-value}
+use Rattle.items.proofs.Shorter.{scalar-is}
 use Rattle.escapes.specs.declared.Given.the-variants.{Nothing}
 use Rattle.escapes.specs.Elements.{element, closedHex, Unescapes}
 use Rattle.escapes.proofs.Cases.{over}
@@ -48,15 +44,6 @@ module _ (k : Quotes) (closer c : ℕ) where
     is-digit e d = rw (ne-eqb c closer n, e, ne-eqb c (delimOf k) d)
 
 -- ---- the digits, place by place
-
--- the character of digits is one
-scalar-is : (h : Hex) (c : ℕ) → scalarOf h ≡ Scalar c → isScalar c ≡ true
-unfolding scalarOf
-scalar-is (hex.Value v) c e =
-    by-bool (isScalar v)
-    (λ y. let f = rw y at e in let q : v ≡ c = cc in rw (← q) y)
-    (λ n. let f = rw n at e in let z : _≡_ {A = ℕ} 0 1 = cc in absurd (omega arith))
-scalar-is (hex.Wrong d p) c e = let z : _≡_ {A = ℕ} 0 1 = cc in absurd (omega arith)
 
 -- the digits from the place `from` to before the place i
 abbrev pub digitsTo : List ℕ → ℕ → ℕ → List ℕ

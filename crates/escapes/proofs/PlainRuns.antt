@@ -1,13 +1,13 @@
 -- A run of plain characters of ASCII stands in the text as it stands in the item.
 use Prim.Native.Nat.{ℕ, _+_, _-_, _≤_}
 use mathlib.Core.Path.{_≡_, refl, sym, ap, _∙_}
-use mathlib.Core.Bool.{Bool, true, false, not, _&&_}
+use mathlib.Core.Bool.{Bool, true, not, _&&_}
 use mathlib.Core.List.{List, [], _∷_, _++_}
 use native.Mathlib.Omega.{arith}
 use lib.Dec.{eqb, ltb}
 use lib.ListN.{length, take, drop, length-drop}
 use lib.Seq.{length-take-le}
-use borrow.Author.Tests.{eqb-false}
+use borrow.Author.Tests.{eqb-false, not-true}
 use Rattle.laws.specs.Quoted.{code}
 use Rattle.laws.specs.Texts.{span}
 use Rattle.laws.proofs.Choice.{by-bool, and-true}
@@ -23,10 +23,6 @@ use borrow.Rule.Slice.PartMut.{putMid}
 use Rattle.escapes.proofs.Cases.{is-plain}
 use Rattle.escapes.proofs.Laying.{Reading, reading-more, Laying, more-room, laying-more}
 
-unset : (b : Bool) → not b ≡ true → b ≡ false
-unset false h = refl
-unset true h = sym h
-
 module _ (k : Quotes) where
   abbrev inRun : ℕ → Bool
   inRun c = plain (delimOf k) (code "\\") c
@@ -35,7 +31,7 @@ module _ (k : Quotes) where
   plain-class c h =
       let a = and-true (ltb c 0x80) (not (eqb c (delimOf k)) && not (eqb c (code "\\"))) h in
       let b = and-true (not (eqb c (delimOf k))) (not (eqb c (code "\\"))) (a .1) in
-      is-plain k c (eqb-false c (delimOf k) (unset _ (b .0))) (eqb-false c (code "\\") (unset _ (b .1)))
+      is-plain k c (eqb-false c (delimOf k) (not-true _ (b .0))) (eqb-false c (code "\\") (not-true _ (b .1)))
 
   unescape-run : (s : List ℕ) → unescape k s ≡ take (span inRun s) s ++ unescape k (drop (span inRun s) s)
   unfolding unescape span

@@ -1,9 +1,10 @@
 // The whole-text call of the crate `lexer`: its answer as a number and two values.
 use flat::put_values;
 use lexer::ReadAnswer;
-use refusal::LIMIT;
+use refusal::LIMIT_VALUE;
 use refusal::NO_MODE;
 use refusal::NOT_UTF8;
+use refusal::SERVED;
 use refusal::TOO_FEW;
 use refusal::TOO_LONG;
 ghost use mathlib.Core.Path.{_≡_};
@@ -12,12 +13,6 @@ ghost use Rattle.chars.specs.Encode.{lay};
 ghost use Rattle.items.specs.Whole.{readOf};
 ghost use Rattle.lexer.specs.Answers.{answerOf};
 ghost use Rattle.exports.specs.Read.{readNumber, readValues};
-
-// What the call answers beside refusals: the items were written.
-const SERVED: u32 = 0;
-
-// What refusal 20 comes with.
-const LONGEST: u64 = LIMIT as u64;
 
 // An answer: its number and its two values.
 struct Told {
@@ -44,7 +39,7 @@ fn answer(a: ReadAnswer) -> Told
     match a {
         ReadAnswer::Served(items, bytes) => tell(SERVED, items as u64, bytes as u64),
         ReadAnswer::NoMode(mode) => tell(NO_MODE, mode as u64, 0),
-        ReadAnswer::TooLong => tell(TOO_LONG, LONGEST, 0),
+        ReadAnswer::TooLong => tell(TOO_LONG, LIMIT_VALUE, 0),
         ReadAnswer::NotUtf8(at) => tell(NOT_UTF8, at as u64, 0),
         ReadAnswer::NoRoom(items, bytes) => tell(TOO_FEW, items as u64, bytes as u64),
     }

@@ -9,6 +9,7 @@ use lib.ListN.{length, getD, drop}
 use lib.Seq.{drop-cons}
 use lib.Dec.{eqb, leb}
 use borrow.Author.Tests.{eqb-true, leb-true}
+use Rattle.refusal.specs.Refusals as refusal
 use Rattle.laws.specs.Lent.{written}
 use Rattle.laws.proofs.Choice.{if-yes, if-no, and-true}
 use Rattle.chars.specs.Encode.{lay}
@@ -59,7 +60,7 @@ kept l h = loads-back l 0 stateWords (omega arith)
 
 -- opening
 module _ (mode : ℕ) (skip : Bool) (buf words : List ℕ) where
-  pub not-opened : isState (length buf) (length words) ≡ false → opened 27 buf words ≡ openLeft mode skip buf words
+  pub not-opened : isState (length buf) (length words) ≡ false → opened refusal.outOfBounds buf words ≡ openLeft mode skip buf words
   unfolding openLeft
   not-opened h = rw h
 
@@ -76,13 +77,13 @@ module _ (m : Memory) (call : State → Said) where
   abbrev state : Bool
   state = isState (length (m .buf)) (length (m .words))
 
-  pub too-few : {v : List ℕ} → room ≡ false → v ≡ lay (1 ∷ 0 ∷ []) (m .values) → left 22 (memory (m .buf) (m .words) (m .text) (m .item) v) ≡ called m call
+  pub too-few : {v : List ℕ} → room ≡ false → v ≡ lay (1 ∷ 0 ∷ []) (m .values) → left refusal.tooFew (memory (m .buf) (m .words) (m .text) (m .item) v) ≡ called m call
   unfolding called
-  too-few h e = if-no room _ _ h (ap (λ (x : List ℕ). left 22 (memory (m .buf) (m .words) (m .text) (m .item) x)) e)
+  too-few h e = if-no room _ _ h (ap (λ (x : List ℕ). left refusal.tooFew (memory (m .buf) (m .words) (m .text) (m .item) x)) e)
 
-  pub no-state : {v : List ℕ} → room ≡ true → state ≡ false → v ≡ lay (0 ∷ 0 ∷ []) (m .values) → left 27 (memory (m .buf) (m .words) (m .text) (m .item) v) ≡ called m call
+  pub no-state : {v : List ℕ} → room ≡ true → state ≡ false → v ≡ lay (0 ∷ 0 ∷ []) (m .values) → left refusal.outOfBounds (memory (m .buf) (m .words) (m .text) (m .item) v) ≡ called m call
   unfolding called
-  no-state h g e = if-yes room _ _ h (if-no state _ _ g (ap (λ (x : List ℕ). left 27 (memory (m .buf) (m .words) (m .text) (m .item) x)) e))
+  no-state h g e = if-yes room _ _ h (if-no state _ _ g (ap (λ (x : List ℕ). left refusal.outOfBounds (memory (m .buf) (m .words) (m .text) (m .item) x)) e))
 
   -- `w` is what was read of the words
   abbrev answer : Words → Said

@@ -61,11 +61,11 @@ pub record Opened : Type 0 where
 abbrev pub opened : ℕ → List ℕ → List ℕ → Opened
 opened n buf words = record { answer = n; buf = buf; words = words }
 
--- 0 for a state that is ready, else 01's number of the refusal
+-- `served` for a state that is ready, else 01's number of the refusal
 abbrev pub startNumber : What → ℕ
-startNumber (item g) = 0
-startNumber more = 0
-startNumber finished = 0
+startNumber (item g) = refusal.served
+startNumber more = refusal.served
+startNumber finished = refusal.served
 startNumber (refused n p) = n
 
 abbrev pub opens : Said → List ℕ → Opened
@@ -95,11 +95,11 @@ pub record Left : Type 0 where
 abbrev pub left : ℕ → Memory → Left
 left n m = record { answer = n; memory = m }
 
--- what is given as a number: 10 an item, 11 "more", 12 "finished", else 01's number of the refusal
+-- what is given as a number: an item, "more", "finished", else 01's number of the refusal
 abbrev pub whatNumber : What → ℕ
-whatNumber (item g) = 10
-whatNumber more = 11
-whatNumber finished = 12
+whatNumber (item g) = refusal.item
+whatNumber more = refusal.more
+whatNumber finished = refusal.finished
 whatNumber (refused n p) = n
 
 -- the place that a refusal comes with

@@ -9,7 +9,12 @@ use lent::calls::piece_words;
 use meaning::records::WORDS;
 use meaning::records::put;
 use pieces::Got;
+use pieces::LONGEST;
+use refusal::FINISHED;
+use refusal::ITEM;
+use refusal::MORE;
 use refusal::OUT_OF_BOUNDS;
+use refusal::SERVED;
 use refusal::TOO_FEW;
 ghost use mathlib.Core.Path.{_≡_};
 ghost use mathlib.Core.List.{List, [], _∷_};
@@ -23,18 +28,8 @@ ghost use Rattle.piecewise.specs.Answers.{whatOf};
 ghost use Rattle.lent.specs.Calls.{said};
 ghost use Rattle.flat.specs.Piece.{listed, wordsIn, stateWords, isState, opened, startNumber, openLeft, left, gives, whatNumber, whatPlace, recordAfter, isRoom, pieceLeft, endLeft, memory};
 
-// What a piece or end call gives beside refusals.
-const AN_ITEM: u32 = 10;
-
-const MORE: u32 = 11;
-
-const FINISHED: u32 = 12;
-
-// What opening answers beside refusals.
-const OPENED: u32 = 0;
-
-// What a state has.
-const STATE_BYTES: usize = 4096;
+// What a state has: the bytes of an item, and its words.
+const STATE_BYTES: usize = LONGEST;
 
 const STATE_WORDS: usize = 19;
 
@@ -123,9 +118,9 @@ fn start_number(got: Got) -> u32
     ensures { λ r. ⌜ ((text : List ℕ) → r ≡ startNumber (whatOf got text)) ⌝ }
 {
     match got {
-        Got::Item(_record) => OPENED,
-        Got::More => OPENED,
-        Got::Finished => OPENED,
+        Got::Item(_record) => SERVED,
+        Got::More => SERVED,
+        Got::Finished => SERVED,
         Got::Refused(number, _place) => number,
     }
 }
@@ -135,7 +130,7 @@ fn number(got: Got) -> u32
     ensures { λ r. ⌜ ((text : List ℕ) → r ≡ whatNumber (whatOf got text)) ⌝ }
 {
     match got {
-        Got::Item(_record) => AN_ITEM,
+        Got::Item(_record) => ITEM,
         Got::More => MORE,
         Got::Finished => FINISHED,
         Got::Refused(number, _place) => number,

@@ -3,14 +3,13 @@ use Prim.Native.Nat.{ℕ, _+_, _-_, _≤_, _<_}
 use mathlib.Core.Path.{_≡_, sym, ap, _∙_}
 use mathlib.Core.Bool.{Bool, true, false}
 use mathlib.Core.List.{List, [], _∷_}
-use lib.ListN.{length, getD, take, drop, set, length-take, length-drop, drop-of-length-le}
-use lib.Seq.{take-suc, take-nil, take-all, take-append-seam, length-take-le}
+use lib.ListN.{length, take, drop, length-take, length-drop, drop-of-length-le}
+use lib.Seq.{take-nil, take-all, take-append-seam, length-take-le}
 use lib.Dec.{eqb}
 use native.Mathlib.Omega.{arith}
-use native.Mathlib.Numerals.{add-one}
 use Rattle.laws.specs.Lent.{written}
 use Rattle.laws.proofs.Choice.{if-all}
-use Rattle.laws.proofs.Lent.{written-push, part-rest}
+use Rattle.laws.proofs.Lent.{part-rest}
 use Rattle.items.specs.Kinds as kind
 use Rattle.items.specs.Items.{Place, range, placeOf}
 use Rattle.items.specs.declared.Record.{Record}
@@ -25,18 +24,6 @@ use Rattle.pieces.specs.declared.Got.the-variants.{Item}
 use Rattle.pieces.specs.Calls.{item}
 use Rattle.giving.specs.Answers.{whatOf}
 use Rattle.giving.specs.Copied.{quotesOf, copiedBy, hasText, givenBy}
-
--- ---- a copy, byte by byte
-
-pub copied-next : (raw old now : List ℕ) (i : ℕ) → i < length raw → i < length old → now ≡ written (take i raw) old
-    → set now i (getD raw i 0) ≡ written (take (i + 1) raw) old
-copied-next raw old now i h g e =
-    let l : length (take i raw) ≡ i = length-take-le i raw (omega arith) in
-    rw (e, add-one i, take-suc raw i 0 h)
-    (ap (λ (k : ℕ). set (written (take i raw) old) k (getD raw i 0)) (sym l) ∙ written-push (take i raw) old (getD raw i 0) (omega (arith, l)))
-
-pub copied-end : (raw old now : List ℕ) (i : ℕ) → length raw ≤ i → now ≡ written (take i raw) old → now ≡ written raw old
-copied-end raw old now i h e = e ∙ ap (λ (l : List ℕ). written l old) (take-all i raw h)
 
 -- ---- a part: as much of it as there is
 

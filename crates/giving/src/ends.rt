@@ -3,12 +3,12 @@ use crate::give::give;
 use crate::lay::lay;
 use crate::marks::counted;
 use crate::marks::marks_at;
-use bounds::limits::REPORT;
 use chars::char_width;
 use chars::is_blank;
 use items::Outcome;
 use items::Record;
 use items::kinds;
+use items::modes::REPORT;
 use meaning::Means;
 use meaning::Meant;
 use meaning::Range;
@@ -33,6 +33,7 @@ ghost use Rattle.items.specs.Items.{range, rangeAfter, standing};
 ghost use Rattle.items.specs.Readers.{soFar};
 ghost use Rattle.items.specs.Whole.{limit, inReport};
 ghost use Rattle.meaning.specs.Places.{placeIn, rangeOf};
+ghost use Rattle.pieces.specs.Expected.{longest};
 ghost use Rattle.pieces.specs.Calls as calls;
 ghost use Rattle.giving.specs.Answers.{stateOf, whatOf, turnIn, textTurned, goesOn, lastIn};
 ghost use Rattle.giving.specs.Copied.{oneGiven, pairGiven};
@@ -55,7 +56,7 @@ pub fn go_on(m: Marks) -> Turned
 
 // A character between items: a blank is passed over, any other begins an item. The last error range is from..to.
 pub fn begin(m: Marks, buf: &mut [u8], from: usize, to: usize, c: u32) -> Marks
-    requires { ⌜ (length (now buf) ≡ 4096) × CharFits c (m .at) ⌝ }
+    requires { ⌜ (length (now buf) ≡ longest) × CharFits c (m .at) ⌝ }
     ensures { λ r. ⌜ stateOf r (now (buf .exit)) ≡ calls.begin (stateOf m (now (buf .entry))) (range from to) c ⌝ }
 {
     let width = char_width(c);
@@ -76,7 +77,7 @@ pub fn begin(m: Marks, buf: &mut [u8], from: usize, to: usize, c: u32) -> Marks
 
 // What stands beyond the items that were given: a character, or the end.
 pub fn beyond(m: Marks, buf: &mut [u8], last: Range, b: Beyond) -> Marks
-    requires { ⌜ (length (now buf) ≡ 4096) × BeyondFits b (m .at) ⌝ }
+    requires { ⌜ (length (now buf) ≡ longest) × BeyondFits b (m .at) ⌝ }
     ensures { λ r. ⌜ stateOf r (now (buf .exit)) ≡ calls.beyond (stateOf m (now (buf .entry))) (placeIn last) b ⌝ }
 {
     match b {

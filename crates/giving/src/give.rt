@@ -17,6 +17,7 @@ ghost use lib.ListN.{length, take, drop};
 ghost use Rattle.laws.specs.Lent.{written};
 ghost use Rattle.meaning.specs.Places.{placeIn};
 ghost use Rattle.meaning.specs.Records.{nineWith};
+ghost use Rattle.pieces.specs.Expected.{longest};
 ghost use Rattle.pieces.specs.Calls.{item};
 ghost use Rattle.giving.specs.Answers.{whatOf};
 ghost use Rattle.giving.specs.Copied.{quotesOf, copiedBy, hasText, givenBy};
@@ -144,7 +145,7 @@ pub fn give(
     raw: &[u8],
     text: &mut [u8],
 ) -> Record
-    requires { ⌜ (0 < length (now raw)) × (length (now raw) ≤ 4096) × (4096 ≤ length (now text)) ⌝ }
+    requires { ⌜ (0 < length (now raw)) × (length (now raw) ≤ longest) × (longest ≤ length (now text)) ⌝ }
     ensures { λ r. ⌜ (whatOf (Got.Item r) (now (text .exit)) ≡ item (givenBy depth report m (placeIn last) (extent .from) (extent .to) (now (raw .entry))))
         × (now (text .exit) ≡ written (givenBy depth report m (placeIn last) (extent .from) (extent .to) (now (raw .entry)) .text) (now (text .entry))) ⌝ }
 {

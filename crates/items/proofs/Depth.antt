@@ -1,6 +1,6 @@
 -- The depth of an item: it fits a word, skipped comments do not move it, it is the count of the brackets that are open, and the other nine
 -- words of a record do not know of it.
-use Rattle.items.specs.Items.{Item, kept, deepest, depthAfter, depthPast, ownWords, recordWords, nineOf, recordOf, memoryOf, records}
+use Rattle.items.specs.Items.{Item, kept, mostOpen, depthAfter, depthPast, ownWords, recordWords, nineOf, recordOf, memoryOf, records}
 use Rattle.items.specs.Kinds as kind
 use Rattle.items.specs.Meaning.{Text, none, source, decoded}
 use Rattle.laws.specs.Choice.{if_then_else_}
@@ -14,18 +14,18 @@ use lib.Dec.{eqb, ltb}
 use native.Mathlib.Omega.{arith}
 use borrow.Author.Tests.{eqb-true, ltb-true, lt-ltb}
 
--- ---- no item makes a depth that a word does not hold: the deepest stays as it is
+-- ---- no item makes a depth that a word does not hold: the greatest stays as it is
 
-pub depth-within : (k d : ℕ) → d ≤ deepest → depthAfter k d ≤ deepest
+pub depth-within : (k d : ℕ) → d ≤ mostOpen → depthAfter k d ≤ mostOpen
 depth-within k d h =
-    let P : ℕ → Type 0 = λ (n : ℕ). n ≤ deepest in
-    if-all P (eqb k kind.OpenParen) (if-is P (ltb d deepest) (λ e. omega (arith, ltb-true d deepest e)) (λ _. h)) (if-all P (eqb k kind.CloseParen) (omega arith) h)
+    let P : ℕ → Type 0 = λ (n : ℕ). n ≤ mostOpen in
+    if-all P (eqb k kind.OpenParen) (if-is P (ltb d mostOpen) (λ e. omega (arith, ltb-true d mostOpen e)) (λ _. h)) (if-all P (eqb k kind.CloseParen) (omega arith) h)
 
 -- and none goes deeper by more than one
 pub depth-slow : (k d : ℕ) → depthAfter k d ≤ suc d
 depth-slow k d =
     let P : ℕ → Type 0 = λ (n : ℕ). n ≤ suc d in
-    if-all P (eqb k kind.OpenParen) (if-all P (ltb d deepest) (omega arith) (omega arith)) (if-all P (eqb k kind.CloseParen) (omega arith) (omega arith))
+    if-all P (eqb k kind.OpenParen) (if-all P (ltb d mostOpen) (omega arith) (omega arith)) (if-all P (eqb k kind.CloseParen) (omega arith) (omega arith))
 
 pub past-slow : (d : ℕ) (is : List Item) → depthPast d is ≤ d + length is
 unfolding depthPast
@@ -62,7 +62,7 @@ closes d [] = 0
 closes d (i ∷ is) = (if eqb (i .kind) kind.CloseParen && ltb 0 d then 1 else 0) + closes (depthAfter (i .kind) d) is
 
 -- A RECORD'S DEPTH is the number of opens before it, less the closes that closed one.
-pub depth-counts : (d : ℕ) (is : List Item) → d + length is ≤ deepest → depthPast d is + closes d is ≡ d + opens is
+pub depth-counts : (d : ℕ) (is : List Item) → d + length is ≤ mostOpen → depthPast d is + closes d is ≡ d + opens is
 unfolding depthPast
 depth-counts d [] h = omega arith
 depth-counts d (i ∷ is) h =
@@ -73,7 +73,7 @@ depth-counts d (i ∷ is) h =
   where
     one : (k : ℕ) → depthAfter k d + (if eqb k kind.CloseParen && ltb 0 d then 1 else 0) ≡ d + (if eqb k kind.OpenParen then 1 else 0)
     one k = by-bool (eqb k kind.OpenParen)
-        (λ e. let same : k ≡ kind.OpenParen = eqb-true k kind.OpenParen e in rw (same, lt-ltb d deepest (omega arith)) (omega arith))
+        (λ e. let same : k ≡ kind.OpenParen = eqb-true k kind.OpenParen e in rw (same, lt-ltb d mostOpen (omega arith)) (omega arith))
         (λ e. rw e (by-bool (eqb k kind.CloseParen)
         (λ f. rw f (below d))
         (λ f. rw f (omega arith))))

@@ -1,6 +1,6 @@
 -- Every word of a record fits 32 bits where the text's length does: places and texts lie in the text, and the decoded texts together are
 -- no longer than it.
-use Rattle.items.specs.Items.{items, kept, deepest, depthAfter, recordWords, textWords, nineOf, recordOf, memoryOf, records, texts, byteCount, Item}
+use Rattle.items.specs.Items.{items, kept, mostOpen, depthAfter, recordWords, textWords, nineOf, recordOf, memoryOf, records, texts, byteCount, Item}
 use Rattle.items.specs.Meaning.{Text, none, source, decoded}
 use Rattle.items.proofs.Depth.{depth-within}
 use Rattle.items.proofs.Every.{Every, every-append}
@@ -42,7 +42,7 @@ module _ (n : ℕ) (long : n < 2 ^ 32) where
   text-fits free s e (source a b) h g m = (omega arith, (omega arith, (omega arith, tt)))
   text-fits free s e (decoded bs) h g m = (omega arith, (omega arith, (omega arith, tt)))
 
-  record-fits : (free depth : ℕ) (i : Item) → Placed n i → Fits (i .detail) → free + length (memoryOf (i .text)) ≤ n → depth ≤ deepest
+  record-fits : (free depth : ℕ) (i : Item) → Placed n i → Fits (i .detail) → free + length (memoryOf (i .text)) ≤ n → depth ≤ mostOpen
       → Every Fits (recordOf free depth i)
   record-fits free depth i p d m h =
       every-append Fits (nineOf free i) (depth ∷ [])
@@ -50,7 +50,7 @@ module _ (n : ℕ) (long : n < 2 ^ 32) where
       (omega arith, tt)
 
   pub words-fit : (free depth : ℕ) (is : List Item) → Every (Placed n) is → Every (λ (i : Item). Fits (i .detail)) is → free + length (texts is) ≤ n
-      → depth ≤ deepest → Every Fits (records free depth is)
+      → depth ≤ mostOpen → Every Fits (records free depth is)
   unfolding records texts
   words-fit free depth [] p d m h = tt
   words-fit free depth (i ∷ is) p d m h =

@@ -7,6 +7,7 @@ pub mod Ready
 pub mod Deep
 pub mod Failing
 pub mod Fine
+pub mod Phases
 pub mod Outcomes
 pub mod Shorter
 pub mod Meanings

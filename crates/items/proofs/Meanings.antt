@@ -16,7 +16,7 @@ use Rattle.items.proofs.Fine.{Between, Fine, FineValue, fine-scalar}
 use Rattle.items.proofs.Shorter.{decoded-shorter}
 use Rattle.laws.specs.Quoted.{code, within}
 use Rattle.laws.specs.Texts.{before, same}
-use Rattle.laws.proofs.Choice.{by-bool, if-all, if-is}
+use Rattle.laws.proofs.Choice.{by-bool, if-all, if-is, and-true, within-is}
 use Rattle.chars.specs.declared.Step.{Step}
 use Rattle.chars.specs.Utf8.{first, rest, front, Front}
 use Rattle.numbers.specs.declared.Parsed.{Parsed}
@@ -58,14 +58,6 @@ pub record Made (D : ℕ → Type 0) (s e : ℕ) (ms : List Meaning) : Type 0 wh
   pub count : s + length ms ≤ e
   pub memory : s + held ms ≤ e
 
-and-left : (a b : Bool) → (a && b) ≡ true → a ≡ true
-and-left true b e = refl
-and-left false b e = e
-
-and-right : (a b : Bool) → (a && b) ≡ true → b ≡ true
-and-right true b e = e
-and-right false b e = let z : _≡_ {A = ℕ} 0 1 = cc in absurd (omega arith)
-
 -- ---- tables
 
 -- whether no number of a table is above n
@@ -77,8 +69,8 @@ lookup-le : (n : ℕ) (rows : List Row) (raw : List ℕ) (other : ℕ) → allBe
 unfolding lookup
 lookup-le n [] raw other h o = o
 lookup-le n (r ∷ rs) raw other h o =
-    if-all (λ (k : ℕ). k ≤ n) (same raw (r .text)) (leb-true (r .number) n (and-left (leb (r .number) n) (allBelow n rs) h))
-    (lookup-le n rs raw other (and-right (leb (r .number) n) (allBelow n rs) h) o)
+    if-all (λ (k : ℕ). k ≤ n) (same raw (r .text)) (leb-true (r .number) n (and-true (leb (r .number) n) (allBelow n rs) h .0))
+    (lookup-le n rs raw other (and-true (leb (r .number) n) (allBelow n rs) h .1) o)
 
 pub word-le : (raw : List ℕ) → wordKind raw ≤ kind.Dot
 unfolding wordKind words
@@ -124,7 +116,7 @@ SmallStep step.Bad = Unit {0}
 
 within-le : (lo hi b : ℕ) → within lo hi b ≡ true → b ≤ hi
 unfolding within
-within-le lo hi b e = leb-true b hi (and-right (leb lo b) (leb b hi) e)
+within-le lo hi b e = within-is lo hi b e .1
 
 first-small : (b : ℕ) → SmallStep (first b)
 unfolding first
@@ -243,7 +235,7 @@ module _ (D : ℕ → Type 0) (small : (d : ℕ) → d < 2 ^ 32 → D d) where
         let P : List Meaning → Type 0 = Made D s e in
         if-all P (eqb (wordKind raw) kind.Identifier)
         (if-is P (firstIs (code "+") raw && ltb 1 (length raw))
-        (λ f. pair-made (ltb-true 1 (length raw) (and-right (firstIs (code "+") raw) (ltb 1 (length raw)) f)))
+        (λ f. pair-made (ltb-true 1 (length raw) (and-true (firstIs (code "+") raw) (ltb 1 (length raw)) f .1)))
         (λ f. one-made kind.Identifier 0 (source s e) (omega arith) (small 0 (omega arith)) (omega arith, (omega arith, omega arith))))
         (one-made (wordKind raw) 0 none (omega (arith, word-le raw)) (small 0 (omega arith)) tt)
 

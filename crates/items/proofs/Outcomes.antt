@@ -24,6 +24,7 @@ use Rattle.items.proofs.Every.{Every}
 use Rattle.items.proofs.Failing.{past-within}
 use Rattle.items.proofs.Fine.{Between, Numbered, Fine, FineKind, FineValue, fine-scalar, fine-closed, fine-unclosed, fine-cut, fine-kind, fine-last}
 use Rattle.items.proofs.Same.{item-same}
+use Rattle.items.proofs.Phases.{InPhase}
 use Rattle.chars.proofs.Width.{wide, width-utf8}
 use Rattle.laws.specs.Quoted.{code}
 use Rattle.laws.proofs.Choice.{by-bool, if-all, if-is}
@@ -43,31 +44,14 @@ use Rattle.items.specs.Kinds as kind
 
 -- what is known in a phase, with the item so far
 abbrev Holds : (ℕ → Type 0) → ℕ → SoFar → Phase → Type 0
-Holds D n i ph.InLine = Unit {0}
-Holds D n i ph.AfterComma = Unit {0}
-Holds D n i ph.AfterHash = Unit {0}
-Holds D n i ph.AfterAngle = Unit {0}
-Holds D n i ph.HereDelim = Unit {0}
-Holds D n i ph.HereStart = Unit {0}
-Holds D n i ph.HereBody = Unit {0}
-Holds D n i ph.InWord = Unit {0}
-Holds D n i ph.WordEscape = Unit {0}
-Holds D n i ph.InRun = Unit {0}
-Holds D n i ph.InHash = Unit {0}
-Holds D n i ph.HashEscape = Unit {0}
-Holds D n i ph.HashTick = Unit {0}
-Holds D n i ph.HashComma = Unit {0}
-Holds D n i (ph.Nest d) = Unit {0}
-Holds D n i (ph.NestBar d) = Unit {0}
-Holds D n i (ph.NestSharp d) = Unit {0}
-Holds D n i (ph.Quoted k) = Unit {0}
-Holds D n i (ph.Closed k) = Between (delimOf k) (i .bytes)
-Holds D n i (ph.TrimBefore k) = Unit {0}
-Holds D n i (ph.TrimAfter k) = Unit {0}
-Holds D n i (ph.Escape k from) = from ≤ i .at
-Holds D n i (ph.Brace k from) = from ≤ i .at
-Holds D n i (ph.Hex k closer from m) = (from ≤ i .at) × D closer
-Holds D n i (ph.Done o) = Fine D n (i .bytes) o
+Holds D n i = InPhase (record {
+  nest = λ d. Unit {0};
+  closed = λ k. Between (delimOf k) (i .bytes);
+  escape = λ from. from ≤ i .at;
+  brace = λ from. from ≤ i .at;
+  digits = λ closer from m. (from ≤ i .at) × D closer;
+  done = Fine D n (i .bytes);
+})
 
 -- what is known after a step
 abbrev Goes : (ℕ → Type 0) → ℕ → SoFar → ℕ → Next → Type 0

@@ -24,7 +24,6 @@ use Rattle.items.specs.declared.Quotes.the-variants.{Double, Lines}
 use Rattle.items.specs.declared.Outcome.{Outcome}
 use Rattle.items.specs.declared.Outcome.the-variants.{Token, Str, HereStr, Word, Run, Lined, Keyword, Character, Error, ErrorAt}
 use Rattle.items.specs.declared.Phase.{Phase}
-use Rattle.items.specs.declared.Phase.the-variants as ph
 use Rattle.items.specs.declared.Next.{Next}
 use Rattle.items.specs.declared.Next.the-variants.{Eat, Stop}
 use Rattle.items.specs.declared.HashKind.{HashKind}
@@ -37,6 +36,7 @@ use Rattle.items.specs.Meaning.{lower, charNames, unnamed, isDelimiter, 
 use Rattle.items.specs.Points.{escapeErrors, extentErrors, PointsAt}
 use Rattle.items.specs.Machine.{hashLast}
 use Rattle.items.specs.Readers.{eat, firstIs, lastIs, linedOf, closed, unclosed, cut, scalarOf, pastFailing, boolKind, quoteKind, formKind, orElse, hashKind, SoFar}
+use Rattle.items.proofs.Phases.{InPhase}
 
 pub holds : (b : Bool) → T b → b ≡ true
 holds true t = refl
@@ -63,31 +63,14 @@ OwnKind s e Undecided = Unit {0}
 
 -- what is known in a phase of an item that starts at s
 abbrev pub Holds : ℕ → SoFar → Phase → Type 0
-Holds s i ph.InLine = Unit {0}
-Holds s i ph.AfterComma = Unit {0}
-Holds s i ph.AfterHash = Unit {0}
-Holds s i ph.AfterAngle = Unit {0}
-Holds s i ph.HereDelim = Unit {0}
-Holds s i ph.HereStart = Unit {0}
-Holds s i ph.HereBody = Unit {0}
-Holds s i ph.InWord = Unit {0}
-Holds s i ph.WordEscape = Unit {0}
-Holds s i ph.InRun = Unit {0}
-Holds s i ph.InHash = Unit {0}
-Holds s i ph.HashEscape = Unit {0}
-Holds s i ph.HashTick = Unit {0}
-Holds s i ph.HashComma = Unit {0}
-Holds s i (ph.Nest d) = Unit {0}
-Holds s i (ph.NestBar d) = Unit {0}
-Holds s i (ph.NestSharp d) = Unit {0}
-Holds s i (ph.Quoted k) = Unit {0}
-Holds s i (ph.Closed k) = Unit {0}
-Holds s i (ph.TrimBefore k) = Unit {0}
-Holds s i (ph.TrimAfter k) = Unit {0}
-Holds s i (ph.Escape k from) = (s ≤ from) × (from + 1 ≡ i .at)
-Holds s i (ph.Brace k from) = (s ≤ from) × (from < i .at)
-Holds s i (ph.Hex k closer from m) = (s ≤ from) × (from + (length (i .bytes) - m) < i .at)
-Holds s i (ph.Done o) = Own s (i .at) o
+Holds s i = InPhase (record {
+  nest = λ d. Unit {0};
+  closed = λ k. Unit {0};
+  escape = λ from. (s ≤ from) × (from + 1 ≡ i .at);
+  brace = λ from. (s ≤ from) × (from < i .at);
+  digits = λ closer from m. (s ≤ from) × (from + (length (i .bytes) - m) < i .at);
+  done = Own s (i .at);
+})
 
 abbrev pub Goes : ℕ → SoFar → ℕ → Next → Type 0
 Goes s i c (Eat q) = Holds s (eat i c) q
@@ -176,7 +159,7 @@ digits-fail t n (hex.Value v) = if-all (λ (x : CharValue). Fails t (later n x))
 digits-fail t n (hex.Wrong d p) = inl refl
 
 -- a delimiter is one byte
-delimiter-small : (c : ℕ) → isDelimiter c ≡ true → c < 0x80
+pub delimiter-small : (c : ℕ) → isDelimiter c ≡ true → c < 0x80
 unfolding isDelimiter
 delimiter-small c h = by-bool (ltb c 0x80) (λ e. ltb-true c 0x80 e) (λ e. absurd (none-large (ltb-false c 0x80 e)))
   where

@@ -42,7 +42,7 @@ extent-place : (k : ℕ) (x : Place) → placeOf true k x x ≡ x
 extent-place k x = by-bool (leb kind.firstError k && ltb 0 (x .to)) (λ e. rw e) (λ e. rw e)
 
 -- an error's own range is its place
-set-place : (n a b : ℕ) (x : Place) → 0 < b → placeOf true (kind.firstError + n) (range a b) x ≡ range a b
+pub set-place : (n a b : ℕ) (x : Place) → 0 < b → placeOf true (kind.firstError + n) (range a b) x ≡ range a b
 set-place n a b x h = rw (le-leb kind.firstError (kind.firstError + n) (omega arith), lt-ltb 0 b h)
 
 module _ (s e : ℕ) where

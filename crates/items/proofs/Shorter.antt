@@ -13,6 +13,8 @@ use Rattle.laws.specs.Quoted.{code}
 use Rattle.laws.proofs.Choice.{by-bool, if-all}
 use Rattle.chars.specs.Encode.{isScalar, encode}
 use Rattle.digits.specs.Hex.{hexValue}
+use Rattle.digits.specs.declared.Hex.{Hex}
+use Rattle.digits.specs.declared.Hex.the-variants as hex
 use Prim.Native.Nat.{ℕ, suc, _+_, _-_, _≤_}
 use mathlib.Core.Path.{_≡_, refl}
 use mathlib.Core.Bool.{Bool, true, false}
@@ -32,6 +34,15 @@ digit-there : (ds : List ℕ) (v : ℕ) → scalarOf (hexValue ds) ≡ Scalar v 
 unfolding hexValue scalarOf
 digit-there [] v e = let no : _≡_ {A = ℕ} 0 1 = cc in absurd (omega arith)
 digit-there (d ∷ ds) v e = omega arith
+
+-- digits that spell a character spell a scalar value
+pub scalar-is : (h : Hex) (v : ℕ) → scalarOf h ≡ Scalar v → isScalar v ≡ true
+unfolding scalarOf
+scalar-is (hex.Value n) v e =
+    by-bool (isScalar n)
+    (λ y. let f = rw y at e in let q : n ≡ v = cc in rw (← q) y)
+    (λ y. let f = rw y at e in let z : _≡_ {A = ℕ} 0 1 = cc in absurd (omega arith))
+scalar-is (hex.Wrong d p) v e = let z : _≡_ {A = ℕ} 0 1 = cc in absurd (omega arith)
 
 -- E is what is known of the bytes, t how much shorter than these the text is for it
 module _ (k : Quotes) (t : ℕ) (small : t ≤ 1) (E : List ℕ → Type 0) (tail : (c : ℕ) (cs : List ℕ) → E (c ∷ cs) → E cs)

@@ -1,14 +1,13 @@
--- Skipping comments: what is left out does not hang on where a text is cut, nor on which items are ready.
-use Rattle.items.specs.Items.{kept, memoryOf, texts, endsBefore, Item}
+-- Skipping comments: what is left out does not hang on where a text is cut, and what holds of all items holds of those that are kept.
+use Rattle.items.specs.Items.{kept, memoryOf, texts, Item}
 use Rattle.items.proofs.Every.{Every}
-use Rattle.items.proofs.Order.{Follows, InOrder}
 use Rattle.laws.proofs.Choice.{by-bool, if-all}
-use Prim.Native.Nat.{ℕ, suc, _+_, _≤_}
+use Prim.Native.Nat.{suc, _+_, _≤_}
 use mathlib.Core.Path.{_≡_, refl, ap}
 use mathlib.Core.Bool.{Bool, _&&_}
 use mathlib.Core.List.{List, [], _∷_, _++_}
 use lib.ListN.{length, length-append}
-use lib.Dec.{eqb, ltb}
+use lib.Dec.{eqb}
 use native.Mathlib.Omega.{arith}
 use native.Mathlib.Nat.{le-refl}
 use Rattle.items.specs.Kinds as kind
@@ -20,29 +19,10 @@ kept-append skip (i ∷ is) ys = by-bool (skip && eqb (i .kind) kind.Comment)
     (λ e. rw (e, kept) (kept-append skip is ys))
     (λ e. rw (e, kept) (ap (λ (l : List Item). i ∷ l) (kept-append skip is ys)))
 
-pub kept-before : (skip : Bool) (n : ℕ) (is : List Item) → kept skip (endsBefore n is) ≡ endsBefore n (kept skip is)
-unfolding kept endsBefore
-kept-before skip n [] = refl
-kept-before skip n (i ∷ is) = by-bool (skip && eqb (i .kind) kind.Comment)
-    (λ e. by-bool (ltb (i .end) n)
-    (λ f. rw (f, endsBefore) (rw (e, kept) (kept-before skip n is)))
-    (λ f. rw (f, endsBefore) (rw (e, kept) (kept-before skip n is))))
-    (λ e. by-bool (ltb (i .end) n)
-    (λ f. rw (f, endsBefore) (rw (e, kept) (rw (f, endsBefore) (ap (λ (l : List Item). i ∷ l) (kept-before skip n is)))))
-    (λ f. rw (f, endsBefore) (rw (e, kept) (rw (f, endsBefore) (kept-before skip n is)))))
-
--- ---- what holds of all items holds of those that are kept
-
 pub kept-every : (P : Item → Type 0) (skip : Bool) (is : List Item) → Every P is → Every P (kept skip is)
 unfolding kept
 kept-every P skip [] h = tt
 kept-every P skip (i ∷ is) h = if-all (Every P) (skip && eqb (i .kind) kind.Comment) (kept-every P skip is (h .1)) (h .0, kept-every P skip is (h .1))
-
-pub kept-order : (skip : Bool) (is : List Item) → InOrder is → InOrder (kept skip is)
-unfolding kept
-kept-order skip [] h = tt
-kept-order skip (i ∷ is) h =
-    if-all InOrder (skip && eqb (i .kind) kind.Comment) (kept-order skip is (h .1)) (kept-every (Follows i) skip is (h .0), kept-order skip is (h .1))
 
 pub kept-count : (skip : Bool) (is : List Item) → length (kept skip is) ≤ length is
 unfolding kept

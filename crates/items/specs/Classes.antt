@@ -1,5 +1,5 @@
 -- What a character is where it stands: the tests of the Rust's functions, one class type for each place, in the Rust's order.
--- The readers and the machine go by these classes and never look at a character otherwise.
+-- The readers and the machine go by these classes; where one certain character matters, such as a newline or `{`, they ask for it.
 use Prim.Native.Nat.{ℕ}
 use mathlib.Core.Bool.{Bool, true}
 use lib.Dec.{eqb}

@@ -129,13 +129,13 @@ kept skip (i ∷ is) = let more = kept skip is in if skip && eqb (i .kind) kind.
 
 -- ---- depth: 02 (vi), "the number of open brackets before the item, where a close with none open leaves it at 0"
 
--- the greatest depth that a word holds. No text has as many brackets; a position that a caller makes up may stand there, and stays
-abbrev pub deepest : ℕ
-deepest = 4294967295
+-- how many open brackets a word can tell. No text has as many; a position that a caller makes up may stand there, and stays
+abbrev pub mostOpen : ℕ
+mostOpen = 4294967295
 
 -- the depth after an item of a kind, from the depth before it: any of the brackets opens or closes, whatever its shape
 abbrev pub depthAfter : ℕ → ℕ → ℕ
-depthAfter k d = if eqb k kind.OpenParen then (if ltb d deepest then suc d else d) else (if eqb k kind.CloseParen then d - 1 else d)
+depthAfter k d = if eqb k kind.OpenParen then (if ltb d mostOpen then suc d else d) else (if eqb k kind.CloseParen then d - 1 else d)
 
 -- the depth after some items
 unfoldable pub depthPast : ℕ → List Item → ℕ

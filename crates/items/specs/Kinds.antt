@@ -1,4 +1,4 @@
--- The numbers of document 01: kinds in the order of `TokenType` in tokens.rs, errors by their table, refusals by theirs.
+-- The numbers of document 01: kinds in the order of `TokenType` in tokens.rs, errors by their table, details.
 -- Import as `use .. Kinds as kind`, so that a rule reads `kind.Number`.
 use Prim.Native.Nat.{ℕ}
 use Rattle.numbers.specs.Call.{zeroDenominator}

@@ -1,5 +1,5 @@
 -- The definition, part 1: where an item ends, and what it turned out to be. Readers on the characters of a text, shaped like the
--- functions of the Rust and under their names; where R7RS 7.1.1 has a production, its name stands in the comment.
+-- functions of the Rust, whose names stand in the headings; where R7RS 7.1.1 has a production, its name stands there too.
 -- A reader is given the item so far and the characters that are left, and says what it got: the outcome, the item, the rest.
 use Prim.Native.Nat.{ℕ, _+_, _-_}
 use mathlib.Core.Bool.{Bool, true, false}

@@ -1,11 +1,12 @@
 // What the reader speaks of: what an item turned out to be, where in an item the machine stands, and what a character does there.
 //
-// The definition of the items of a text, which is what a reviewer must believe, stands in specs/: Kinds, Classes, Readers, Meaning,
-// Items, Whole, with 01's examples in Examples. The machine, in specs/Machine and specs/Run, is a means of proof: of public contracts only
-// those of the piece calls cite it, for states that no call made. proofs/ shows that it gives exactly the definition's items, however a text
-// is cut. The code of its steps is in crate `steps`. `kinds` has the numbers of kinds, errors and details for all code.
+// The definition of the items of a text, which is what a reviewer must believe, stands in specs/: Kinds, Classes, Readers, Meaning, Items,
+// Whole, with 01's examples in Examples. The machine, in specs/Machine and specs/Run, is a means of proof: of public contracts only those
+// of the piece calls cite it, for states that no call made. proofs/ shows that it gives exactly the definition's items, however a text is
+// cut. The code of its steps is in crate `steps`. `kinds` has the numbers of kinds, errors and details for all code, `modes` has the modes.
 
 pub mod kinds;
+pub mod modes;
 
 // What stands between quotes.
 pub enum Quotes {

@@ -1,8 +1,7 @@
 -- Reasoning by a test.
 use Prim.Native.Nat.{ℕ, _≤_, _<_}
 use mathlib.Core.Path.{_≡_, refl}
-use mathlib.Core.Bool.{Bool, true, false, _&&_}
-use native.Mathlib.Omega.{arith}
+use mathlib.Core.Bool.{Bool, true, false, _&&_, true≢false, false≢true}
 use lib.Dec.{leb}
 use borrow.Author.Tests.{le-leb, lt-leb, leb-true}
 use Rattle.laws.specs.Choice.{if_then_else_}
@@ -13,6 +12,13 @@ module _ {P : Type 0} where
   pub by-bool : (b : Bool) → (b ≡ true → P) → (b ≡ false → P) → P
   by-bool true f g = f refl
   by-bool false f g = g refl
+
+  -- a test does not go both ways
+  pub no-yes : false ≡ true → P
+  no-yes e = absurd (false≢true e)
+
+  pub yes-no : true ≡ false → P
+  yes-no e = absurd (true≢false e)
 
 module _ {A : Type 0} where
   -- what holds of both arms holds of a choice
@@ -32,9 +38,19 @@ module _ {A : Type 0} where
   pub if-no : (b : Bool) (x y : A) {z : A} → b ≡ false → z ≡ y → z ≡ (if b then x else y)
   if-no b x y h e = rw h e
 
+-- both tests of two that pass together pass
 pub and-true : (x y : Bool) → (x && y) ≡ true → (x ≡ true) × (y ≡ true)
 and-true true y e = (refl, e)
-and-true false y e = absurd (let z : _≡_ {A = ℕ} 0 1 = cc in omega arith)
+and-true false y e = no-yes e
+
+-- two tests, the second known
+pub and-yes : (x : Bool) → (x && true) ≡ x
+and-yes true = refl
+and-yes false = refl
+
+pub and-no : (x : Bool) → (x && false) ≡ false
+and-no true = refl
+and-no false = refl
 
 module _ (a b c : ℕ) where
   pub within-below : c < a → false ≡ within a b c

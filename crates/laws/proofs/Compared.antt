@@ -1,7 +1,7 @@
 -- What a text starts with at a place, and how two texts compare there: what a loop that walks both needs at each turn.
 use Prim.Native.Nat.{ℕ, suc, _+_, _≤_, _<_}
 use mathlib.Core.Path.{_≡_, refl, ap}
-use mathlib.Core.Bool.{Bool, true, false, _&&_}
+use mathlib.Core.Bool.{true, false}
 use mathlib.Core.List.{List, [], _∷_}
 use lib.ListN.{length, getD, drop, drop-of-length-le}
 use lib.Seq.{drop-cons}
@@ -11,7 +11,7 @@ use native.Mathlib.Numerals.{add-one}
 use native.Mathlib.Nat.{suc-inj}
 use borrow.Author.Tests.{eq-eqb, ne-eqb, eqb-true, leb-true, leb-false}
 use Rattle.laws.specs.Texts.{starts, begins, same}
-use Rattle.laws.proofs.Choice.{by-bool}
+use Rattle.laws.proofs.Choice.{by-bool, and-no}
 use Rattle.laws.proofs.Places.{past, here}
 
 module _ (b : ℕ) (t : List ℕ) (i : ℕ) where
@@ -55,16 +55,12 @@ same-begins [] (y ∷ t) h = absurd (omega arith)
 same-begins (x ∷ s) [] h = absurd (omega arith)
 same-begins (x ∷ s) (y ∷ t) h = rw (same-begins s t (suc-inj h))
 
-and-false : (b : Bool) → (b && false) ≡ false
-and-false true = refl
-and-false false = refl
-
 pub same-differ : (s t : List ℕ) → (length s ≡ length t → ⊥) → same s t ≡ false
 unfolding same
 same-differ [] [] h = absurd (h refl)
 same-differ [] (y ∷ t) h = refl
 same-differ (x ∷ s) [] h = refl
-same-differ (x ∷ s) (y ∷ t) h = rw (same-differ s t (λ e. h (ap suc e))) (and-false (eqb x y))
+same-differ (x ∷ s) (y ∷ t) h = rw (same-differ s t (λ e. h (ap suc e))) (and-no (eqb x y))
 
 -- nothing is the same as w exactly if w is empty
 pub same-past : (t w : List ℕ) (i : ℕ) → length t ≤ i → eqb (length w) 0 ≡ same (drop i t) w

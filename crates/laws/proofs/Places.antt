@@ -3,10 +3,10 @@ use mathlib.Core.Path.{_≡_, sym}
 use mathlib.Core.Bool.{true, false}
 use mathlib.Core.List.{List, [], _∷_}
 use Prim.Native.Nat.{ℕ, zero, suc, _+_, _-_, _≤_, _<_}
-use native.Mathlib.Nat.{zero-add, suc-add}
+use native.Mathlib.Nat.{zero-add, suc-add, min-le-left}
 use native.Mathlib.Numerals.{add-one}
 use native.Mathlib.Omega.{arith}
-use lib.ListN.{length, getD, take, drop, drop-of-length-le, length-drop}
+use lib.ListN.{length, getD, take, drop, drop-of-length-le, length-drop, length-take}
 use lib.Seq.{drop-cons, drop-drop, take-nil}
 use lib.Dec.{ltb}
 use borrow.Author.Tests.{lt-ltb, le-ltb}
@@ -20,10 +20,14 @@ module _ (t : List ℕ) (i : ℕ) where
   pub here : i < length t → drop i t ≡ getD t i 0 ∷ drop (i + 1) t
   here h = rw add-one (drop-cons t i 0 h)
 
-drop-take : (p j : ℕ) (t : List ℕ) → drop p (take (p + j) t) ≡ take j (drop p t)
+-- a cut past a place is a cut of what stands from the place on
+pub drop-take : (p j : ℕ) (t : List ℕ) → drop p (take (p + j) t) ≡ take j (drop p t)
 drop-take zero j t = simp zero-add
 drop-take (suc p) j [] = simp suc-add (sym (take-nil j))
 drop-take (suc p) j (x ∷ t) = simp suc-add (drop-take p j t)
+
+pub take-short : (n : ℕ) (t : List ℕ) → length (take n t) ≤ n
+take-short n t = rw (length-take n t) (min-le-left n (length t))
 
 -- the part from p on, cut after j elements, at the place k of the text
 module _ (t : List ℕ) (p j k : ℕ) (e : k ≡ p + j) where

@@ -1,5 +1,6 @@
 -- Every state that the calls produced has words that are a code: its stage's numbers and those of a character begun stay narrow, whatever
 -- bytes come. So the lent calls never refuse what they themselves left.
+use Rattle.refusal.specs.Refusals as refusal
 use Rattle.chars.specs.declared.Begun.{Begun}
 use Rattle.chars.specs.declared.Step.{Step}
 use Rattle.chars.specs.declared.Step.the-variants as steps
@@ -144,7 +145,7 @@ module _ (s : State) (h : Lean s) where
 
   lean-next : (st c : ℕ) → Small c → (n : Next) → Eaten n → LeanTurn (onNext s st c n)
   lean-next st c z (Eat q) e =
-      if-all LeanTurn (ltb longest (s .marks .len + width c)) (lean-stopped 23 st (omega arith)) (record { mode = h .mode; begun = none; stage = e; depth = h .depth })
+      if-all LeanTurn (ltb longest (s .marks .len + width c)) (lean-stopped refusal.longItem st (omega arith)) (record { mode = h .mode; begun = none; stage = e; depth = h .depth })
   lean-next st c z (Stop o) e = lean-ends st o (Char c) z
 
   lean-stage : (c : ℕ) → Small c → (g : Stage) → Staged g → LeanTurn (onStage s g c)
@@ -162,15 +163,15 @@ module _ (s : State) (h : Lean s) where
   lean-stage c z (Stopped n p) e = h
 
   lean-told : (o : Step) → Steps o
-      → LeanTurn (told o (λ u. on (partly s (record { count = s .marks .part .count + 1; state = u }))) (λ c. onStage s (s .marks .stage) c) (stopped s 21 (s .marks .at)))
+      → LeanTurn (told o (λ u. on (partly s (record { count = s .marks .part .count + 1; state = u }))) (λ c. onStage s (s .marks .stage) c) (stopped s refusal.notUtf8 (s .marks .at)))
   lean-told (steps.More u) z = record { mode = h .mode; begun = z; stage = h .stage; depth = h .depth }
   lean-told (steps.Char c) z = lean-stage c z (s .marks .stage) (h .stage)
-  lean-told steps.Bad z = lean-stopped 21 (s .marks .at) (omega arith)
+  lean-told steps.Bad z = lean-stopped refusal.notUtf8 (s .marks .at) (omega arith)
 
   lean-turn : (b : ℕ) → LeanTurn (turnOf s b)
   unfolding turnOf
   lean-turn b =
-      if-all LeanTurn (leb limit (s .marks .at + s .marks .part .count)) (lean-stopped 20 limit (omega arith))
+      if-all LeanTurn (leb limit (s .marks .at + s .marks .part .count)) (lean-stopped refusal.tooLong limit (omega arith))
       (lean-told (step (s .marks .part .state) b) (step-steps (s .marks .part .state) b (h .begun)))
 
 -- ---- the calls
@@ -206,7 +207,7 @@ lean-replied (on s) h = h
 lean-replied (off s w) h = h
 
 lean-uncut : (s : State) → Lean s → (r : Reply) → LeanReply r → LeanReply (unlessCut s r)
-lean-uncut s h r g = if-all LeanReply (eqb (s .marks .part .count) 0) g (lean-stopped s h 21 (s .marks .at) (omega arith))
+lean-uncut s h r g = if-all LeanReply (eqb (s .marks .part .count) 0) g (lean-stopped s h refusal.notUtf8 (s .marks .at) (omega arith))
 
 lean-finish : (s : State) → Lean s → (st : ℕ) (o : Outcome) → LeanReply (unlessCut s (replied (ends s st o End)))
 lean-finish s h st o = lean-uncut s h (replied (ends s st o End)) (lean-replied (ends s st o End) (lean-ends s h st o End tt))

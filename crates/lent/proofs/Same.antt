@@ -1,5 +1,6 @@
 -- A lent state is a state by value kept as numbers, and a lent call does what the call by value does. So what is proved of the calls by
 -- value holds of the lent ones: number 27 never meets a state that they produced, and however a text is cut they give its items.
+use Rattle.refusal.specs.Refusals as refusal
 use Rattle.laws.specs.Choice.{if_then_else_}
 use Rattle.items.specs.Whole.{inReport}
 use Rattle.pieces.specs.declared.Marks.{Marks}
@@ -49,14 +50,14 @@ module _ {t : ByValue} (p : by.Produced t) where
   same-piece bs room =
       rw is-code
       (ap (λ (m : Marks). worded (pieceIn m (t .buf) bs room)) (standing-coded (t .marks))
-      ∙ ap (λ (b : Bool). worded (if b then pieceOf t bs room else record { taken = 0; what = refused 27 0; state = t })) (eq-eqb (length (t .buf)) longest is-full))
+      ∙ ap (λ (b : Bool). worded (if b then pieceOf t bs room else record { taken = 0; what = refused refusal.outOfBounds 0; state = t })) (eq-eqb (length (t .buf)) longest is-full))
 
   pub same-end : (room : ℕ) → endFor (lend t) room ≡ worded (endOf t room)
   unfolding endFor
   same-end room =
       rw is-code
       (ap (λ (m : Marks). worded (endIn m (t .buf) room)) (standing-coded (t .marks))
-      ∙ ap (λ (b : Bool). worded (if b then endOf t room else record { taken = 0; what = refused 27 0; state = t })) (eq-eqb (length (t .buf)) longest is-full))
+      ∙ ap (λ (b : Bool). worded (if b then endOf t room else record { taken = 0; what = refused refusal.outOfBounds 0; state = t })) (eq-eqb (length (t .buf)) longest is-full))
 
 -- ---- states that the lent calls produced
 
@@ -103,7 +104,7 @@ never-27-lent m =
 
 -- ---- a caller
 
-unless-same : (l : List ℕ) {a b : Expected} {f g : List ℕ → Expected} → a ≡ b → ((left : List ℕ) → f left ≡ g left) → unlessTaken l a f ≡ unlessTaken l b g
+pub unless-same : (l : List ℕ) {a b : Expected} {f g : List ℕ → Expected} → a ≡ b → ((left : List ℕ) → f left ≡ g left) → unlessTaken l a f ≡ unlessTaken l b g
 unless-same [] e h = e
 unless-same (x ∷ left) e h = h (x ∷ left)
 

@@ -5,6 +5,7 @@ use mathlib.Core.Bool.{Bool, true, false}
 use mathlib.Core.List.{List}
 use Prim.Native.Nat.{ℕ}
 use native.Mathlib.Omega.{arith}
+use Rattle.refusal.specs.Refusals as refusal
 use Rattle.laws.specs.Choice.{if_then_else_}
 use Rattle.pieces.specs.declared.Marks.{Marks}
 use Rattle.pieces.specs.declared.Pieced.{Pieced}
@@ -40,7 +41,7 @@ module _ (s : State) (f : Marks → Reply) (old : List ℕ) where
       let same : forCode s f ≡ worded (f m) = rw (k .0) (ap (λ (n : Marks). worded (f n)) (k .1)) in
       (ap (λ (u : Told). said u buf text) d ∙ ap worded (h .0) ∙ sym same, h .1 ∙ ap (λ (u : Said). textAfter (u .what) old) (sym same))
 
-  pub unserved : {t : Told} → seen (s .words) ≡ Outside → t ≡ record { words = s .words; taken = 0; got = Refused 27 0 }
+  pub unserved : {t : Told} → seen (s .words) ≡ Outside → t ≡ record { words = s .words; taken = 0; got = Refused refusal.outOfBounds 0 }
       → Says s f t (s .buf) old old
   unserved {t} e d =
       let same : forCode s f ≡ outside s = rw (unseen-by (isCode (s .words)) (standing (s .words)) e) in

@@ -20,6 +20,7 @@ use Rattle.items.specs.Machine.{onNest, onBar, onSharp, onQuoted, onEscape, onB
 use Rattle.items.specs.Machine.{onWord, enterWord, onRun, hashThen, onHash, onAfterHash, onDelim, stepOf, onFirst}
 use Rattle.items.specs.Readers.{SoFar, scalarOf, hashKind, hereEnds}
 use Rattle.items.proofs.Fine.{FineKind, FineValue, fine-kind, fine-scalar}
+use Rattle.items.proofs.Phases.{InPhase}
 use Rattle.digits.specs.Hex.{hexValue}
 use Rattle.laws.specs.Quoted.{code}
 use Rattle.laws.proofs.Choice.{if-all}
@@ -46,31 +47,14 @@ Slim (Error n d) = Small n × Small d
 Slim (ErrorAt n d a b) = Small n × Small d
 
 abbrev pub Slight : Phase → Type 0
-Slight ph.InLine = Unit {0}
-Slight ph.AfterComma = Unit {0}
-Slight ph.AfterHash = Unit {0}
-Slight ph.AfterAngle = Unit {0}
-Slight ph.HereDelim = Unit {0}
-Slight ph.HereStart = Unit {0}
-Slight ph.HereBody = Unit {0}
-Slight ph.InWord = Unit {0}
-Slight ph.WordEscape = Unit {0}
-Slight ph.InRun = Unit {0}
-Slight ph.InHash = Unit {0}
-Slight ph.HashEscape = Unit {0}
-Slight ph.HashTick = Unit {0}
-Slight ph.HashComma = Unit {0}
-Slight (ph.Nest d) = Unit {0}
-Slight (ph.NestBar d) = Unit {0}
-Slight (ph.NestSharp d) = Unit {0}
-Slight (ph.Quoted k) = Unit {0}
-Slight (ph.Closed k) = Unit {0}
-Slight (ph.TrimBefore k) = Unit {0}
-Slight (ph.TrimAfter k) = Unit {0}
-Slight (ph.Escape k from) = Unit {0}
-Slight (ph.Brace k from) = Unit {0}
-Slight (ph.Hex k closer from m) = Small closer
-Slight (ph.Done o) = Slim o
+Slight = InPhase (record {
+  nest = λ d. Unit {0};
+  closed = λ k. Unit {0};
+  escape = λ from. Unit {0};
+  brace = λ from. Unit {0};
+  digits = λ closer from m. Small closer;
+  done = Slim;
+})
 
 -- after a step; an outcome that ends the item stands in no state
 abbrev pub Eaten : Next → Type 0

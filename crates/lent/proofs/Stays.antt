@@ -1,5 +1,6 @@
 -- 01: "24, 26 and 27 take nothing and leave the state as it was". A call on any state, also a forged one, that is refused with a number
 -- which is no stop leaves each byte and word: the reader itself gives only stops, and words that are a code come back as they were.
+use Rattle.refusal.specs.Refusals as refusal
 use Rattle.chars.specs.declared.Step.{Step}
 use Rattle.chars.specs.declared.Step.the-variants as steps
 use Rattle.chars.specs.Encode.{width}
@@ -21,11 +22,10 @@ use Rattle.pieces.specs.declared.Marks.{Marks}
 use Rattle.pieces.specs.declared.Stage.{Stage}
 use Rattle.pieces.specs.declared.Stage.the-variants.{Opening, Pound, FirstLine, Idle, Busy, Waiting, Stopped}
 use Rattle.pieces.specs.declared.State.{State as ByValue}
-use Rattle.pieces.specs.Bounds.{inBounds}
+use Rattle.pieces.specs.Bounds.{Stops, inBounds}
 use Rattle.pieces.specs.Expected.{longest}
 use Rattle.pieces.specs.Calls.{What, item, more, finished, refused, Turn, on, off, Reply, reply, lastOf, itemSoFar, stopped, gives, report, ends, onNext}
 use Rattle.pieces.specs.Calls.{onStage, partly, turnOf, after, feedOf, pieceStage, pieceOf, declared, replied, unlessCut, endUnlessStopped, endOf}
-use Rattle.pieces.proofs.Kept.{Stops}
 use Rattle.piecewise.specs.Answers.{stateOf, pieceIn, endIn}
 use Rattle.lent.specs.declared.State.{State}
 use Rattle.lent.specs.declared.Words.{Words}
@@ -78,7 +78,7 @@ module _ (s : ByValue) where
   stage-stops c (Stopped n p) = tt
 
   told-stops : (o : Step)
-      → TurnStops (told o (λ u. on (partly s (record { count = s .marks .part .count + 1; state = u }))) (λ c. onStage s (s .marks .stage) c) (stopped s 21 (s .marks .at)))
+      → TurnStops (told o (λ u. on (partly s (record { count = s .marks .part .count + 1; state = u }))) (λ c. onStage s (s .marks .stage) c) (stopped s refusal.notUtf8 (s .marks .at)))
   told-stops (steps.More u) = tt
   told-stops (steps.Char c) = stage-stops c (s .marks .stage)
   told-stops steps.Bad = inr (inl refl)
@@ -115,17 +115,17 @@ no-other s r h n p e z = absurd (z (subst Stopping e h))
 module _ (s : ByValue) where
   rests-work : (bs : List ℕ) (g : Stage) → Rests s (pieceStage s g bs)
   rests-work bs (Stopped n p) = as-it-was s n p
-  rests-work bs (Waiting st b) = if-all (Rests s) (s .marks .ended) (as-it-was s 26 0) (no-other s _ tt)
-  rests-work bs Opening = if-all (Rests s) (s .marks .ended) (as-it-was s 26 0) (no-other s (feedOf s bs 0) (feed-stops bs s 0))
-  rests-work bs Pound = if-all (Rests s) (s .marks .ended) (as-it-was s 26 0) (no-other s (feedOf s bs 0) (feed-stops bs s 0))
-  rests-work bs FirstLine = if-all (Rests s) (s .marks .ended) (as-it-was s 26 0) (no-other s (feedOf s bs 0) (feed-stops bs s 0))
-  rests-work bs Idle = if-all (Rests s) (s .marks .ended) (as-it-was s 26 0) (no-other s (feedOf s bs 0) (feed-stops bs s 0))
-  rests-work bs (Busy st p) = if-all (Rests s) (s .marks .ended) (as-it-was s 26 0) (no-other s (feedOf s bs 0) (feed-stops bs s 0))
+  rests-work bs (Waiting st b) = if-all (Rests s) (s .marks .ended) (as-it-was s refusal.afterEnd 0) (no-other s _ tt)
+  rests-work bs Opening = if-all (Rests s) (s .marks .ended) (as-it-was s refusal.afterEnd 0) (no-other s (feedOf s bs 0) (feed-stops bs s 0))
+  rests-work bs Pound = if-all (Rests s) (s .marks .ended) (as-it-was s refusal.afterEnd 0) (no-other s (feedOf s bs 0) (feed-stops bs s 0))
+  rests-work bs FirstLine = if-all (Rests s) (s .marks .ended) (as-it-was s refusal.afterEnd 0) (no-other s (feedOf s bs 0) (feed-stops bs s 0))
+  rests-work bs Idle = if-all (Rests s) (s .marks .ended) (as-it-was s refusal.afterEnd 0) (no-other s (feedOf s bs 0) (feed-stops bs s 0))
+  rests-work bs (Busy st p) = if-all (Rests s) (s .marks .ended) (as-it-was s refusal.afterEnd 0) (no-other s (feedOf s bs 0) (feed-stops bs s 0))
 
   rests-piece : (bs : List ℕ) (room : ℕ) → Rests s (pieceOf s bs room)
   unfolding pieceOf
   rests-piece bs room =
-      if-all (Rests s) (inBounds s) (if-all (Rests s) (ltb room longest) (as-it-was s 24 0) (rests-work bs (s .marks .stage))) (as-it-was s 27 0)
+      if-all (Rests s) (inBounds s) (if-all (Rests s) (ltb room longest) (as-it-was s refusal.littleText 0) (rests-work bs (s .marks .stage))) (as-it-was s refusal.outOfBounds 0)
 
   uncut-stops : (t : ByValue) (r : Reply) → ReplyStops r → ReplyStops (unlessCut t r)
   uncut-stops t r h = if-all ReplyStops (eqb (t .marks .part .count) 0) h (inr (inl refl))
@@ -145,7 +145,7 @@ module _ (s : ByValue) where
   rests-end : (room : ℕ) → Rests s (endOf s room)
   unfolding endOf
   rests-end room =
-      if-all (Rests s) (inBounds s) (if-all (Rests s) (ltb room longest) (as-it-was s 24 0) (rests-last (s .marks .stage))) (as-it-was s 27 0)
+      if-all (Rests s) (inBounds s) (if-all (Rests s) (ltb room longest) (as-it-was s refusal.littleText 0) (rests-last (s .marks .stage))) (as-it-was s refusal.outOfBounds 0)
 
 -- ---- the lent calls
 
@@ -168,11 +168,11 @@ pub refused-stays : (s : State) (bs : List ℕ) (room n p : ℕ) → pieceFor s 
 unfolding pieceFor
 refused-stays s bs room =
     let t : ByValue = stateOf (standing (s .words)) (s .buf) in
-    for-rests s (λ m. pieceIn m (s .buf) bs room) (if-all (Rests t) (eqb (length (s .buf)) longest) (rests-piece t bs room) (as-it-was t 27 0))
+    for-rests s (λ m. pieceIn m (s .buf) bs room) (if-all (Rests t) (eqb (length (s .buf)) longest) (rests-piece t bs room) (as-it-was t refusal.outOfBounds 0))
 
 pub end-refused-stays : (s : State) (room n p : ℕ) → endFor s room .what ≡ refused n p → (Stops n → ⊥)
     → endFor s room ≡ record { taken = 0; what = refused n p; state = s }
 unfolding endFor
 end-refused-stays s room =
     let t : ByValue = stateOf (standing (s .words)) (s .buf) in
-    for-rests s (λ m. endIn m (s .buf) room) (if-all (Rests t) (eqb (length (s .buf)) longest) (rests-end t room) (as-it-was t 27 0))
+    for-rests s (λ m. endIn m (s .buf) room) (if-all (Rests t) (eqb (length (s .buf)) longest) (rests-end t room) (as-it-was t refusal.outOfBounds 0))

@@ -5,10 +5,10 @@ use crate::Words;
 use crate::decoding::decode;
 use crate::encoding::encode;
 use crate::encoding::fresh_words;
-use bounds::limits::LONGEST;
-use bounds::limits::PLAIN;
-use bounds::limits::REPORT;
+use items::modes::PLAIN;
+use items::modes::REPORT;
 use pieces::Got;
+use pieces::LONGEST;
 use pieces::Pieced;
 use piecewise::calls::end_call;
 use piecewise::calls::piece_call;
@@ -69,14 +69,19 @@ pub fn end_words(words: Words, buf: &mut [u8], text: &mut [u8]) -> Told
 }
 
 // The same with the buffer as an array, which is how a state holds it.
-pub(crate) fn piece_array(words: Words, buf: &mut [u8; 4096], piece: &[u8], text: &mut [u8]) -> Told
+pub(crate) fn piece_array(
+    words: Words,
+    buf: &mut [u8; LONGEST],
+    piece: &[u8],
+    text: &mut [u8],
+) -> Told
     ensures { λ r. ⌜ (said r (now (buf .exit)) (now (text .exit)) ≡ pieceFor (lent words (now (buf .entry))) (now (piece .entry)) (length (now (text .entry))))
         × (now (text .exit) ≡ textAfter (pieceFor (lent words (now (buf .entry))) (now (piece .entry)) (length (now (text .entry))) .what) (now (text .entry))) ⌝ }
 {
     piece_words(words, buf, piece, text)
 }
 
-pub(crate) fn end_array(words: Words, buf: &mut [u8; 4096], text: &mut [u8]) -> Told
+pub(crate) fn end_array(words: Words, buf: &mut [u8; LONGEST], text: &mut [u8]) -> Told
     ensures { λ r. ⌜ (said r (now (buf .exit)) (now (text .exit)) ≡ endFor (lent words (now (buf .entry))) (length (now (text .entry))))
         × (now (text .exit) ≡ textAfter (endFor (lent words (now (buf .entry))) (length (now (text .entry))) .what) (now (text .entry))) ⌝ }
 {

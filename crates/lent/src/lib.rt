@@ -3,6 +3,7 @@
 //
 // specs/Coding says which words stand for which marks of crate `pieces`, specs/Calls what the calls do. docs/STATE.md lists the words.
 use pieces::Got;
+use pieces::LONGEST;
 use pieces::Marks;
 use pieces::Start;
 
@@ -69,7 +70,7 @@ pub enum Seen {
 
 // A state as the caller keeps it.
 pub struct State {
-    pub buf: [u8; 4096],
+    pub buf: [u8; LONGEST],
     pub words: Words,
 }
 

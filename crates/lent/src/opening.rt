@@ -2,9 +2,9 @@
 use crate::Fresh;
 use crate::State;
 use crate::encoding::fresh_words;
-use bounds::limits::LONGEST;
-use bounds::limits::PLAIN;
-use bounds::limits::REPORT;
+use items::modes::PLAIN;
+use items::modes::REPORT;
+use pieces::LONGEST;
 use pieces::Start;
 use refusal::NO_MODE;
 ghost use mathlib.Core.Path.{_≡_};

@@ -1,4 +1,5 @@
 -- What is delivered, by the tests of the code; and the reader's replies.
+use Rattle.refusal.specs.Refusals as refusal
 use Rattle.laws.specs.Lent.{written}
 use Rattle.items.specs.Items.{Item, depthAfter, recordWords, wordsOf, memoryOf, records, texts}
 use Rattle.items.specs.Whole.{call, served, refused, limit, deliver}
@@ -28,7 +29,7 @@ module _ (is : List Item) (recs text : List ℕ) (n : Needed) (e : n ≡ neededO
   counts : (n .items ≡ length is) × (n .text ≡ length (texts is))
   counts = (ap (λ (x : Needed). x .items) e, ap (λ (x : Needed). x .text) e)
 
-  pub few-records : length recs / recordWords < n .items → call (refused 22 (n .items) (n .text)) recs text ≡ deliver is recs text
+  pub few-records : length recs / recordWords < n .items → call (refused refusal.tooFew (n .items) (n .text)) recs text ≡ deliver is recs text
   unfolding deliver
   few-records h =
       let a : length recs / recordWords < length is = omega (arith, counts) in
@@ -38,7 +39,7 @@ module _ (is : List Item) (recs text : List ℕ) (n : Needed) (e : n ≡ neededO
     fits : length is ≤ length recs / recordWords
     fits = omega (arith, counts)
 
-    pub little-text : length text < n .text → call (refused 22 (n .items) (n .text)) recs text ≡ deliver is recs text
+    pub little-text : length text < n .text → call (refused refusal.tooFew (n .items) (n .text)) recs text ≡ deliver is recs text
     unfolding deliver
     little-text k =
         let b : length text < length (texts is) = omega (arith, counts) in
@@ -64,7 +65,7 @@ module _ (is : List Item) (recs text : List ℕ) (n : Needed) (e : n ≡ neededO
 -- ---- the reader
 
 module _ (s : List ℕ) (p : Position) (text : List ℕ) where
-  pub reply-long : limit < length s → replied (refuses 20 limit 0) text ≡ nextOf s p text
+  pub reply-long : limit < length s → replied (refuses refusal.tooLong limit 0) text ≡ nextOf s p text
   unfolding nextOf
   reply-long h = rw (lt-ltb limit (length s) h)
 
@@ -93,12 +94,12 @@ module _ (s : List ℕ) (p : Position) (text : List ℕ) where
       pub needs : freeAfter 0 r ≡ length (memoryOf (i .text))
       needs = let z : freeAfter 0 r ≡ 0 + length (memoryOf (i .text)) = ap (freeAfter 0) is-packed ∙ free-packed 0 i in omega arith
 
-      pub reply-room : (n : ℕ) → n ≡ freeAfter 0 r → length text < n → replied (refuses 22 1 n) text ≡ nextOf s p text
+      pub reply-room : (n : ℕ) → n ≡ freeAfter 0 r → length text < n → replied (refuses refusal.tooFew 1 n) text ≡ nextOf s p text
       unfolding giveOf
       reply-room n h k =
           let a : n ≡ length (memoryOf (i .text)) = h ∙ needs in
           let b : length text < length (memoryOf (i .text)) = omega arith in
-          ap (λ (x : ℕ). replied (refuses 22 1 x) text) a ∙ sym (reply-is (gives i q) given ∙ rw (lt-leb (length (memoryOf (i .text))) (length text) b))
+          ap (λ (x : ℕ). replied (refuses refusal.tooFew 1 x) text) a ∙ sym (reply-is (gives i q) given ∙ rw (lt-leb (length (memoryOf (i .text))) (length text) b))
 
       module _ (n : ℕ) (h : n ≡ freeAfter 0 r) (k : n ≤ length text) where
         bytes : bytesFor s r ≡ memoryOf (i .text)

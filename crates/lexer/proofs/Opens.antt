@@ -1,4 +1,5 @@
 -- Where reading starts, the items of the definition start; and the refusals of opening are those of the whole-text call.
+use Rattle.refusal.specs.Refusals as refusal
 use Rattle.chars.specs.Utf8.{chars, firstBad, front, placed}
 use Rattle.chars.specs.Encode.{width}
 use Rattle.chars.specs.declared.Utf8.{Utf8}
@@ -136,9 +137,9 @@ module _ (s : List ℕ) (mode : ℕ) (skip : Bool) (recs text : List ℕ) where
   unfolding openOf readOf
   read-opened p e = by-bool (isMode mode)
       (λ m. by-bool (ltb limit (length s))
-      (λ l. let z : opened p ≡ refused 20 limit = rw (m, l) at e in let y : _≡_ {A = ℕ} 0 1 = cc in absurd (omega arith))
+      (λ l. let z : opened p ≡ refused refusal.tooLong limit = rw (m, l) at e in let y : _≡_ {A = ℕ} 0 1 = cc in absurd (omega arith))
       (λ l. good m l (firstBad s) refl (rw (m, l) at e)))
-      (λ m. let z : opened p ≡ refused 25 mode = rw m at e in let y : _≡_ {A = ℕ} 0 1 = cc in absurd (omega arith))
+      (λ m. let z : opened p ≡ refused refusal.noMode mode = rw m at e in let y : _≡_ {A = ℕ} 0 1 = cc in absurd (omega arith))
     where
       good : isMode mode ≡ true → ltb limit (length s) ≡ false → (u : Utf8) → firstBad s ≡ u → opened p ≡ ifUtf8 (firstBad s) (opening s (inReport mode) skip)
           → (length s ≤ limit) × Few s (allItems s (p .spot)) × (readOf s mode skip recs text ≡ deliver (allItems s (p .spot)) recs text)
@@ -148,33 +149,33 @@ module _ (s : List ℕ) (mode : ℕ) (skip : Bool) (recs text : List ℕ) where
           let a : allItems s (p .spot) ≡ itemsIn s mode skip = ap (λ (x : Position). allItems s (x .spot)) q ∙ reads-all s (inReport mode) skip in
           (ltb-false limit (length s) l, subst (Few s) (sym a) (few-items s (inReport mode) skip), rw (m, l, f) (ap (λ (i : List Item). deliver i recs text) (sym a)))
       good m l (Bad at) f h =
-          let z : opened p ≡ refused 21 at = h ∙ ap (λ (u : Utf8). ifUtf8 u (opening s (inReport mode) skip)) f in
+          let z : opened p ≡ refused refusal.notUtf8 at = h ∙ ap (λ (u : Utf8). ifUtf8 u (opening s (inReport mode) skip)) f in
           let y : _≡_ {A = ℕ} 0 1 = cc in absurd (omega arith)
 
   pub read-refused : (n v : ℕ) → refused n v ≡ openOf s mode skip → call (whole.refused n v 0) recs text ≡ readOf s mode skip recs text
   unfolding openOf readOf
   read-refused n v e = by-bool (isMode mode)
       (λ m. by-bool (ltb limit (length s))
-      (λ l. rw (m, l) (same 20 limit (rw (m, l) at e)))
+      (λ l. rw (m, l) (same refusal.tooLong limit (rw (m, l) at e)))
       (λ l. rw (m, l) (bad (firstBad s) (rw (m, l) at e))))
-      (λ m. rw m (same 25 mode (rw m at e)))
+      (λ m. rw m (same refusal.noMode mode (rw m at e)))
     where
       same : (a b : ℕ) → refused n v ≡ refused a b → call (whole.refused n v 0) recs text ≡ call (whole.refused a b 0) recs text
       same a b h = let x : n ≡ a = cc in let y : v ≡ b = cc in ap (λ (k : ℕ). call (whole.refused k v 0) recs text) x ∙ ap (λ (k : ℕ). call (whole.refused a k 0) recs text) y
 
       bad : (u : Utf8) → refused n v ≡ ifUtf8 u (opening s (inReport mode) skip) → call (whole.refused n v 0) recs text ≡ ifGood u (deliver (itemsIn s mode skip) recs text) recs text
       bad Good h = let y : _≡_ {A = ℕ} 0 1 = cc in absurd (omega arith)
-      bad (Bad at) h = same 21 at h
+      bad (Bad at) h = same refusal.notUtf8 at h
 
 -- ---- opening, by the tests of the code
 
 module _ (s : List ℕ) (mode : ℕ) (skip : Bool) where
-  pub open-mode : 1 < mode → refused 25 mode ≡ openOf s mode skip
+  pub open-mode : 1 < mode → refused refusal.noMode mode ≡ openOf s mode skip
   unfolding openOf
   open-mode h = rw (le-ltb mode 2 (omega arith))
 
   module _ (m : mode ≤ 1) where
-    pub open-long : limit < length s → refused 20 limit ≡ openOf s mode skip
+    pub open-long : limit < length s → refused refusal.tooLong limit ≡ openOf s mode skip
     unfolding openOf
     open-long h = rw (lt-ltb mode 2 (omega arith), lt-ltb limit (length s) h)
 

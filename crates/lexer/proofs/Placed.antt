@@ -2,7 +2,7 @@
 use Rattle.laws.specs.Lent.{written}
 use Rattle.chars.specs.Utf8.{chars}
 use Rattle.items.specs.Meaning.{Text, none, source, decoded}
-use Rattle.items.specs.Items.{Item, items, depthAfter, depthPast, textWords, recordOf, memoryOf, records, texts, byteCount}
+use Rattle.items.specs.Items.{Item, items, textWords, memoryOf, texts, byteCount}
 use Rattle.items.specs.Whole.{inReport, itemsIn}
 use Rattle.items.proofs.Every.{Every}
 use Rattle.items.proofs.Order.{items-placed}
@@ -11,7 +11,7 @@ use Rattle.items.proofs.Meanings.{Inside}
 use Rattle.items.proofs.Skipped.{kept-every}
 use Rattle.lexer.specs.Text.{textIn, textMark}
 use Rattle.lexer.proofs.Here.{room}
-use Rattle.lexer.proofs.Memory.{texts-join, records-join}
+use Rattle.lexer.proofs.Memory.{texts-join}
 use Prim.Native.Nat.{ℕ, _+_, _-_, _≤_}
 use mathlib.Core.Path.{_≡_, refl, sym, ap, _∙_, subst}
 use mathlib.Core.Bool.{Bool}
@@ -62,18 +62,6 @@ module _ (s old : List ℕ) (mode : ℕ) (skip : Bool) (a : List Item) (i : Item
 
   abbrev pub free : ℕ
   free = length (texts a)
-
-  -- and how many brackets were open there
-  abbrev pub depth : ℕ
-  depth = depthPast 0 a
-
-  -- the item's record is written after those before it
-  pub record-there : records 0 0 (itemsIn s mode skip)
-      ≡ records 0 0 a ++ (recordOf free depth i ++ records (free + length (memoryOf (i .text))) (depthAfter (i .kind) depth) b)
-  unfolding records
-  record-there =
-      let z : 0 + free ≡ free = omega arith in
-      ap (records 0 0) split ∙ records-join 0 0 a (i ∷ b) ∙ ap (λ (n : ℕ). records 0 0 a ++ records n depth (i ∷ b)) z
 
   memory-is : (bs : List ℕ) → memoryOf (i .text) ≡ bs → memory ≡ texts a ++ (bs ++ (texts b ++ drop (length (texts (itemsIn s mode skip))) old))
   unfolding texts

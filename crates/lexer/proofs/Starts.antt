@@ -4,24 +4,22 @@ use Rattle.chars.specs.Blank.{isBlank}
 use Rattle.chars.specs.declared.Decoded.{Decoded}
 use Rattle.chars.specs.declared.Decoded.the-variants as decoded
 use Rattle.chars.proofs.Chars.{CharAt, nothing-at}
-use Rattle.chars.proofs.Blanks.{low-run}
-use Rattle.chars.proofs.Table.{within-true}
 use Rattle.laws.specs.Texts.{span}
 use Rattle.laws.proofs.Choice.{by-bool}
 use Rattle.laws.proofs.Runs.{span-le, span-hit, span-stop, span-end}
 use Rattle.texts.specs.Runs.{blank}
-use Rattle.steps.proofs.Kept.{ascii-found}
+use Rattle.steps.proofs.Kept.{ascii-found, blank-ascii}
 use Rattle.lexer.specs.Reading.{startFrom}
 use Rattle.lexer.specs.declared.Start.the-variants.{At, Nothing}
 use Rattle.lexer.proofs.Here.{char-found}
 use Prim.Native.Nat.{ℕ, zero, suc, _+_, _≤_, _<_}
-use mathlib.Core.Path.{_≡_, refl, sym, ap, _∙_}
+use mathlib.Core.Path.{_≡_, sym, ap, _∙_}
 use mathlib.Core.Bool.{Bool, true, false}
 use mathlib.Core.List.{List}
 use native.Mathlib.Omega.{arith}
-use lib.Dec.{eqb, leb}
+use lib.Dec.{leb}
 use lib.ListN.{length, getD, drop, length-drop}
-use borrow.Author.Tests.{eqb-true, le-leb}
+use borrow.Author.Tests.{le-leb}
 
 module _ (s : List ℕ) (at : ℕ) where
   module _ (c next : ℕ) (found : decoded.Char c next ≡ placed at (front (drop at s))) where
@@ -42,16 +40,6 @@ module _ (s : List ℕ) (at : ℕ) where
   start-none o e h = sym (ap (startFrom at) (nothing-at s at o e h))
 
 -- ---- a run of ASCII's blanks
-
-space-blank : isBlank 0x20 ≡ true
-unfolding isBlank
-space-blank = refl
-
-blank-ascii : (c : ℕ) → blank c ≡ true → (c < 0x80) × (isBlank c ≡ true)
-blank-ascii c e =
-    by-bool (eqb c 0x20)
-    (λ f. let d = eqb-true c 0x20 f in (omega arith, ap isBlank d ∙ space-blank))
-    (λ f. let h = within-true 0x09 0x0D c (rw f at e) in (omega arith, low-run c (h .0) (h .1)))
 
 module _ (s : List ℕ) where
   pub blanks : (n at : ℕ) → n ≤ span blank (drop at s) → startFrom (at + n) (chars (drop (at + n) s)) ≡ startFrom at (chars (drop at s))

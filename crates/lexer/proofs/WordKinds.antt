@@ -2,7 +2,7 @@
 use Rattle.items.specs.Kinds as kind
 use Rattle.items.specs.Meaning.{Row, lookup, words, wordKind}
 use Rattle.laws.specs.Texts.{same}
-use Rattle.laws.proofs.Choice.{by-bool}
+use Rattle.laws.proofs.Choice.{by-bool, and-true}
 use Rattle.lexer.specs.Glance.{Level}
 use Prim.Native.Nat.{ℕ, _<_}
 use mathlib.Core.Path.{_≡_, refl}
@@ -11,14 +11,6 @@ use mathlib.Core.List.{List, [], _∷_}
 use lib.Dec.{eqb, ltb}
 use native.Mathlib.Omega.{arith}
 use borrow.Author.Tests.{ltb-true, ne-eqb, not-true}
-
-both-first : (x y : Bool) → (x && y) ≡ true → x ≡ true
-both-first true y e = refl
-both-first false y e = e
-
-both-second : (x y : Bool) → (x && y) ≡ true → y ≡ true
-both-second true y e = e
-both-second false y e = let z : _≡_ {A = ℕ} 0 1 = cc in absurd (omega arith)
 
 -- no error, no bracket, and no comment
 abbrev plainKind : ℕ → Bool
@@ -32,8 +24,8 @@ row-plain : (raw : List ℕ) (n : ℕ) (rs : List Row) → allPlain rs ≡ true 
 unfolding lookup
 row-plain raw n [] h k = k
 row-plain raw n (r ∷ rs) h k = by-bool (same raw (r .text))
-    (λ b. rw b (both-first (plainKind (r .number)) (allPlain rs) h))
-    (λ b. rw b (row-plain raw n rs (both-second (plainKind (r .number)) (allPlain rs) h) k))
+    (λ b. rw b (and-true (plainKind (r .number)) (allPlain rs) h .0))
+    (λ b. rw b (row-plain raw n rs (and-true (plainKind (r .number)) (allPlain rs) h .1) k))
 
 words-plain : allPlain words ≡ true
 unfolding words
@@ -49,13 +41,13 @@ level k h depth = rw (ne-eqb k kind.OpenParen (λ e. omega arith), ne-eqb k kind
 
 module _ (raw : List ℕ) where
   rest : (ltb kind.CloseParen (wordKind raw) && not (eqb (wordKind raw) kind.Comment)) ≡ true
-  rest = both-second (ltb (wordKind raw) kind.firstError) _ (kind-plain raw)
+  rest = and-true (ltb (wordKind raw) kind.firstError) _ (kind-plain raw) .1
 
   pub kind-fine : wordKind raw < kind.firstError
-  kind-fine = ltb-true (wordKind raw) kind.firstError (both-first _ _ (kind-plain raw))
+  kind-fine = ltb-true (wordKind raw) kind.firstError (and-true _ _ (kind-plain raw) .0)
 
   pub kind-level : Level (wordKind raw)
-  kind-level = level (wordKind raw) (ltb-true kind.CloseParen (wordKind raw) (both-first _ _ rest))
+  kind-level = level (wordKind raw) (ltb-true kind.CloseParen (wordKind raw) (and-true _ _ rest .0))
 
   pub kind-kept : eqb (wordKind raw) kind.Comment ≡ false
-  kind-kept = not-true (eqb (wordKind raw) kind.Comment) (both-second (ltb kind.CloseParen (wordKind raw)) _ rest)
+  kind-kept = not-true (eqb (wordKind raw) kind.Comment) (and-true (ltb kind.CloseParen (wordKind raw)) _ rest .1)

@@ -6,6 +6,7 @@ use chars::Decoded;
 use chars::Utf8;
 use chars::decode_at;
 use chars::first_bad;
+use items::modes::REPORT;
 use meaning::Range;
 use refusal::LIMIT;
 ghost use mathlib.Core.Path.{_≡_};
@@ -13,9 +14,6 @@ ghost use lib.ListN.{drop};
 ghost use Rattle.chars.specs.Utf8.{chars};
 ghost use Rattle.items.specs.Whole.{inReport};
 ghost use Rattle.lexer.specs.Opening.{lineEnd, afterHash, startOf, opening, openingOf, openOf};
-
-// Report mode; plain is the one below.
-const REPORT: u32 = 1;
 
 const HASH: u32 = b'#' as u32;
 

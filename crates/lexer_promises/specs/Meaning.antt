@@ -10,7 +10,7 @@ use Rattle.laws.specs.Texts.{same}
 use Rattle.chars.specs.Encode.{utf8, bytesOf, spelled}
 use Rattle.items.specs.Kinds as kind
 use Rattle.promises.specs.Shapes.{room}
-use Rattle.items.specs.Items.{range, unset, placeOf, recordWords, wordsOf, deepest, depthAfter}
+use Rattle.items.specs.Items.{range, unset, placeOf, recordWords, wordsOf, mostOpen, depthAfter}
 use Rattle.items.specs.Meaning.{lookup, words, wordKind, wordMeans, meaningOf}
 use Rattle.items.specs.declared.Outcome.the-variants.{Word}
 use Rattle.meaning.specs.declared.Means.{Means}
@@ -32,9 +32,10 @@ pub record Rows : Type 0 where
   -- nine_of and put: kind, detail, extent, place, text source, text places, depth; the word past them stays
   pub nine-of : put (wordsOf (deepAt 4 (nineFor 5 (means kind.StringLiteral 0 (Decoded 2)) (rangeOf (range 3 9)) (rangeOf (range 3 9)))))
       ≡ (kind.StringLiteral ∷ 0 ∷ 3 ∷ 9 ∷ 3 ∷ 9 ∷ 2 ∷ 5 ∷ 7 ∷ 4 ∷ []) ++ (7 ∷ [])
-  -- depth_after: an open bracket, closes, the deepest, an item that is no bracket
-  pub depths : depthAfter kind.OpenParen 2 ∷ depthAfter kind.CloseParen 2 ∷ depthAfter kind.CloseParen 0 ∷ depthAfter kind.OpenParen deepest ∷ depthAfter kind.Comment 2 ∷ []
-      ≡ 3 ∷ 1 ∷ 0 ∷ deepest ∷ 2 ∷ []
+  -- depth_after: an open bracket, closes, an open bracket at the greatest depth, an item that is no bracket
+  pub depths : depthAfter kind.OpenParen 2 ∷ depthAfter kind.CloseParen 2 ∷ depthAfter kind.CloseParen 0
+      ∷ depthAfter kind.OpenParen mostOpen ∷ depthAfter kind.Comment 2 ∷ []
+      ≡ 3 ∷ 1 ∷ 0 ∷ mostOpen ∷ 2 ∷ []
   -- place: an error's is the last range that was set, if any was; any other item's is its extent
   pub error-place : placeOf false (kind.firstError + kind.IncompleteString) (range 1 8) (range 8 9) ≡ range 1 8
   pub first-place : placeOf false (kind.firstError + kind.IncompleteString) unset (range 8 9) ≡ range 8 9

@@ -20,7 +20,7 @@ use Rattle.promises.specs.Shapes.{room, bare, texted, deep}
 use Rattle.items.specs.Classes.{startsRun, firstOf, inQuotes, afterBackslash, stopsHex, inHex, inTrim, breaksWord, inWord, staysRun, endsRun, inRun, afterHash, endsHash, inHash}
 use Rattle.items.specs.Readers.{readLine, linedOf, readWord, readRun, boolKind, quoteKind, formKind, hashKind, hashBracket, hashAt, hashComma, readHash, readItem, readQuoted, wordOn, hashOn}
 use Rattle.items.specs.Meaning.{lookup, words, wordKind, wordMeans, runMeans, escaped, stringText, linedText, charNames, isDelimiter, nameless, spelledOut, characterOf, unescape}
-use Rattle.items.specs.Items.{Place, range, unset, extentItems, deepest}
+use Rattle.items.specs.Items.{Place, range, unset, extentItems, mostOpen}
 use Rattle.items.specs.Whole.{limit}
 use Rattle.meaning.specs.Places.{rangeOf}
 use Rattle.lexer.specs.Answers.{Reply, item, finished, refuses, Replied, replied, positionAt, giveOf, nextOf}
@@ -69,8 +69,8 @@ pub record Rows : Type 0 where
   -- the record has the depth of the position, and the position after it the depth after it
   pub closing : nextOf (spelled ")") (inside 2 (at 0)) [] ≡ replied (item (deep 2 (bare kind.CloseParen kind.Round 0 1)) (inside 1 (at 1))) []
   -- a position that no call gave, as deep as a word holds: an open bracket leaves it there
-  pub as-deep : nextOf (spelled "(") (inside deepest (at 0)) []
-      ≡ replied (item (deep deepest (bare kind.OpenParen kind.Round 0 1)) (inside deepest (at 1))) []
+  pub as-deep : nextOf (spelled "(") (inside mostOpen (at 0)) []
+      ≡ replied (item (deep mostOpen (bare kind.OpenParen kind.Round 0 1)) (inside mostOpen (at 1))) []
   -- another, past the end
   pub past-end : nextOf (spelled "a") (at 9) [] ≡ replied finished []
 

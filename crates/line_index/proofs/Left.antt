@@ -93,16 +93,3 @@ module _ (s : List ℕ) (i : ℕ) {r : ℕ} (e : r ≡ i + before newline (drop 
   pub found-stands : r < length s → getD s r 0 ≡ newline
   found-stands h =
       rw e (sym (getD-drop i s (before newline (drop i s)) 0) ∙ stands (drop i s) (omega (arith, e, length-drop i s)))
-
--- ---- a start lies in the text
-
-start-bound : (s : List ℕ) (at x : ℕ) (l : List ℕ) → startsFrom at s ≡ x ∷ l → x ≤ at + length s
-unfolding startsFrom
-start-bound [] at x l = λ e. let z : _≡_ {A = ℕ} 0 1 = cc in absurd (omega arith)
-start-bound (b ∷ s) at x l =
-    by-equal b newline
-    (λ q. rw (eq-eqb b newline q) (λ e. let z : at + 1 ≡ x = cc in omega arith))
-    (λ q. rw (ne-eqb b newline q) (λ e. omega (arith, start-bound s (at + 1) x l e)))
-
-pub left-bound : (s : List ℕ) (i x : ℕ) (l : List ℕ) → i ≤ length s → left s i ≡ x ∷ l → x ≤ length s
-left-bound s i x l h e = omega (arith, start-bound (drop i s) i x l e, length-drop i s)

@@ -23,7 +23,7 @@ use Rattle.lines.specs.Pieces.{Fed, fresh, openOf, movedOf, stoppedOf, s
 use Rattle.lines.specs.declared.State.{State}
 use Rattle.lines.proofs.Joined.{cut, same-answer}
 use Rattle.lines.proofs.Held.{held}
-use Rattle.lines.specs.Words.{stateWords, listed, isState, Left, left, openLeft, pieceLeft, endFor, calls}
+use Rattle.lines.specs.Words.{stateWords, listed, isState, Contents, contents, openLeft, pieceLeft, endFor, calls}
 
 -- ---- the states that calls produce have bytes where the words ask for bytes
 
@@ -92,39 +92,39 @@ over t w h =
     let all : length w ≤ stateWords = omega (arith, h) in
     rw (drop-of-length-le w all) (append-nil (listed t))
 
-abbrev words : Fed → Left
-words f = left (listed (f .state)) (f .memory)
+abbrev words : Fed → Contents
+words f = contents (listed (f .state)) (f .memory)
 
 piece-same : (f : Fed) (s : List ℕ) → Slim (f .state .begun) → pieceLeft (listed (f .state)) s (f .memory) ≡ words (pieceOf (f .state) s (f .memory))
 unfolding pieceLeft
 piece-same f s h =
     rw (listed-state (f .state) h)
-    (ap (λ (w : List ℕ). left w (pieceOf (f .state) s (f .memory) .memory)) (over (pieceOf (f .state) s (f .memory) .state) (listed (f .state)) refl))
+    (ap (λ (w : List ℕ). contents w (pieceOf (f .state) s (f .memory) .memory)) (over (pieceOf (f .state) s (f .memory) .state) (listed (f .state)) refl))
 
 calls-same : (ps : List (List ℕ)) (f : Fed) → Slim (f .state .begun) → (calls (words f) ps ≡ words (pieces f ps)) × Slim (pieces f ps .state .begun)
 calls-same [] f h = (refl, h)
 calls-same (p ∷ ps) f h =
     let r = calls-same ps (pieceOf (f .state) p (f .memory)) (piece-slim (f .state) p (f .memory) h) in
-    (ap (λ (l : Left). calls l ps) (piece-same f p h) ∙ r .0, r .1)
+    (ap (λ (l : Contents). calls l ps) (piece-same f p h) ∙ r .0, r .1)
 
 module _ (ps : List (List ℕ)) (w m : List ℕ) (h : length w ≡ stateWords) where
   opened : openLeft w m ≡ words (openOf m)
   unfolding openLeft
-  opened = rw (eq-eqb (length w) stateWords h) (ap (λ (x : List ℕ). left x (set m 0 0)) (over fresh w h))
+  opened = rw (eq-eqb (length w) stateWords h) (ap (λ (x : List ℕ). contents x (set m 0 0)) (over fresh w h))
 
   slim : Slim (openOf m .state .begun)
   slim = (omega arith, omega arith, omega arith)
 
   -- opening and pieces on words leave the words of what they leave by value
-  pub lent-same : calls (openLeft w m) ps ≡ left (listed (pieces (openOf m) ps .state)) (pieces (openOf m) ps .memory)
-  lent-same = ap (λ (l : Left). calls l ps) opened ∙ calls-same ps (openOf m) slim .0
+  pub lent-same : calls (openLeft w m) ps ≡ contents (listed (pieces (openOf m) ps .state)) (pieces (openOf m) ps .memory)
+  lent-same = ap (λ (l : Contents). calls l ps) opened ∙ calls-same ps (openOf m) slim .0
 
   pub lent-held : calls (openLeft w m) ps .memory ≡ laid (starts (before (joined ps))) m
-  lent-held = ap (λ (l : Left). l .memory) lent-same ∙ ap (λ (f : Fed). f .memory) (cut ps m) ∙ held (joined ps) m
+  lent-held = ap (λ (l : Contents). l .memory) lent-same ∙ ap (λ (f : Fed). f .memory) (cut ps m) ∙ held (joined ps) m
 
   pub lent-answer : endFor (calls (openLeft w m) ps .words) (length m) ≡ buildOf (joined ps) m .answer
   unfolding endFor
   lent-answer =
-      ap (λ (l : Left). endFor (l .words) (length m)) lent-same
+      ap (λ (l : Contents). endFor (l .words) (length m)) lent-same
       ∙ rw (listed-state (pieces (openOf m) ps .state) (calls-same ps (openOf m) slim .1))
       (ap (λ (f : Fed). endOf (f .state) (length m)) (cut ps m) ∙ same-answer (joined ps) m)

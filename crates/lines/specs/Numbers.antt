@@ -1,13 +1,14 @@
 -- Answers as plain numbers, which is all that C passes on: a number and the values that come with it.
 use Prim.Native.Nat.{ℕ}
+use Rattle.refusal.specs.Refusals as refusal
 use Rattle.lines.specs.declared.Answer.{Answer}
 use Rattle.lines.specs.declared.Answer.the-variants as answer
 use Rattle.lines.specs.declared.Located.{Located}
 use Rattle.lines.specs.declared.Located.the-variants as located
 
--- 0 where the call served, else the refusal's number
+-- `served` where the call served, else the refusal's number
 abbrev pub answerNumber : Answer → ℕ
-answerNumber (answer.Served n) = 0
+answerNumber (answer.Served n) = refusal.served
 answerNumber (answer.Refused number value) = number
 
 -- the count, or what the refusal comes with
@@ -16,7 +17,7 @@ answerValue (answer.Served n) = n
 answerValue (answer.Refused number value) = value
 
 abbrev pub locatedNumber : Located → ℕ
-locatedNumber (located.At line column) = 0
+locatedNumber (located.At line column) = refusal.served
 locatedNumber (located.Refused number place) = number
 
 -- line and column, or what the refusal comes with, and 0

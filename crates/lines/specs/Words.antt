@@ -38,28 +38,28 @@ unfoldable pub isState : List ℕ → Bool
 isState w = eqb (length w) stateWords && (isByte (getD w 0 0) && (isByte (getD w 1 0) && isByte (getD w 2 0)))
 
 -- what the words and the memory hold after a call
-pub record Left : Type 0 where
+pub record Contents : Type 0 where
   pub words : List ℕ
   pub memory : List ℕ
 
-abbrev pub left : List ℕ → List ℕ → Left
-left w m = record { words = w; memory = m }
+abbrev pub contents : List ℕ → List ℕ → Contents
+contents w m = record { words = w; memory = m }
 
 -- the words of the state that a call by value leaves, written over those that were there
-abbrev pub kept : Fed → List ℕ → Left
-kept f w = left (written (listed (f .state)) w) (f .memory)
+abbrev pub kept : Fed → List ℕ → Contents
+kept f w = contents (written (listed (f .state)) w) (f .memory)
 
-unfoldable pub openLeft : List ℕ → List ℕ → Left
-openLeft w m = if eqb (length w) stateWords then left (written (listed fresh) w) (set m 0 0) else left w m
+unfoldable pub openLeft : List ℕ → List ℕ → Contents
+openLeft w m = if eqb (length w) stateWords then contents (written (listed fresh) w) (set m 0 0) else contents w m
 
-unfoldable pub pieceLeft : List ℕ → List ℕ → List ℕ → Left
-pieceLeft w s m = if isState w then kept (pieceOf (stateIn w) s m) w else left w m
+unfoldable pub pieceLeft : List ℕ → List ℕ → List ℕ → Contents
+pieceLeft w s m = if isState w then kept (pieceOf (stateIn w) s m) w else contents w m
 
 -- 27 where the words are no state's, else what the end by value answers
 unfoldable pub endFor : List ℕ → ℕ → Answer
 endFor w n = if isState w then endOf (stateIn w) n else Refused outOfBounds 0
 
 -- piece calls one after the other
-abbrev pub calls : Left → List (List ℕ) → Left
+abbrev pub calls : Contents → List (List ℕ) → Contents
 calls f [] = f
 calls f (p ∷ ps) = calls (pieceLeft (f .words) p (f .memory)) ps

@@ -1,7 +1,8 @@
 // Line and column beside every place of a text: an index of its line starts, built of the whole text or from pieces, and the question
 // that answers a byte place. Lines and columns count from 1, columns in characters.
 //
-// Here are the types, what the calls answer (specs/) and the theorems about it (proofs/); the calls themselves are the crate line_index.
+// Here are the types, what the calls answer (specs/) and the theorems about it (proofs/); the calls themselves are the crates
+// line_index, line_pieces and lines_lent.
 use chars::Begun;
 
 // Served with a count, or refused with document 01's number and what comes with it.

@@ -3,6 +3,7 @@
 // Where there is no room for two values, they are left as they were. What the calls answer is the crate lines.
 use lines::Answer;
 use lines::Located;
+use refusal::SERVED;
 ghost use mathlib.Core.Path.{_≡_};
 ghost use mathlib.Core.List.{[], _∷_};
 ghost use lib.ListN.{length};
@@ -11,9 +12,7 @@ ghost use Rattle.lines.specs.Starts.{buildOf};
 ghost use Rattle.lines.specs.Place.{locateOf};
 ghost use Rattle.lines.specs.Many.{locateAllOf};
 ghost use Rattle.lines.specs.Numbers.{answerNumber, answerValue, locatedNumber, locatedFirst, locatedSecond};
-ghost use Rattle.lines.specs.Words.{left, openLeft, pieceLeft, endFor};
-
-const SERVED: u32 = 0;
+ghost use Rattle.lines.specs.Words.{contents, openLeft, pieceLeft, endFor};
 
 // How many values are written.
 const VALUES: usize = 2;
@@ -137,7 +136,7 @@ pub extern "C" fn mihadrena_locate_all(
 // Opens an index from pieces, on a state of eight words.
 #[no_mangle]
 pub extern "C" fn mihadrena_lines_open(state: &mut [u32], index: &mut [u32])
-    ensures { λ _. ⌜ left (now (state .exit)) (now (index .exit)) ≡ openLeft (now (state .entry)) (now (index .entry)) ⌝ }
+    ensures { λ _. ⌜ contents (now (state .exit)) (now (index .exit)) ≡ openLeft (now (state .entry)) (now (index .entry)) ⌝ }
 {
     lines_lent::open(state, index);
 }
@@ -145,7 +144,8 @@ pub extern "C" fn mihadrena_lines_open(state: &mut [u32], index: &mut [u32])
 // A piece of the text. No piece is refused: every refusal comes with the declared end.
 #[no_mangle]
 pub extern "C" fn mihadrena_lines_piece(state: &mut [u32], piece: &[u8], index: &mut [u32])
-    ensures { λ _. ⌜ left (now (state .exit)) (now (index .exit)) ≡ pieceLeft (now (state .entry)) (now (piece .entry)) (now (index .entry)) ⌝ }
+    ensures { λ _. ⌜ contents (now (state .exit)) (now (index .exit))
+        ≡ pieceLeft (now (state .entry)) (now (piece .entry)) (now (index .entry)) ⌝ }
 {
     lines_lent::piece(state, piece, index);
 }

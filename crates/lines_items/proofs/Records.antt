@@ -24,14 +24,14 @@ use Rattle.items.specs.declared.Outcome.the-variants.{Token, Str, HereStr, Word
 use Rattle.items.specs.declared.CharValue.{CharValue}
 use Rattle.items.specs.declared.CharValue.the-variants.{Scalar, Wrong, WrongAt}
 use Rattle.items.specs.Kinds as kind
-use Rattle.items.specs.Meaning.{Meaning, meaningOf, characterOf, characterMeans, charInside, isDelimiter}
+use Rattle.items.specs.Meaning.{Meaning, meaningOf, characterOf, characterMeans, charInside}
 use Rattle.items.specs.Readers.{SoFar, Read, pastFailing, readItem}
 use Rattle.items.specs.Items.{Place, range, unset, failingAt, characterSets, rangeAfter, standing, isSet, placeOf, Item, itemsOf, extentItems, itemsFrom}
 use Rattle.items.specs.Items.{pastLine, afterPound, items, byteCount}
 use Rattle.items.specs.Whole.{itemsIn, inReport}
 use Rattle.items.proofs.Every.{Every, every-append, every-any, every-then}
 use Rattle.items.proofs.Outcomes.{read-fine}
-use Rattle.items.proofs.Own.{Fails, character-fails}
+use Rattle.items.proofs.Own.{Fails, character-fails, delimiter-small}
 use Rattle.items.proofs.Skipped.{kept-every}
 use Rattle.items.proofs.Splits.{read-splits, read-at}
 use Rattle.error_places.specs.Failing.{Pointed}
@@ -44,7 +44,7 @@ use Rattle.lines.proofs.Between.{answered-between}
 use Rattle.lines.proofs.Index.{index-is}
 use Rattle.lines_items.proofs.Along.{Along, along, at-start, read-along}
 use Rattle.lines_items.proofs.Bytes.{Placed, Tidy, placed, tidy, placed-take, tidy-take}
-use Rattle.lines_items.proofs.First.{one-below, first-byte}
+use Rattle.lines_items.proofs.First.{first-byte}
 use Rattle.lines_items.proofs.Outcomes.{Known, read-known}
 use Rattle.lines_items.proofs.Failing.{IsChar, fails-marked}
 use Rattle.lines_items.proofs.Texts.{InSource, at-byte, past-byte, meaning-texts}
@@ -60,11 +60,6 @@ pub record Marked (M : ℕ → Type 0) (i : Item) : Type 0 where
 -- the kind of error 11
 abbrev eleven : ℕ
 eleven = kind.firstError + kind.InvalidHexEscapeLiteral
-
--- a delimiter is ASCII
-delimiter-small : (c : ℕ) → isDelimiter c ≡ true → c < 0x80
-unfolding isDelimiter
-delimiter-small c e = one-below 0x80 (code ";" ∷ code "\"" ∷ code "'" ∷ code "," ∷ []) c refl e
 
 module _ (M : ℕ → Type 0) (report : Bool) where
   abbrev Ranged : Place → Type 0

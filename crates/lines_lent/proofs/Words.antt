@@ -1,6 +1,6 @@
 -- The calls on words, from what the calls by value say.
-use mathlib.Core.Path.{_≡_, refl, ap, _∙_}
-use mathlib.Core.Bool.{Bool, true, false, _&&_}
+use mathlib.Core.Path.{_≡_, ap, _∙_}
+use mathlib.Core.Bool.{true, false, _&&_}
 use mathlib.Core.List.{List}
 use Prim.Native.Nat.{ℕ, _≤_, _<_}
 use lib.Dec.{eqb, leb}
@@ -13,13 +13,9 @@ use Rattle.lines.specs.Pieces.{Fed, fed, openOf, pieceOf, endOf}
 use Rattle.lines.specs.declared.State.{State}
 use Rattle.lines.specs.declared.Answer.{Answer}
 use Rattle.lines.specs.declared.Answer.the-variants.{Refused}
-use Rattle.lines.specs.Words.{stateWords, listed, stateIn, isByte, isState, left, openLeft, pieceLeft, endFor}
+use Rattle.lines.specs.Words.{stateWords, listed, stateIn, isByte, isState, contents, openLeft, pieceLeft, endFor}
 
 -- ---- which words are a state's
-
-and-false : (x : Bool) → (x && false) ≡ false
-and-false true = refl
-and-false false = refl
 
 module _ (w : List ℕ) where
   pub other-length : (length w ≡ stateWords → ⊥) → false ≡ isState w
@@ -49,29 +45,29 @@ module _ (w : List ℕ) where
 
 -- ---- what the calls leave
 
-left-of : {w v m k : List ℕ} → w ≡ v → m ≡ k → left w m ≡ left v k
-left-of a b = rw (a, b)
+contents-of : {w v m k : List ℕ} → w ≡ v → m ≡ k → contents w m ≡ contents v k
+contents-of a b = rw (a, b)
 
 module _ (w m : List ℕ) where
-  pub opens : {t : State} {w′ m′ : List ℕ} → length w ≡ stateWords → fed t m′ ≡ openOf m → w′ ≡ written (listed t) w → left w′ m′ ≡ openLeft w m
+  pub opens : {t : State} {w′ m′ : List ℕ} → length w ≡ stateWords → fed t m′ ≡ openOf m → w′ ≡ written (listed t) w → contents w′ m′ ≡ openLeft w m
   unfolding openLeft
   opens h f e =
       if-yes (eqb (length w) stateWords) _ _ (eq-eqb (length w) stateWords h)
-      (left-of (e ∙ ap (λ (x : Fed). written (listed (x .state)) w) f) (ap (λ (x : Fed). x .memory) f))
+      (contents-of (e ∙ ap (λ (x : Fed). written (listed (x .state)) w) f) (ap (λ (x : Fed). x .memory) f))
 
-  pub opens-not : (length w ≡ stateWords → ⊥) → left w m ≡ openLeft w m
+  pub opens-not : (length w ≡ stateWords → ⊥) → contents w m ≡ openLeft w m
   unfolding openLeft
   opens-not h = rw (ne-eqb (length w) stateWords h)
 
   module _ (s : List ℕ) where
     pub feeds : {t : State} {w′ m′ : List ℕ} → isState w ≡ true → fed t m′ ≡ pieceOf (stateIn w) s m → w′ ≡ written (listed t) w
-        → left w′ m′ ≡ pieceLeft w s m
+        → contents w′ m′ ≡ pieceLeft w s m
     unfolding pieceLeft
     feeds i f e =
         if-yes (isState w) _ _ i
-        (left-of (e ∙ ap (λ (x : Fed). written (listed (x .state)) w) f) (ap (λ (x : Fed). x .memory) f))
+        (contents-of (e ∙ ap (λ (x : Fed). written (listed (x .state)) w) f) (ap (λ (x : Fed). x .memory) f))
 
-    pub feeds-not : isState w ≡ false → left w m ≡ pieceLeft w s m
+    pub feeds-not : isState w ≡ false → contents w m ≡ pieceLeft w s m
     unfolding pieceLeft
     feeds-not i = rw i
 

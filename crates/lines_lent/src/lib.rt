@@ -10,7 +10,7 @@ ghost use mathlib.Core.Path.{_≡_};
 ghost use mathlib.Core.Bool.{true};
 ghost use lib.ListN.{length};
 ghost use Rattle.laws.specs.Lent.{written};
-ghost use Rattle.lines.specs.Words.{stateWords, listed, stateIn, isState, left, openLeft, pieceLeft, endFor};
+ghost use Rattle.lines.specs.Words.{stateWords, listed, stateIn, isState, contents, openLeft, pieceLeft, endFor};
 
 // How many words a state has.
 const WORDS: usize = 8;
@@ -72,7 +72,7 @@ fn put_state(words: &mut [u32], t: State)
 
 // Opens an index. Words that are not a state's in number stay, with the memory; the end says so.
 pub fn open(words: &mut [u32], index: &mut [u32])
-    ensures { λ _. ⌜ left (now (words .exit)) (now (index .exit)) ≡ openLeft (now (words .entry)) (now (index .entry)) ⌝ }
+    ensures { λ _. ⌜ contents (now (words .exit)) (now (index .exit)) ≡ openLeft (now (words .entry)) (now (index .entry)) ⌝ }
 {
     if words.len() == WORDS {
         let t = line_pieces::open(index);
@@ -82,7 +82,8 @@ pub fn open(words: &mut [u32], index: &mut [u32])
 
 // A piece of the text. A state outside its bounds stays, with the memory.
 pub fn piece(words: &mut [u32], bytes: &[u8], index: &mut [u32])
-    ensures { λ _. ⌜ left (now (words .exit)) (now (index .exit)) ≡ pieceLeft (now (words .entry)) (now (bytes .entry)) (now (index .entry)) ⌝ }
+    ensures { λ _. ⌜ contents (now (words .exit)) (now (index .exit))
+        ≡ pieceLeft (now (words .entry)) (now (bytes .entry)) (now (index .entry)) ⌝ }
 {
     if is_state(words) {
         let t = line_pieces::piece(state_in(words), bytes, index);

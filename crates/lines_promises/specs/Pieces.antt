@@ -1,5 +1,5 @@
 -- The index from pieces, by value and on words: `piece` ensures `fed r index′ ≡ pieceOf state bytes index`, `end` `r ≡ endOf state length`;
--- on words `left words′ index′ ≡ pieceLeft words bytes index` and `r ≡ endFor words length`.
+-- on words `contents words′ index′ ≡ pieceLeft words bytes index` and `r ≡ endFor words length`.
 use Prim.Native.Nat.{ℕ}
 use mathlib.Core.Path.{_≡_, refl, ap, _∙_}
 use mathlib.Core.List.{List, [], _∷_, _++_}
@@ -11,7 +11,7 @@ use Rattle.chars.specs.Machine.{step, start}
 use Rattle.chars.specs.Encode.{utf8, bytesOf, spelled}
 use Rattle.lines.specs.Starts.{newline}
 use Rattle.lines.specs.Pieces.{Fed, fed, openOf, stepOf, fedOf, pieceOf, endOf, pieces}
-use Rattle.lines.specs.Words.{isState, left, openLeft, pieceLeft, endFor, calls}
+use Rattle.lines.specs.Words.{isState, contents, openLeft, pieceLeft, endFor, calls}
 use Rattle.lines.specs.declared.State.{State}
 use Rattle.lines.specs.declared.Answer.the-variants.{Served, Refused}
 
@@ -55,17 +55,18 @@ one-too-many : stepOf (record { begun = start; from = 2; at = 4294967295; lines 
 unfolding stepOf
 one-too-many = refl
 
--- the end that a program gives which notes nothing, or refuses everything
+-- no program that notes nothing meets the promise, whatever state it gives
 never-unwritten : (t : State) → fed t room ≡ pieces (openOf room) parts → ⊥
 never-unwritten t h = let e : getD room 0 0 ≡ 0 = ap (λ (f : Fed). getD (f .memory) 0 0) (h ∙ fed-all) in omega (arith, e)
 
 -- on words: the state is written where it lies
-on-words : calls (openLeft (7 ∷ 7 ∷ 7 ∷ 7 ∷ 7 ∷ 7 ∷ 7 ∷ 7 ∷ []) room) parts ≡ left (0 ∷ 0 ∷ 0 ∷ 0 ∷ 5 ∷ 5 ∷ 2 ∷ 0 ∷ []) (0 ∷ 2 ∷ 5 ∷ 9 ∷ [])
+on-words : calls (openLeft (7 ∷ 7 ∷ 7 ∷ 7 ∷ 7 ∷ 7 ∷ 7 ∷ 7 ∷ []) room) parts
+    ≡ contents (0 ∷ 0 ∷ 0 ∷ 0 ∷ 5 ∷ 5 ∷ 2 ∷ 0 ∷ []) (0 ∷ 2 ∷ 5 ∷ 9 ∷ [])
 unfolding within first step utf8 bytesOf stepOf fedOf pieceOf isState openLeft pieceLeft
 on-words = refl
 
 -- seven words are no state: all stays, and the end says so
-seven-words : calls (openLeft (7 ∷ 7 ∷ 7 ∷ 7 ∷ 7 ∷ 7 ∷ 7 ∷ []) room) parts ≡ left (7 ∷ 7 ∷ 7 ∷ 7 ∷ 7 ∷ 7 ∷ 7 ∷ []) room
+seven-words : calls (openLeft (7 ∷ 7 ∷ 7 ∷ 7 ∷ 7 ∷ 7 ∷ 7 ∷ []) room) parts ≡ contents (7 ∷ 7 ∷ 7 ∷ 7 ∷ 7 ∷ 7 ∷ 7 ∷ []) room
 unfolding isState openLeft pieceLeft
 seven-words = refl
 

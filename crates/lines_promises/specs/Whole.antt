@@ -17,14 +17,14 @@ use Rattle.lines.specs.declared.Answer.the-variants.{Served, Refused}
 use Rattle.lines.specs.declared.Located.the-variants as located
 
 -- `a`, a newline, λ (two bytes), `b`, a newline
-abbrev text : List ℕ
+abbrev pub text : List ℕ
 text = spelled "a" ++ newline ∷ spelled "λb" ++ newline ∷ []
 
-abbrev index : List ℕ
+abbrev pub index : List ℕ
 index = 0 ∷ 2 ∷ 6 ∷ []
 
 -- what the memory holds before a call
-abbrev room : List ℕ
+abbrev pub room : List ℕ
 room = 9 ∷ 9 ∷ 9 ∷ 9 ∷ []
 
 -- a start after each newline, the final one too, and the word past them stays

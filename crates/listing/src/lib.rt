@@ -3,8 +3,10 @@
 // number and place, or `unread` where the input cannot be read. Program `lexlist` lists standard input, and `lexlist_cases` some files.
 use items::Nine;
 use items::kinds;
+use items::modes::PLAIN;
 use pieces::Answer;
 use pieces::Got;
+use pieces::LONGEST;
 use pieces::State;
 use piecewise::calls::end;
 use piecewise::calls::piece;
@@ -12,13 +14,8 @@ use piecewise::opening::open;
 
 const OUT: i32 = 1;
 
-const PLAIN: u32 = 0;
-
 // How many bytes are read at once. A piece may have any length: this one keeps the program small.
 const PIECE: usize = 512;
-
-// How many bytes of text memory the piece calls ask for.
-const TEXT: usize = 4096;
 
 // A piece is taken in at most this many calls: each takes a byte or gives the second item of a pair that took two.
 const CALLS: usize = 2 * PIECE + 2;
@@ -217,7 +214,7 @@ fn list_all(fd: i32, listing: Listing, text: &mut [u8]) -> Listing {
 pub fn list(fd: i32) {
     let opened = open(PLAIN, false);
     let state = opened.state;
-    let mut text = [0u8; TEXT];
+    let mut text = [0u8; LONGEST];
     let listed = list_all(
         fd,
         Listing {

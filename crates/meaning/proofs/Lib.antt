@@ -1,3 +1,2 @@
 pub mod Errors
 pub mod Lines
-pub mod Both

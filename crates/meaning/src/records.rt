@@ -16,8 +16,8 @@ ghost use Rattle.meaning.specs.Records.{nineWith, nineFor, TextFits};
 // How many words a record has.
 pub const WORDS: usize = 10;
 
-// The greatest depth that a word holds.
-const DEEPEST: u32 = 0xFFFF_FFFF;
+// How many open brackets a word can tell.
+const MOST_OPEN: u32 = 0xFFFF_FFFF;
 
 // Text sources.
 const NO_TEXT: u32 = 0;
@@ -92,7 +92,7 @@ pub fn depth_after(kind: u32, depth: u32) -> u32
         return depth;
     }
     if kind == kinds::OPEN_PAREN {
-        if depth < DEEPEST {
+        if depth < MOST_OPEN {
             return depth + 1;
         }
         return depth;

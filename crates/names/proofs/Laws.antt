@@ -75,9 +75,6 @@ hash-small s = mix-small 0 s (omega arith)
 pub slot-small : (s : List ℕ) → slotOf s < indexSlots
 slot-small s = let h = hash-small s in div-lt-iff-lt-mul {k = hashesASlot} {x = hashOf s} {y = indexSlots} (omega arith) .1 (omega arith)
 
-pub tag-small : (s : List ℕ) → tagOf s < hashesASlot
-tag-small s = mod-lt (hashOf s) (omega arith)
-
 pub next-small : (s : ℕ) → (s + 1) % indexSlots < indexSlots
 next-small s = mod-lt (s + 1) (omega arith)
 

@@ -14,7 +14,7 @@ use Rattle.laws.proofs.Choice.{by-bool, if-yes, if-no}
 use Rattle.laws.proofs.Compared.{same-is}
 use Rattle.names.specs.Layout.{count, bound, used, nameAt, bears, halfNames, halfBytes, indexSlots, tableWords}
 use Rattle.names.specs.Call.{lookupOf, findOf, probeOf, slotOf, tagOf, freeOf, newWords, laid, Outcome, newOf, enterOf, looks}
-use Rattle.names.specs.Book.{Name, Book, half, place, size, numberIn, added, Reply, newIn, ask, firstNames, namesOf, bookOf}
+use Rattle.names.specs.Book.{Name, half, place, size, numberIn, added, Reply, newIn, ask, firstNames, namesOf, bookOf}
 use Rattle.names.specs.declared.Found.the-variants.{At, Nothing}
 use Rattle.names.proofs.Laws.{slot-small, bears-in, bears-same, bounds, halves}
 use Rattle.names.proofs.Gives.{by-found, by-proposal, lookup-entry, lookup-full, find-in, find-none, scan-none, free-small, enter-there, enter-new, enter-party}
@@ -186,10 +186,6 @@ names-apart w b t n h =
     omega arith)
 
 -- one name more, in the book
-half-added : (x : Book) (p : ℕ) (n : Name) → half (added x p n) p ≡ half x p ++ (n ∷ [])
-half-added x zero n = refl
-half-added x (suc p) n = refl
-
 book-added : (w b v c : List ℕ) (p : ℕ) (n : Name) → p < 2 → namesOf v c p ≡ namesOf w b p ++ (n ∷ []) → ((q : ℕ) → q < 2 → (q ≡ p → ⊥) → namesOf v c q ≡ namesOf w b q)
     → bookOf v c ≡ added (bookOf w b) p n
 book-added w b v c zero n h e f = rw (e, f 1 (omega arith) (λ z. omega arith))

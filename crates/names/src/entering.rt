@@ -16,6 +16,7 @@ use crate::layout::word;
 use refusal::NO_PARTY;
 use refusal::NO_ROOM;
 use refusal::OUT_OF_BOUNDS;
+use refusal::SERVED;
 ghost use mathlib.Core.Path.{_≡_};
 ghost use Prim.Native.Nat.{_+_, _≤_, _<_};
 ghost use lib.ListN.{length, replicate};
@@ -25,9 +26,6 @@ ghost use Rattle.names.specs.Call.{hashesASlot, tagOf, probeOf, freeOf, 
 
 // How many parties there are.
 const PARTIES: u32 = 2;
-
-// The mark of an opened table.
-const OPENED: u32 = 0;
 
 // Copies a name to a place.
 fn copy(bytes: &mut [u8], at: usize, name: &[u8])
@@ -123,7 +121,7 @@ fn clear(words: &mut [u32])
     }
 }
 
-// The opening call: OPENED, and the table is empty; or OUT_OF_BOUNDS where too little is lent.
+// The opening call: SERVED, and the table is empty; or OUT_OF_BOUNDS where too little is lent.
 pub fn open_table(words: &mut [u32], bytes: &[u8]) -> u32
     ensures { λ r. ⌜ opening r (now (words .exit)) ≡ openOf (now (words .entry)) (now (bytes .entry)) ⌝ }
 {
@@ -134,5 +132,5 @@ pub fn open_table(words: &mut [u32], bytes: &[u8]) -> u32
         return OUT_OF_BOUNDS;
     }
     clear(words);
-    OPENED
+    SERVED
 }

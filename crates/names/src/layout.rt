@@ -1,4 +1,4 @@
-// How the table lies in lent memory: its words, the names of its entries, its bounds. All sizes stand here.
+// How the table lies in lent memory: its words, the names of its entries, its bounds, its sizes.
 use crate::Place;
 use crate::blocks::equal;
 ghost use mathlib.Core.Path.{_≡_};

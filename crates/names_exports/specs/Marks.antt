@@ -1,6 +1,7 @@
 -- The answer to a party as a mark and a number: what C passes on.
 use Prim.Native.Nat.{ℕ}
 use mathlib.Core.List.{List}
+use Rattle.refusal.specs.Refusals as refusal
 use Rattle.names.specs.Call.{Outcome}
 use Rattle.names.specs.declared.Entered.{Entered}
 use Rattle.names.specs.declared.Entered.the-variants.{Number, Refused}
@@ -15,9 +16,9 @@ pub record Marked : Type 0 where
 abbrev pub entered : ℕ → ℕ → List ℕ → List ℕ → Marked
 entered m n w b = record { mark = m; number = n; words = w; bytes = b }
 
--- 0 and the number; or the refusal's number and what it comes with, 0
+-- `served` and the number; or the refusal's number and what it comes with, 0
 abbrev pub marked : Entered → List ℕ → List ℕ → Marked
-marked (Number n) w b = entered 0 n w b
+marked (Number n) w b = entered refusal.served n w b
 marked (Refused k) w b = entered k 0 w b
 
 unfoldable pub enteredOf : Outcome → Marked

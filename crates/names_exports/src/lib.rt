@@ -1,13 +1,11 @@
 // The calls of the crate `names` for programs in C and Rust: an answer is a mark, 0 or a refusal's number, and what it comes with goes to
 // lent numbers, which are 0 where the call is refused.
 use names::Entered;
+use refusal::SERVED;
 ghost use mathlib.Core.Path.{_≡_};
 ghost use Rattle.names.specs.Call.{opening, openOf, enterOf, markOf, placeOf};
 ghost use Rattle.names.specs.Layout.{placed};
 ghost use Rattle.names_exports.specs.Marks.{entered, enteredOf};
-
-// The mark of a call that was served.
-const SERVED: u32 = 0;
 
 // Opens a table: its words are cleared.
 #[no_mangle]

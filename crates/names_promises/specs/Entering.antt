@@ -19,10 +19,10 @@ one-answer w b p n x y e f = e ∙ sym f
 
 -- ---- in lent memory
 
-abbrev words : List ℕ
+abbrev pub words : List ℕ
 words = replicate tableWords 0
 
-abbrev bytes : List ℕ
+abbrev pub bytes : List ℕ
 bytes = replicate tableBytes 0
 
 -- 27 goes before 35, and nothing changes

@@ -1,3 +1,4 @@
 pub mod Opening
 pub mod Entering
 pub mod Naming
+pub mod Exports

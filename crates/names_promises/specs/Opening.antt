@@ -12,11 +12,11 @@ one-answer : (w b : List ℕ) (x y : Opening) → x ≡ openOf w b → y ≡ ope
 one-answer w b x y e f = e ∙ sym f
 
 -- a word more than the table has: the table's words are cleared, that word stays
-cleared : openOf (replicate (tableWords + 1) 7) (replicate tableBytes 9) ≡ opening 0 (replicate tableWords 0 ++ (7 ∷ []))
+pub cleared : openOf (replicate (tableWords + 1) 7) (replicate tableBytes 9) ≡ opening 0 (replicate tableWords 0 ++ (7 ∷ []))
 unfolding openOf
 cleared = refl
 
 -- no memory is too little for a table
-too-little : openOf [] [] ≡ opening outOfBounds []
+pub too-little : openOf [] [] ≡ opening outOfBounds []
 unfolding openOf
 too-little = refl

@@ -6,6 +6,7 @@ use mathlib.Core.Bool.{Bool, true, false}
 use mathlib.Core.List.{List, [], _∷_, _++_, append-nil, append-assoc}
 use lib.ListN.{length, length-append}
 use borrow.Author.Tests.{ne-eqb}
+use Rattle.laws.proofs.Choice.{no-yes}
 use Rattle.nested.specs.Items.{countOf, classAt}
 use Rattle.nested.specs.Grammar.{Node, node, closer, kindOf}
 use Rattle.nested.specs.Reader.{Level, level, Levels, state, give, gained, tailed}
@@ -19,27 +20,26 @@ use Rattle.nested.proofs.Steps.{keeps, give-keeps, closes-on}
 use Rattle.nested.proofs.Places.{reads-on}
 use Rattle.nested.proofs.Memory.{wrote-none, wrote-more, wrote-node}
 use Rattle.nested.proofs.Turns.{OpenedSaid}
-use Rattle.nested.proofs.Loops.{not-true}
 
 -- ---- frames that take one datum after another
 
 gained-twice : (f : Frame) → loose f ≡ true → gained (gained f) ≡ gained f
 gained-twice Plan h = refl
-gained-twice Quoting h = not-true h
-gained-twice Dropping h = not-true h
+gained-twice Quoting h = no-yes h
+gained-twice Dropping h = no-yes h
 gained-twice (Fresh s) h = refl
 gained-twice (Holds s) h = refl
-gained-twice (Dotted s) h = not-true h
-gained-twice (Tailed s) h = not-true h
+gained-twice (Dotted s) h = no-yes h
+gained-twice (Tailed s) h = no-yes h
 
 loose-gained : (f : Frame) → loose f ≡ true → loose (gained f) ≡ true
 loose-gained Plan h = refl
-loose-gained Quoting h = not-true h
-loose-gained Dropping h = not-true h
+loose-gained Quoting h = no-yes h
+loose-gained Dropping h = no-yes h
 loose-gained (Fresh s) h = refl
 loose-gained (Holds s) h = refl
-loose-gained (Dotted s) h = not-true h
-loose-gained (Tailed s) h = not-true h
+loose-gained (Dotted s) h = no-yes h
+loose-gained (Tailed s) h = no-yes h
 
 loose-tailed : (f : Frame) → loose f ≡ true → tailed f ≡ 0
 loose-tailed Plan h = refl
@@ -48,12 +48,12 @@ loose-tailed Dropping h = refl
 loose-tailed (Fresh s) h = refl
 loose-tailed (Holds s) h = refl
 loose-tailed (Dotted s) h = refl
-loose-tailed (Tailed s) h = not-true h
+loose-tailed (Tailed s) h = no-yes h
 
 loose-keeps : (f : Frame) → loose f ≡ true → keeps f ≡ true
 loose-keeps Plan h = refl
-loose-keeps Quoting h = not-true h
-loose-keeps Dropping h = not-true h
+loose-keeps Quoting h = no-yes h
+loose-keeps Dropping h = no-yes h
 loose-keeps (Fresh s) h = refl
 loose-keeps (Holds s) h = refl
 loose-keeps (Dotted s) h = refl

@@ -26,7 +26,7 @@ ghost use mathlib.Core.Bool.{true, false};
 ghost use Prim.Native.Nat.{_+_, _*_, _-_, _<_, _≤_};
 ghost use lib.ListN.{length};
 ghost use Rattle.nested.specs.Items.{countOf};
-ghost use Rattle.nested.specs.Grammar.{node};
+ghost use Rattle.nested.specs.Grammar.{deepest};
 ghost use Rattle.nested.specs.Lent.{outcome, nestedOf};
 ghost use Rattle.nested.specs.Said.{Put, Above, Took, Simples, Run, TurnSaid, Begins, SequenceSaid, PlanSaid};
 
@@ -184,7 +184,7 @@ fn datum(
     nodes: &mut [u32],
     w: usize,
 ) -> Turn
-    requires { ⌜ (count ≡ countOf (now records)) × (at < count) × (w ≤ at) × (depth ≤ 64) ⌝ }
+    requires { ⌜ (count ≡ countOf (now records)) × (at < count) × (w ≤ at) × (depth ≤ deepest) ⌝ }
     ensures { λ r. ⌜ TurnSaid (now (records .entry)) at depth f w (now (nodes .entry)) (now (nodes .exit)) r ⌝ }
 {
     let k = class_at(records, at);

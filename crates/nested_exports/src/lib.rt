@@ -1,13 +1,11 @@
 // The call of the crate `nested` for programs in C and Rust: its answer as a number and one value.
 use nested::Nested;
+use refusal::SERVED;
 ghost use mathlib.Core.Path.{_≡_};
 ghost use mathlib.Core.List.{[], _∷_};
 ghost use Rattle.chars.specs.Encode.{lay};
 ghost use Rattle.nested.specs.Lent.{nestedOf};
 ghost use Rattle.nested_exports.specs.Nest.{nestNumber, nestValue};
-
-// The nodes were written.
-const SERVED: u32 = 0;
 
 // How many values are written.
 const VALUES: usize = 1;

@@ -11,7 +11,7 @@ use borrow.Author.Tests.{lt-ltb}
 use Rattle.laws.proofs.Choice.{by-bool}
 use Rattle.items.specs.Kinds as kind
 use Rattle.items.specs.Meaning.{Text, none, source, decoded}
-use Rattle.items.specs.Items.{Item, deepest, depthAfter, recordWords, ownWords, recordOf, memoryOf, records}
+use Rattle.items.specs.Items.{Item, mostOpen, depthAfter, recordWords, ownWords, recordOf, memoryOf, records}
 use Rattle.items.proofs.Depth.{depth-slow}
 use Rattle.nested_meaning.specs.Depth.{oneLess, after, depthOf}
 
@@ -30,9 +30,9 @@ less : (n : ℕ) → n - 1 ≡ oneLess n
 less zero = refl
 less (suc n) = omega arith
 
-same-after : (k d : ℕ) → d < deepest → depthAfter k d ≡ after k d
+same-after : (k d : ℕ) → d < mostOpen → depthAfter k d ≡ after k d
 same-after k d h = by-bool (eqb k kind.OpenParen)
-    (λ e. rw (e, lt-ltb d deepest h))
+    (λ e. rw (e, lt-ltb d mostOpen h))
     (λ e. rw e (by-bool (eqb k kind.CloseParen) (λ f. rw f (less d)) (λ f. rw f)))
 
 -- ---- one record, and those after it
@@ -72,7 +72,7 @@ module _ (free d : ℕ) (i : Item) (l : List ℕ) where
 
 -- ---- all records
 
-tenth-from : (free d : ℕ) (is : List Item) (p : ℕ) → d + length is ≤ deepest → p < length is
+tenth-from : (free d : ℕ) (is : List Item) (p : ℕ) → d + length is ≤ mostOpen → p < length is
     → getD (records free d is) (p * recordWords + ownWords) 0 ≡ depthFrom d (records free d is) p
 unfolding records
 tenth-from free d [] p h l = absurd (omega arith)
@@ -86,6 +86,6 @@ tenth-from free d (i ∷ is) (suc p) h l =
     ∙ sym (from-later free d i rest d p)
 
 -- THE TENTH WORD of record p of a text is the depth that the kinds of the records before it make.
-pub tenth-word : (is : List Item) (p : ℕ) → length is ≤ deepest → p < length is
+pub tenth-word : (is : List Item) (p : ℕ) → length is ≤ mostOpen → p < length is
     → getD (records 0 0 is) (p * recordWords + ownWords) 0 ≡ depthOf (records 0 0 is) p
 tenth-word is p h l = tenth-from 0 0 is p (omega arith) l ∙ from-none (records 0 0 is) p

@@ -1,1 +1,2 @@
 pub mod Never
+pub mod NeverTold

@@ -12,6 +12,7 @@ use native.Mathlib.Omega.{arith}
 use native.Mathlib.Numerals.{sub-one, add-one}
 use borrow.Author.Tests.{ltb-true, lt-ltb, le-ltb}
 use borrow.Rule.Slice.PartMut.{putMid}
+use Rattle.refusal.specs.Refusals as refusal
 use Rattle.laws.specs.Lent.{written}
 use Rattle.laws.proofs.Lent.{written-push, length-written, length-part, part-written}
 use Rattle.chars.specs.Encode.{lay}
@@ -79,7 +80,7 @@ module _ (w memory : List ℕ) where
 
 -- 22, or the number of an answer that there is room for
 module _ (w : Flattened) (memory : List ℕ) where
-  pub too-few : length memory < numberWords → (22 ≡ roomOr memory (w .number)) × (memory ≡ lay (answer w) memory)
+  pub too-few : length memory < numberWords → (refusal.tooFew ≡ roomOr memory (w .number)) × (memory ≡ lay (answer w) memory)
   too-few h =
       (simp (lt-ltb (length memory) numberWords h), laid-none (answer w) memory (omega (arith, length-answer w)))
 

@@ -16,7 +16,7 @@ use numbers::Parts;
 use numbers::Point;
 use numbers::Real;
 use numbers::ZERO_DENOMINATOR;
-use refusal::LIMIT;
+use refusal::LIMIT_VALUE;
 use refusal::NOT_UTF8;
 use refusal::TOO_FEW;
 use refusal::TOO_LONG;
@@ -35,9 +35,6 @@ ghost use Rattle.number_words.specs.Words.{bit, minus, sign, nothing, pl
 const A_NUMBER: u32 = 0;
 
 const NO_NUMBER: u32 = 1;
-
-// What refusal 20 comes with.
-const LONGEST: u64 = LIMIT as u64;
 
 // How many words an answer has that is no refusal.
 const NUMBER_WORDS: usize = 27;
@@ -339,7 +336,7 @@ pub fn tell(words: &mut [u64], a: NumberAnswer) -> u32
         NumberAnswer::Is(p) => tell_served(words, parts_words(p)),
         NumberAnswer::NoNumber => tell_served(words, bare(NO_NUMBER, 0)),
         NumberAnswer::ZeroDenominator => tell_served(words, bare(ZERO_DENOMINATOR, 0)),
-        NumberAnswer::TooLong => tell_refused(words, TOO_LONG, LONGEST),
+        NumberAnswer::TooLong => tell_refused(words, TOO_LONG, LIMIT_VALUE),
         NumberAnswer::NotUtf8(at) => tell_refused(words, NOT_UTF8, at as u64),
     }
 }

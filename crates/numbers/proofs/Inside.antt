@@ -18,9 +18,10 @@ use Rattle.numbers.specs.Reals.{integralOf, rationalOf, denominator, exa
 use Rattle.numbers.proofs.Judged.{prefix-short}
 use Rattle.laws.specs.Choice.{if_then_else_}
 use Rattle.laws.specs.Quoted.{codes, code}
-use Rattle.laws.specs.Texts.{span, before, starts, same}
+use Rattle.laws.specs.Texts.{before, starts, same}
 use Rattle.laws.proofs.Choice.{by-bool, if-all, if-is}
 use Rattle.laws.proofs.Compared.{starts-in}
+use Rattle.laws.proofs.Runs.{span-le}
 use Rattle.chars.specs.Machine.{start}
 use Rattle.digits.specs.declared.Span.{Span}
 use Rattle.digits.specs.declared.MaybeInt.{MaybeInt}
@@ -58,11 +59,6 @@ module _ (n : ℕ) where
   abbrev InMaybe : MaybeParts → Type 0
   InMaybe (SomeParts p) = InParts n p
   InMaybe NoParts = Unit {0}
-
-pub span-le : (f : ℕ → Bool) (s : List ℕ) → span f s ≤ length s
-unfolding span
-span-le f [] = lit≤ tt
-span-le f (c ∷ s) = if-all (λ k. k ≤ length (c ∷ s)) (f c) (omega (arith, span-le f s)) (omega arith)
 
 sign-le : (s : List ℕ) → sign s ≤ length s
 unfolding sign

@@ -11,7 +11,7 @@ use Rattle.numbers.specs.Plain.{fraction, ratio, unsignedPlain, plain}
 use Rattle.laws.specs.Choice.{if_then_else_}
 use Rattle.laws.specs.Quoted.{code, codes, within}
 use Rattle.laws.specs.Texts.{span, before, starts, same}
-use Rattle.laws.proofs.Choice.{by-bool, if-all, and-true, within-is}
+use Rattle.laws.proofs.Choice.{by-bool, if-all, and-true, within-is, no-yes}
 use Rattle.digits.specs.declared.MaybeInt.{MaybeInt}
 use Rattle.digits.specs.declared.MaybeInt.the-variants.{AnInt, NoInt}
 use Rattle.digits.specs.Digits.{digitOf, digits, sign, negative, uinteger, value, signed, top, wholeOf, integer}
@@ -44,9 +44,6 @@ Digit c = (code "0" ≤ c) × (c ≤ code "9")
 abbrev Numeral : ℕ → Type 0
 Numeral c = (code "." ≤ c) × (c ≤ code "9")
 
-no : {A : Type 0} → false ≡ true → A
-no z = let w : _≡_ {A = ℕ} 0 1 = cc in absurd (omega arith)
-
 digit-is : (c : ℕ) → ltb (digitOf c) 10 ≡ true → Digit c
 digit-is c h = within-is _ _ _ (sym (decimal-digit c) ∙ h)
 
@@ -66,7 +63,7 @@ digits-all (c ∷ s) h = by-bool (ltb (digitOf c) 10)
 module _ (s : List ℕ) (h : uinteger 10 s ≡ true) where
   some : 0 < length s
   unfolding uinteger
-  some = by-bool (ltb 0 (length s)) (λ e. ltb-true _ _ e) (λ e. no (rw e at h))
+  some = by-bool (ltb 0 (length s)) (λ e. ltb-true _ _ e) (λ e. no-yes (rw e at h))
 
   whole : digits 10 s ≡ length s
   unfolding uinteger
@@ -89,7 +86,7 @@ after-digits (c ∷ s) h = by-bool (ltb (digitOf c) 10)
 
 fraction-numerals : (s : List ℕ) → fraction s ≡ true → All Numeral s
 unfolding starts
-fraction-numerals [] h = no h
+fraction-numerals [] h = no-yes h
 fraction-numerals (c ∷ s) h =
     let a = and-true (eqb c (code ".")) (uinteger 10 s) h in
     let d = eqb-true c (code ".") (a .0) in
@@ -97,7 +94,7 @@ fraction-numerals (c ∷ s) h =
 
 ratio-numerals : (s : List ℕ) → ratio s ≡ true → All Numeral s
 unfolding starts
-ratio-numerals [] h = no h
+ratio-numerals [] h = no-yes h
 ratio-numerals (c ∷ s) h =
     let a = and-true (eqb c (code "/")) (ltb (code "0") (getD s 0 0) && uinteger 10 s) h in
     let d = eqb-true c (code "/") (a .0) in
@@ -272,7 +269,7 @@ module _ (neg : Bool) (p : ℕ) (s : List ℕ) where
     where
       at-slash : (r : List ℕ) → starts (code "/") r ≡ true
           → (if starts (code ".") r then dotted neg p (digits 10 s) (p + digits 10 s + 1) (drop (digits 10 s + 1) s) else undotted neg p (digits 10 s) (suffix (p + digits 10 s) r)) ≡ NoReal
-      at-slash [] e = no e
+      at-slash [] e = no-yes e
       at-slash (c ∷ r) e = rw (eqb-true c (code "/") e)
 
   ratio-good : 0 < digits 10 s → ratio (drop (digits 10 s) s) ≡ true → Good (exact 10 neg p s)
@@ -306,7 +303,7 @@ good-number NoReal h = absurd h
 
 plain-one : (s : List ℕ) → plain s ≡ true → parseNumber s ≡ judged (justOf (real 10 0 s))
 unfolding plain sign uinteger starts span
-plain-one [] h = no h
+plain-one [] h = no-yes h
 plain-one (c ∷ s) h = by-bool (eqb c (code "+"))
     (λ e. let d = eqb-true c (code "+") e in one-real c s (omega arith) (omega arith) (plain-numerals s (rw (e, sign) at h)))
     (λ e. by-bool (eqb c (code "-"))

@@ -2,12 +2,12 @@
 use Rattle.numbers.specs.Plain.{fraction, ratio, unsignedPlain, plain}
 use Rattle.laws.specs.Quoted.{code}
 use Rattle.laws.specs.Texts.{span, starts}
-use Rattle.laws.proofs.Choice.{by-bool}
+use Rattle.laws.proofs.Choice.{by-bool, and-no}
 use Rattle.laws.proofs.Places.{past, cut-at}
 use Rattle.digits.specs.Digits.{digits, sign, uinteger}
 use Rattle.digits.proofs.Digits.{uinteger-past, uinteger-run}
 use Prim.Native.Nat.{ℕ, _+_, _≤_, _<_}
-use mathlib.Core.Path.{_≡_, refl, sym, _∙_}
+use mathlib.Core.Path.{_≡_, sym, _∙_}
 use mathlib.Core.Bool.{Bool, true, false, _&&_, _||_}
 use mathlib.Core.List.{List}
 use native.Mathlib.Nat.{zero-add}
@@ -16,10 +16,6 @@ use lib.Seq.{drop-drop, getD-drop}
 use lib.Dec.{eqb, ltb}
 use native.Mathlib.Omega.{arith}
 use borrow.Author.Tests.{eq-eqb, ne-eqb, lt-ltb, le-ltb, ltb-true, ltb-false}
-
-and-no : (b : Bool) → (b && false) ≡ false
-and-no true = refl
-and-no false = refl
 
 module _ (t : List ℕ) (p : ℕ) where
   pub fraction-no : false ≡ starts (code ".") (drop p t) → false ≡ fraction (drop p t)

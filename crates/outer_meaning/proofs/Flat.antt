@@ -5,13 +5,15 @@ use Prim.Native.Nat.{ℕ, zero, suc, _+_, _*_, _-_, _≤_, _<_}
 use mathlib.Core.Path.{_≡_, refl, sym, ap, subst, _∙_}
 use mathlib.Core.Bool.{Bool, true, false}
 use mathlib.Core.List.{List, [], _∷_}
-use lib.ListN.{length, take, drop, getD, length-append, length-drop, List·getD-append}
+use lib.ListN.{length, take, drop, getD, length-drop, List·getD-append}
 use lib.Seq.{take-at}
 use lib.Dec.{eqb, leb, ltb}
 use native.Mathlib.Omega.{arith}
 use borrow.Author.Tests.{leb-true, le-ltb, eqb-true, ne-eqb}
 use Rattle.laws.specs.Lent.{written}
 use Rattle.laws.proofs.Choice.{and-true}
+use Rattle.laws.proofs.Lent.{length-written}
+use Rattle.refusal.specs.Refusals as refusal
 use Rattle.chars.specs.Encode.{lay}
 use Rattle.items.specs.Items.{recordWords}
 use Rattle.items.specs.Whole.{inReport}
@@ -25,7 +27,7 @@ use Rattle.pieces.proofs.Demand.{demand-3}
 use Rattle.pieces.proofs.Fits.{text-fits, end-text-fits}
 use Rattle.lent.specs.declared.State.{State}
 use Rattle.lent.specs.Calls.{Said, lend, worded, pieceFor, endFor}
-use Rattle.lent.proofs.Same.{same-open, same-piece, same-end, is-full}
+use Rattle.lent.proofs.Same.{same-open, same-piece, same-end, is-full, unless-same}
 use Rattle.flat.specs.Held.{Holds}
 use Rattle.flat.specs.Piece.{listed, isState, stateWords, openLeft, Memory, memory, Left, left, whatNumber, whatPlace, recordAfter, gives, isRoom, called, pieceLeft, endLeft}
 use Rattle.flat.proofs.Held.{open-held, call-held, next-held}
@@ -61,23 +63,20 @@ heard-what (item g) n buf words text i values h two = item-read g text i (h .0) 
 heard-what more n buf words text i values h two = refl
 heard-what finished n buf words text i values h two = refl
 heard-what (refused m p) n buf words text i values h two =
-    rw (ne-eqb m 10 (λ e. omega arith), ne-eqb m 11 (λ e. omega arith), ne-eqb m 12 (λ e. omega arith))
+    rw (ne-eqb m refusal.item (λ e. omega arith), ne-eqb m refusal.more (λ e. omega arith), ne-eqb m refusal.finished (λ e. omega arith))
     (ap (λ (l : List ℕ). refused m (getD l 0 0)) (laid-two p n values two))
 
 -- ---- memory keeps its lengths
 
-written-length : (w old : List ℕ) → length w ≤ length old → length (written w old) ≡ length old
-written-length w old h = omega (arith, h, length-append w (drop (length w) old), length-drop (length w) old)
-
 text-length : (w : What) (old : List ℕ) → ((g : Given) → w ≡ item g → length (g .text) ≤ longest) → longest ≤ length old
     → length (textAfter w old) ≡ length old
-text-length (item g) old fits wide = written-length (g .text) old (omega (arith, fits g refl, wide))
+text-length (item g) old fits wide = length-written (g .text) old (omega (arith, fits g refl, wide))
 text-length more old fits wide = refl
 text-length finished old fits wide = refl
 text-length (refused n p) old fits wide = refl
 
 record-length : (w : What) (old : List ℕ) → Tells w → recordWords ≤ length old → length (recordAfter w old) ≡ length old
-record-length (item g) old h room = written-length (g .words) old (omega (arith, h .0, room))
+record-length (item g) old h room = length-written (g .words) old (omega (arith, h .0, room))
 record-length more old h room = refl
 record-length finished old h room = refl
 record-length (refused n p) old h room = refl
@@ -129,10 +128,6 @@ module _ (room : ℕ) (t : ByValue) (m : Memory) (r : Ready room t m) (wide : lo
       }
 
 -- ---- a caller
-
-unless-same : (l : List ℕ) {a b : Expected} {f g : List ℕ → Expected} → a ≡ b → ((left : List ℕ) → f left ≡ g left) → unlessTaken l a f ≡ unlessTaken l b g
-unless-same [] e h = e
-unless-same (x ∷ rest) e h = h (x ∷ rest)
 
 module _ (room : ℕ) (wide : longest ≤ room) where
   module _ {t : ByValue} {m : Memory} (r : Ready room t m) where

@@ -16,7 +16,7 @@ use Rattle.pieces.specs.Produced.{givenBy}
 use Rattle.pieces.specs.Produced as by
 use Rattle.pieces.proofs.Closes as closing
 use Rattle.pieces.proofs.Fewest as fewer
-use Rattle.pieces.proofs.Kept.{Stops}
+use Rattle.pieces.specs.Bounds.{Stops}
 use Rattle.pieces.proofs.Means as means
 use Rattle.pieces.proofs.Stands as stands
 use Rattle.lent.specs.declared.State.{State}

@@ -1,13 +1,13 @@
 -- What a piece call gives as an item's text is the text that the whole-text side says the item has: an item's text lies in its extent, so it is
 -- the same part of the extent's bytes and of the source; decoded text is the same bytes.
-use Prim.Native.Nat.{ℕ, zero, suc, _+_, _-_, _≤_}
-use mathlib.Core.Path.{_≡_, refl, sym, ap, _∙_}
+use Prim.Native.Nat.{ℕ, _+_, _-_, _≤_}
+use mathlib.Core.Path.{_≡_, refl, ap, _∙_}
 use mathlib.Core.Bool.{Bool}
-use mathlib.Core.List.{List, [], _∷_}
+use mathlib.Core.List.{List, []}
 use lib.ListN.{take, drop}
-use lib.Seq.{take-take, drop-drop, take-nil}
-use native.Mathlib.Nat.{zero-add, suc-add}
+use lib.Seq.{take-take, drop-drop}
 use native.Mathlib.Omega.{arith}
+use Rattle.laws.proofs.Places.{drop-take}
 use Rattle.chars.specs.Utf8.{chars}
 use Rattle.items.specs.Items.{Item, items, byteCount}
 use Rattle.items.specs.Meaning.{Text, none, source, decoded}
@@ -16,11 +16,6 @@ use Rattle.items.proofs.Meanings.{Inside}
 use Rattle.items.proofs.Order.{Placed, items-placed}
 use Rattle.pieces.specs.Given.{copied, given}
 use Rattle.lexer.proofs.Placed.{itemText, HasText}
-
-drop-take : (p j : ℕ) (l : List ℕ) → drop p (take (p + j) l) ≡ take j (drop p l)
-drop-take zero j l = ap (λ (n : ℕ). take n l) (zero-add j)
-drop-take (suc p) j [] = ap (drop (suc p)) (take-nil (suc p + j)) ∙ sym (take-nil j)
-drop-take (suc p) j (x ∷ l) = ap (λ (n : ℕ). drop (suc p) (take n (x ∷ l))) (suc-add p j) ∙ drop-take p j l
 
 -- the part from a to b of what stands from s to e
 part-of : (s a b e : ℕ) (l : List ℕ) → s ≤ a → a ≤ b → b ≤ e → take (b - a) (drop (a - s) (take (e - s) (drop s l))) ≡ take (b - a) (drop a l)

@@ -8,6 +8,7 @@ use lib.ListN.{length, getD}
 use lib.Dec.{eqb, leb, ltb}
 use native.Mathlib.Omega.{arith}
 use borrow.Author.Tests.{eqb-true}
+use Rattle.refusal.specs.Refusals as refusal
 use Rattle.laws.specs.Choice.{if_then_else_}
 use Rattle.laws.specs.Quoted.{code}
 use Rattle.laws.proofs.Choice.{by-bool, if-all, if-is, and-true}
@@ -94,7 +95,7 @@ module _ (s : State) where
   unfolding turnOf
   turn-tells b = if-all TellsTurn (leb limit (s .marks .at + s .marks .part .count)) (omega arith) (go (step (s .marks .part .state) b))
     where
-      go : (o : Step) → TellsTurn (told o (λ u. on (partly s (record { count = s .marks .part .count + 1; state = u }))) (λ c. onStage s (s .marks .stage) c) (stopped s 21 (s .marks .at)))
+      go : (o : Step) → TellsTurn (told o (λ u. on (partly s (record { count = s .marks .part .count + 1; state = u }))) (λ c. onStage s (s .marks .stage) c) (stopped s refusal.notUtf8 (s .marks .at)))
       go (steps.More u) = tt
       go (steps.Char c) = stage-tells (s .marks .stage) c
       go steps.Bad = omega arith
@@ -120,10 +121,10 @@ second-tells s st = (refl, refl)
 -- a stop that stands has a stop's number
 stop-tells : (n p : ℕ) → stopBounds n p ≡ true → 13 ≤ n
 stop-tells n p h =
-    if-is (λ (b : Bool). b ≡ true → 13 ≤ n) (eqb n 20)
-    (λ e _. omega (arith, eqb-true n 20 e))
-    (λ _. if-is (λ (b : Bool). b ≡ true → 13 ≤ n) (eqb n 21) (λ e _. omega (arith, eqb-true n 21 e)) (λ _ e. omega (arith, eqb-true n 23 e)))
-    (and-true (if eqb n 20 then true else if eqb n 21 then true else eqb n 23) (isPlace p) h .0)
+    if-is (λ (b : Bool). b ≡ true → 13 ≤ n) (eqb n refusal.tooLong)
+    (λ e _. omega (arith, eqb-true n refusal.tooLong e))
+    (λ _. if-is (λ (b : Bool). b ≡ true → 13 ≤ n) (eqb n refusal.notUtf8) (λ e _. omega (arith, eqb-true n refusal.notUtf8 e)) (λ _ e. omega (arith, eqb-true n refusal.longItem e)))
+    (and-true (if eqb n refusal.tooLong then true else if eqb n refusal.notUtf8 then true else eqb n refusal.longItem) (isPlace p) h .0)
 
 in-stage : (s : State) → inBounds s ≡ true → stageBounds (s .marks .stage) (s .marks) ≡ true
 unfolding inBounds

@@ -6,6 +6,7 @@ use mathlib.Core.List.{List, [], _∷_}
 use lib.ListN.{length, take, drop, getD}
 use lib.Dec.{eqb}
 use Rattle.laws.specs.Choice.{if_then_else_}
+use Rattle.refusal.specs.Refusals as refusal
 use Rattle.items.specs.Items.{recordWords}
 use Rattle.pieces.specs.Calls.{What, item, more, finished, refused}
 use Rattle.pieces.specs.Drive.{heed, unlessTaken, tooFew}
@@ -24,11 +25,11 @@ itemIn m = record { words = take recordWords (m .item); text = take (getD (m .it
 -- what a call left: an item, "more", "finished", or a refusal with its place
 abbrev pub heardIn : Left → What
 heardIn l =
-    if eqb (l .answer) 10
+    if eqb (l .answer) refusal.item
     then item (itemIn (l .memory))
-    else if eqb (l .answer) 11
+    else if eqb (l .answer) refusal.more
     then more
-    else if eqb (l .answer) 12
+    else if eqb (l .answer) refusal.finished
     then finished
     else refused (l .answer) (getD (l .memory .values) 0 0)
 

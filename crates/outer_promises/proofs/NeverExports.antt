@@ -5,6 +5,7 @@ use mathlib.Core.Bool.{Bool, true, false}
 use mathlib.Core.List.{List, [], _∷_}
 use lib.ListN.{length, drop, replicate, getD}
 use native.Mathlib.Omega.{arith}
+use Rattle.refusal.specs.Refusals as refusal
 use Rattle.laws.specs.Quoted.{code}
 use Rattle.chars.specs.Encode.{utf8, bytesOf, spelled, encode, lay}
 use Rattle.chars.specs.Blank.{isBlank}
@@ -58,11 +59,11 @@ module _ (call : List ℕ → List ℕ → ℕ → ℕ → ℕ → ℕ)
 
 module _ (call : List ℕ → List ℕ → ℕ) (meets : (text words : List ℕ) → call text words ≡ numberOr words (number text)) where
   -- it refuses just as many words as an answer has
-  pub never-unroomed : (call (spelled "1@2") (replicate numberWords 7) ≡ 22) → ⊥
+  pub never-unroomed : (call (spelled "1@2") (replicate numberWords 7) ≡ refusal.tooFew) → ⊥
   never-unroomed h = omega (arith, h, meets (spelled "1@2") (replicate numberWords 7) ∙ computed .number-roomed)
 
   -- it tells too few words before it looks at the text
-  pub never-few-first : (call goodThenBad (7 ∷ 7 ∷ []) ≡ 22) → ⊥
+  pub never-few-first : (call goodThenBad (7 ∷ 7 ∷ []) ≡ refusal.tooFew) → ⊥
   never-few-first h = omega (arith, h, meets goodThenBad (7 ∷ 7 ∷ []) ∙ computed .number-bad)
 
 module _ (left : List ℕ → List ℕ → List ℕ) (meets : (text words : List ℕ) → left text words ≡ lay (flattened (number text)) words) where

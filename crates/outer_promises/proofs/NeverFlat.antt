@@ -6,6 +6,7 @@ use mathlib.Core.Bool.{Bool, true, false}
 use mathlib.Core.List.{List, [], _∷_}
 use lib.ListN.{getD}
 use native.Mathlib.Omega.{arith}
+use Rattle.refusal.specs.Refusals as refusal
 use Rattle.chars.specs.Encode.{spelled, lay}
 use Rattle.flat.specs.Piece.{Opened, openLeft, Memory, Left, pieceLeft, endLeft}
 use Rattle.outer_promises.specs.Flat.{computed, bytes, someWords, holding, halted}
@@ -18,7 +19,7 @@ module _ (call : Memory → List ℕ → Left) (meets : (m : Memory) (piece : Li
   given f = ap f (meets (holding new) (spelled "(ab"))
 
   -- it says "more" to every piece
-  pub never-nods : ((m : Memory) (piece : List ℕ) → call m piece .answer ≡ 11) → ⊥
+  pub never-nods : ((m : Memory) (piece : List ℕ) → call m piece .answer ≡ refusal.more) → ⊥
   never-nods h = omega (arith, h (holding new) (spelled "(ab"), given (λ l. l .answer), ap (λ (l : Left). l .answer) (computed .piece))
 
   -- it refuses everything, just the words of a record and two values among it
@@ -49,11 +50,11 @@ module _ (call : Memory → List ℕ → Left) (meets : (m : Memory) (piece : Li
 
 module _ (call : Memory → Left) (meets : (m : Memory) → call m ≡ endLeft m) where
   -- it has nothing left to give
-  pub never-finished : ((m : Memory) → call m .answer ≡ 12) → ⊥
+  pub never-finished : ((m : Memory) → call m .answer ≡ refusal.finished) → ⊥
   never-finished h = omega (arith, h (holding afterError), ap (λ (l : Left). l .answer) (meets (holding afterError) ∙ computed .end-placed))
 
   -- it never says that it has: it asks for more
-  pub never-unfinished : ((m : Memory) → call m .answer ≡ 12 → ⊥) → ⊥
+  pub never-unfinished : ((m : Memory) → call m .answer ≡ refusal.finished → ⊥) → ⊥
   never-unfinished h = h (holding new) (ap (λ (l : Left). l .answer) (meets (holding new) ∙ computed .finished))
 
 -- ---- opening

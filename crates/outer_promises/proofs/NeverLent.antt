@@ -5,6 +5,7 @@ use mathlib.Core.Bool.{Bool, false}
 use mathlib.Core.List.{List, [], _∷_}
 use lib.ListN.{replicate, getD}
 use native.Mathlib.Omega.{arith}
+use Rattle.refusal.specs.Refusals as refusal
 use Rattle.chars.specs.Encode.{spelled}
 use Rattle.pieces.specs.Calls.{What, item, more, finished, refused}
 use Rattle.pieces.specs.Expected.{longest}
@@ -47,10 +48,10 @@ module _ (call : State → List ℕ → ℕ → Said) (meets : (s : State) (bs :
       omega (arith, ap sort (h new (spelled "(ab") longest), given (λ r. sort (r .what)), ap (λ (r : Said). sort (r .what)) (computed .piece))
 
   -- it reads on with a word that its stage does not use, or with a stage that there is not
-  pub never-lets-unused-through : (call unused (spelled "a") longest .what ≡ refused 27 0 → ⊥) → ⊥
+  pub never-lets-unused-through : (call unused (spelled "a") longest .what ≡ refused refusal.outOfBounds 0 → ⊥) → ⊥
   never-lets-unused-through h = h (ap (λ (r : Said). r .what) (meets unused (spelled "a") longest ∙ computed .unused-word))
 
-  pub never-lets-unknown-through : (call unknown (spelled "a") longest .what ≡ refused 27 0 → ⊥) → ⊥
+  pub never-lets-unknown-through : (call unknown (spelled "a") longest .what ≡ refused refusal.outOfBounds 0 → ⊥) → ⊥
   never-lets-unknown-through h = h (ap (λ (r : Said). r .what) (meets unknown (spelled "a") longest ∙ computed .unknown-stage))
 
 -- ---- end calls: `calls::end_words`, `lending::end_mut`
@@ -65,11 +66,11 @@ module _ (call : State → ℕ → Said) (meets : (s : State) (room : ℕ) → c
   never-finished h = omega (arith, ap sort (h inWordA longest), ap (λ (r : Said). sort (r .what)) (meets inWordA longest ∙ computed .end))
 
   -- it reads on with a stage that there is not
-  pub never-lets-unknown-through-end : (call unknown longest .what ≡ refused 27 0 → ⊥) → ⊥
+  pub never-lets-unknown-through-end : (call unknown longest .what ≡ refused refusal.outOfBounds 0 → ⊥) → ⊥
   never-lets-unknown-through-end h = h (ap (λ (r : Said). r .what) (meets unknown longest ∙ computed .unknown-stage-end))
 
   -- it serves without room for a text
-  pub never-roomless : (call inWordA 4095 .what ≡ refused 24 0 → ⊥) → ⊥
+  pub never-roomless : (call inWordA 4095 .what ≡ refused refusal.littleText 0 → ⊥) → ⊥
   never-roomless h = h (ap (λ (r : Said). r .what) (meets inWordA 4095 ∙ computed .end-no-room))
 
 -- ---- opening: `calls::open_words`; `opening::open` is the same with a buffer of its own
@@ -82,7 +83,7 @@ module _ (call : ℕ → Bool → List ℕ → Said) (meets : (mode : ℕ) (skip
       omega (arith, ap sort (h 2 false buf), ap (λ (r : Said). sort (r .what)) (meets 2 false buf ∙ computed .no-mode))
 
   -- it refuses a mode that there is not with another number than 25
-  pub never-refuses-otherwise : (call 2 false (replicate longest 7) .what ≡ refused 25 2 → ⊥) → ⊥
+  pub never-refuses-otherwise : (call 2 false (replicate longest 7) .what ≡ refused refusal.noMode 2 → ⊥) → ⊥
   never-refuses-otherwise h = h (ap (λ (r : Said). r .what) (meets 2 false (replicate longest 7) ∙ computed .no-mode))
 
   pub never-opens-none : ((mode : ℕ) (skip : Bool) (buf : List ℕ) → sort (call mode skip buf .what) ≡ 3) → ⊥

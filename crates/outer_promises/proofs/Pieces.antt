@@ -6,6 +6,7 @@ use mathlib.Core.Bool.{Bool, false}
 use mathlib.Core.List.{List, []}
 use lib.ListN.{length, getD}
 use lib.Dec.{eqb}
+use Rattle.refusal.specs.Refusals as refusal
 use Rattle.items.specs.declared.Record.{Record}
 use Rattle.items.specs.Items.{ownWords}
 use Rattle.pieces.specs.declared.Marks.{Marks}
@@ -131,9 +132,9 @@ end-call-one-answer m bytes old = one-lent (endIn m bytes (length old)) old
 
 -- a buffer of another length than a state's is 27, whatever the piece, the marks and the text memory: nothing is taken, and all of it stays
 pub other-buffer : (m : Marks) (buf bs : List ℕ) (room : ℕ) → eqb (length buf) longest ≡ false
-    → pieceIn m buf bs room ≡ reply 0 (refused 27 0) (stateOf m buf)
+    → pieceIn m buf bs room ≡ reply 0 (refused refusal.outOfBounds 0) (stateOf m buf)
 other-buffer m buf bs room h = rw h
 
 pub other-buffer-end : (m : Marks) (buf : List ℕ) (room : ℕ) → eqb (length buf) longest ≡ false
-    → endIn m buf room ≡ reply 0 (refused 27 0) (stateOf m buf)
+    → endIn m buf room ≡ reply 0 (refused refusal.outOfBounds 0) (stateOf m buf)
 other-buffer-end m buf room h = rw h

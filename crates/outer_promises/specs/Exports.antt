@@ -21,7 +21,7 @@ use Rattle.items.specs.Readers.{hashAt, hashComma, unreturned, endsWith, hereEn
 use Rattle.items.specs.Readers.{readItem, readNest, readQuoted, wordOn, hashOn}
 use Rattle.items.specs.Meaning.{lookup, words, wordKind, wordMeans, runMeans, escaped, stringText, linedText, hereText, unescape}
 use Rattle.items.specs.Items.{extentItems, itemsFrom, pastLine, afterPound, items, kept, records, texts}
-use Rattle.items.specs.Whole.{Call, call, refused, deliver, readOf}
+use Rattle.items.specs.Whole.{Call, deliver, readOf}
 use Rattle.lexer.specs.Text.{textMark}
 use Rattle.exports.specs.Read.{readNumber, readValues}
 use Rattle.number_words.specs.Words.{intWords, formed, realWords, joined, partsWords, refusalWords, flattened, numberWords, numberOr}

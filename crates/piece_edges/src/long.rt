@@ -9,14 +9,12 @@ use edge_cases::files::first;
 use edge_cases::files::newlines;
 use edge_cases::files::put;
 use edge_cases::show;
+use pieces::LONGEST;
 
 // The longest text.
 const ROOM: usize = 6000;
 
-// How many bytes an item has at most.
-const LONGEST: usize = 4096;
-
-// More than that.
+// More than an item may have.
 const LONG: usize = 5000;
 
 // How an item is read: under a cutting, comments skipped or kept. It has so many bytes, or so many before what closes it.

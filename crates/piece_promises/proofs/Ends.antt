@@ -18,7 +18,7 @@ use Rattle.pieces.specs.declared.Stage.{Stage}
 use Rattle.pieces.specs.declared.Stage.the-variants.{Opening, Pound, FirstLine, Idle, Busy, Waiting, Stopped}
 use Rattle.pieces.specs.declared.State.{State}
 use Rattle.pieces.specs.Bounds.{inBounds}
-use Rattle.pieces.specs.Calls.{What, item, more, finished, refused, Reply, Turn, on, gives, replied, ends, unlessCut, endStage, endUnlessStopped, declared, itemSoFar, lastOf, report, endOf}
+use Rattle.pieces.specs.Calls.{What, item, more, finished, refused, Reply, Turn, gives, replied, ends, unlessCut, endStage, endUnlessStopped, declared, itemSoFar, lastOf, report, endOf}
 use Rattle.pieces.specs.Expected.{longest}
 
 -- 1 for "more"

@@ -11,7 +11,7 @@ use Rattle.items.specs.Kinds as kind
 use Rattle.pieces.specs.declared.State.{State}
 use Rattle.pieces.specs.Calls.{What, item, more, finished, refused, Reply, textAfter, pieceOf, endOf, openOf}
 use Rattle.pieces.specs.Expected.{longest}
-use Rattle.piece_promises.specs.Rows.{Rows, computed, new, inWordA, lent}
+use Rattle.piece_promises.specs.Rows.{computed, new, inWordA, lent}
 
 -- what is given, told apart by a number
 abbrev sort : What → ℕ

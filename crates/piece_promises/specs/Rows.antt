@@ -165,7 +165,6 @@ pub record Rows : Type 0 where
   pub no-room : pieceOf new (spelled "a") 4095 ≡ reply 0 (refused 24 0) new
   pub end-no-room : endOf inWordA 4095 ≡ reply 0 (refused 24 0) inWordA
   pub after-end : pieceOf (endOf new longest .state) (spelled "a") longest ≡ reply 0 (refused 26 0) (endOf new longest .state)
-  pub number-given : pieceOf new (spelled "14.7 ") longest .what ≡ texted kind.Number 0 4 "14.7"
 
 pub computed : Rows
 -- the list only permits the computing
@@ -190,7 +189,6 @@ computed =
       unready-text = refl;
       comma = refl;
       number = refl;
-      number-given = refl;
       too-long = refl;
       too-long-state = refl;
       stop = refl;

@@ -1,5 +1,6 @@
 -- Over the bytes of a text the turns give what the definition of items says, up to the end or the stop. The machine of items stands
 -- between: a turn does what the machine does with the character that became whole, and the machine gives the definition's items.
+use Rattle.refusal.specs.Refusals as refusal
 use Rattle.chars.specs.Blank.{isBlank}
 use Rattle.chars.specs.Encode.{isScalar, utf8, width, bytesOf}
 use Rattle.items.specs.declared.Next.{Next}
@@ -82,7 +83,7 @@ module _ (bytes : List ℕ) where
   pub data Does (s : State) (q : List ℕ) (c : ℕ) (f : M.Fed) (t : Turn) : Type 0 where
     goes : (u : State) → Arrives s (q ++ (c ∷ [])) (f .after) (depthPast (s .marks .depth) (kept (s .marks .skip) (f .out))) u
         → ((go : State → Expected) → afterTurn t go ≡ prepend (givenAll bytes (s .marks .depth) (kept (s .marks .skip) (f .out))) (go u)) → Does s q c f t
-    tooLong : (st : ℕ) (p : Phase) (raw : List ℕ) → t ≡ stopped s 23 st → f .after ≡ M.state (M.busy st p raw) (s .marks .at + width c) (lastOf s)
+    tooLong : (st : ℕ) (p : Phase) (raw : List ℕ) → t ≡ stopped s refusal.longItem st → f .after ≡ M.state (M.busy st p raw) (s .marks .at + width c) (lastOf s)
         → longest < s .marks .at + width c - st → Does s q c f t
 
   module _ {q g : List ℕ} {s : State} (k : Kept q g s) where

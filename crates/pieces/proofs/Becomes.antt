@@ -22,7 +22,8 @@ use mathlib.Core.List.{List, [], _∷_, _++_}
 use lib.ListN.{length, take, drop, drop-of-length-le}
 use lib.Seq.{drop-append-le}
 use native.Mathlib.Omega.{arith}
-use Rattle.pieces.proofs.Kept.{laid-held, laid-long, bytes-snoc, count-snoc, scalars-snoc, Held, Beyonds, Stops, Staged, Calm}
+use Rattle.pieces.specs.Bounds.{Stops}
+use Rattle.pieces.proofs.Kept.{laid-held, laid-long, bytes-snoc, count-snoc, scalars-snoc, Held, Beyonds, Staged, Calm}
 use Rattle.pieces.proofs.Kept.{Within, range-within, Kept}
 
 pub none-begun : BytesTaken [] whole

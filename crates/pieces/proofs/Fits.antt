@@ -1,5 +1,6 @@
 -- The text of an item that a call gives has at most 4,096 bytes, so it fits the text memory. Of every state, produced or not: no item
 -- that is held is longer, and decoded text is never longer than what it was decoded from.
+use Rattle.refusal.specs.Refusals as refusal
 use Rattle.chars.specs.declared.Step.{Step}
 use Rattle.chars.specs.declared.Step.the-variants as steps
 use Rattle.chars.specs.Blank.{isBlank}
@@ -177,7 +178,7 @@ module _ (s : State) (h : Short s) where
   unfolding turnOf
   fits-turn b = if-all FitsTurn (leb limit (s .marks .at + s .marks .part .count)) tt (go (step (s .marks .part .state) b))
     where
-      go : (o : Step) → FitsTurn (told o (λ u. on (partly s (record { count = s .marks .part .count + 1; state = u }))) (λ c. onStage s (s .marks .stage) c) (stopped s 21 (s .marks .at)))
+      go : (o : Step) → FitsTurn (told o (λ u. on (partly s (record { count = s .marks .part .count + 1; state = u }))) (λ c. onStage s (s .marks .stage) c) (stopped s refusal.notUtf8 (s .marks .at)))
       go (steps.More u) = h
       go (steps.Char c) = fits-stage (s .marks .stage) c
       go steps.Bad = tt

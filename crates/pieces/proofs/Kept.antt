@@ -1,6 +1,7 @@
 -- What holds of every state that the calls produce, with the characters q that were read and the bytes g of the character begun: the
 -- buffer holds the item's bytes, which lie right before the place, and every number is within its bounds. How a state becomes another
 -- stands in `Becomes`.
+use Rattle.refusal.specs.Refusals as refusal
 use Rattle.chars.specs.Encode.{isScalar, utf8, width, bytesOf}
 use Rattle.chars.proofs.Good.{Scalars}
 use Rattle.items.specs.declared.CharValue.{CharValue}
@@ -24,7 +25,7 @@ use Rattle.pieces.specs.declared.Beyond.the-variants.{End, Char}
 use Rattle.pieces.specs.declared.Stage.{Stage}
 use Rattle.pieces.specs.declared.Stage.the-variants.{Opening, Pound, FirstLine, Idle, Busy, Waiting, Stopped}
 use Rattle.pieces.specs.declared.State.{State}
-use Rattle.pieces.specs.Bounds.{doneBounds, phaseBounds, beyondBounds, stageBounds, inBounds}
+use Rattle.pieces.specs.Bounds.{Stops, doneBounds, phaseBounds, beyondBounds, stageBounds, inBounds}
 use Rattle.pieces.specs.Calls.{report, lastOf, itemSoFar, laidAt}
 use Rattle.pieces.specs.Expected.{longest}
 use Rattle.pieces.proofs.Parts.{BytesTaken, part-bounded}
@@ -88,9 +89,6 @@ Held q s st = HeldIn q (s .buf) (s .marks .len) (s .marks .at) st
 abbrev pub Beyonds : Beyond → ℕ → Type 0
 Beyonds End at = Unit {0}
 Beyonds (Char c) at = (isScalar c ≡ true) × (at + width c ≤ limit)
-
-abbrev pub Stops : ℕ → Type 0
-Stops n = (n ≡ 20) ⊎ ((n ≡ 21) ⊎ (n ≡ 23))
 
 abbrev pub Staged : List ℕ → State → Stage → Type 0
 Staged q s Opening = q ≡ []
@@ -202,7 +200,7 @@ beyond-bounded : (b : Beyond) (at : ℕ) → Beyonds b at → beyondBounds b at 
 beyond-bounded End at h = refl
 beyond-bounded (Char c) at h = both (h .0) (le-leb _ _ (h .1))
 
-stop-bounded : (n : ℕ) → Stops n → (if eqb n 20 then true else if eqb n 21 then true else eqb n 23) ≡ true
+stop-bounded : (n : ℕ) → Stops n → (if eqb n refusal.tooLong then true else if eqb n refusal.notUtf8 then true else eqb n refusal.longItem) ≡ true
 stop-bounded n h = ⊎-elim (λ e. rw e) (λ k. ⊎-elim (λ e. rw e) (λ e. rw e) k) h
 
 stage-bounded : (q : List ℕ) (s : State) (g : Stage) → s .marks .at ≡ byteCount q → Staged q s g → stageBounds g (s .marks) ≡ true

@@ -10,24 +10,18 @@ use Rattle.numbers.specs.declared.Parsed.{Parsed}
 use Rattle.numbers.specs.declared.Parsed.the-variants as parsed
 use Rattle.numbers.specs.Grammar.{parseNumber}
 use Rattle.laws.specs.Quoted.{code}
-use Rattle.laws.proofs.Choice.{if-all, if-is}
+use Rattle.laws.proofs.Choice.{if-all, if-is, and-true}
 use Prim.Native.Nat.{ℕ, _+_, _<_}
-use mathlib.Core.Path.{_≡_}
-use mathlib.Core.Bool.{Bool, true, false, _&&_}
+use mathlib.Core.Bool.{Bool, _&&_}
 use mathlib.Core.List.{List, [], _∷_}
 use lib.ListN.{length}
 use lib.Dec.{eqb, ltb}
-use native.Mathlib.Omega.{arith}
 use borrow.Author.Tests.{ltb-true}
 
 -- the items of an extent from s to e, whose bytes are raw
 pub data Shape (s e : ℕ) (raw : List ℕ) : List Meaning → Type 0 where
   alone : (m : Meaning) → Shape s e raw (m ∷ [])
   pair : 1 < length raw → Shape s e raw (means kind.Identifier 0 (source s (s + 1)) ∷ means kind.Identifier 0 (source (s + 1) e) ∷ [])
-
-and-right : (a b : Bool) → (a && b) ≡ true → b ≡ true
-and-right true b e = e
-and-right false b e = let z : _≡_ {A = ℕ} 0 1 = cc in absurd (omega arith)
 
 module _ (s e : ℕ) (raw : List ℕ) where
   word-shape : Shape s e raw (wordMeans s e raw)
@@ -36,7 +30,7 @@ module _ (s e : ℕ) (raw : List ℕ) where
       let P : List Meaning → Type 0 = Shape s e raw in
       if-all P (eqb (wordKind raw) kind.Identifier)
       (if-is P (firstIs (code "+") raw && ltb 1 (length raw))
-      (λ f. pair (ltb-true 1 (length raw) (and-right (firstIs (code "+") raw) (ltb 1 (length raw)) f)))
+      (λ f. pair (ltb-true 1 (length raw) (and-true (firstIs (code "+") raw) (ltb 1 (length raw)) f .1)))
       (λ f. alone (means kind.Identifier 0 (source s e))))
       (alone _)
 

@@ -23,6 +23,7 @@ use Rattle.items.specs.Readers.{SoFar, eat, firstIs, lastIs, linedOf, closed, u
 use Rattle.items.proofs.Failing.{past-within}
 use Rattle.items.specs.Whole.{limit}
 use Rattle.items.proofs.Fine.{Fine, FineKind, FineValue, fine-kind, fine-scalar}
+use Rattle.items.proofs.Phases.{InPhase}
 use Rattle.chars.proofs.Width.{wide, width-utf8}
 use Rattle.digits.specs.Hex.{hexValue}
 use Rattle.laws.specs.Quoted.{code}
@@ -64,31 +65,14 @@ Settled (ErrorAt n d a b) = (n ≤ kind.lastError) × ((a ≤ limit) × (b ≤ l
 
 -- a phase of an item that has n bytes so far
 abbrev pub Sized : ℕ → Phase → Type 0
-Sized n ph.InLine = Unit {0}
-Sized n ph.AfterComma = Unit {0}
-Sized n ph.AfterHash = Unit {0}
-Sized n ph.AfterAngle = Unit {0}
-Sized n ph.HereDelim = Unit {0}
-Sized n ph.HereStart = Unit {0}
-Sized n ph.HereBody = Unit {0}
-Sized n ph.InWord = Unit {0}
-Sized n ph.WordEscape = Unit {0}
-Sized n ph.InRun = Unit {0}
-Sized n ph.InHash = Unit {0}
-Sized n ph.HashEscape = Unit {0}
-Sized n ph.HashTick = Unit {0}
-Sized n ph.HashComma = Unit {0}
-Sized n (ph.Nest d) = d ≤ n
-Sized n (ph.NestBar d) = d ≤ n
-Sized n (ph.NestSharp d) = d ≤ n
-Sized n (ph.Quoted k) = Unit {0}
-Sized n (ph.Closed k) = 2 ≤ n
-Sized n (ph.TrimBefore k) = Unit {0}
-Sized n (ph.TrimAfter k) = Unit {0}
-Sized n (ph.Escape k from) = from ≤ limit
-Sized n (ph.Brace k from) = from ≤ limit
-Sized n (ph.Hex k closer from m) = (from ≤ limit) × (m ≤ n)
-Sized n (ph.Done o) = Settled o
+Sized n = InPhase (record {
+  nest = λ d. d ≤ n;
+  closed = λ k. 2 ≤ n;
+  escape = λ from. from ≤ limit;
+  brace = λ from. from ≤ limit;
+  digits = λ closer from m. (from ≤ limit) × (m ≤ n);
+  done = Settled;
+})
 
 settled-ranges : (o : Outcome) → Settled o → Ranges o
 settled-ranges (Token k d) h = tt

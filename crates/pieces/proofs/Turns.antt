@@ -1,5 +1,6 @@
 -- What a turn leaves: a reader that reads on, a pair's second item that waits, or a stop that stands; and so what a call leaves. 27 never
 -- meets a state that the calls produced.
+use Rattle.refusal.specs.Refusals as refusal
 use Rattle.chars.specs.declared.Step.{Step}
 use Rattle.chars.specs.declared.Step.the-variants as steps
 use Rattle.chars.specs.Blank.{isBlank}
@@ -25,7 +26,7 @@ use Rattle.pieces.specs.declared.Beyond.the-variants.{End, Char}
 use Rattle.pieces.specs.declared.Stage.{Stage}
 use Rattle.pieces.specs.declared.Stage.the-variants.{Opening, Pound, FirstLine, Idle, Busy, Waiting, Stopped}
 use Rattle.pieces.specs.declared.State.{State}
-use Rattle.pieces.specs.Bounds.{inBounds}
+use Rattle.pieces.specs.Bounds.{Stops, inBounds}
 use Rattle.pieces.specs.Calls.{What, item, more, finished, refused, Reply, reply, lastOf, itemSoFar, laidAt, becomes, deeper, Turn, on, off, begin, beyond}
 use Rattle.pieces.specs.Calls.{gives, report, ends, onNext, onStage, partly, stopped, turnOf, after, feedOf, pieceStage, pieceOf, declared, replied, unlessCut}
 use Rattle.pieces.specs.Calls.{endStage, endUnlessStopped, endOf, fresh, openOf}
@@ -73,16 +74,16 @@ pub record Halted (n p : ℕ) (s : State) : Type 0 where
   pub stage : s .marks .stage ≡ Stopped n p
   pub deep : Deep s
 
--- after something was given
-abbrev pub Left : Bool → What → State → Type 0
-Left e (item g) s = Going e s ⊎ Waits e s
-Left e more s = Going e s
-Left e finished s = Going e s
-Left e (refused n p) s = Halted n p s
+-- how a state stands after something was given
+abbrev pub StandsAfter : Bool → What → State → Type 0
+StandsAfter e (item g) s = Going e s ⊎ Waits e s
+StandsAfter e more s = Going e s
+StandsAfter e finished s = Going e s
+StandsAfter e (refused n p) s = Halted n p s
 
 abbrev pub Turned : Bool → Turn → Type 0
 Turned e (on s) = Going e s
-Turned e (off s w) = Left e w s
+Turned e (off s w) = StandsAfter e w s
 
 -- the bytes that are held are as many as it says
 pub held-length : {q g : List ℕ} {s : State} → Kept q g s → length (take (s .marks .len) (s .buf)) ≡ s .marks .len
@@ -111,7 +112,7 @@ module _ {q g : List ℕ} {s : State} (k : Kept q g s) where
   going-beyond low (Char c) h last w = going-begin low c (h .0) (h .1) last w
   going-beyond low End h last w = record { read = q; begun = []; kept = kept-end k last w; calm = tt; deep = omega arith; ended = refl }
 
-  halts : Low → (n p : ℕ) → (n ≡ 20) ⊎ ((n ≡ 21) ⊎ (n ≡ 23)) → p ≤ limit → Halted n p (becomes s (s .buf) (Stopped n p) (s .marks .at) 0 (lastOf s))
+  halts : Low → (n p : ℕ) → Stops n → p ≤ limit → Halted n p (becomes s (s .buf) (Stopped n p) (s .marks .at) 0 (lastOf s))
   halts low n p h l = record { read = q; kept = kept-stopped k n p h l; stage = refl; deep = omega arith }
 
 -- a character in an item, and a pound sign at the start of the text
@@ -158,7 +159,7 @@ module _ {q g : List ℕ} {s : State} (k : Kept q g s) (deep : Deep s) where
     turned-next : (st : ℕ) → Held q s st → (n : Next) → Goes (itemSoFar s) c n → Turned (s .marks .ended) (onNext s st c n)
     turned-next st h (Eat p) z =
         if-is (Turned (s .marks .ended)) (ltb longest (s .marks .len + width c))
-        (λ _. halts k (omega arith) 23 st (inr (inr refl)) (omega (arith, h .ends, k .far)))
+        (λ _. halts k (omega arith) refusal.longItem st (inr (inr refl)) (omega (arith, h .ends, k .far)))
         (λ e. record {
           read = q ++ (c ∷ []);
           begun = [];
@@ -199,14 +200,14 @@ pub turned : {e : Bool} {s : State} → Going e s → (b : ℕ) → Turned e (tu
 unfolding turnOf
 turned {e} {s} h b =
     if-is (Turned e) (leb limit (s .marks .at + s .marks .part .count))
-    (λ _. halts k (omega (arith, h .deep)) 20 limit (inl refl) (omega arith))
+    (λ _. halts k (omega (arith, h .deep)) refusal.tooLong limit (inl refl) (omega arith))
     (λ f. go (leb-false limit (s .marks .at + s .marks .part .count) f) (step (s .marks .part .state) b) (stepped (h .begun) (s .marks .part) b (k .begun)))
   where
     k : Kept (h .read) (h .begun) s
     k = h .kept
 
     go : s .marks .at + s .marks .part .count < limit → (o : Step) → Stepped (h .begun) (s .marks .part) b o
-        → Turned e (told o (λ u. on (partly s (record { count = s .marks .part .count + 1; state = u }))) (λ c. onStage s (s .marks .stage) c) (stopped s 21 (s .marks .at)))
+        → Turned e (told o (λ u. on (partly s (record { count = s .marks .part .count + 1; state = u }))) (λ c. onStage s (s .marks .stage) c) (stopped s refusal.notUtf8 (s .marks .at)))
     go far (steps.More u) z = record {
       read = h .read;
       begun = h .begun ++ (b ∷ []);
@@ -218,7 +219,7 @@ turned {e} {s} h b =
     go far (steps.Char c) z =
         let room : s .marks .at + width c ≤ limit = omega (arith, z .count, length-append (h .begun) (b ∷ []), k .begun .count) in
         rw (← h .ended) (turned-stage k (h .deep) c (z .scalar) room (s .marks .stage) refl (h .calm))
-    go far steps.Bad z = halts k (omega (arith, h .deep)) 21 (s .marks .at) (inr (inl refl)) (omega arith)
+    go far steps.Bad z = halts k (omega (arith, h .deep)) refusal.notUtf8 (s .marks .at) (inr (inl refl)) (omega arith)
 
 -- ---- a call
 
@@ -229,7 +230,7 @@ going-on {e} {s} w =
     rw (← w .ended) (going-beyond k (omega (arith, w .deep)) (w .beyond) (subst (Staged (w .read) s) (w .stage) (k .staged) .1 .1 .1) (lastOf s) (k .last))
 
 abbrev pub Leaves : Bool → Reply → Type 0
-Leaves e r = Left e (r .what) (r .state)
+Leaves e r = StandsAfter e (r .what) (r .state)
 
 pub fed : (bs : List ℕ) {e : Bool} {s : State} (n : ℕ) → Going e s → Leaves e (feedOf s bs n)
 unfolding feedOf
@@ -259,7 +260,7 @@ module _ {s : State} (h : Going true s) where
   uncut : (r : Reply) → Leaves true r → Leaves true (unlessCut s r)
   uncut r z =
       if-all (Leaves true) (eqb (s .marks .part .count) 0) z
-      (halts kept-now (omega (arith, h .deep)) 21 (s .marks .at) (inr (inl refl)) (omega (arith, kept-now .far)))
+      (halts kept-now (omega (arith, h .deep)) refusal.notUtf8 (s .marks .at) (inr (inl refl)) (omega (arith, kept-now .far)))
 
   ended-item : (st : ℕ) → Held (h .read) s st → (p : Phase) → Sized (s .marks .len) p
       → Leaves true (unlessCut s (replied (ends s st (finishOf p (itemSoFar s .bytes)) End)))
@@ -300,7 +301,7 @@ pub data Safe (s : State) : Type 0 where
   waits : (e : Bool) → Waits e s → Safe s
   halted : (n p : ℕ) → Halted n p s → Safe s
 
-left-safe : (e : Bool) (w : What) (s : State) → Left e w s → Safe s
+left-safe : (e : Bool) (w : What) (s : State) → StandsAfter e w s → Safe s
 left-safe e (item g) s z = ⊎-elim (λ h. goes e h) (λ h. waits e h) z
 left-safe e more s z = goes e z
 left-safe e finished s z = goes e z
@@ -317,7 +318,7 @@ SafeReply r = Safe (r .state)
 safe-piece : {s : State} → Safe s → (bs : List ℕ) → SafeReply (pieceStage s (s .marks .stage) bs)
 safe-piece {s} (goes e h) bs = go (s .marks .stage) (h .calm)
   where
-    fits : SafeReply (if s .marks .ended then reply 0 (refused 26 0) s else feedOf s bs 0)
+    fits : SafeReply (if s .marks .ended then reply 0 (refused refusal.afterEnd 0) s else feedOf s bs 0)
     fits = if-all SafeReply (s .marks .ended) (goes e h) (left-safe e (feedOf s bs 0 .what) (feedOf s bs 0 .state) (fed bs 0 h))
 
     go : (b : Stage) → Calm b → SafeReply (pieceStage s b bs)

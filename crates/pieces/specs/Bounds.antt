@@ -1,7 +1,9 @@
 -- The field bounds of a state: a state outside them is refused with 27. docs/STATE.md lists them. They are what the calls need to read
 -- within the buffer and to give words of 32 bits; no state that the opening call and later calls produced is outside them.
 use Prim.Native.Nat.{ℕ, _+_, _-_, _*_, _^_}
+use mathlib.Core.Path.{_≡_}
 use mathlib.Core.Bool.{Bool, true, false, _&&_}
+use mathlib.Core.Logic.{_⊎_}
 use lib.Dec.{eqb, leb, ltb}
 use Rattle.laws.specs.Choice.{if_then_else_}
 use Rattle.refusal.specs.Refusals as refusal
@@ -83,6 +85,10 @@ beyondBounds (Char c) at = isScalar c && isPlace (at + width c)
 -- an item that starts at st: its bytes, at least so many, lie right before the place
 abbrev pub heldBounds : ℕ → Marks → ℕ → Bool
 heldBounds st m least = eqb (st + m .len) (m .at) && leb least (m .len)
+
+-- "20, 21 and 23 are stops"
+abbrev pub Stops : ℕ → Type 0
+Stops n = (n ≡ refusal.tooLong) ⊎ ((n ≡ refusal.notUtf8) ⊎ (n ≡ refusal.longItem))
 
 abbrev pub stopBounds : ℕ → ℕ → Bool
 stopBounds n p = (if eqb n refusal.tooLong then true else if eqb n refusal.notUtf8 then true else eqb n refusal.longItem) && isPlace p

@@ -8,6 +8,9 @@ use chars::Begun;
 use items::Phase;
 use items::Record;
 
+// How many bytes an item has at most, and the text memory at least.
+pub const LONGEST: usize = 4096;
+
 // What stands beyond a pair such as `+foo` whose second item waits.
 pub enum Beyond {
     // the end of the text
@@ -61,7 +64,7 @@ pub struct Marks {
 }
 
 pub struct State {
-    pub buf: [u8; 4096],
+    pub buf: [u8; LONGEST],
     pub marks: Marks,
 }
 

@@ -11,7 +11,7 @@ use native.Mathlib.Numerals.{add-one}
 use native.Mathlib.Omega.{arith}
 use borrow.Author.Tests.{leb-true}
 use Rattle.laws.specs.Choice.{if_then_else_}
-use Rattle.laws.proofs.Choice.{if-all, and-true}
+use Rattle.laws.proofs.Choice.{if-all, and-true, no-yes, yes-no}
 use Rattle.chars.specs.Encode.{width, isScalar}
 use Rattle.chars.proofs.Scalar.{scalar-true}
 use Rattle.items.specs.Whole.{limit}
@@ -32,12 +32,6 @@ use Rattle.giving.specs.Inner.{HoldsItem, BeyondFits}
 use Rattle.bounds.proofs.Bounded.{numbers}
 use Rattle.turns.proofs.Told.{told-numbers, told-held}
 
-no : {A : Type 0} → true ≡ false → A
-no e = absurd (let z : _≡_ {A = ℕ} 0 1 = cc in omega arith)
-
-on-no : {A : Type 0} → false ≡ true → A
-on-no e = absurd (let z : _≡_ {A = ℕ} 0 1 = cc in omega arith)
-
 -- ---- one byte of a piece
 
 fed : (s : State) (bs : List ℕ) (i : ℕ) → i < length bs
@@ -48,11 +42,11 @@ fed s bs i h = rw (drop-cons bs i 0 h, add-one i)
 module _ (s : State) (bs : List ℕ) (i : ℕ) (h : i < length bs) (n : Marks) (buf now old : List ℕ) where
   pub fed-on : (got : Got) → isMore got ≡ true → turnBy got (stateOf n buf) now ≡ turnOf s (getD bs i 0) → now ≡ textTurned (turnOf s (getD bs i 0)) old
       → (on (stateOf n buf) ≡ turnOf s (getD bs i 0)) × (feedOf (stateOf n buf) (drop (i + 1) bs) (i + 1) ≡ feedOf s (drop i bs) i) × (now ≡ old)
-  fed-on (Item r) m e t = on-no m
+  fed-on (Item r) m e t = no-yes m
   fed-on More m e t =
       (e, ap (λ (x : Turn). after x (λ u. feedOf u (drop (i + 1) bs) (i + 1)) (i + 1)) e ∙ sym (fed s bs i h), t ∙ ap (λ (x : Turn). textTurned x old) (sym e))
-  fed-on Finished m e t = on-no m
-  fed-on (Refused k p) m e t = on-no m
+  fed-on Finished m e t = no-yes m
+  fed-on (Refused k p) m e t = no-yes m
 
   fed-gives : (w : What) → off (stateOf n buf) w ≡ turnOf s (getD bs i 0) → now ≡ textTurned (turnOf s (getD bs i 0)) old
       → (reply (i + 1) w (stateOf n buf) ≡ feedOf s (drop i bs) i) × (now ≡ textAfter w old)
@@ -62,7 +56,7 @@ module _ (s : State) (bs : List ℕ) (i : ℕ) (h : i < length bs) (n : Marks) (
   pub fed-off : (got : Got) → isMore got ≡ false → turnBy got (stateOf n buf) now ≡ turnOf s (getD bs i 0) → now ≡ textTurned (turnOf s (getD bs i 0)) old
       → (reply (i + 1) (whatOf got now) (stateOf n buf) ≡ feedOf s (drop i bs) i) × (now ≡ textAfter (whatOf got now) old)
   fed-off (Item r) m e t = fed-gives (whatOf (Item r) now) e t
-  fed-off More m e t = no m
+  fed-off More m e t = yes-no m
   fed-off Finished m e t = fed-gives (whatOf Finished now) e t
   fed-off (Refused k p) m e t = fed-gives (whatOf (Refused k p) now) e t
 

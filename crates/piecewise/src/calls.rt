@@ -1,6 +1,5 @@
 // The calls: a piece of the text, and its end. `piece` and `end` take the state by value and hand it back; under them, the buffer is lent.
 use bounds::in_bounds;
-use bounds::limits::*;
 use giving::ends::beyond;
 use giving::ends::ends;
 use giving::ends::extent;
@@ -9,6 +8,7 @@ use items::Phase;
 use pieces::Answer;
 use pieces::Beyond;
 use pieces::Got;
+use pieces::LONGEST;
 use pieces::Marks;
 use pieces::Pieced;
 use pieces::Stage;
@@ -28,6 +28,7 @@ ghost use mathlib.Core.Bool.{true};
 ghost use mathlib.Core.List.{List};
 ghost use Prim.Native.Nat.{ℕ};
 ghost use lib.ListN.{length};
+ghost use Rattle.pieces.specs.Expected.{longest};
 ghost use Rattle.pieces.specs.Bounds.{phaseBounds};
 ghost use Rattle.pieces.specs.Calls as calls;
 ghost use Rattle.giving.specs.Answers.{stateOf};
@@ -147,7 +148,7 @@ fn piece_on(m: Marks, buf: &mut [u8], piece: &[u8], text: &mut [u8]) -> Pieced
 
 // A piece call on a whole buffer.
 fn read_piece(m: Marks, buf: &mut [u8], piece: &[u8], text: &mut [u8]) -> Pieced
-    requires { ⌜ length (now buf) ≡ 4096 ⌝ }
+    requires { ⌜ length (now buf) ≡ longest ⌝ }
     ensures { λ r. ⌜ (pieced r (now (buf .exit)) (now (text .exit)) ≡ calls.pieceOf (stateOf m (now (buf .entry))) (now (piece .entry)) (length (now (text .entry))))
         × (now (text .exit) ≡ calls.textAfter (calls.pieceOf (stateOf m (now (buf .entry))) (now (piece .entry)) (length (now (text .entry))) .what) (now (text .entry))) ⌝ }
 {
@@ -170,8 +171,8 @@ fn read_piece(m: Marks, buf: &mut [u8], piece: &[u8], text: &mut [u8]) -> Pieced
 }
 
 // A piece call with the buffer as an array. Internal: it asks what every array of 4,096 bytes meets.
-fn piece_in(m: Marks, buf: &mut [u8; 4096], piece: &[u8], text: &mut [u8]) -> Pieced
-    requires { ⌜ length (now buf) ≡ 4096 ⌝ }
+fn piece_in(m: Marks, buf: &mut [u8; LONGEST], piece: &[u8], text: &mut [u8]) -> Pieced
+    requires { ⌜ length (now buf) ≡ longest ⌝ }
     ensures { λ r. ⌜ (pieced r (now (buf .exit)) (now (text .exit)) ≡ calls.pieceOf (stateOf m (now (buf .entry))) (now (piece .entry)) (length (now (text .entry))))
         × (now (text .exit) ≡ calls.textAfter (calls.pieceOf (stateOf m (now (buf .entry))) (now (piece .entry)) (length (now (text .entry))) .what) (now (text .entry))) ⌝ }
 {
@@ -248,7 +249,7 @@ fn end_item(m: Marks, buf: &mut [u8], text: &mut [u8], start: usize, phase: Phas
 
 // An end call on a whole buffer.
 fn read_end(m: Marks, buf: &mut [u8], text: &mut [u8]) -> Pieced
-    requires { ⌜ length (now buf) ≡ 4096 ⌝ }
+    requires { ⌜ length (now buf) ≡ longest ⌝ }
     ensures { λ r. ⌜ (pieced r (now (buf .exit)) (now (text .exit)) ≡ calls.endOf (stateOf m (now (buf .entry))) (length (now (text .entry))))
         × (now (text .exit) ≡ calls.textAfter (calls.endOf (stateOf m (now (buf .entry))) (length (now (text .entry))) .what) (now (text .entry))) ⌝ }
 {
@@ -271,8 +272,8 @@ fn read_end(m: Marks, buf: &mut [u8], text: &mut [u8]) -> Pieced
 }
 
 // An end call with the buffer as an array. Internal: it asks what every array of 4,096 bytes meets.
-fn end_in(m: Marks, buf: &mut [u8; 4096], text: &mut [u8]) -> Pieced
-    requires { ⌜ length (now buf) ≡ 4096 ⌝ }
+fn end_in(m: Marks, buf: &mut [u8; LONGEST], text: &mut [u8]) -> Pieced
+    requires { ⌜ length (now buf) ≡ longest ⌝ }
     ensures { λ r. ⌜ (pieced r (now (buf .exit)) (now (text .exit)) ≡ calls.endOf (stateOf m (now (buf .entry))) (length (now (text .entry))))
         × (now (text .exit) ≡ calls.textAfter (calls.endOf (stateOf m (now (buf .entry))) (length (now (text .entry))) .what) (now (text .entry))) ⌝ }
 {

@@ -1,6 +1,8 @@
 // A state as it is opened.
-use bounds::limits::*;
 use giving::marks::no_part;
+use items::modes::PLAIN;
+use items::modes::REPORT;
+use pieces::LONGEST;
 use pieces::Marks;
 use pieces::Opened;
 use pieces::Stage;

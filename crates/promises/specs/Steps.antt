@@ -13,7 +13,7 @@ use Rattle.digits.specs.Hex.{hexDigits, hexAfterPlus, hexValue}
 use Rattle.items.specs.Kinds as kind
 use Rattle.items.specs.Classes.{startsRun, firstOf, inQuotes, afterBackslash, stopsHex, inHex, inTrim, inNest, breaksWord, inWord, staysRun, endsRun, inRun, afterHash}
 use Rattle.items.specs.Machine.{onFirst, stepOf, finishOf, scanOf}
-use Rattle.items.specs.Readers.{soFar, Read, got, comment, linedOf, scalarOf, pastFailing}
+use Rattle.items.specs.Readers.{soFar, got, comment, linedOf, scalarOf, pastFailing}
 use Rattle.items.specs.declared.Quotes.the-variants.{Double, Lines}
 use Rattle.items.specs.declared.Outcome.the-variants.{Token, Word, Run, Lined, Error, ErrorAt}
 use Rattle.items.specs.declared.Phase.the-variants as ph

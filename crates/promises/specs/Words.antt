@@ -16,8 +16,8 @@ use Rattle.digits.specs.declared.Hex.the-variants as hex
 use Rattle.items.specs.Kinds as kind
 use Rattle.items.specs.Classes.{inQuotes, afterBackslash, stopsHex, inHex, inTrim}
 use Rattle.items.specs.Readers.{scalarOf, pastFailing}
-use Rattle.items.specs.Meaning.{lookup, words, wordKind, source, charNames, isDelimiter, nameless, hexNamed, spelledOut, characterOf, unescape}
-use Rattle.items.specs.declared.Quotes.the-variants.{Double, Lines}
+use Rattle.items.specs.Meaning.{lookup, words, wordKind, charNames, isDelimiter, nameless, hexNamed, spelledOut, characterOf, unescape}
+use Rattle.items.specs.declared.Quotes.the-variants.{Double}
 use Rattle.items.specs.declared.CharValue.the-variants.{Scalar, Wrong, WrongAt}
 use Rattle.promises.specs.Shapes.{room}
 
@@ -64,7 +64,7 @@ pub record Rows : Type 0 where
   pub nothing : decoded (spelled "\"\"") 1 1 ≡ room 1
   -- decoded_length
   pub count : length (unescape Double (spelled "\\n\"")) ≡ 1
-  -- text_same: a text is not the same as one that it begins
+  -- texts::equal: a text is not the same as one that it begins
   pub longer : map (same (spelled "ab")) (spelled "ab" ∷ spelled "abc" ∷ spelled "a" ∷ []) ≡ true ∷ false ∷ false ∷ []
 
 rows : Rows

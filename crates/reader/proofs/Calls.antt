@@ -8,6 +8,7 @@ use lib.Dec.{leb, ltb}
 use native.Mathlib.Omega.{arith}
 use borrow.Author.Tests.{ltb-false, le-ltb}
 use denote.Ref.{RefT, now}
+use Rattle.refusal.specs.Refusals as refusal
 use Rattle.laws.specs.Lent.{written}
 use Rattle.laws.proofs.Choice.{by-bool}
 use Rattle.chars.specs.Utf8.{chars, sequences, firstBad}
@@ -43,7 +44,7 @@ module _ (m : List ℕ) (ms : List (List ℕ)) (depth : ℕ) (i : Item) (is : Li
   due-item b = rw b
 
   due-room : leb (length (memoryOf (i .text))) (length m) ≡ false
-      → dueTo (m ∷ ms) depth (i ∷ is) ≡ told (stops 22 1 (length (memoryOf (i .text)))) m ∷ dueTo ms depth (i ∷ is)
+      → dueTo (m ∷ ms) depth (i ∷ is) ≡ told (stops refusal.tooFew 1 (length (memoryOf (i .text)))) m ∷ dueTo ms depth (i ∷ is)
   unfolding dueTo
   due-room b = rw b
 
@@ -76,7 +77,7 @@ module _ (source : RefT (List ℕ)) (short : length (now source) ≤ limit) wher
 
   next-room : (p : Position) (q : Spot) (i : Item) (m : List ℕ) → nextAt s (p .spot) ≡ turns.gives i q
       → leb (length (memoryOf (i .text))) (length m) ≡ false
-      → nextFor (reading source p) m ≡ moved (stops 22 1 (length (memoryOf (i .text)))) (reading source p) m
+      → nextFor (reading source p) m ≡ moved (stops refusal.tooFew 1 (length (memoryOf (i .text)))) (reading source p) m
   unfolding giveOf
   next-room p q i m e b = next-by p (turns.gives i q) m e ∙ rw b
 
@@ -104,8 +105,8 @@ module _ (source : RefT (List ℕ)) (short : length (now source) ≤ limit) wher
           (λ b. call-on m ms (reading source p) (reading source (past p i q)) (gives (recordOf 0 (p .depth) i)) (written (memoryOf (i .text)) m) (next-item p q i m e b)
           ∙ ap (λ (l : List Told). told (gives (recordOf 0 (p .depth) i)) (written (memoryOf (i .text)) m) ∷ l) (rec n (past p i q) (omega (arith, M .smaller, h)))
           ∙ sym (ap (dueTo (m ∷ ms) (p .depth)) (all-gives s n (p .spot) q i e) ∙ due-item m ms (p .depth) i (allFrom n s q) b))
-          (λ b. call-on m ms (reading source p) (reading source p) (stops 22 1 (length (memoryOf (i .text)))) m (next-room p q i m e b)
-          ∙ ap (λ (l : List Told). told (stops 22 1 (length (memoryOf (i .text)))) m ∷ l) (rec (suc n) p h ∙ ap (dueTo ms (p .depth)) (all-gives s n (p .spot) q i e))
+          (λ b. call-on m ms (reading source p) (reading source p) (stops refusal.tooFew 1 (length (memoryOf (i .text)))) m (next-room p q i m e b)
+          ∙ ap (λ (l : List Told). told (stops refusal.tooFew 1 (length (memoryOf (i .text)))) m ∷ l) (rec (suc n) p h ∙ ap (dueTo ms (p .depth)) (all-gives s n (p .spot) q i e))
           ∙ sym (ap (dueTo (m ∷ ms) (p .depth)) (all-gives s n (p .spot) q i e) ∙ due-room m ms (p .depth) i (allFrom n s q) b))
       go rec turns.ends e =
           call-on m ms (reading source p) (reading source p) ends m (next-end p m e)
@@ -129,9 +130,9 @@ opened-has : (s : List ℕ) (mode : ℕ) (skip : Bool) (p : Position) → openOf
 unfolding openOf
 opened-has s mode skip p e = by-bool (isMode mode)
     (λ m. by-bool (ltb limit (length s))
-    (λ l. let z : refused 20 limit ≡ opened p = rw (m, l) at e in let y : _≡_ {A = ℕ} 0 1 = cc in absurd (omega arith))
+    (λ l. let z : refused refusal.tooLong limit ≡ opened p = rw (m, l) at e in let y : _≡_ {A = ℕ} 0 1 = cc in absurd (omega arith))
     (λ l. good l (firstBad s) (rw (m, l) at e)))
-    (λ m. let z : refused 25 mode ≡ opened p = rw m at e in let y : _≡_ {A = ℕ} 0 1 = cc in absurd (omega arith))
+    (λ m. let z : refused refusal.noMode mode ≡ opened p = rw m at e in let y : _≡_ {A = ℕ} 0 1 = cc in absurd (omega arith))
   where
     good : ltb limit (length s) ≡ false → (u : Utf8) → ifUtf8 u (opening s (inReport mode) skip) ≡ opened p → Fresh s mode skip p
     good l Good h =

@@ -6,6 +6,7 @@ use mathlib.Core.List.{List}
 use lib.ListN.{length}
 use lib.Dec.{eqb, leb}
 use borrow.Author.Tests.{eq-eqb, ne-eqb, leb-true}
+use Rattle.refusal.specs.Refusals as refusal
 use Rattle.laws.specs.Lent.{written}
 use Rattle.laws.proofs.Choice.{if-yes, if-no, and-true}
 use Rattle.items.specs.Items.{recordWords}
@@ -31,9 +32,9 @@ module _ (words values : List ℕ) where
   refused-told n a e g = ap (started n words) g ∙ ap (λ (x : Opening). opens x words values) (sym e)
 
   module _ (source : List ℕ) (mode : ℕ) (skip : Bool) where
-    pub no-words : {v : List ℕ} → (length words ≡ readerWords → ⊥) → v ≡ told 0 0 values → started 27 words v ≡ openLeft source mode skip words values
+    pub no-words : {v : List ℕ} → (length words ≡ readerWords → ⊥) → v ≡ told 0 0 values → started refusal.outOfBounds words v ≡ openLeft source mode skip words values
     unfolding openLeft
-    no-words h e = if-no (eqb (length words) readerWords) _ _ (ne-eqb (length words) readerWords h) (ap (started 27 words) e)
+    no-words h e = if-no (eqb (length words) readerWords) _ _ (ne-eqb (length words) readerWords h) (ap (started refusal.outOfBounds words) e)
 
     pub open-so : {o : Opening} {n : ℕ} {w v : List ℕ} → length words ≡ readerWords → o ≡ openOf source mode skip → started n w v ≡ opens o words values
         → started n w v ≡ openLeft source mode skip words values
@@ -52,11 +53,11 @@ module _ (words old i values text : List ℕ) where
   lent = memory words old i values
 
   pub item-told : (r : List ℕ) (p : Position) {q : Reply} {w k v : List ℕ} → q ≡ item r p → w ≡ written (listed p) words → k ≡ written r i → v ≡ told 0 0 values
-      → left 10 (memory w text k v) ≡ gives lent q text
+      → left refusal.item (memory w text k v) ≡ gives lent q text
   item-told r p e f g h = left-is f g h ∙ ap (λ (x : Reply). gives lent x text) (sym e)
 
-  pub end-told : {q : Reply} {v : List ℕ} → q ≡ finished → v ≡ told 0 0 values → left 12 (memory words text i v) ≡ gives lent q text
-  end-told e h = ap (λ (x : List ℕ). left 12 (memory words text i x)) h ∙ ap (λ (x : Reply). gives lent x text) (sym e)
+  pub end-told : {q : Reply} {v : List ℕ} → q ≡ finished → v ≡ told 0 0 values → left refusal.finished (memory words text i v) ≡ gives lent q text
+  end-told e h = ap (λ (x : List ℕ). left refusal.finished (memory words text i x)) h ∙ ap (λ (x : Reply). gives lent x text) (sym e)
 
   pub stop-told : (n a b : ℕ) {q : Reply} {v : List ℕ} → q ≡ refuses n a b → v ≡ told a b values → left n (memory words text i v) ≡ gives lent q text
   stop-told n a b e h = ap (λ (x : List ℕ). left n (memory words text i x)) h ∙ ap (λ (x : Reply). gives lent x text) (sym e)
@@ -69,14 +70,14 @@ module _ (source : List ℕ) (m : Memory) where
   abbrev room : Bool
   room = isRoom (length (m .item)) (length (m .values))
 
-  pub too-few : {v : List ℕ} → room ≡ false → v ≡ told 1 0 (m .values) → left 22 (memory (m .words) (m .text) (m .item) v) ≡ nextLeft source m
+  pub too-few : {v : List ℕ} → room ≡ false → v ≡ told 1 0 (m .values) → left refusal.tooFew (memory (m .words) (m .text) (m .item) v) ≡ nextLeft source m
   unfolding nextLeft
-  too-few h e = if-no room _ _ h (ap (λ (x : List ℕ). left 22 (memory (m .words) (m .text) (m .item) x)) e)
+  too-few h e = if-no room _ _ h (ap (λ (x : List ℕ). left refusal.tooFew (memory (m .words) (m .text) (m .item) x)) e)
 
   pub no-position : {v : List ℕ} → room ≡ true → isPosition (m .words) ≡ false → v ≡ told 0 0 (m .values)
-      → left 27 (memory (m .words) (m .text) (m .item) v) ≡ nextLeft source m
+      → left refusal.outOfBounds (memory (m .words) (m .text) (m .item) v) ≡ nextLeft source m
   unfolding nextLeft
-  no-position h g e = if-yes room _ _ h (if-no (isPosition (m .words)) _ _ g (ap (λ (x : List ℕ). left 27 (memory (m .words) (m .text) (m .item) x)) e))
+  no-position h g e = if-yes room _ _ h (if-no (isPosition (m .words)) _ _ g (ap (λ (x : List ℕ). left refusal.outOfBounds (memory (m .words) (m .text) (m .item) x)) e))
 
   pub told-on : {q : Reply} {p : Position} {n : ℕ} {w t i v : List ℕ} → room ≡ true → isPosition (m .words) ≡ true → p ≡ positionIn (m .words)
       → replied q t ≡ nextOf source p (m .text) → left n (memory w t i v) ≡ gives m q t → left n (memory w t i v) ≡ nextLeft source m

@@ -28,9 +28,9 @@ started n words values = record { answer = n; words = words; values = values }
 abbrev pub told : ℕ → ℕ → List ℕ → List ℕ
 told a b values = lay (a ∷ b ∷ []) values
 
--- 0 and the position's words; or 01's number of the refusal and what it comes with, and the words stay
+-- `served` and the position's words; or 01's number of the refusal and what it comes with, and the words stay
 abbrev pub opens : Opening → List ℕ → List ℕ → Started
-opens (opened p) words values = started 0 (written (listed p) words) (told 0 0 values)
+opens (opened p) words values = started refusal.served (written (listed p) words) (told 0 0 values)
 opens (refused n a) words values = started n words (told a 0 values)
 
 -- 27 where there are not the words of a position; then 01: "it opens under 25, 20, 21"
@@ -58,10 +58,11 @@ pub record Left : Type 0 where
 abbrev pub left : ℕ → Memory → Left
 left n m = record { answer = n; memory = m }
 
--- 10 with an item's record and the position after it; 12 at the end, and 01's number of a refusal with its two values: the position stays
+-- `item` with an item's record and the position after it; `finished` at the end, and 01's number of a refusal with its two values: the
+-- position stays
 abbrev pub gives : Memory → Reply → List ℕ → Left
-gives m (item r p) text = left 10 (memory (written (listed p) (m .words)) text (written r (m .item)) (told 0 0 (m .values)))
-gives m finished text = left 12 (memory (m .words) text (m .item) (told 0 0 (m .values)))
+gives m (item r p) text = left refusal.item (memory (written (listed p) (m .words)) text (written r (m .item)) (told 0 0 (m .values)))
+gives m finished text = left refusal.finished (memory (m .words) text (m .item) (told 0 0 (m .values)))
 gives m (refuses n a b) text = left n (memory (m .words) text (m .item) (told a b (m .values)))
 
 abbrev pub given : Memory → Replied → Left

@@ -3,7 +3,6 @@
 // with. What the calls leave is defined in specs/Reader.
 use lexer::NextAnswer;
 use lexer::OpenAnswer;
-use lexer::Position;
 use lexer::next_at;
 use meaning::records::WORDS;
 use meaning::records::put;
@@ -23,23 +22,15 @@ use position::READER_WORDS;
 use position::is_position;
 use position::position_in;
 use position::put_position;
-use refusal::LIMIT;
+use refusal::FINISHED;
+use refusal::ITEM;
+use refusal::LIMIT_VALUE;
 use refusal::NO_MODE;
 use refusal::NOT_UTF8;
 use refusal::OUT_OF_BOUNDS;
+use refusal::SERVED;
 use refusal::TOO_FEW;
 use refusal::TOO_LONG;
-
-// What opening answers beside refusals.
-const OPENED: u32 = 0;
-
-// What a call for an item gives beside refusals.
-const AN_ITEM: u32 = 10;
-
-const FINISHED: u32 = 12;
-
-// What refusal 20 comes with.
-const LONGEST: u64 = LIMIT as u64;
 
 // How many values are written.
 const VALUES: usize = 2;
@@ -77,14 +68,14 @@ fn tell_open(answer: OpenAnswer, words: &mut [u64], values: &mut [u64]) -> u32
         OpenAnswer::Opened(position) => {
             put_position(words, position);
             put_values(values, 0, 0);
-            OPENED
+            SERVED
         }
         OpenAnswer::NoMode(mode) => {
             put_values(values, mode as u64, 0);
             NO_MODE
         }
         OpenAnswer::TooLong => {
-            put_values(values, LONGEST, 0);
+            put_values(values, LIMIT_VALUE, 0);
             TOO_LONG
         }
         OpenAnswer::NotUtf8(at) => {
@@ -105,14 +96,14 @@ fn tell_next(answer: NextAnswer, words: &mut [u64], item: &mut [u32], values: &m
             put_position(words, after);
             put(item, record);
             put_values(values, 0, 0);
-            AN_ITEM
+            ITEM
         }
         NextAnswer::Finished => {
             put_values(values, 0, 0);
             FINISHED
         }
         NextAnswer::TooLong => {
-            put_values(values, LONGEST, 0);
+            put_values(values, LIMIT_VALUE, 0);
             TOO_LONG
         }
         NextAnswer::NoRoom(bytes) => {

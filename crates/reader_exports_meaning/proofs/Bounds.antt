@@ -2,7 +2,7 @@
 use Rattle.chars.specs.Utf8.{chars}
 use Rattle.items.specs.Kinds as kind
 use Rattle.items.specs.Readers.{Read, readItem}
-use Rattle.items.specs.Items.{Item, deepest, depthAfter}
+use Rattle.items.specs.Items.{Item, mostOpen, depthAfter}
 use Rattle.items.specs.Whole.{limit}
 use Rattle.items.proofs.Every.{every-any}
 use Rattle.items.proofs.Fine.{Ranged}
@@ -97,7 +97,7 @@ module _ (s : List ℕ) where
 pub depth-fits : (k d : ℕ) → d ≤ limit → depthAfter k d ≤ limit
 depth-fits k d h =
     if-all (λ (x : ℕ). x ≤ limit) (eqb k kind.OpenParen)
-    (if-is (λ (x : ℕ). x ≤ limit) (ltb d deepest) (λ b. omega (arith, ltb-true d deepest b)) (λ b. h))
+    (if-is (λ (x : ℕ). x ≤ limit) (ltb d mostOpen) (λ b. omega (arith, ltb-true d mostOpen b)) (λ b. h))
     (if-all (λ (x : ℕ). x ≤ limit) (eqb k kind.CloseParen) (omega arith) h)
 
 -- ---- so its words are a position's, and that one

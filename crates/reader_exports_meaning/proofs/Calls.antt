@@ -1,5 +1,6 @@
 -- All calls together: from the words that opening wrote on, call after call gives the records of the whole-text call, but that every decoded text
 -- starts at 0 of the text memory. No position that the calls made is 27, whatever memory they were lent.
+use Rattle.refusal.specs.Refusals as refusal
 use Rattle.laws.specs.Lent.{written}
 use Rattle.laws.proofs.Lent.{length-written}
 use Rattle.laws.proofs.Choice.{by-bool, if-yes}
@@ -107,11 +108,11 @@ module _ (s : List ℕ) (short : length s ≤ limit) where
       unfolding nextOf giveOf
       reply-gives b = rw (le-ltb limit (length s) short) (ap (λ (t : Turn). giveOf (p .depth) t (m .text)) e ∙ rw b)
 
-      reply-stays : enough ≡ false → nextOf s p (m .text) ≡ replied (refuses 22 1 (length (memoryOf (i .text)))) (m .text)
+      reply-stays : enough ≡ false → nextOf s p (m .text) ≡ replied (refuses refusal.tooFew 1 (length (memoryOf (i .text)))) (m .text)
       unfolding nextOf giveOf
       reply-stays b = rw (le-ltb limit (length s) short) (ap (λ (t : Turn). giveOf (p .depth) t (m .text)) e ∙ rw b)
 
-      call-gives : room ≡ true → enough ≡ true → nextLeft s m ≡ left 10 then
+      call-gives : room ≡ true → enough ≡ true → nextLeft s m ≡ left refusal.item then
       call-gives b f = call-at b ∙ ap (given m) (reply-gives f)
 
       held-then : HoldsPosition to (written (listed to) (m .words))
@@ -121,7 +122,7 @@ module _ (s : List ℕ) (short : length s ≤ limit) where
         depth = depth-fits (i .kind) (p .depth) (h .depth);
       }
 
-    call-ends : room ≡ true → nextAt s (p .spot) ≡ ends → nextLeft s m ≡ left 12 (memory (m .words) (m .text) (m .item) (told 0 0 (m .values)))
+    call-ends : room ≡ true → nextAt s (p .spot) ≡ ends → nextLeft s m ≡ left refusal.finished (memory (m .words) (m .text) (m .item) (told 0 0 (m .values)))
     call-ends b e = call-at b ∙ ap (given m) (reply-ends e)
 
     same : {w : List ℕ} → w ≡ m .words → (q : Position) × HoldsPosition q w
@@ -152,7 +153,7 @@ module _ (s : List ℕ) (short : length s ≤ limit) where
       fits : length (memoryOf (i .text)) ≤ length (m .text)
       fits = let k : Moved s (p .spot) i q = next-moved s (p .spot) q i e in omega (arith, k .memory, k .inside, r .text)
 
-      ready-gives : nextLeft s m ≡ left 10 (then p m (r .held) i q e)
+      ready-gives : nextLeft s m ≡ left refusal.item (then p m (r .held) i q e)
       ready-gives = call-gives p m (r .held) i q e roomy (le-leb (length (memoryOf (i .text))) (length (m .text)) fits)
 
       ready-then : Ready (to p m (r .held) i q e) (then p m (r .held) i q e)

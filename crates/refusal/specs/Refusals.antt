@@ -1,6 +1,25 @@
--- The numbers of refusals, each once: document 01, "Refused calls", and document 02. src/lib.rt has the same numbers for the code.
+-- The numbers that calls answer, each once: what they give where they serve, and the refusals of document 01, "Refused calls", and of
+-- document 02. src/lib.rt has the same numbers for the code.
 -- Import as `use .. Refusals as refusal`, so that a rule reads `refusal.tooLong`.
 use Prim.Native.Nat.{ℕ}
+
+-- ---- what a call answers that was not refused
+
+-- what was asked for is done
+abbrev pub served : ℕ
+served = 0
+
+-- an item is given
+abbrev pub item : ℕ
+item = 10
+
+-- the piece was taken, and no item is ready
+abbrev pub more : ℕ
+more = 11
+
+-- all items were given
+abbrev pub finished : ℕ
+finished = 12
 
 -- ---- the reader: document 01, "Refused calls"
 

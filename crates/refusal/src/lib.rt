@@ -1,5 +1,19 @@
-// The numbers of refusals, each once: what calls answer in place of what was asked for. specs/Refusals has the same numbers for the
-// definitions, include/mihadrena.h for C. It has no code.
+// The numbers that calls answer, each once: what they give where they serve, and the refusals, in place of what was asked for.
+// specs/Refusals has the same numbers for the definitions, include/mihadrena.h for C. It has no code.
+
+// ---- what a call answers that was not refused
+
+// what was asked for is done
+pub const SERVED: u32 = 0;
+
+// an item is given
+pub const ITEM: u32 = 10;
+
+// the piece was taken, and no item is ready
+pub const MORE: u32 = 11;
+
+// all items were given
+pub const FINISHED: u32 = 12;
 
 // ---- the reader: document 01, "Refused calls"
 
@@ -29,6 +43,9 @@ pub const OUT_OF_BOUNDS: u32 = 27;
 
 // How many bytes a text has at most.
 pub const LIMIT: usize = 4294967295;
+
+// The same as a value, which TOO_LONG comes with.
+pub const LIMIT_VALUE: u64 = LIMIT as u64;
 
 // ---- coordinates
 

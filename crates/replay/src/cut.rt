@@ -11,12 +11,10 @@ use items::kinds::NUMBER;
 use meaning::records::IN_MEMORY;
 use meaning::records::IN_SOURCE;
 use meaning::records::WORDS;
+use refusal::SERVED;
 
 // The words or bytes of each memory.
 const ROOM: usize = 8192;
-
-// The answer of a frame that tells no stop.
-const SERVED: u32 = 0;
 
 // The first byte of a character has at least this where the character has two, three and four bytes.
 const OF_TWO: u8 = 0xC0;

@@ -4,9 +4,10 @@ use crate::frame::Frame;
 use crate::frame::same_words;
 use cuttings::Cutting;
 use lexer::ReadAnswer;
-use refusal::LIMIT;
+use refusal::LIMIT_VALUE;
 use refusal::NO_MODE;
 use refusal::NOT_UTF8;
+use refusal::SERVED;
 use refusal::TOO_FEW;
 use refusal::TOO_LONG;
 
@@ -23,12 +24,6 @@ pub enum Verdict {
     Broken,
 }
 
-// What the whole-text call answers beside refusals.
-const SERVED: u32 = 0;
-
-// What refusal 20 comes with.
-const LONGEST: u64 = LIMIT as u64;
-
 // Whether a frame tells this answer, with these values.
 fn tells(f: Frame, answer: u32, first: u64, second: u64) -> bool {
     f.answer == answer && f.first as u64 == first && f.second as u64 == second
@@ -39,7 +34,7 @@ fn told(f: Frame, answer: ReadAnswer) -> bool {
     match answer {
         ReadAnswer::Served(items, bytes) => tells(f, SERVED, items as u64, bytes as u64),
         ReadAnswer::NoMode(mode) => tells(f, NO_MODE, mode as u64, 0),
-        ReadAnswer::TooLong => tells(f, TOO_LONG, LONGEST, 0),
+        ReadAnswer::TooLong => tells(f, TOO_LONG, LIMIT_VALUE, 0),
         ReadAnswer::NotUtf8(at) => tells(f, NOT_UTF8, at as u64, 0),
         ReadAnswer::NoRoom(items, bytes) => tells(f, TOO_FEW, items as u64, bytes as u64),
     }

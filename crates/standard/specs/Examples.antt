@@ -1,5 +1,5 @@
--- Texts with what the number call answers by either choice: one table, one statement, proved by computation. The first three show the
--- three conditions under which the readers differ (crate difference); the others stand on either side of them.
+-- Texts with what the number call answers by either choice: one table, a statement for each choice, proved by computation. The first
+-- three show the three conditions under which the readers differ (crate difference); the others stand on either side of them.
 use Prim.Native.Nat.{ℕ}
 use Prim.Native.String.{String}
 use mathlib.Core.Path.{_≡_, refl}

@@ -5,6 +5,7 @@ use mathlib.Core.Path.{_≡_, refl, sym, ap, _∙_}
 use mathlib.Core.List.{List}
 use lib.Dec.{eqb}
 use native.Mathlib.Omega.{arith}
+use Rattle.refusal.specs.Refusals as refusal
 use Rattle.laws.specs.Choice.{if_then_else_}
 use Rattle.refusal.specs.Refusals.{tooLong, unknownChoice}
 use Rattle.chars.specs.Encode.{spelled}
@@ -60,17 +61,17 @@ module _ (call : ℕ → List ℕ → Answer) (meets : (choice : ℕ) (t : List 
   -- it refuses choice 1 as unknown
   pub never-unknown-standard : ((t : List ℕ) → call standard t ≡ refused unknownChoice 0) → ⊥
   never-unknown-standard h =
-      let z : _≡_ {A = ℕ} 39 21 = ap kind (sym (h bad) ∙ meets standard bad ∙ computed .bad-standard) in
+      let z : _≡_ {A = ℕ} refusal.unknownChoice refusal.notUtf8 = ap kind (sym (h bad) ∙ meets standard bad ∙ computed .bad-standard) in
       omega arith
 
   -- it takes an unknown choice for the bought reader
   pub never-unknown-bought : ((t : List ℕ) → call unknown t ≡ call bought t) → ⊥
   never-unknown-bought h =
-      let z : _≡_ {A = ℕ} 39 21 = ap kind (sym (computed .unknown-first) ∙ sym (meets unknown bad) ∙ h bad ∙ meets bought bad ∙ computed .bad-bought) in
+      let z : _≡_ {A = ℕ} refusal.unknownChoice refusal.notUtf8 = ap kind (sym (computed .unknown-first) ∙ sym (meets unknown bad) ∙ h bad ∙ meets bought bad ∙ computed .bad-bought) in
       omega arith
 
   -- it looks at the text before the choice
-  pub never-text-first : call unknown bad ≡ refused 21 0 → ⊥
+  pub never-text-first : call unknown bad ≡ refused refusal.notUtf8 0 → ⊥
   never-text-first h =
-      let z : _≡_ {A = ℕ} 21 39 = ap kind (sym h ∙ meets unknown bad ∙ computed .unknown-first) in
+      let z : _≡_ {A = ℕ} refusal.notUtf8 refusal.unknownChoice = ap kind (sym h ∙ meets unknown bad ∙ computed .unknown-first) in
       omega arith

@@ -5,13 +5,10 @@ use mathlib.Core.Bool.{Bool, true, false}
 use mathlib.Core.List.{List, [], _∷_}
 use lib.ListN.{length, getD, take, drop, length-drop}
 use lib.Seq.{drop-drop}
-use lib.Dec.{eqb}
 use native.Mathlib.Omega.{arith}
-use native.Mathlib.Nat.{le-refl}
 use borrow.Author.Tests.{lt-ltb, le-ltb, eq-eqb, ne-eqb}
 use Rattle.laws.specs.Quoted.{code}
 use Rattle.laws.specs.Texts.{span, before, begins}
-use Rattle.laws.proofs.Choice.{by-bool}
 use Rattle.laws.proofs.Places.{past, here}
 use Rattle.laws.proofs.Lent.{part-rest}
 use Rattle.items.specs.Readers.{unreturned, lineOf, endsWith, hereInside, hereEnds}
@@ -67,11 +64,6 @@ module _ (d body : List ℕ) (n : ℕ) (e : n ≡ length d) where
       → x ≡ begins d (take (length body - (length body - n)) (drop (length body - n) body)) → x ≡ endsWith d body
   unfolding endsWith
   ends-on h q = rw (le-ltb (length body) (length d) (omega arith), ← e) (q ∙ ap (begins d) (part-rest body (length body - n)))
-
-pub before-le : (b : ℕ) (l : List ℕ) → before b l ≤ length l
-unfolding span
-before-le b [] = le-refl 0
-before-le b (c ∷ l) = by-bool (eqb c b) (λ e. rw (e, span) (omega arith)) (λ e. rw (e, span) (omega (arith, before-le b l)))
 
 -- an item that is shorter than `#<<`
 module _ (raw : List ℕ) (h : length raw < 3) where

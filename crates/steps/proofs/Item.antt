@@ -1,30 +1,17 @@
 -- The scan that starts after an item's first character answers what the definition's reader reads.
-use Prim.Native.Nat.{ℕ, _+_, _≤_}
+use Prim.Native.Nat.{ℕ, _+_}
 use mathlib.Core.Path.{_≡_, ap}
 use mathlib.Core.Bool.{Bool}
 use mathlib.Core.List.{List}
 use lib.ListN.{drop}
-use native.Mathlib.Omega.{arith}
 use Rattle.chars.specs.Encode.{width}
 use Rattle.chars.specs.Utf8.{chars}
 use Rattle.chars.proofs.Chars.{CharAt}
-use Rattle.items.specs.Classes.{First, semicolon, quote, comma, hash, number, single, vertical, backslash, wordy, firstOf}
+use Rattle.items.specs.Classes.{firstOf}
 use Rattle.items.specs.Readers.{soFar, readItem}
-use Rattle.items.specs.Machine.{onFirst, scanOf, depthOf}
+use Rattle.items.specs.Machine.{onFirst, scanOf}
 use Rattle.items.proofs.Same.{item-same}
 use Rattle.steps.specs.Scan.{part, scanned}
-
--- no comment is open after the first character
-pub first-shallow : (k : First) (n : ℕ) → depthOf (onFirst k) ≤ n
-first-shallow semicolon n = omega arith
-first-shallow quote n = omega arith
-first-shallow comma n = omega arith
-first-shallow hash n = omega arith
-first-shallow number n = omega arith
-first-shallow (single x d) n = omega arith
-first-shallow vertical n = omega arith
-first-shallow backslash n = omega arith
-first-shallow wordy n = omega arith
 
 -- what `scan(s, report, at, next, first_phase(c))` answers, where c stands from `at` to `next`
 pub scan-item : (s : List ℕ) (report : Bool) (at c next : ℕ) → CharAt s at c next

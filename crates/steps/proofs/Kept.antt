@@ -1,6 +1,6 @@
 -- A run of characters that leave an item in its phase: the scan answers past it what it answers before it.
 use Prim.Native.Nat.{ℕ, zero, suc, _+_, _-_, _≤_, _<_}
-use mathlib.Core.Path.{_≡_, refl, sym, ap, _∙_}
+use mathlib.Core.Path.{_≡_, refl, ap, _∙_}
 use mathlib.Core.Bool.{Bool, true, false, not, _&&_}
 use mathlib.Core.List.{List, [], _∷_, _++_}
 use mathlib.Core.Logic.{_⊎_, inl, inr, ⊎-elim}
@@ -8,18 +8,19 @@ use lib.Dec.{eqb, ltb}
 use lib.ListN.{length, getD, drop, length-drop}
 use lib.Seq.{drop-cons}
 use native.Mathlib.Omega.{arith}
-use borrow.Author.Tests.{ltb-true, lt-ltb, ne-eqb}
+use borrow.Author.Tests.{ltb-true, lt-ltb, ne-eqb, not-true, eqb-true}
 use Rattle.laws.specs.Quoted.{code, codes, oneOf, within}
 use Rattle.laws.specs.Texts.{span}
-use Rattle.laws.proofs.Choice.{by-bool}
+use Rattle.laws.proofs.Choice.{by-bool, no-yes, and-true}
 use Rattle.laws.proofs.Runs.{span-le, span-hit, span-stop}
 use Rattle.chars.proofs.Round.{one-read}
-use Rattle.chars.proofs.Blanks.{between-blanks}
+use Rattle.chars.proofs.Blanks.{between-blanks, low-run}
 use Rattle.chars.proofs.Table.{within-true}
+use Rattle.chars.specs.Blank.{isBlank}
 use Rattle.chars.specs.Utf8.{front, placed}
 use Rattle.chars.specs.declared.Decoded.the-variants as decoded
 use Rattle.chars.proofs.Chars.{char-at}
-use Rattle.texts.specs.Runs.{plain}
+use Rattle.texts.specs.Runs.{plain, blank}
 use Rattle.items.specs.declared.Outcome.{Outcome}
 use Rattle.items.specs.declared.Phase.{Phase}
 use Rattle.items.specs.declared.Phase.the-variants as ph
@@ -32,93 +33,90 @@ use Rattle.steps.specs.Runs.{keeps, ofWord, ofRun}
 use Rattle.steps.proofs.Turn.{turn-eat}
 use Rattle.steps.proofs.Characters.{upto, in-run}
 
--- ---- what a test that passed says
-
-both-first : (x y : Bool) → (x && y) ≡ true → x ≡ true
-both-first true y e = refl
-both-first false y e = e
-
-both-second : (x y : Bool) → (x && y) ≡ true → y ≡ true
-both-second true y e = e
-both-second false y e = let z : _≡_ {A = ℕ} 0 1 = cc in absurd (omega arith)
-
-not-true : (x : Bool) → not x ≡ true → x ≡ false
-not-true true e = sym e
-not-true false e = refl
-
-none : {A : Type 0} → false ≡ true → A
-none e = let z : _≡_ {A = ℕ} 0 1 = cc in absurd (omega arith)
-
 -- a plain character is neither of two
 module _ (a b c : ℕ) (e : plain a b c ≡ true) where
+  both : (not (eqb c a) ≡ true) × (not (eqb c b) ≡ true)
+  both = and-true (not (eqb c a)) (not (eqb c b)) (and-true (ltb c 0x80) (not (eqb c a) && not (eqb c b)) e .1)
+
   plain-a : eqb c a ≡ false
-  plain-a = not-true (eqb c a) (both-first (not (eqb c a)) (not (eqb c b)) (both-second (ltb c 0x80) (not (eqb c a) && not (eqb c b)) e))
+  plain-a = not-true (eqb c a) (both .0)
 
   plain-b : eqb c b ≡ false
-  plain-b = not-true (eqb c b) (both-second (not (eqb c a)) (not (eqb c b)) (both-second (ltb c 0x80) (not (eqb c a) && not (eqb c b)) e))
+  plain-b = not-true (eqb c b) (both .1)
 
 -- ---- a character that is passed
 
 pub kept-ascii : (p : Phase) (c : ℕ) → keeps p c ≡ true → ltb c 0x80 ≡ true
-kept-ascii ph.InLine c e = both-first _ _ e
-kept-ascii ph.AfterComma c e = none e
-kept-ascii ph.AfterHash c e = none e
-kept-ascii ph.AfterAngle c e = none e
-kept-ascii ph.HereDelim c e = none e
-kept-ascii ph.HereStart c e = none e
-kept-ascii ph.HereBody c e = none e
-kept-ascii ph.InWord c e = both-first _ _ e
-kept-ascii ph.WordEscape c e = none e
-kept-ascii ph.InRun c e = both-first _ _ e
-kept-ascii ph.InHash c e = none e
-kept-ascii ph.HashEscape c e = none e
-kept-ascii ph.HashTick c e = none e
-kept-ascii ph.HashComma c e = none e
-kept-ascii (ph.Nest d) c e = both-first _ _ e
-kept-ascii (ph.NestBar d) c e = none e
-kept-ascii (ph.NestSharp d) c e = none e
-kept-ascii (ph.Quoted k) c e = both-first _ _ e
-kept-ascii (ph.Closed k) c e = none e
-kept-ascii (ph.TrimBefore k) c e = none e
-kept-ascii (ph.TrimAfter k) c e = none e
-kept-ascii (ph.Escape k from) c e = none e
-kept-ascii (ph.Brace k from) c e = none e
-kept-ascii (ph.Hex k closer from n) c e = none e
-kept-ascii (ph.Done o) c e = none e
+kept-ascii ph.InLine c e = and-true _ _ e .0
+kept-ascii ph.AfterComma c e = no-yes e
+kept-ascii ph.AfterHash c e = no-yes e
+kept-ascii ph.AfterAngle c e = no-yes e
+kept-ascii ph.HereDelim c e = no-yes e
+kept-ascii ph.HereStart c e = no-yes e
+kept-ascii ph.HereBody c e = no-yes e
+kept-ascii ph.InWord c e = and-true _ _ e .0
+kept-ascii ph.WordEscape c e = no-yes e
+kept-ascii ph.InRun c e = and-true _ _ e .0
+kept-ascii ph.InHash c e = no-yes e
+kept-ascii ph.HashEscape c e = no-yes e
+kept-ascii ph.HashTick c e = no-yes e
+kept-ascii ph.HashComma c e = no-yes e
+kept-ascii (ph.Nest d) c e = and-true _ _ e .0
+kept-ascii (ph.NestBar d) c e = no-yes e
+kept-ascii (ph.NestSharp d) c e = no-yes e
+kept-ascii (ph.Quoted k) c e = and-true _ _ e .0
+kept-ascii (ph.Closed k) c e = no-yes e
+kept-ascii (ph.TrimBefore k) c e = no-yes e
+kept-ascii (ph.TrimAfter k) c e = no-yes e
+kept-ascii (ph.Escape k from) c e = no-yes e
+kept-ascii (ph.Brace k from) c e = no-yes e
+kept-ascii (ph.Hex k closer from n) c e = no-yes e
+kept-ascii (ph.Done o) c e = no-yes e
 
 pub kept-stays : (report : Bool) (p : Phase) (i : SoFar) (c : ℕ) → keeps p c ≡ true → stepOf report p i c ≡ Eat p
 unfolding inNest inQuotes inWord inRun
 kept-stays report ph.InLine i c e = rw (plain-a (code "\n") (code "\n") c e)
-kept-stays report ph.AfterComma i c e = none e
-kept-stays report ph.AfterHash i c e = none e
-kept-stays report ph.AfterAngle i c e = none e
-kept-stays report ph.HereDelim i c e = none e
-kept-stays report ph.HereStart i c e = none e
-kept-stays report ph.HereBody i c e = none e
+kept-stays report ph.AfterComma i c e = no-yes e
+kept-stays report ph.AfterHash i c e = no-yes e
+kept-stays report ph.AfterAngle i c e = no-yes e
+kept-stays report ph.HereDelim i c e = no-yes e
+kept-stays report ph.HereStart i c e = no-yes e
+kept-stays report ph.HereBody i c e = no-yes e
 kept-stays report ph.InWord i c e =
-    let f = both-second (ltb c 0x80) (not (breaksWord c) && not (eqb c (code "\\"))) e in
-    rw (not-true (breaksWord c) (both-first (not (breaksWord c)) (not (eqb c (code "\\"))) f), not-true (eqb c (code "\\")) (both-second (not (breaksWord c)) (not (eqb c (code "\\"))) f))
-kept-stays report ph.WordEscape i c e = none e
-kept-stays report ph.InRun i c e = rw (both-second (ltb c 0x80) (staysRun c) e)
-kept-stays report ph.InHash i c e = none e
-kept-stays report ph.HashEscape i c e = none e
-kept-stays report ph.HashTick i c e = none e
-kept-stays report ph.HashComma i c e = none e
+    let f = and-true (not (breaksWord c)) (not (eqb c (code "\\"))) (and-true (ltb c 0x80) (not (breaksWord c) && not (eqb c (code "\\"))) e .1) in
+    rw (not-true (breaksWord c) (f .0), not-true (eqb c (code "\\")) (f .1))
+kept-stays report ph.WordEscape i c e = no-yes e
+kept-stays report ph.InRun i c e = rw (and-true (ltb c 0x80) (staysRun c) e .1)
+kept-stays report ph.InHash i c e = no-yes e
+kept-stays report ph.HashEscape i c e = no-yes e
+kept-stays report ph.HashTick i c e = no-yes e
+kept-stays report ph.HashComma i c e = no-yes e
 kept-stays report (ph.Nest d) i c e = rw (plain-a (code "|") (code "#") c e, plain-b (code "|") (code "#") c e)
-kept-stays report (ph.NestBar d) i c e = none e
-kept-stays report (ph.NestSharp d) i c e = none e
+kept-stays report (ph.NestBar d) i c e = no-yes e
+kept-stays report (ph.NestSharp d) i c e = no-yes e
 kept-stays report (ph.Quoted k) i c e = rw (plain-a (delimOf k) (code "\\") c e, plain-b (delimOf k) (code "\\") c e)
-kept-stays report (ph.Closed k) i c e = none e
-kept-stays report (ph.TrimBefore k) i c e = none e
-kept-stays report (ph.TrimAfter k) i c e = none e
-kept-stays report (ph.Escape k from) i c e = none e
-kept-stays report (ph.Brace k from) i c e = none e
-kept-stays report (ph.Hex k closer from n) i c e = none e
-kept-stays report (ph.Done o) i c e = none e
+kept-stays report (ph.Closed k) i c e = no-yes e
+kept-stays report (ph.TrimBefore k) i c e = no-yes e
+kept-stays report (ph.TrimAfter k) i c e = no-yes e
+kept-stays report (ph.Escape k from) i c e = no-yes e
+kept-stays report (ph.Brace k from) i c e = no-yes e
+kept-stays report (ph.Hex k closer from n) i c e = no-yes e
+kept-stays report (ph.Done o) i c e = no-yes e
 
 -- ---- a run of them
 
 -- a character of ASCII is one byte
+space-blank : isBlank 0x20 ≡ true
+unfolding isBlank
+space-blank = refl
+
+-- a blank of ASCII is a blank
+pub blank-ascii : (c : ℕ) → blank c ≡ true → (c < 0x80) × (isBlank c ≡ true)
+blank-ascii c e =
+    by-bool (eqb c 0x20)
+    (λ f. let d = eqb-true c 0x20 f in (omega arith, ap isBlank d ∙ space-blank))
+    (λ f. let h = within-true 0x09 0x0D c (rw f at e) in (omega arith, low-run c (h .0) (h .1)))
+
 pub ascii-found : (s : List ℕ) (at : ℕ) → at < length s → getD s at 0 < 0x80 → decoded.Char (getD s at 0) (at + 1) ≡ placed at (front (drop at s))
 ascii-found s at h k = rw (drop-cons s at 0 h) (rw (one-read (getD s at 0) _ k))
 
@@ -159,7 +157,7 @@ module _ (c : ℕ) where
   in-second : (ks ls ms : List ℕ) → oneOf ls c ≡ true → oneOf (ks ++ (ls ++ ms)) c ≡ true
   in-second (k ∷ ks) ls ms e = by-bool (eqb c k) (λ f. rw f) (λ f. rw f (in-second ks ls ms e))
   in-second [] (l ∷ ls) ms e = by-bool (eqb c l) (λ f. rw f) (λ f. rw f (in-second [] ls ms (rw f at e)))
-  in-second [] [] ms e = none e
+  in-second [] [] ms e = no-yes e
 
   pub digit-runs : within 0x30 0x39 c ≡ true → ofRun c ≡ true
   unfolding staysRun

@@ -6,7 +6,7 @@ use mathlib.Core.List.{List, [], _∷_, _++_}
 use lib.ListN.{length, take, drop}
 use lib.Seq.{drop-drop, take-nil}
 use native.Mathlib.Omega.{arith}
-use Rattle.laws.proofs.Places.{past}
+use Rattle.laws.proofs.Places.{past, take-short}
 use Rattle.chars.specs.declared.Decoded.the-variants as decoded
 use Rattle.chars.specs.Encode.{utf8}
 use Rattle.chars.specs.Utf8.{front, placed, sequences, chars}
@@ -25,11 +25,6 @@ take-more : (l : List ℕ) (a b : ℕ) → take (a + b) l ≡ take a l ++ take b
 take-more l zero b = let e : 0 + b ≡ b = omega arith in rw e
 take-more [] (suc a) b = let e : suc a + b ≡ suc (a + b) = omega arith in rw e (sym (take-nil b))
 take-more (x ∷ l) (suc a) b = let e : suc a + b ≡ suc (a + b) = omega arith in rw e (ap (λ (r : List ℕ). x ∷ r) (take-more l a b))
-
-take-short : (n : ℕ) (l : List ℕ) → length (take n l) ≤ n
-take-short zero l = omega arith
-take-short (suc n) [] = omega arith
-take-short (suc n) (x ∷ l) = omega (arith, take-short n l)
 
 -- an item ends at a place that is no less than its length
 pub part-short : (s : List ℕ) (a at : ℕ) → length (part s a at) ≤ at

@@ -6,24 +6,20 @@ use mathlib.Core.Bool.{Bool, true, false}
 use mathlib.Core.List.{List, [], _∷_}
 use lib.ListN.{length, take, drop, set, length-set, length-take, length-drop}
 use lib.Seq.{sets, drop-drop}
-use lib.Dec.{eqb}
 use native.Mathlib.Nat.{add-zero}
 use native.Mathlib.Numerals.{add-one}
 use native.Mathlib.Omega.{arith}
-use borrow.Author.Tests.{eqb-true, eq-eqb, ltb-true, lt-ltb, le-ltb, lt-leb}
+use borrow.Author.Tests.{eq-eqb, ltb-true, lt-ltb, le-ltb, lt-leb}
 use Rattle.laws.specs.Choice.{if_then_else_}
 use Rattle.laws.specs.Texts.{span}
-use Rattle.laws.proofs.Choice.{by-bool}
+use Rattle.laws.proofs.Choice.{by-bool, no-yes}
 use Rattle.laws.proofs.Runs.{span-le}
-use Rattle.chars.specs.Blank.{isBlank}
 use Rattle.chars.specs.Encode.{width}
 use Rattle.chars.specs.Machine.{step}
-use Rattle.chars.proofs.Blanks.{low-run}
-use Rattle.chars.proofs.Table.{within-true, first-ascii}
+use Rattle.chars.proofs.Table.{first-ascii}
 use Rattle.chars.proofs.Width.{utf8-one}
-use Rattle.texts.specs.Runs.{blank}
 use Rattle.items.specs.Whole.{limit}
-use Rattle.steps.proofs.Kept.{kept-ascii, kept-stays}
+use Rattle.steps.proofs.Kept.{kept-ascii, kept-stays, blank-ascii}
 use Rattle.pieces.specs.declared.Stage.{Stage}
 use Rattle.pieces.specs.declared.Stage.the-variants.{Opening, Pound, FirstLine, Idle, Busy, Waiting, Stopped}
 use Rattle.pieces.specs.declared.Marks.{Marks}
@@ -37,9 +33,6 @@ use Rattle.giving.proofs.Laid.{laid-sets}
 use Rattle.turns.proofs.Sounds.{turn-sound}
 use Rattle.turns.proofs.Told.{sane}
 
-none : {A : Type 0} → false ≡ true → A
-none e = absurd (let z : _≡_ {A = ℕ} 0 1 = cc in omega arith)
-
 -- ---- what is passed
 
 pub passed-none : (s : State) (w : List ℕ) → length w ≡ 0 → s ≡ passed s w
@@ -52,24 +45,14 @@ passed-some s (c ∷ w) h g e = ap (λ (x : Stage). passedAt s x (c ∷ w)) (sym
 
 -- ---- a byte that is kept is a character of ASCII
 
-space-blank : isBlank 0x20 ≡ true
-unfolding isBlank
-space-blank = refl
-
-blank-ascii : (c : ℕ) → blank c ≡ true → (c < 0x80) × (isBlank c ≡ true)
-blank-ascii c e =
-    by-bool (eqb c 0x20)
-    (λ f. let d = eqb-true c 0x20 f in (omega arith, ap isBlank d ∙ space-blank))
-    (λ f. let h = within-true 0x09 0x0D c (rw f at e) in (omega arith, low-run c (h .0) (h .1)))
-
 kept-small : (g : Stage) (c : ℕ) → kept g c ≡ true → c < 0x80
-kept-small Opening c e = none e
-kept-small Pound c e = none e
-kept-small FirstLine c e = none e
+kept-small Opening c e = no-yes e
+kept-small Pound c e = no-yes e
+kept-small FirstLine c e = no-yes e
 kept-small Idle c e = blank-ascii c e .0
 kept-small (Busy st p) c e = ltb-true c 0x80 (kept-ascii p c e)
-kept-small (Waiting st b) c e = none e
-kept-small (Stopped n p) c e = none e
+kept-small (Waiting st b) c e = no-yes e
+kept-small (Stopped n p) c e = no-yes e
 
 width-ascii : (c : ℕ) → c < 0x80 → width c ≡ 1
 unfolding width
@@ -78,15 +61,15 @@ width-ascii c h = rw (lt-ltb c 0x80 h)
 -- ---- its turn
 
 stage-kept : (s : State) (g : Stage) (c : ℕ) → kept g c ≡ true → s .marks .len + 1 ≤ longest → onStage s g c ≡ on (passedAt s g (c ∷ []))
-stage-kept s Opening c e room = none e
-stage-kept s Pound c e room = none e
-stage-kept s FirstLine c e room = none e
+stage-kept s Opening c e room = no-yes e
+stage-kept s Pound c e room = no-yes e
+stage-kept s FirstLine c e room = no-yes e
 stage-kept s Idle c e room = let f = blank-ascii c e in rw (f .1, width-ascii c (f .0))
 stage-kept s (Busy st p) c e room =
     let small = kept-small (Busy st p) c e in
     rw (kept-stays (report s) p (itemSoFar s) c e, width-ascii c small, utf8-one c small, le-ltb longest (s .marks .len + 1) room)
-stage-kept s (Waiting st b) c e room = none e
-stage-kept s (Stopped n p) c e room = none e
+stage-kept s (Waiting st b) c e room = no-yes e
+stage-kept s (Stopped n p) c e room = no-yes e
 
 module _ (s : State) (none-begun : s .marks .part .count ≡ 0) (none-wanted : s .marks .part .state .need ≡ 0) where
   turn-kept : (c : ℕ) → kept (s .marks .stage) c ≡ true → s .marks .len + 1 ≤ longest → s .marks .at + 1 ≤ limit
@@ -111,9 +94,9 @@ laid-more n c w buf h =
 module _ (s : State) (c : ℕ) where
   passed-on : (g : Stage) → kept g c ≡ true → (w : List ℕ) → s .marks .len + 1 + length w ≤ length (s .buf)
       → passed (passedAt s g (c ∷ [])) w ≡ passedAt s g (c ∷ w)
-  passed-on Opening e w h = none e
-  passed-on Pound e w h = none e
-  passed-on FirstLine e w h = none e
+  passed-on Opening e w h = no-yes e
+  passed-on Pound e w h = no-yes e
+  passed-on FirstLine e w h = no-yes e
   passed-on Idle e [] h = refl
   passed-on Idle e (d ∷ w) h =
       let sum : s .marks .at + 1 + length (d ∷ w) ≡ s .marks .at + length (c ∷ d ∷ w) = omega arith in
@@ -125,28 +108,28 @@ module _ (s : State) (c : ℕ) where
       ap (λ (n : ℕ). becomes s (laidAt (s .marks .len + 1) (d ∷ w) (laidAt (s .marks .len) (c ∷ []) (s .buf))) (Busy st p) n (s .marks .len + 1 + length (d ∷ w)) (lastOf s)) sum
       ∙ ap (λ (n : ℕ). becomes s (laidAt (s .marks .len + 1) (d ∷ w) (laidAt (s .marks .len) (c ∷ []) (s .buf))) (Busy st p) (s .marks .at + length (c ∷ d ∷ w)) n (lastOf s)) all
       ∙ ap (λ (l : List ℕ). becomes s l (Busy st p) (s .marks .at + length (c ∷ d ∷ w)) (s .marks .len + length (c ∷ d ∷ w)) (lastOf s)) (laid-more (s .marks .len) c (d ∷ w) (s .buf) h)
-  passed-on (Waiting st b) e w h = none e
-  passed-on (Stopped n p) e w h = none e
+  passed-on (Waiting st b) e w h = no-yes e
+  passed-on (Stopped n p) e w h = no-yes e
 
   -- the reader stands where it stood, one byte further
   same-stage : (g : Stage) → kept g c ≡ true → passedAt s g (c ∷ []) .marks .stage ≡ g
-  same-stage Opening e = none e
-  same-stage Pound e = none e
-  same-stage FirstLine e = none e
+  same-stage Opening e = no-yes e
+  same-stage Pound e = no-yes e
+  same-stage FirstLine e = no-yes e
   same-stage Idle e = refl
   same-stage (Busy st p) e = refl
-  same-stage (Waiting st b) e = none e
-  same-stage (Stopped n p) e = none e
+  same-stage (Waiting st b) e = no-yes e
+  same-stage (Stopped n p) e = no-yes e
 
   further : (g : Stage) → kept g c ≡ true
       → (passedAt s g (c ∷ []) .marks .len ≤ s .marks .len + 1) × (passedAt s g (c ∷ []) .marks .at ≡ s .marks .at + 1) × (passedAt s g (c ∷ []) .marks .part .count ≡ 0)
-  further Opening e = none e
-  further Pound e = none e
-  further FirstLine e = none e
+  further Opening e = no-yes e
+  further Pound e = no-yes e
+  further FirstLine e = no-yes e
   further Idle e = (omega arith, refl, refl)
   further (Busy st p) e = (omega arith, refl, refl)
-  further (Waiting st b) e = none e
-  further (Stopped n p) e = none e
+  further (Waiting st b) e = no-yes e
+  further (Stopped n p) e = no-yes e
 
 -- what the bytes bs give from the state s on, at the place i, is what the rest of them gives from the state x on, which reads on too
 abbrev Onward : List ℕ → State → List ℕ → ℕ → ℕ → State → Type 0

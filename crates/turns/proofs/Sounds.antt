@@ -8,6 +8,7 @@ use lib.Seq.{length-take-le}
 use lib.Dec.{eqb, leb, ltb}
 use native.Mathlib.Omega.{arith}
 use borrow.Author.Tests.{eqb-true, leb-false, ltb-false, lt-ltb}
+use Rattle.refusal.specs.Refusals as refusal
 use Rattle.laws.specs.Quoted as quoted
 use Rattle.laws.proofs.Choice.{if-all, if-is}
 use Rattle.laws.specs.Lent.{written}
@@ -268,7 +269,7 @@ module _ (s : State) (full : length (s .buf) ≡ longest) (k : Sane s) where
       (wants-on (s .marks .part .count) (s .marks .part .state) b (k .wants)))
     where
       go : s .marks .at + s .marks .part .count < limit → (o : Step) → step (s .marks .part .state) b ≡ o → Wanted (s .marks .part .count) o
-          → OnSane (told o (λ u. on (partly s (record { count = s .marks .part .count + 1; state = u }))) (λ c. onStage s (s .marks .stage) c) (stopped s 21 (s .marks .at)))
+          → OnSane (told o (λ u. on (partly s (record { count = s .marks .part .count + 1; state = u }))) (λ c. onStage s (s .marks .stage) c) (stopped s refusal.notUtf8 (s .marks .at)))
       go far (steps.More u) e w = (
         record {
           numbers = record {

@@ -2,12 +2,12 @@
 -- all that they ask.
 use Prim.Native.Nat.{ℕ, zero, suc, _+_, _-_, _*_, _^_, _≤_, _<_}
 use mathlib.Core.Path.{_≡_, refl}
-use mathlib.Core.Bool.{true, false, _&&_}
+use mathlib.Core.Bool.{true, _&&_}
 use lib.Dec.{eqb, leb, ltb}
 use native.Mathlib.Omega.{arith}
 use borrow.Author.Tests.{eqb-true, leb-true, ltb-true, eq-eqb, ne-eqb, le-leb, lt-ltb}
 use Rattle.laws.specs.Choice.{if_then_else_}
-use Rattle.laws.proofs.Choice.{and-true}
+use Rattle.laws.proofs.Choice.{and-true, no-yes}
 use Rattle.items.specs.Kinds as kind
 use Rattle.items.specs.declared.Outcome.{Outcome}
 use Rattle.items.specs.declared.Outcome.the-variants.{Token, Str, HereStr, Word, Run, Lined, Keyword, Character, Error, ErrorAt}
@@ -28,9 +28,6 @@ use Rattle.pieces.proofs.Kept.{both, phase-bounded}
 use Rattle.bounds.proofs.Bounded.{Numbers, numbers}
 
 -- ---- what the tests tell
-
-no : {A : Type 0} → false ≡ true → A
-no e = absurd (let z : _≡_ {A = ℕ} 0 1 = cc in omega arith)
 
 told-part : (p : Part) → partBounds p ≡ true → Wants (p .count) (p .state .need) (p .state .code)
 told-part p h = go (p .count) (p .state .need) (p .state .code) h
@@ -62,13 +59,13 @@ told-part p h = go (p .count) (p .state .need) (p .state .code) h
 
 told-done : (o : Outcome) → doneBounds o ≡ true → Settled o
 told-done (Token k d) h = tt
-told-done Str h = no h
-told-done HereStr h = no h
-told-done Word h = no h
-told-done Run h = no h
-told-done Lined h = no h
-told-done Keyword h = no h
-told-done Character h = no h
+told-done Str h = no-yes h
+told-done HereStr h = no-yes h
+told-done Word h = no-yes h
+told-done Run h = no-yes h
+told-done Lined h = no-yes h
+told-done Keyword h = no-yes h
+told-done Character h = no-yes h
 told-done (Error n d) h = leb-true n kind.lastError h
 told-done (ErrorAt n d a b) h =
     let f = and-true (leb n kind.lastError && isPlace a) (isPlace b) h in
@@ -158,8 +155,8 @@ told-stage FirstLine m c h = tt
 told-stage Idle m c h = tt
 told-stage (Busy st p) m c h =
     let f = and-true (heldBounds st m 1) (phaseBounds p (m .len)) h in (told-held st m 1 (f .0), told-phase p (m .len) (f .1))
-told-stage (Waiting st b) m c h = no c
-told-stage (Stopped n p) m c h = no c
+told-stage (Waiting st b) m c h = no-yes c
+told-stage (Stopped n p) m c h = no-yes c
 
 module _ (s : State) (bounded : inBounds s ≡ true) where
   pub told-numbers : (numberBounds (s .marks) ≡ true) × (partBounds (s .marks .part) ≡ true) × (stageBounds (s .marks .stage) (s .marks) ≡ true)

@@ -1,8 +1,8 @@
 // The bytes of a piece that leave the reader where it stands, passed at once: most bytes of a word, a number, a string or a comment, and
 // most blanks. Each does what a turn does.
-use bounds::limits::*;
 use giving::give::copy_all;
 use giving::marks::marks_at;
+use pieces::LONGEST;
 use pieces::Marks;
 use pieces::Stage;
 use refusal::LIMIT;
@@ -13,6 +13,7 @@ ghost use Prim.Native.Nat.{_+_, _≤_, _<_};
 ghost use lib.ListN.{length, drop};
 ghost use Rattle.laws.specs.Texts.{span};
 ghost use Rattle.items.specs.Whole.{limit};
+ghost use Rattle.pieces.specs.Expected.{longest};
 ghost use Rattle.giving.specs.Answers.{stateOf};
 ghost use Rattle.turns.specs.Passed.{kept, passed};
 
@@ -39,8 +40,8 @@ fn kept_count(stage: Stage, bytes: &[u8]) -> usize
 
 // How many of so many bytes there is room for, in the item and in the text.
 fn room(m: Marks, left: usize) -> usize
-    requires { ⌜ (m .len ≤ 4096) × (m .at ≤ limit) ⌝ }
-    ensures { λ r. ⌜ (r ≤ left) × (m .len + r ≤ 4096) × (m .at + r ≤ limit) ⌝ }
+    requires { ⌜ (m .len ≤ longest) × (m .at ≤ limit) ⌝ }
+    ensures { λ r. ⌜ (r ≤ left) × (m .len + r ≤ longest) × (m .at + r ≤ limit) ⌝ }
 {
     fewer(left, fewer(LONGEST - m.len, LIMIT - m.at))
 }
@@ -48,8 +49,9 @@ fn room(m: Marks, left: usize) -> usize
 // How many bytes of the piece, from a place on, may be passed at once: none within a character. It looks at no more bytes than an item
 // may still have, so that a run as long as the piece costs what its bytes cost.
 pub fn ahead(m: Marks, piece: &[u8], from: usize) -> usize
-    requires { ⌜ (m .len ≤ 4096) × (m .at ≤ limit) ⌝ }
-    ensures { λ r. ⌜ (r ≤ span (kept (m .stage)) (drop from (now (piece .entry)))) × (m .len + r ≤ 4096) × (m .at + r ≤ limit) × (0 < r → m .part .count ≡ 0) ⌝ }
+    requires { ⌜ (m .len ≤ longest) × (m .at ≤ limit) ⌝ }
+    ensures { λ r. ⌜ (r ≤ span (kept (m .stage)) (drop from (now (piece .entry)))) × (m .len + r ≤ longest)
+        × (m .at + r ≤ limit) × (0 < r → m .part .count ≡ 0) ⌝ }
 {
     if m.part.count != 0 {
         return 0;
@@ -64,7 +66,7 @@ pub fn ahead(m: Marks, piece: &[u8], from: usize) -> usize
 
 // Passes a run of bytes.
 pub fn pass(m: Marks, buf: &mut [u8], run: &[u8]) -> Marks
-    requires { ⌜ (length (now buf) ≡ 4096) × (m .len + length (now run) ≤ 4096) × (m .at + length (now run) ≤ limit) ⌝ }
+    requires { ⌜ (length (now buf) ≡ longest) × (m .len + length (now run) ≤ longest) × (m .at + length (now run) ≤ limit) ⌝ }
     ensures { λ r. ⌜ stateOf r (now (buf .exit)) ≡ passed (stateOf m (now (buf .entry))) (now (run .entry)) ⌝ }
 {
     let n = run.len();

@@ -1,5 +1,4 @@
 // What one byte does.
-use bounds::limits::*;
 use chars::Step;
 use chars::byte_step;
 use chars::char_width;
@@ -11,8 +10,10 @@ use giving::marks::marks_at;
 use giving::marks::with_part;
 use items::Next;
 use items::Phase;
+use items::modes::REPORT;
 use pieces::Beyond;
 use pieces::Got;
+use pieces::LONGEST;
 use pieces::Marks;
 use pieces::Part;
 use pieces::Stage;
@@ -27,9 +28,10 @@ ghost use mathlib.Core.Bool.{true};
 ghost use mathlib.Core.List.{List};
 ghost use Prim.Native.Nat.{ℕ, _≤_};
 ghost use lib.ListN.{length};
+ghost use Rattle.pieces.specs.Expected.{longest};
 ghost use Rattle.pieces.specs.Bounds.{phaseBounds};
 ghost use Rattle.pieces.specs.Calls as calls;
-ghost use Rattle.giving.specs.Answers.{stateOf, turnIn, textTurned, goesOn, stops};
+ghost use Rattle.giving.specs.Answers.{stateOf, turnIn, textTurned, stops};
 ghost use Rattle.giving.specs.Inner.{HoldsItem, CharFits};
 ghost use Rattle.turns.specs.Inner.{Sound};
 
@@ -51,7 +53,7 @@ pub fn stop(m: Marks, number: u32, place: usize) -> Turned
 
 // A character that belongs to the item that starts at `start`, which is then in another phase.
 fn eat(m: Marks, buf: &mut [u8], start: usize, c: u32, phase: Phase) -> Turned
-    requires { ⌜ (length (now buf) ≡ 4096) × (m .len ≤ 4096) × CharFits c (m .at) ⌝ }
+    requires { ⌜ (length (now buf) ≡ longest) × (m .len ≤ longest) × CharFits c (m .at) ⌝ }
     ensures { λ r. ⌜ ((text : List ℕ) → turnIn r (now (buf .exit)) text ≡ calls.onNext (stateOf m (now (buf .entry))) start c (Next.Eat phase)) ⌝ }
 {
     let width = char_width(c);
@@ -85,7 +87,7 @@ fn on_item(m: Marks, buf: &mut [u8], text: &mut [u8], start: usize, phase: Phase
 
 // A character at the start of the text.
 fn on_first(m: Marks, buf: &mut [u8], c: u32) -> Marks
-    requires { ⌜ (length (now buf) ≡ 4096) × CharFits c (m .at) ⌝ }
+    requires { ⌜ (length (now buf) ≡ longest) × CharFits c (m .at) ⌝ }
     ensures { λ r. ⌜ calls.on (stateOf r (now (buf .exit))) ≡ calls.onStage (stateOf m (now (buf .entry))) Stage.Opening c ⌝ }
 {
     if c == HASH {
@@ -110,7 +112,7 @@ fn on_pound(m: Marks, buf: &mut [u8], text: &mut [u8], c: u32) -> Turned
 
 // A character in a first line that is passed over, up to its newline.
 fn on_line(m: Marks, buf: &mut [u8], c: u32) -> Marks
-    requires { ⌜ (length (now buf) ≡ 4096) × CharFits c (m .at) ⌝ }
+    requires { ⌜ (length (now buf) ≡ longest) × CharFits c (m .at) ⌝ }
     ensures { λ r. ⌜ calls.on (stateOf r (now (buf .exit))) ≡ calls.onStage (stateOf m (now (buf .entry))) Stage.FirstLine c ⌝ }
 {
     if c == NEWLINE {

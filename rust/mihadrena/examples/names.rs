@@ -24,7 +24,8 @@ fn listed(plan: &str) -> Result<String, NoName> {
 
 /// The names of a party, in the order of their numbers.
 fn lines(names: &Names<'_>, party: &str, first: u32) -> String {
-    let found = (first..).map_while(|number| Some((number, names.name(number).ok()?)));
+    let numbers = first..first + raw::CONTRACTORS_FIRST;
+    let found = numbers.map_while(|number| Some((number, names.name(number).ok()?)));
     found.map(|(number, name)| format!("{party} {number} {}\n", String::from_utf8_lossy(name))).collect()
 }
 

@@ -14,6 +14,18 @@ pub enum NoCoordinate {
     Refused(Refusal),
 }
 
+impl NoCoordinate {
+    /// The number of the refusal.
+    #[must_use]
+    pub const fn number(self) -> u32 {
+        match self {
+            Self::Outside => raw::NO_COORDINATE,
+            Self::NoExtent => raw::OUT_OF_BOUNDS,
+            Self::Refused(refusal) => refusal.number(),
+        }
+    }
+}
+
 impl fmt::Display for NoCoordinate {
     fn fmt(&self, f: &mut fmt::Formatter<'_>) -> fmt::Result {
         match self {
@@ -31,7 +43,7 @@ fn told(answer: u32, value: f64, place: u64) -> Result<f64, NoCoordinate> {
     match answer {
         raw::SERVED => Ok(value),
         raw::NO_COORDINATE => Err(NoCoordinate::Outside),
-        raw::NO_EXTENT => Err(NoCoordinate::NoExtent),
+        raw::OUT_OF_BOUNDS => Err(NoCoordinate::NoExtent),
         _ => Err(NoCoordinate::Refused(Refusal::of(answer, [place, 0]))),
     }
 }

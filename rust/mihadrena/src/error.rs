@@ -150,7 +150,7 @@ impl Refusal {
         }
     }
 
-    /// Document 01's number of the refusal.
+    /// The number of the refusal.
     #[must_use]
     pub const fn number(self) -> u32 {
         match self {

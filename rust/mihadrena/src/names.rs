@@ -34,7 +34,7 @@ pub enum NoName {
 impl NoName {
     fn of(mark: u32) -> Self {
         match mark {
-            raw::NAMES_OUTSIDE => Self::Outside,
+            raw::OUT_OF_BOUNDS => Self::Outside,
             raw::NO_ROOM => Self::NoRoom,
             raw::NO_NAME => Self::NoNumber,
             _ => unreachable!("the library refuses these calls for nothing else"),
@@ -45,7 +45,7 @@ impl NoName {
     #[must_use]
     pub const fn number(self) -> u32 {
         match self {
-            Self::Outside => raw::NAMES_OUTSIDE,
+            Self::Outside => raw::OUT_OF_BOUNDS,
             Self::NoRoom => raw::NO_ROOM,
             Self::NoNumber => raw::NO_NAME,
         }

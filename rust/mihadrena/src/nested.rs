@@ -54,7 +54,7 @@ pub enum NotNested {
     BracketOpen(usize),
     /// A wrong or stray close: `)`
     WrongClose(usize),
-    /// A dot outside a list, a second one, or one without data on both sides: `.`
+    /// A dot outside a list, a second one, one without a datum before it, or not exactly one datum behind it: `.`
     MisplacedDot(usize),
     /// A close, a dot or the end where a mark waits for its datum: `'`
     MarkWaits(usize),
@@ -78,6 +78,20 @@ impl NotNested {
             raw::ERROR_ITEM => Self::ErrorItem(item),
             raw::FEW_NODES => Self::FewNodes,
             _ => unreachable!("the library's own records are refused for nothing else"),
+        }
+    }
+
+    /// The number of the refusal.
+    #[must_use]
+    pub const fn number(self) -> u32 {
+        match self {
+            Self::BracketOpen(_) => raw::BRACKET_OPEN,
+            Self::WrongClose(_) => raw::WRONG_CLOSE,
+            Self::MisplacedDot(_) => raw::MISPLACED_DOT,
+            Self::MarkWaits(_) => raw::MARK_WAITS,
+            Self::TooDeep(_) => raw::TOO_DEEP,
+            Self::ErrorItem(_) => raw::ERROR_ITEM,
+            Self::FewNodes => raw::FEW_NODES,
         }
     }
 }

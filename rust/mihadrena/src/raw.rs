@@ -1,5 +1,5 @@
 //! The library as `include/mihadrena.h` declares it for C: its constants, its layouts and its functions. The rest of this crate is built
-//! on it; a program that keeps records for other programs needs it too.
+//! on it; a program that keeps records for other programs needs it too. The header says what each constant means and each function does.
 //!
 //! A pointer and the length behind it are one slice: the pointer is not null, not even where the length is 0, and memory that a call
 //! writes to overlaps with no other memory of that call.
@@ -7,7 +7,7 @@
 /// How many words a record has.
 pub const RECORD_WORDS: usize = 10;
 
-/// One item, as document 01 writes it down, and its depth.
+/// One item: docs/RULES.md, "Items and records".
 #[repr(C)]
 #[derive(Clone, Copy, Debug, Default, PartialEq, Eq, Hash)]
 pub struct Record {
@@ -106,7 +106,22 @@ pub const LONG_ITEM: u32 = 23;
 pub const LITTLE_TEXT: u32 = 24;
 pub const NO_MODE: u32 = 25;
 pub const AFTER_END: u32 = 26;
-pub const BAD_STATE: u32 = 27;
+pub const OUT_OF_BOUNDS: u32 = 27;
+pub const NO_COORDINATE: u32 = 28;
+pub const LINES_NO_ROOM: u32 = 33;
+pub const NO_PLACE: u32 = 34;
+pub const NO_PARTY: u32 = 35;
+pub const NO_ROOM: u32 = 36;
+pub const NO_NAME: u32 = 37;
+pub const UNKNOWN_CHOICE: u32 = 39;
+pub const BRACKET_OPEN: u32 = 40;
+pub const WRONG_CLOSE: u32 = 41;
+pub const MISPLACED_DOT: u32 = 42;
+pub const MARK_WAITS: u32 = 43;
+pub const TOO_DEEP: u32 = 44;
+pub const ERROR_ITEM: u32 = 45;
+pub const FEW_NODES: u32 = 46;
+pub const ALIEN: u32 = 48;
 
 /// The longest text, in bytes.
 pub const LONGEST: u64 = 4294967295;
@@ -249,31 +264,29 @@ pub const NODE_VECTOR: u32 = 7;
 pub const NODE_BYTE_LIST: u32 = 8;
 pub const NODE_MARK: u32 = 9;
 
-// What `mihadrena_nest` refuses.
-pub const BRACKET_OPEN: u32 = 40;
-pub const WRONG_CLOSE: u32 = 41;
-pub const MISPLACED_DOT: u32 = 42;
-pub const MARK_WAITS: u32 = 43;
-pub const TOO_DEEP: u32 = 44;
-pub const ERROR_ITEM: u32 = 45;
-pub const FEW_NODES: u32 = 46;
-pub const ALIEN: u32 = 48;
-
 /// How many brackets, marks and `#;` may lie inside one another.
 pub const DEEPEST: usize = 64;
 
 /// How many values `mihadrena_nest` writes.
 pub const NEST_VALUES: usize = 1;
-// The readers of `mihadrena_number_by`, and its refusal of any other.
+
+// The readers of `mihadrena_number_by`.
 pub const BOUGHT: u32 = 0;
 pub const STANDARD: u32 = 1;
-pub const NO_CHOICE: u32 = 39;
-// Line and column.
-pub const LINES_NO_ROOM: u32 = 33;
-pub const NO_PLACE: u32 = 34;
-pub const NOT_ITS_INDEX: u32 = 48;
+
+/// How many values the line calls write.
 pub const LINES_VALUES: usize = 2;
+
+/// The words of a state of an index from pieces.
 pub const LINES_STATE_WORDS: usize = 8;
+
+// The name table: what it takes, the parties, and their first numbers.
+pub const NAMES_WORDS: usize = 3078;
+pub const NAMES_BYTES: usize = 32768;
+pub const PLANNER: u32 = 0;
+pub const CONTRACTOR: u32 = 1;
+pub const PLANNERS_FIRST: u32 = 0;
+pub const CONTRACTORS_FIRST: u32 = 512;
 
 const _: () = assert!(size_of::<Record>() == RECORD_WORDS * size_of::<u32>());
 const _: () = assert!(size_of::<State>() == STATE_SIZE && align_of::<State>() == STATE_ALIGN);
@@ -281,52 +294,179 @@ const _: () = assert!(size_of::<Told>() == PIECE_VALUES * size_of::<u64>());
 const _: () = assert!(size_of::<Parts>() == NUMBER_WORDS * size_of::<u64>());
 const _: () = assert!(size_of::<Node>() == NODE_WORDS * size_of::<u32>());
 
-// What the coordinate calls answer beside `SERVED`, `TOO_LONG` and `NOT_UTF8`.
-pub const NO_EXTENT: u32 = 27;
-pub const NO_COORDINATE: u32 = 28;
-
-#[rustfmt::skip]
 extern "C" {
-    pub fn mihadrena_read(source: *const u8, source_length: usize, mode: u32, skip_comments: bool, records: *mut u32, records_length: usize, text: *mut u8, text_length: usize, values: *mut u64, values_length: usize) -> u32;
-    pub fn mihadrena_open(mode: u32, skip_comments: bool, bytes: *mut u8, bytes_length: usize, words: *mut u64, words_length: usize) -> u32;
-    pub fn mihadrena_piece(bytes: *mut u8, bytes_length: usize, words: *mut u64, words_length: usize, piece: *const u8, piece_length: usize, text: *mut u8, text_length: usize, record: *mut u32, record_length: usize, values: *mut u64, values_length: usize) -> u32;
-    pub fn mihadrena_end(bytes: *mut u8, bytes_length: usize, words: *mut u64, words_length: usize, text: *mut u8, text_length: usize, record: *mut u32, record_length: usize, values: *mut u64, values_length: usize) -> u32;
-    pub fn mihadrena_reader_open(source: *const u8, source_length: usize, mode: u32, skip_comments: bool, position: *mut u64, position_length: usize, values: *mut u64, values_length: usize) -> u32;
-    pub fn mihadrena_reader_next(source: *const u8, source_length: usize, position: *mut u64, position_length: usize, text: *mut u8, text_length: usize, record: *mut u32, record_length: usize, values: *mut u64, values_length: usize) -> u32;
-    pub fn mihadrena_text_mark(source: *const u8, source_length: usize, text: *const u8, text_length: usize, text_source: u32, start: u32, end: u32) -> u32;
+    pub fn mihadrena_read(
+        source: *const u8,
+        source_length: usize,
+        mode: u32,
+        skip_comments: bool,
+        records: *mut u32,
+        records_length: usize,
+        text: *mut u8,
+        text_length: usize,
+        values: *mut u64,
+        values_length: usize,
+    ) -> u32;
+    pub fn mihadrena_open(
+        mode: u32,
+        skip_comments: bool,
+        bytes: *mut u8,
+        bytes_length: usize,
+        words: *mut u64,
+        words_length: usize,
+    ) -> u32;
+    pub fn mihadrena_piece(
+        bytes: *mut u8,
+        bytes_length: usize,
+        words: *mut u64,
+        words_length: usize,
+        piece: *const u8,
+        piece_length: usize,
+        text: *mut u8,
+        text_length: usize,
+        record: *mut u32,
+        record_length: usize,
+        values: *mut u64,
+        values_length: usize,
+    ) -> u32;
+    pub fn mihadrena_end(
+        bytes: *mut u8,
+        bytes_length: usize,
+        words: *mut u64,
+        words_length: usize,
+        text: *mut u8,
+        text_length: usize,
+        record: *mut u32,
+        record_length: usize,
+        values: *mut u64,
+        values_length: usize,
+    ) -> u32;
+    pub fn mihadrena_reader_open(
+        source: *const u8,
+        source_length: usize,
+        mode: u32,
+        skip_comments: bool,
+        position: *mut u64,
+        position_length: usize,
+        values: *mut u64,
+        values_length: usize,
+    ) -> u32;
+    pub fn mihadrena_reader_next(
+        source: *const u8,
+        source_length: usize,
+        position: *mut u64,
+        position_length: usize,
+        text: *mut u8,
+        text_length: usize,
+        record: *mut u32,
+        record_length: usize,
+        values: *mut u64,
+        values_length: usize,
+    ) -> u32;
+    pub fn mihadrena_text_mark(
+        source: *const u8,
+        source_length: usize,
+        text: *const u8,
+        text_length: usize,
+        text_source: u32,
+        start: u32,
+        end: u32,
+    ) -> u32;
     pub fn mihadrena_number(text: *const u8, text_length: usize, words: *mut u64, words_length: usize) -> u32;
     pub fn mihadrena_good_bytes(text: *const u8, text_length: usize) -> usize;
     pub fn mihadrena_code_at(text: *const u8, text_length: usize, at: usize) -> u32;
     pub fn mihadrena_next_at(text: *const u8, text_length: usize, at: usize) -> usize;
     pub fn mihadrena_is_blank(code: u32) -> bool;
     pub fn mihadrena_put_char(code: u32, text: *mut u8, text_length: usize) -> usize;
-    pub fn mihadrena_nest(records: *const u32, records_length: usize, nodes: *mut u32, nodes_length: usize, values: *mut u64, values_length: usize) -> u32;
-    pub fn mihadrena_number_by(choice: u32, text: *const u8, text_length: usize, words: *mut u64, words_length: usize) -> u32;
-    pub fn mihadrena_lines(text: *const u8, text_length: usize, index: *mut u32, index_length: usize, values: *mut u64, values_length: usize) -> u32;
-    pub fn mihadrena_locate(text: *const u8, text_length: usize, index: *const u32, index_length: usize, place: usize, values: *mut u64, values_length: usize) -> u32;
-    pub fn mihadrena_locate_all(text: *const u8, text_length: usize, index: *const u32, index_length: usize, places: *const u32, places_length: usize, found: *mut usize, found_length: usize, values: *mut u64, values_length: usize) -> u32;
+    pub fn mihadrena_nest(
+        records: *const u32,
+        records_length: usize,
+        nodes: *mut u32,
+        nodes_length: usize,
+        values: *mut u64,
+        values_length: usize,
+    ) -> u32;
+    pub fn mihadrena_number_by(
+        choice: u32,
+        text: *const u8,
+        text_length: usize,
+        words: *mut u64,
+        words_length: usize,
+    ) -> u32;
+    pub fn mihadrena_lines(
+        text: *const u8,
+        text_length: usize,
+        index: *mut u32,
+        index_length: usize,
+        values: *mut u64,
+        values_length: usize,
+    ) -> u32;
+    pub fn mihadrena_locate(
+        text: *const u8,
+        text_length: usize,
+        index: *const u32,
+        index_length: usize,
+        place: usize,
+        values: *mut u64,
+        values_length: usize,
+    ) -> u32;
+    pub fn mihadrena_locate_all(
+        text: *const u8,
+        text_length: usize,
+        index: *const u32,
+        index_length: usize,
+        places: *const u32,
+        places_length: usize,
+        found: *mut usize,
+        found_length: usize,
+        values: *mut u64,
+        values_length: usize,
+    ) -> u32;
     pub fn mihadrena_lines_open(state: *mut u32, state_length: usize, index: *mut u32, index_length: usize);
-    pub fn mihadrena_lines_piece(state: *mut u32, state_length: usize, piece: *const u8, piece_length: usize, index: *mut u32, index_length: usize);
-    pub fn mihadrena_lines_end(state: *const u32, state_length: usize, index: *const u32, index_length: usize, values: *mut u64, values_length: usize) -> u32;
+    pub fn mihadrena_lines_piece(
+        state: *mut u32,
+        state_length: usize,
+        piece: *const u8,
+        piece_length: usize,
+        index: *mut u32,
+        index_length: usize,
+    );
+    pub fn mihadrena_lines_end(
+        state: *const u32,
+        state_length: usize,
+        index: *const u32,
+        index_length: usize,
+        values: *mut u64,
+        values_length: usize,
+    ) -> u32;
     pub fn mihadrena_coordinate(text: *const u8, text_length: usize, value: *mut f64, place: *mut u64) -> u32;
-    pub fn mihadrena_record_coordinate(source: *const u8, source_length: usize, kind: u32, start: u32, end: u32, value: *mut f64, place: *mut u64) -> u32;
-}
-
-// The name table: what it takes, the parties, their first numbers, and the refusals of its calls.
-pub const NAMES_WORDS: usize = 3078;
-pub const NAMES_BYTES: usize = 32768;
-pub const PLANNER: u32 = 0;
-pub const CONTRACTOR: u32 = 1;
-pub const PLANNERS_FIRST: u32 = 0;
-pub const CONTRACTORS_FIRST: u32 = 512;
-pub const NAMES_OUTSIDE: u32 = 27;
-pub const NO_PARTY: u32 = 35;
-pub const NO_ROOM: u32 = 36;
-pub const NO_NAME: u32 = 37;
-
-#[rustfmt::skip]
-extern "C" {
+    pub fn mihadrena_record_coordinate(
+        source: *const u8,
+        source_length: usize,
+        kind: u32,
+        start: u32,
+        end: u32,
+        value: *mut f64,
+        place: *mut u64,
+    ) -> u32;
     pub fn mihadrena_names_open(words: *mut u32, words_length: usize, bytes: *const u8, bytes_length: usize) -> u32;
-    pub fn mihadrena_names_enter(words: *mut u32, words_length: usize, bytes: *mut u8, bytes_length: usize, party: u32, name: *const u8, name_length: usize, number: *mut u32) -> u32;
-    pub fn mihadrena_names_place(words: *const u32, words_length: usize, bytes: *const u8, bytes_length: usize, number: u32, start: *mut usize, end: *mut usize) -> u32;
+    pub fn mihadrena_names_enter(
+        words: *mut u32,
+        words_length: usize,
+        bytes: *mut u8,
+        bytes_length: usize,
+        party: u32,
+        name: *const u8,
+        name_length: usize,
+        number: *mut u32,
+    ) -> u32;
+    pub fn mihadrena_names_place(
+        words: *const u32,
+        words_length: usize,
+        bytes: *const u8,
+        bytes_length: usize,
+        number: u32,
+        start: *mut usize,
+        end: *mut usize,
+    ) -> u32;
 }

@@ -1,9 +1,12 @@
-//! The declarations of `mihadrena::raw` are those of include/mihadrena.h: every constant, every struct's fields, every function.
+//! The declarations of `mihadrena::raw` are those of include/mihadrena.h: every constant, every struct's fields, every function. The
+//! refusals have the names and numbers that crate `refusal` has for the code and for the definitions.
 use mihadrena::raw;
 use std::collections::BTreeMap;
 
 const HEADER: &str = include_str!("../../../include/mihadrena.h");
 const RAW: &str = include_str!("../src/raw.rs");
+const REFUSALS: &str = include_str!("../../../crates/refusal/src/lib.rt");
+const REFUSALS_DEFINED: &str = include_str!("../../../crates/refusal/specs/Refusals.antt");
 
 /// Names with what stands for each.
 type Declared = BTreeMap<String, String>;
@@ -53,6 +56,38 @@ fn every_constant_is_the_headers() {
     let constants = raw_constants();
     assert!(constants.len() > 80, "the constants are found");
     assert_eq!(constants, header_constants());
+}
+
+/// `TOO_LONG` of `tooLong`.
+fn shouted(name: &str) -> String {
+    let letters = name.chars().map(|letter| match letter {
+        'A'..='Z' => format!("_{letter}"),
+        _ => letter.to_ascii_uppercase().to_string(),
+    });
+    letters.collect()
+}
+
+/// The numbers of 32 bits that crate `refusal` has for the code.
+fn refusals() -> BTreeMap<String, u64> {
+    let lines = REFUSALS.lines().filter_map(|line| line.strip_prefix("pub const "));
+    let numbers = lines.filter_map(|line| line.trim_end_matches(';').split_once(": u32 = "));
+    numbers.map(|(name, text)| (name.to_string(), value(text))).collect()
+}
+
+/// What it has for the definitions, under the names of the code.
+fn refusals_defined() -> BTreeMap<String, u64> {
+    let lines = REFUSALS_DEFINED.lines().filter_map(|line| line.split_once(" = "));
+    lines.map(|(name, text)| (shouted(name), value(text))).collect()
+}
+
+#[test]
+fn every_refusal_has_one_name_and_number() {
+    let (header, defined, refusals) = (header_constants(), refusals_defined(), refusals());
+    assert!(refusals.len() > 20, "the refusals are found");
+    for (name, number) in &refusals {
+        assert_eq!(header.get(name), Some(number), "{name} in the header");
+        assert_eq!(defined.get(name), Some(number), "{name} in the definitions");
+    }
 }
 
 /// A type of C as Rust writes it.
@@ -119,11 +154,14 @@ fn header_functions() -> Declared {
 }
 
 fn raw_functions() -> Declared {
-    let lines = RAW.lines().filter_map(|line| line.trim().strip_prefix("pub fn "));
-    lines
-        .map(|line| {
-            let (name, rest) = line.split_once('(').expect("parameters");
-            (name.to_string(), format!("({}", rest.trim_end_matches(';')))
+    let inside = RAW.split_once("extern \"C\" {").expect("the functions").1.split_once('}').expect("their end").0;
+    let declarations = inside.split(';').filter_map(|text| text.trim().strip_prefix("pub fn "));
+    declarations
+        .map(|declaration| {
+            let (name, rest) = declaration.split_once('(').expect("parameters");
+            let (parameters, answers) = rest.rsplit_once(')').expect("their end");
+            let parameters: Vec<&str> = parameters.split(',').map(str::trim).filter(|one| !one.is_empty()).collect();
+            (name.to_string(), format!("({}){answers}", parameters.join(", ")))
         })
         .collect()
 }
@@ -131,7 +169,7 @@ fn raw_functions() -> Declared {
 #[test]
 fn every_function_is_the_headers() {
     let functions = raw_functions();
-    assert!(functions.len() >= 11, "the functions are found");
+    assert!(functions.len() > 20, "the functions are found");
     assert_eq!(functions, header_functions());
 }
 

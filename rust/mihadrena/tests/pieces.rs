@@ -256,7 +256,7 @@ fn raw_refusals_change_nothing_else() {
     for word in 0..raw::STATE_WORDS {
         let mut outside = lent.clone();
         outside.state.words[word] = u64::MAX;
-        outside.refuses(raw::BAD_STATE, &[0, 0]);
+        outside.refuses(raw::OUT_OF_BOUNDS, &[0, 0]);
     }
 }
 
@@ -270,7 +270,7 @@ fn slices_of_another_length_are_no_state() {
     {
         // SAFETY: both lengths are within their arrays.
         let answer = unsafe { raw::mihadrena_open(raw::PLAIN, true, bytes, bytes_length, words, words_length) };
-        assert_eq!(answer, raw::BAD_STATE);
+        assert_eq!(answer, raw::OUT_OF_BOUNDS);
     }
     assert_eq!(lent, old);
 }
@@ -289,7 +289,7 @@ fn no_item_is_deeper_than_its_start() {
     assert_eq!((lent.piece(b"b"), lent.state.words[DEPTH]), (raw::MORE, 2));
     let mut forged = lent.clone();
     forged.state.words[DEPTH] = 3;
-    forged.refuses(raw::BAD_STATE, &[0, 0]);
+    forged.refuses(raw::OUT_OF_BOUNDS, &[0, 0]);
     for depth in 0..=2 {
         let mut lent = lent.clone();
         lent.state.words[DEPTH] = depth;

@@ -1,6 +1,6 @@
 //! What the piece calls must give for a text, by document 01's section "Piecewise" and the Rust's reading of the whole text: each item
 //! with the byte count at which it is ready, and the stop, if there is one, with the byte that shows it.
-use super::{Answer, Reads, What, ENDED, NOT_UTF8, SMALL, TOO_BIG};
+use super::{Answer, Reads, What, AFTER_END, LITTLE_TEXT, LONG_ITEM, NOT_UTF8};
 use crate::lexer::{rust, Read};
 use crate::tally::Tally;
 use item::{Item, Reading, Record, IN_MEMORY, NO_TEXT};
@@ -80,7 +80,7 @@ impl Reads for Due {
         let read = self.at + bytes.len();
         match self.stop {
             Some(stop) if self.stopped => return self.halt(0, stop),
-            _ if self.ended => return Answer { taken: 0, what: What::Refused(ENDED, 0) },
+            _ if self.ended => return Answer { taken: 0, what: What::Refused(AFTER_END, 0) },
             _ => (),
         }
         if let Some(item) = self.ready(read) {
@@ -111,11 +111,11 @@ impl Reads for Due {
     }
 
     fn piece_into_small(&mut self, _: &[u8]) -> Answer {
-        Answer { taken: 0, what: What::Refused(SMALL, 0) }
+        Answer { taken: 0, what: What::Refused(LITTLE_TEXT, 0) }
     }
 
     fn end_into_small(&mut self) -> Answer {
-        Answer { taken: 0, what: What::Refused(SMALL, 0) }
+        Answer { taken: 0, what: What::Refused(LITTLE_TEXT, 0) }
     }
 }
 
@@ -131,7 +131,7 @@ fn long_stop<'a>(text: &'a str, reading: &Reading) -> Option<(Stop, &'a str)> {
     let (start, end) = extents.into_iter().find(|(start, end)| end - start > LONGEST_ITEM)?;
     let mut characters = text[start..end].char_indices().map(|(at, c)| (start + at, start + at + c.len_utf8()));
     let (before, shown) = characters.find(|(_, past)| past - start > LONGEST_ITEM)?;
-    Some((Stop { number: TOO_BIG, place: start, shown: Some(shown) }, &text[..before]))
+    Some((Stop { number: LONG_ITEM, place: start, shown: Some(shown) }, &text[..before]))
 }
 
 /// The items of a text as piece calls give them. Before a stop those alone whose extents end before the text does.

@@ -1,6 +1,6 @@
 //! Calls that are refused for what they are lent, and rows of comments longer than the Rust's stack holds calls (A4).
 use super::lent::{Lent, State};
-use super::{Answer, Reads, What, BAD_STATE};
+use super::{Answer, Reads, What, OUT_OF_BOUNDS};
 use crate::tally::{shown, Count, Tally};
 use crate::Options;
 use item::WORDS;
@@ -36,7 +36,7 @@ fn opening(tally: &mut Tally) {
         let (mut bytes, mut words) = (vec![1; room], vec![1; count]);
         let number = proved::open(PLAIN, false, &mut bytes, &mut words);
         let kept = bytes == vec![1; room] && words == vec![1; count];
-        tally.same((BAD_STATE, true), (number, kept), || format!("open, {room} bytes, {count} words"));
+        tally.same((OUT_OF_BOUNDS, true), (number, kept), || format!("open, {room} bytes, {count} words"));
     }
 }
 
@@ -72,15 +72,15 @@ fn wrong_slices(tally: &mut Tally) {
         let (mut text, mut record, mut values) = (vec![1; STATE_BYTES], [1; WORDS], [7; 2]);
         let number = proved::piece(&mut bytes, &mut words, b"(a)", &mut text, &mut record, &mut values);
         let kept = bytes == state.bytes[..room] && words == state.words[..count] && text == vec![1; STATE_BYTES];
-        tally.same((BAD_STATE, [0, 0], true), (number, values, kept), || format!("{room} bytes, {count} words"));
+        tally.same((OUT_OF_BOUNDS, [0, 0], true), (number, values, kept), || format!("{room} bytes, {count} words"));
         let number = proved::end(&mut bytes, &mut words, &mut text, &mut record, &mut values);
-        tally.same((BAD_STATE, [0, 0]), (number, values), || format!("end, {room} bytes, {count} words"));
+        tally.same((OUT_OF_BOUNDS, [0, 0]), (number, values), || format!("end, {room} bytes, {count} words"));
     }
 }
 
 /// 27 for a state in which one word is larger than any state's: none has a bound that high.
 fn outside_bounds(tally: &mut Tally) {
-    let refused = || Answer { taken: 0, what: What::Refused(BAD_STATE, 0) };
+    let refused = || Answer { taken: 0, what: What::Refused(OUT_OF_BOUNDS, 0) };
     for word in 0..STATE_WORDS {
         let (_, mut state) = State::opened(PLAIN, false);
         state.words[word] = u64::MAX;
@@ -113,7 +113,7 @@ fn forged_depths(tally: &mut Tally) {
         let mut state = read.state().clone();
         state.words[DEPTH] = depth;
         let word = What::Item([IDENTIFIER, 0, 2, 4, 2, 4, item::IN_MEMORY, 0, 2, depth as u32], b"ab".to_vec());
-        let due = if depth <= 2 { word } else { What::Refused(BAD_STATE, 0) };
+        let due = if depth <= 2 { word } else { What::Refused(OUT_OF_BOUNDS, 0) };
         tally.same(Answer { taken: 0, what: due }, Lent::with(state).end(), || format!("((ab, depth {depth} forged"));
     }
 }

@@ -1,5 +1,5 @@
 //! The proved piece calls on a state and memory that this side keeps, all of which is watched.
-use super::{Answer, Reads, What, BAD_STATE, ENDED, SMALL};
+use super::{Answer, Reads, What, AFTER_END, LITTLE_TEXT, OUT_OF_BOUNDS};
 use item::WORDS;
 use proved::{STATE_BYTES, STATE_WORDS};
 
@@ -94,7 +94,7 @@ impl Lent {
     /// Whether a call that gave this must leave the state as it was: refusals that take nothing, and a stop that stood before.
     fn must_stand(&self, what: &What) -> bool {
         match what {
-            What::Refused(SMALL | ENDED | BAD_STATE, _) => true,
+            What::Refused(LITTLE_TEXT | AFTER_END | OUT_OF_BOUNDS, _) => true,
             What::Refused(..) => self.stopped,
             _ => false,
         }

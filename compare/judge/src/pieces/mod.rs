@@ -24,10 +24,10 @@ const MOST: u64 = 250_000;
 
 /// Refusals of 01 that are met here.
 pub const NOT_UTF8: u32 = 21;
-pub const TOO_BIG: u32 = 23;
-const SMALL: u32 = 24;
-const ENDED: u32 = 26;
-const BAD_STATE: u32 = 27;
+pub const LONG_ITEM: u32 = 23;
+const LITTLE_TEXT: u32 = 24;
+const AFTER_END: u32 = 26;
+const OUT_OF_BOUNDS: u32 = 27;
 
 pub fn judge(options: &Options) -> Count {
     let mut count = Count::default();

@@ -1,5 +1,5 @@
 -- The first byte is asked for only where there is a second.
-use Rattle.meaning.proofs.Both.{and-no, and-yes}
+use Rattle.laws.proofs.Choice.{and-no, and-yes}
 use borrow.Author.Tests.{le-ltb, lt-ltb}
 use borrow.Author.Needs.{needs}
 use Rattle.meaning.proofs.splits.Statement.{statement}

@@ -4,7 +4,7 @@ use mathlib.Core.Path.{_≡_, refl}
 use lib.ListN.{length, take, length-set}
 use native.Mathlib.Omega.{arith}
 use denote.Ref.{now}
-use Rattle.giving.proofs.Gives.{copied-next, copied-end}
+use Rattle.escapes.proofs.Laying.{copied-next, copied-end}
 use Rattle.laws.specs.Lent.{written}
 use Rattle.giving.proofs.give.copy_all.Statement.{statement}
 use Rattle.giving.proofs.give.copy_all.Tie as tie

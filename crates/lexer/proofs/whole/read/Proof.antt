@@ -1,6 +1,7 @@
 -- What opening refuses the call refuses; else the items of the definition are those that reading on gives from the opening position.
 use mathlib.Core.Path.{sym, ap, _∙_}
 use denote.Ref.{now}
+use Rattle.refusal.specs.Refusals as refusal
 use Rattle.items.specs.Whole.{limit}
 use Rattle.lexer.specs.Opening.{openingOf}
 use Rattle.lexer.proofs.Opens.{read-opened, read-refused}
@@ -47,19 +48,19 @@ returns c =
 returns-2 : tie.Need-returns-2
 returns-2 c =
     let entry = c .before .before .before .before .before .before .before in
-    read-refused (now (entry .args .source)) (entry .args .mode) (entry .args .skip) (now (entry .args .recs)) (now (entry .args .text)) 25
+    read-refused (now (entry .args .source)) (entry .args .mode) (entry .args .skip) (now (entry .args .recs)) (now (entry .args .text)) refusal.noMode
     (c .before .m .given .0 .0) (sym (ap openingOf (c .before .m .given .1)) ∙ c .before .before .before .«open» .ensures)
 
 returns-3 : tie.Need-returns-3
 returns-3 c =
     let entry = c .before .before .before .before .before .before in
     read-refused (now (entry .args .source)) (entry .args .mode) (entry .args .skip)
-    (now (entry .args .recs)) (now (entry .args .text)) 20 limit (sym (ap openingOf (c .enum-told .given .1)) ∙ c .before .before .«open» .ensures)
+    (now (entry .args .recs)) (now (entry .args .text)) refusal.tooLong limit (sym (ap openingOf (c .enum-told .given .1)) ∙ c .before .before .«open» .ensures)
 
 returns-4 : tie.Need-returns-4
 returns-4 c =
     let entry = c .before .before .before .before .before .before .before in
-    read-refused (now (entry .args .source)) (entry .args .mode) (entry .args .skip) (now (entry .args .recs)) (now (entry .args .text)) 21
+    read-refused (now (entry .args .source)) (entry .args .mode) (entry .args .skip) (now (entry .args .recs)) (now (entry .args .text)) refusal.notUtf8
     (c .before .at .given .0 .0) (sym (ap openingOf (c .before .at .given .1)) ∙ c .before .before .before .«open» .ensures)
 
 pub read-spec : {M : Type 1} → statement M

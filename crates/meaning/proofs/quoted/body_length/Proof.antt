@@ -1,7 +1,7 @@
-use Rattle.meaning.proofs.Lines.{body-after}
-use denote.Ref.{now}
 -- What follows the line and its newline is what is left after one more byte.
+use denote.Ref.{now}
 use borrow.Author.Needs.{needs}
+use Rattle.meaning.proofs.Lines.{body-after}
 use Rattle.meaning.proofs.quoted.body_length.Statement.{statement}
 use Rattle.meaning.proofs.quoted.body_length.Tie as tie
 

@@ -3,8 +3,8 @@ use native.Mathlib.Omega.{arith}
 use mathlib.Core.Path.{_∙_}
 use Prim.Native.Nat.{_+_, _*_}
 use borrow.Author.Tests.{eqb-true}
+use Rattle.laws.proofs.Choice.{no-yes}
 use Rattle.nested.proofs.Table.{closes-said}
-use Rattle.nested.proofs.Loops.{not-true}
 use borrow.Author.Needs.{needs}
 use Rattle.nested.proofs.classes.closes_at.Statement.{statement}
 use Rattle.nested.proofs.classes.closes_at.Tie as tie
@@ -45,10 +45,10 @@ returns c =
     )
 
 returns-2 : tie.Need-returns-2
-returns-2 c = λ q. not-true q
+returns-2 c = λ q. no-yes q
 
 returns-3 : tie.Need-returns-3
-returns-3 c = λ q. not-true q
+returns-3 c = λ q. no-yes q
 
 pub closes-at-spec : {M : Type 1} → statement M
 closes-at-spec =

@@ -4,7 +4,8 @@ use native.Mathlib.Omega.{arith}
 use borrow.Author.Needs.{needs}
 use denote.Ref.{now}
 use Rattle.laws.specs.Quoted.{code}
-use Rattle.steps.proofs.Delimiter.{before-le, line-none, line-length}
+use Rattle.laws.proofs.Runs.{before-le}
+use Rattle.steps.proofs.Delimiter.{line-none, line-length}
 use Rattle.steps.proofs.here.delimiter_length.Statement.{statement}
 use Rattle.steps.proofs.here.delimiter_length.Tie as tie
 

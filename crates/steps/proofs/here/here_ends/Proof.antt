@@ -5,7 +5,8 @@ use native.Mathlib.Omega.{arith}
 use borrow.Author.Needs.{needs}
 use denote.Ref.{now}
 use Rattle.laws.specs.Quoted.{code}
-use Rattle.steps.proofs.Delimiter.{before-le, here-short, here-in, here-out}
+use Rattle.laws.proofs.Runs.{before-le}
+use Rattle.steps.proofs.Delimiter.{here-short, here-in, here-out}
 use Rattle.steps.proofs.here.here_ends.Statement.{statement}
 use Rattle.steps.proofs.here.here_ends.Tie as tie
 

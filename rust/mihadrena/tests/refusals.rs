@@ -1,0 +1,69 @@
+//! Each refusal of a call in Rust tells the number that C is told.
+use mihadrena::{
+    coordinate, nest, raw, record_coordinate, Items, LineIndex, LineRefusal, Names, NoCoordinate, NoName, NotNested,
+    Options, Party, Record, Refusal,
+};
+
+/// How `nest` refuses a text, with room for so many nodes.
+fn not_nested(text: &str, nodes: usize) -> Option<NotNested> {
+    let mut records = vec![Record::default(); text.len()];
+    let mut memory = vec![0; text.len()];
+    let items = Items::new(text, Options::default(), &mut records, &mut memory).expect("a text");
+    let mut nodes = vec![raw::Node::default(); nodes];
+    nest(&items, &mut nodes).err()
+}
+
+#[test]
+fn nested_lists() {
+    let deep = "(".repeat(65);
+    for (text, refusal, number) in [
+        ("(", NotNested::BracketOpen(1), raw::BRACKET_OPEN),
+        (")", NotNested::WrongClose(0), raw::WRONG_CLOSE),
+        (".", NotNested::MisplacedDot(0), raw::MISPLACED_DOT),
+        ("'", NotNested::MarkWaits(1), raw::MARK_WAITS),
+        (deep.as_str(), NotNested::TooDeep(64), raw::TOO_DEEP),
+        ("##", NotNested::ErrorItem(0), raw::ERROR_ITEM),
+    ] {
+        assert_eq!(not_nested(text, text.len()), Some(refusal), "{text}");
+        assert_eq!(refusal.number(), number, "{text}");
+    }
+    assert_eq!(not_nested("(a)", 1), Some(NotNested::FewNodes));
+    assert_eq!(NotNested::FewNodes.number(), raw::FEW_NODES);
+    assert_eq!(not_nested("(a)", 2), None);
+}
+
+#[test]
+fn coordinates() {
+    let other = Record { kind: raw::NUMBER, start: 0, end: 9, ..Record::default() };
+    for (answer, refusal, number) in [
+        (coordinate("12"), NoCoordinate::Outside, raw::NO_COORDINATE),
+        (record_coordinate("12", &other), NoCoordinate::NoExtent, raw::OUT_OF_BOUNDS),
+        (coordinate(b"1.5\xFF"), NoCoordinate::Refused(Refusal::NotUtf8(3)), raw::NOT_UTF8),
+    ] {
+        assert_eq!(answer, Err(refusal));
+        assert_eq!(refusal.number(), number);
+    }
+}
+
+#[test]
+fn lines() {
+    let mut memory = [0; 2];
+    let refusal = LineIndex::new("a\nb\nc", &mut memory).err();
+    assert_eq!((refusal, refusal.map(LineRefusal::number)), (Some(LineRefusal::NoRoom(3)), Some(raw::LINES_NO_ROOM)));
+    let index = LineIndex::new("a\nλ", &mut memory).expect("two lines");
+    let refusal = index.locate(3).err();
+    assert_eq!((refusal, refusal.map(LineRefusal::number)), (Some(LineRefusal::NoPlace(3)), Some(raw::NO_PLACE)));
+}
+
+#[test]
+fn names() {
+    let (mut words, mut bytes) = (vec![0; raw::NAMES_WORDS], vec![0; raw::NAMES_BYTES]);
+    let little = Names::open(&mut words[1..], &mut bytes).err();
+    assert_eq!((little, little.map(NoName::number)), (Some(NoName::Outside), Some(raw::OUT_OF_BOUNDS)));
+    let mut names = Names::open(&mut words, &mut bytes).expect("enough memory");
+    let long = vec![b'a'; 16_385];
+    let full = names.enter(Party::Planner, &long).err();
+    assert_eq!((full, full.map(NoName::number)), (Some(NoName::NoRoom), Some(raw::NO_ROOM)));
+    let none = names.name(0).err();
+    assert_eq!((none, none.map(NoName::number)), (Some(NoName::NoNumber), Some(raw::NO_NAME)));
+}
