@@ -11,10 +11,10 @@ use lib.ListN.{length, getD, drop}
 use lib.Seq.{drop-drop}
 use borrow.Author.Tests.{lt-ltb, le-ltb, ltb-true, ltb-false}
 use Rattle.laws.specs.Texts.{span}
-use Rattle.laws.proofs.Choice.{by-bool}
+use Rattle.laws.proofs.Choice.{by-bool, within-is}
 use Rattle.laws.proofs.Blocks.{block-next}
 use Rattle.chars.specs.Utf8.{ascii, sequences, verdict}
-use Rattle.chars.proofs.Table.{within-true, within-in, within-above}
+use Rattle.chars.proofs.Table.{within-in, within-above}
 use Rattle.chars.proofs.Sequences.{sequences-char}
 use Rattle.chars.proofs.Round.{one-read}
 
@@ -53,7 +53,7 @@ pass : (l : List ℕ) (at : ℕ) → verdict (sequences 0 (at + span ascii l) (d
 unfolding span
 pass [] at = rw add-zero
 pass (b ∷ l) at = by-bool (ascii b)
-    (λ e. let h = within-true 0x00 0x7F b e in
+    (λ e. let h = within-is 0x00 0x7F b e in
     let z : at + suc (span ascii l) ≡ at + 1 + span ascii l = omega arith in
     rw e (rw z (pass l (at + 1) ∙ sym (ap verdict (sequences-char at (b ∷ l) b 1 (one-read b l (omega arith)))))))
     (λ e. rw e (rw add-zero))

@@ -6,18 +6,18 @@ use mathlib.Core.Bool.{Bool, true, false, _||_}
 use mathlib.Core.Logic.{_⊎_, inl, inr}
 use lib.Dec.{ltb}
 use borrow.Author.Tests.{ltb-true, ltb-false}
-use Rattle.laws.proofs.Choice.{by-bool}
+use Rattle.laws.proofs.Choice.{by-bool, within-is}
 use Rattle.laws.specs.Quoted.{within}
 use Rattle.chars.specs.Encode.{isScalar}
-use Rattle.chars.proofs.Table.{within-true, within-in, within-below, within-above}
+use Rattle.chars.proofs.Table.{within-in, within-below, within-above}
 
 pub scalar-true : (c : ℕ) → isScalar c ≡ true → (c < 0xD800) ⊎ ((0xE000 ≤ c) × (c < 0x110000))
 unfolding isScalar
 scalar-true c = go (within 0x0000 0xD7FF c) refl
   where
     go : (x : Bool) → within 0x0000 0xD7FF c ≡ x → (x || within 0xE000 0x10FFFF c) ≡ true → (c < 0xD800) ⊎ ((0xE000 ≤ c) × (c < 0x110000))
-    go true e f = let h = within-true 0x0000 0xD7FF c e in inl (omega arith)
-    go false e f = let h = within-true 0xE000 0x10FFFF c f in inr (h .0, omega arith)
+    go true e f = let h = within-is 0x0000 0xD7FF c e in inl (omega arith)
+    go false e f = let h = within-is 0xE000 0x10FFFF c f in inr (h .0, omega arith)
 
 or-true : (x : Bool) → (x || true) ≡ true
 or-true true = refl

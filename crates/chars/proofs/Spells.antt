@@ -6,12 +6,11 @@ use mathlib.Core.List.{List, [], _∷_}
 use mathlib.Core.Bool.{true}
 use mathlib.Core.Logic.{_⊎_, inl, inr, ⊎-elim}
 use lib.ListN.{length, take}
-use Rattle.laws.proofs.Choice.{if-is}
+use Rattle.laws.proofs.Choice.{if-is, within-is}
 use Rattle.chars.specs.declared.Step.{Step}
 use Rattle.laws.specs.Quoted.{within}
 use Rattle.chars.specs.Utf8.{ascii, first, Front, char, bad, cut, none, rest, after, front}
 use Rattle.chars.specs.Encode.{isScalar, utf8}
-use Rattle.chars.proofs.Table.{within-true}
 use Rattle.chars.proofs.SixBits.{high, low, div-4096, div-262144}
 use Rattle.chars.proofs.Scalar.{scalar-low, scalar-high}
 use Rattle.chars.proofs.Width.{utf8-one, utf8-two, utf8-three, utf8-four}
@@ -71,7 +70,7 @@ module _ (b lo hi : ℕ) where
   rest-two g h l u [] = tt
   rest-two g h l u (x ∷ t) =
       if-is (Spells (b ∷ x ∷ t)) (within lo hi x)
-      (λ e. let k = within-true lo hi x e in spells-two b x t g h (omega arith) (omega arith))
+      (λ e. let k = within-is lo hi x e in spells-two b x t g h (omega arith) (omega arith))
       (λ _. tt)
 
   rest-three : 0xE0 ≤ b → b ≤ 0xEF → 0x80 ≤ lo → hi ≤ 0xBF → 0x800 ≤ ((b - 0xE0) * 64 + (lo - 0x80)) * 64
@@ -84,7 +83,7 @@ module _ (b lo hi : ℕ) where
       let S : Front → Type 0 = Spells (b ∷ x ∷ y ∷ t) in
       if-is S (within lo hi x)
       (λ e. if-is S (within 0x80 0xBF y)
-      (λ f. let k = within-true lo hi x e in let j = within-true 0x80 0xBF y f in
+      (λ f. let k = within-is lo hi x e in let j = within-is 0x80 0xBF y f in
       spells-three b x y t g h (omega arith) (omega arith) (j .0) (j .1) (omega arith) (⊎-elim (λ d. inl (omega arith)) (λ d. inr (omega arith)) clear))
       (λ _. tt))
       (λ _. tt)
@@ -102,7 +101,7 @@ module _ (b lo hi : ℕ) where
       if-is S (within lo hi x)
       (λ e. if-is S (within 0x80 0xBF y)
       (λ f. if-is S (within 0x80 0xBF z)
-      (λ i. let k = within-true lo hi x e in let j = within-true 0x80 0xBF y f in let q = within-true 0x80 0xBF z i in
+      (λ i. let k = within-is lo hi x e in let j = within-is 0x80 0xBF y f in let q = within-is 0x80 0xBF z i in
       let w : lo - 0x80 ≤ x % 64 = omega arith in
       let w′ : x % 64 ≤ hi - 0x80 = omega arith in
       let n : 0x10 ≤ (b - 0xF0) * 64 + x % 64 = omega arith in
@@ -116,15 +115,15 @@ module _ (b lo hi : ℕ) where
 spells-first : (b : ℕ) (t : List ℕ) → Spells (b ∷ t) (after (first b) t)
 unfolding first
 spells-first b t =
-    if-is P (ascii b) (λ e. let h = within-true 0x00 0x7F b e in (sym (utf8-one b (omega arith)), scalar-low b (omega arith), omega arith)) (λ _.
-    if-is P (within 0xC2 0xDF b) (λ e. let h = within-true 0xC2 0xDF b e in rest-two b 0x80 0xBF (h .0) (h .1) (omega arith) (omega arith) t) (λ _.
-    if-is P (within 0xE0 0xE0 b) (λ e. let h = within-true 0xE0 0xE0 b e in three 0xA0 0xBF (omega arith) (omega arith) (omega arith) (omega arith) (omega arith) (inl (omega arith))) (λ _.
-    if-is P (within 0xE1 0xEC b) (λ e. let h = within-true 0xE1 0xEC b e in three 0x80 0xBF (omega arith) (omega arith) (omega arith) (omega arith) (omega arith) (inl (omega arith))) (λ _.
-    if-is P (within 0xED 0xED b) (λ e. let h = within-true 0xED 0xED b e in three 0x80 0x9F (omega arith) (omega arith) (omega arith) (omega arith) (omega arith) (inl (omega arith))) (λ _.
-    if-is P (within 0xEE 0xEF b) (λ e. let h = within-true 0xEE 0xEF b e in three 0x80 0xBF (omega arith) (omega arith) (omega arith) (omega arith) (omega arith) (inr (omega arith))) (λ _.
-    if-is P (within 0xF0 0xF0 b) (λ e. let h = within-true 0xF0 0xF0 b e in four 0x90 0xBF (omega arith) (omega arith) (omega arith) (omega arith) (omega arith) (omega arith)) (λ _.
-    if-is P (within 0xF1 0xF3 b) (λ e. let h = within-true 0xF1 0xF3 b e in four 0x80 0xBF (omega arith) (omega arith) (omega arith) (omega arith) (omega arith) (omega arith)) (λ _.
-    if-is P (within 0xF4 0xF4 b) (λ e. let h = within-true 0xF4 0xF4 b e in four 0x80 0x8F (omega arith) (omega arith) (omega arith) (omega arith) (omega arith) (omega arith)) (λ _. tt)))))))))
+    if-is P (ascii b) (λ e. let h = within-is 0x00 0x7F b e in (sym (utf8-one b (omega arith)), scalar-low b (omega arith), omega arith)) (λ _.
+    if-is P (within 0xC2 0xDF b) (λ e. let h = within-is 0xC2 0xDF b e in rest-two b 0x80 0xBF (h .0) (h .1) (omega arith) (omega arith) t) (λ _.
+    if-is P (within 0xE0 0xE0 b) (λ e. let h = within-is 0xE0 0xE0 b e in three 0xA0 0xBF (omega arith) (omega arith) (omega arith) (omega arith) (omega arith) (inl (omega arith))) (λ _.
+    if-is P (within 0xE1 0xEC b) (λ e. let h = within-is 0xE1 0xEC b e in three 0x80 0xBF (omega arith) (omega arith) (omega arith) (omega arith) (omega arith) (inl (omega arith))) (λ _.
+    if-is P (within 0xED 0xED b) (λ e. let h = within-is 0xED 0xED b e in three 0x80 0x9F (omega arith) (omega arith) (omega arith) (omega arith) (omega arith) (inl (omega arith))) (λ _.
+    if-is P (within 0xEE 0xEF b) (λ e. let h = within-is 0xEE 0xEF b e in three 0x80 0xBF (omega arith) (omega arith) (omega arith) (omega arith) (omega arith) (inr (omega arith))) (λ _.
+    if-is P (within 0xF0 0xF0 b) (λ e. let h = within-is 0xF0 0xF0 b e in four 0x90 0xBF (omega arith) (omega arith) (omega arith) (omega arith) (omega arith) (omega arith)) (λ _.
+    if-is P (within 0xF1 0xF3 b) (λ e. let h = within-is 0xF1 0xF3 b e in four 0x80 0xBF (omega arith) (omega arith) (omega arith) (omega arith) (omega arith) (omega arith)) (λ _.
+    if-is P (within 0xF4 0xF4 b) (λ e. let h = within-is 0xF4 0xF4 b e in four 0x80 0x8F (omega arith) (omega arith) (omega arith) (omega arith) (omega arith) (omega arith)) (λ _. tt)))))))))
   where
     P : Step → Type 0
     P o = Spells (b ∷ t) (after o t)

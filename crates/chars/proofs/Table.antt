@@ -1,25 +1,17 @@
 -- The table of RFC 3629, section 4, line by line: which line a byte is on, and what holds of every line.
 use Prim.Native.Nat.{ℕ, zero, suc, _-_, _≤_, _<_}
 use native.Mathlib.Omega.{arith}
-use mathlib.Core.Path.{_≡_, refl}
-use mathlib.Core.Bool.{Bool, true, false, _&&_}
+use mathlib.Core.Path.{_≡_}
+use mathlib.Core.Bool.{true, false}
 use lib.Dec.{T, ltb, leb, leb→le}
-use borrow.Author.Tests.{le-leb, lt-leb, leb-true}
-use Rattle.laws.proofs.Choice.{if-is}
+use borrow.Author.Tests.{le-leb, lt-leb}
+use Rattle.laws.proofs.Choice.{if-is, and-no, within-is}
 use Rattle.chars.specs.declared.Step.{Step}
 use Rattle.chars.specs.declared.Step.the-variants as steps
 use Rattle.laws.specs.Quoted.{within}
 use Rattle.chars.specs.Utf8.{ascii, more, first}
 
 -- ---- ranges
-
-pub within-true : (lo hi b : ℕ) → within lo hi b ≡ true → (lo ≤ b) × (b ≤ hi)
-unfolding within
-within-true lo hi b = go (leb lo b) refl
-  where
-    go : (x : Bool) → leb lo b ≡ x → (x && leb b hi) ≡ true → (lo ≤ b) × (b ≤ hi)
-    go true e f = (leb-true lo b e, leb-true b hi f)
-    go false e f = let z : _≡_ {A = ℕ} 0 1 = cc in absurd (omega arith)
 
 pub within-in : (lo hi b : ℕ) → lo ≤ b → b ≤ hi → within lo hi b ≡ true
 unfolding within
@@ -31,11 +23,7 @@ within-below lo hi b h = rw (lt-leb lo b h)
 
 pub within-above : (lo hi b : ℕ) → hi < b → within lo hi b ≡ false
 unfolding within
-within-above lo hi b h = rw (lt-leb b hi h) (go (leb lo b))
-  where
-    go : (x : Bool) → (x && false) ≡ false
-    go true = refl
-    go false = refl
+within-above lo hi b h = rw (lt-leb b hi h) (and-no (leb lo b))
 
 -- a range of written numbers, from bounds that are written numbers
 is-in : (b l m : ℕ) → l ≤ b → b < m → (lo hi : ℕ) → T (leb lo l) → T (leb m (suc hi)) → within lo hi b ≡ true
@@ -118,11 +106,11 @@ pub first-fine : (b : ℕ) → Fine (first b)
 unfolding first
 first-fine b =
     if-is Fine (ascii b) (λ _. tt) (λ _.
-    if-is Fine (within 0xC2 0xDF b) (λ e. let h = within-true 0xC2 0xDF b e in (omega arith, omega arith)) (λ _.
-    if-is Fine (within 0xE0 0xE0 b) (λ e. let h = within-true 0xE0 0xE0 b e in (omega arith, omega arith)) (λ _.
-    if-is Fine (within 0xE1 0xEC b) (λ e. let h = within-true 0xE1 0xEC b e in (omega arith, omega arith)) (λ _.
-    if-is Fine (within 0xED 0xED b) (λ e. let h = within-true 0xED 0xED b e in (omega arith, omega arith)) (λ _.
-    if-is Fine (within 0xEE 0xEF b) (λ e. let h = within-true 0xEE 0xEF b e in (omega arith, omega arith)) (λ _.
-    if-is Fine (within 0xF0 0xF0 b) (λ e. let h = within-true 0xF0 0xF0 b e in (omega arith, omega arith)) (λ _.
-    if-is Fine (within 0xF1 0xF3 b) (λ e. let h = within-true 0xF1 0xF3 b e in (omega arith, omega arith)) (λ _.
-    if-is Fine (within 0xF4 0xF4 b) (λ e. let h = within-true 0xF4 0xF4 b e in (omega arith, omega arith)) (λ _. tt)))))))))
+    if-is Fine (within 0xC2 0xDF b) (λ e. let h = within-is 0xC2 0xDF b e in (omega arith, omega arith)) (λ _.
+    if-is Fine (within 0xE0 0xE0 b) (λ e. let h = within-is 0xE0 0xE0 b e in (omega arith, omega arith)) (λ _.
+    if-is Fine (within 0xE1 0xEC b) (λ e. let h = within-is 0xE1 0xEC b e in (omega arith, omega arith)) (λ _.
+    if-is Fine (within 0xED 0xED b) (λ e. let h = within-is 0xED 0xED b e in (omega arith, omega arith)) (λ _.
+    if-is Fine (within 0xEE 0xEF b) (λ e. let h = within-is 0xEE 0xEF b e in (omega arith, omega arith)) (λ _.
+    if-is Fine (within 0xF0 0xF0 b) (λ e. let h = within-is 0xF0 0xF0 b e in (omega arith, omega arith)) (λ _.
+    if-is Fine (within 0xF1 0xF3 b) (λ e. let h = within-is 0xF1 0xF3 b e in (omega arith, omega arith)) (λ _.
+    if-is Fine (within 0xF4 0xF4 b) (λ e. let h = within-is 0xF4 0xF4 b e in (omega arith, omega arith)) (λ _. tt)))))))))

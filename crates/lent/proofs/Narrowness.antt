@@ -8,9 +8,8 @@ use Rattle.chars.specs.Blank.{isBlank}
 use Rattle.chars.specs.Encode.{width}
 use Rattle.chars.specs.Utf8.{ascii, first}
 use Rattle.chars.specs.Machine.{step, told}
-use Rattle.chars.proofs.Table.{within-true}
 use Rattle.laws.specs.Quoted.{within, code}
-use Rattle.laws.proofs.Choice.{if-is, if-all, and-true}
+use Rattle.laws.proofs.Choice.{if-is, if-all, and-true, within-is}
 use Rattle.items.specs.declared.Phase.the-variants.{AfterHash}
 use Rattle.items.specs.declared.Outcome.{Outcome}
 use Rattle.items.specs.declared.Next.{Next}
@@ -60,8 +59,8 @@ first-steps : (b : ℕ) → Steps (first b)
 unfolding first
 first-steps b =
     let here : (lo hi n l h k : ℕ) → within lo hi b ≡ true → n < 2 ^ 8 → l < 2 ^ 8 → h < 2 ^ 8 → hi < 2 ^ 8 → Slender (record { need = n; low = l; high = h; code = b - k }) =
-    λ lo hi n l h k e p q r s. let z = within-true lo hi b e in begins n l h (b - k) p q r (omega arith) in
-    if-is Steps (ascii b) (λ e. let z = within-true 0x00 0x7F b e in omega arith) (λ _.
+    λ lo hi n l h k e p q r s. let z = within-is lo hi b e in begins n l h (b - k) p q r (omega arith) in
+    if-is Steps (ascii b) (λ e. let z = within-is 0x00 0x7F b e in omega arith) (λ _.
     if-is Steps (within 0xC2 0xDF b) (λ e. here 0xC2 0xDF 1 0x80 0xBF 0xC0 e (omega arith) (omega arith) (omega arith) (omega arith)) (λ _.
     if-is Steps (within 0xE0 0xE0 b) (λ e. here 0xE0 0xE0 2 0xA0 0xBF 0xE0 e (omega arith) (omega arith) (omega arith) (omega arith)) (λ _.
     if-is Steps (within 0xE1 0xEC b) (λ e. here 0xE1 0xEC 2 0x80 0xBF 0xE0 e (omega arith) (omega arith) (omega arith) (omega arith)) (λ _.

@@ -10,9 +10,9 @@ use Rattle.chars.specs.Encode.{isScalar, utf8, width}
 use Rattle.chars.specs.Machine.{step, start, told, reads}
 use Rattle.chars.proofs.Agree.{reads-front}
 use Rattle.chars.proofs.Chars.{CharAt, char-at}
-use Rattle.chars.proofs.Table.{within-true, within-above}
+use Rattle.chars.proofs.Table.{within-above}
 use Rattle.laws.specs.Choice.{if_then_else_}
-use Rattle.laws.proofs.Choice.{by-bool, if-is}
+use Rattle.laws.proofs.Choice.{by-bool, if-is, within-is}
 use Rattle.pieces.specs.declared.Part.{Part}
 use Rattle.pieces.specs.Bounds.{partBounds}
 use Prim.Native.Nat.{ℕ, zero, suc, _+_, _-_, _*_, _^_, _%_, _≤_, _<_}
@@ -90,14 +90,14 @@ unfolding first
 first-wants b =
     let P : Step → Type 0 = Wanted 0 in
     if-is P (ascii b) (λ _. tt) (λ _.
-    if-is P (within 0xC2 0xDF b) (λ e. let h = within-true 0xC2 0xDF b e in ((omega arith, (omega arith, omega arith)), omega arith)) (λ _.
-    if-is P (within 0xE0 0xE0 b) (λ e. let h = within-true 0xE0 0xE0 b e in ((omega arith, (omega arith, omega arith)), omega arith)) (λ _.
-    if-is P (within 0xE1 0xEC b) (λ e. let h = within-true 0xE1 0xEC b e in ((omega arith, (omega arith, omega arith)), omega arith)) (λ _.
-    if-is P (within 0xED 0xED b) (λ e. let h = within-true 0xED 0xED b e in ((omega arith, (omega arith, omega arith)), omega arith)) (λ _.
-    if-is P (within 0xEE 0xEF b) (λ e. let h = within-true 0xEE 0xEF b e in ((omega arith, (omega arith, omega arith)), omega arith)) (λ _.
-    if-is P (within 0xF0 0xF0 b) (λ e. let h = within-true 0xF0 0xF0 b e in ((omega arith, (omega arith, omega arith)), omega arith)) (λ _.
-    if-is P (within 0xF1 0xF3 b) (λ e. let h = within-true 0xF1 0xF3 b e in ((omega arith, (omega arith, omega arith)), omega arith)) (λ _.
-    if-is P (within 0xF4 0xF4 b) (λ e. let h = within-true 0xF4 0xF4 b e in ((omega arith, (omega arith, omega arith)), omega arith)) (λ _. tt)))))))))
+    if-is P (within 0xC2 0xDF b) (λ e. let h = within-is 0xC2 0xDF b e in ((omega arith, (omega arith, omega arith)), omega arith)) (λ _.
+    if-is P (within 0xE0 0xE0 b) (λ e. let h = within-is 0xE0 0xE0 b e in ((omega arith, (omega arith, omega arith)), omega arith)) (λ _.
+    if-is P (within 0xE1 0xEC b) (λ e. let h = within-is 0xE1 0xEC b e in ((omega arith, (omega arith, omega arith)), omega arith)) (λ _.
+    if-is P (within 0xED 0xED b) (λ e. let h = within-is 0xED 0xED b e in ((omega arith, (omega arith, omega arith)), omega arith)) (λ _.
+    if-is P (within 0xEE 0xEF b) (λ e. let h = within-is 0xEE 0xEF b e in ((omega arith, (omega arith, omega arith)), omega arith)) (λ _.
+    if-is P (within 0xF0 0xF0 b) (λ e. let h = within-is 0xF0 0xF0 b e in ((omega arith, (omega arith, omega arith)), omega arith)) (λ _.
+    if-is P (within 0xF1 0xF3 b) (λ e. let h = within-is 0xF1 0xF3 b e in ((omega arith, (omega arith, omega arith)), omega arith)) (λ _.
+    if-is P (within 0xF4 0xF4 b) (λ e. let h = within-is 0xF4 0xF4 b e in ((omega arith, (omega arith, omega arith)), omega arith)) (λ _. tt)))))))))
 
 -- within a character: the arm that a state with bytes to come takes
 within-wants : (k : ℕ) (t : Begun) (b : ℕ) → (t .need ≡ 0 → ⊥)

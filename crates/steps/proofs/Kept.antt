@@ -11,11 +11,10 @@ use native.Mathlib.Omega.{arith}
 use borrow.Author.Tests.{ltb-true, lt-ltb, ne-eqb, not-true, eqb-true}
 use Rattle.laws.specs.Quoted.{code, codes, oneOf, within}
 use Rattle.laws.specs.Texts.{span}
-use Rattle.laws.proofs.Choice.{by-bool, no-yes, and-true}
+use Rattle.laws.proofs.Choice.{by-bool, no-yes, and-true, within-is}
 use Rattle.laws.proofs.Runs.{span-le, span-hit, span-stop}
 use Rattle.chars.proofs.Round.{one-read}
 use Rattle.chars.proofs.Blanks.{between-blanks, low-run}
-use Rattle.chars.proofs.Table.{within-true}
 use Rattle.chars.specs.Blank.{isBlank}
 use Rattle.chars.specs.Utf8.{front, placed}
 use Rattle.chars.specs.declared.Decoded.the-variants as decoded
@@ -115,7 +114,7 @@ pub blank-ascii : (c : ℕ) → blank c ≡ true → (c < 0x80) × (isBlank c �
 blank-ascii c e =
     by-bool (eqb c 0x20)
     (λ f. let d = eqb-true c 0x20 f in (omega arith, ap isBlank d ∙ space-blank))
-    (λ f. let h = within-true 0x09 0x0D c (rw f at e) in (omega arith, low-run c (h .0) (h .1)))
+    (λ f. let h = within-is 0x09 0x0D c (rw f at e) in (omega arith, low-run c (h .0) (h .1)))
 
 pub ascii-found : (s : List ℕ) (at : ℕ) → at < length s → getD s at 0 < 0x80 → decoded.Char (getD s at 0) (at + 1) ≡ placed at (front (drop at s))
 ascii-found s at h k = rw (drop-cons s at 0 h) (rw (one-read (getD s at 0) _ k))
@@ -162,13 +161,13 @@ module _ (c : ℕ) where
   pub digit-runs : within 0x30 0x39 c ≡ true → ofRun c ≡ true
   unfolding staysRun
   digit-runs e =
-      let h = within-true 0x30 0x39 c e in
+      let h = within-is 0x30 0x39 c e in
       rw (lt-ltb c 0x80 (omega arith)) (in-second (codes "+-./@") (upto 10 0x30) (codes "aAbBcCdDeEfFin") (in-run 10 0x30 c (h .0) (omega arith)))
 
   pub letter-words : within 0x61 0x7A c ≡ true → ofWord c ≡ true
   unfolding breaksWord
   letter-words e =
-      let h = within-true 0x61 0x7A c e in
+      let h = within-is 0x61 0x7A c e in
       let other : (k : ℕ) → (k < 0x61) ⊎ (0x7A < k) → eqb c k ≡ false = λ k d. ne-eqb c k (λ f. ⊎-elim (λ x. omega arith) (λ x. omega arith) d) in
       rw (
         lt-ltb c 0x80 (omega arith),

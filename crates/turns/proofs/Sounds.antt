@@ -10,7 +10,7 @@ use native.Mathlib.Omega.{arith}
 use borrow.Author.Tests.{eqb-true, leb-false, ltb-false, lt-ltb}
 use Rattle.refusal.specs.Refusals as refusal
 use Rattle.laws.specs.Quoted as quoted
-use Rattle.laws.proofs.Choice.{if-all, if-is}
+use Rattle.laws.proofs.Choice.{if-all, if-is, within-is}
 use Rattle.laws.specs.Lent.{written}
 use Rattle.laws.proofs.Lent.{length-written}
 use Rattle.chars.specs.declared.Begun as chars
@@ -21,7 +21,6 @@ use Rattle.chars.specs.Utf8.{ascii, first}
 use Rattle.chars.specs.Encode.{width, utf8}
 use Rattle.chars.specs.Blank.{isBlank}
 use Rattle.chars.specs.Machine.{step, told}
-use Rattle.chars.proofs.Table.{within-true}
 use Rattle.chars.proofs.Width.{wide, width-le, width-utf8}
 use Rattle.items.specs.Kinds as kind
 use Rattle.items.specs.declared.Outcome.{Outcome}
@@ -94,7 +93,7 @@ first-whole : (b : ℕ) → Whole 0 (first b)
 unfolding first
 first-whole b =
     let P : Step → Type 0 = Whole 0 in
-    if-is P (ascii b) (λ e. let h = within-true 0x00 0x7F b e in (width-one b (omega arith), omega arith)) (λ _.
+    if-is P (ascii b) (λ e. let h = within-is 0x00 0x7F b e in (width-one b (omega arith), omega arith)) (λ _.
     if-all P (within 0xC2 0xDF b) tt (if-all P (within 0xE0 0xE0 b) tt (if-all P (within 0xE1 0xEC b) tt (if-all P (within 0xED 0xED b) tt
     (if-all P (within 0xEE 0xEF b) tt (if-all P (within 0xF0 0xF0 b) tt (if-all P (within 0xF1 0xF3 b) tt (if-all P (within 0xF4 0xF4 b) tt tt))))))))
 
