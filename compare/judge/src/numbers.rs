@@ -3,7 +3,7 @@
 //! What the words say is put into the Rust's terms: a Small value, the digits at a Big's places as an integer, the digits at a
 //! decimal's places as the float that Rust's library parses them as, bit by bit; an implied part as the 0, 1 or -1 that it is.
 //! The Rust has one NaN for `+nan.0` and `-nan.0`, so its sign is compared with the text instead. Words that the layout leaves out
-//! must be 0, and memory past the words must be as it was.
+//! must be 0, and memory past the words must be as it was; of a refusal all but the first word, and with a word too few all.
 use crate::differences::{listed, rust_number, Called};
 use crate::tally::{shown, Count, Tally};
 use crate::Options;
@@ -31,7 +31,7 @@ enum Said {
     Called(Called),
     /// A refusal, and what it comes with.
     Refused(u32, u64),
-    /// Words that are laid out in no way that the library has.
+    /// Words that are laid out in no way that the library has, or written where none are due.
     Odd(u32, [u64; NUMBER_WORDS]),
 }
 
@@ -60,17 +60,18 @@ const PAST: usize = 2;
 
 fn proved_number(text: &[u8]) -> Said {
     let mut memory = [OLD; NUMBER_WORDS + PAST];
-    let few = proved::number(text, &mut memory[..NUMBER_WORDS - 1]);
-    assert_eq!(
-        (few, memory),
-        (proved::TOO_FEW, [OLD; NUMBER_WORDS + PAST]),
-        "too few words: 22, and nothing is written"
-    );
     let answer = proved::number(text, &mut memory);
     let words: [u64; NUMBER_WORDS] = memory[..NUMBER_WORDS].try_into().expect("as many words");
-    assert_eq!(memory[NUMBER_WORDS..], [OLD; PAST], "nothing is written past the words");
+    let mut short = [OLD; NUMBER_WORDS + PAST];
+    let few = proved::number(text, &mut short[..NUMBER_WORDS - 1]);
+    let refused = matches!(answer, proved::TOO_LONG | proved::NOT_UTF8);
+    let due = if refused { (answer, memory) } else { (proved::TOO_FEW, [OLD; NUMBER_WORDS + PAST]) };
+    if (few, short) != due || memory[NUMBER_WORDS..] != [OLD; PAST] {
+        return Said::Odd(few, words);
+    }
     let answered = |answer| Said::Called(Called::Answered(answer));
-    let bare = words[1..].iter().all(|&word| word == 0);
+    let rest = |stands: u64| words[1..].iter().all(|&word| word == stands);
+    let bare = rest(0);
     match answer {
         proved::A_NUMBER => match (Layout { text, words: &words }).number() {
             Some(number) => answered(NumberAnswer::Is(number)),
@@ -78,7 +79,7 @@ fn proved_number(text: &[u8]) -> Said {
         },
         proved::NO_NUMBER if bare && words[0] == 0 => answered(NumberAnswer::NoNumber),
         proved::ZERO_DENOMINATOR if bare && words[0] == 0 => answered(NumberAnswer::ZeroDenominator),
-        proved::TOO_LONG | proved::NOT_UTF8 if bare => Said::Refused(answer, words[0]),
+        _ if refused && rest(OLD) => Said::Refused(answer, words[0]),
         _ => Said::Odd(answer, words),
     }
 }
