@@ -28,12 +28,12 @@ use Rattle.items.specs.Classes.{firstOf, breaksWord, inWord, InHex, inHex, clos
 use Rattle.items.specs.Machine.{closeHex, onBrace, onHex, enterWord, onRun, stepOf, onFirst, scanOf}
 use Rattle.items.specs.Readers.{SoFar, soFar, eat, got, scalarOf, readItem, Read}
 use Rattle.items.proofs.Same.{item-same}
-use Rattle.report_plain.specs.AsPlain.{Alike, same, error, word, AsPlain, alike, ends}
+use Rattle.report_plain.specs.AsPlain.{same, error, word, AsPlain, alike, ends}
 
 -- ---- characters by lists of them
 
 -- a function that is a at each of the characters ks is a at one of them
-at-one-of : {A : Type 0} (f : ℕ → A) (a : A) (ks : List ℕ) (c : ℕ) → map f ks ≡ map (λ k. a) ks → oneOf ks c ≡ true → f c ≡ a
+pub at-one-of : {A : Type 0} (f : ℕ → A) (a : A) (ks : List ℕ) (c : ℕ) → map f ks ≡ map (λ k. a) ks → oneOf ks c ≡ true → f c ≡ a
 at-one-of f a [] c e h = cc
 at-one-of f a (k ∷ ks) c e h =
     by-bool (eqb c k)

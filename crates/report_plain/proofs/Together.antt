@@ -23,9 +23,9 @@ use Rattle.items.specs.declared.Outcome.{Outcome}
 use Rattle.items.specs.declared.Outcome.the-variants.{Token, Str, HereStr, Word, Run, Lined, Keyword, Character, Error, ErrorAt}
 use Rattle.items.specs.declared.Phase.{Phase}
 use Rattle.items.specs.Classes.{firstOf, numeric}
-use Rattle.items.specs.Items.{Place, unset, rangeAfter, Item, itemsOf, extentItems, itemsFrom, itemsAt, pastLine, afterPound, items, byteCount}
+use Rattle.items.specs.Items.{Place, unset, rangeAfter, Item, itemsOf, extentItems, itemsFrom, pastLine, afterPound, items, byteCount}
 use Rattle.items.specs.Machine.{stepOf, onFirst, scanOf}
-use Rattle.items.specs.Meaning.{Meaning, runMeans, lookup, lower, charNames, unnamed, beforeDelimiter, nameless, onlyOne, hexNamed, spelledOut, characterOf, charInside, characterMeans, meaningOf}
+use Rattle.items.specs.Meaning.{Meaning, runMeans, lookup, lower, charNames, unnamed, beforeDelimiter, nameless, onlyOne, spelledOut, characterOf, charInside, characterMeans, meaningOf}
 use Rattle.items.specs.Readers.{SoFar, soFar, eat, got, firstIs, readItem, Read}
 use Rattle.items.proofs.Same.{item-same}
 use Rattle.report_plain.specs.AsPlain.{Alike, AsPlain}
@@ -112,7 +112,7 @@ module _ (text : List ℕ) where
   extent-next : (ms ns : List Meaning) → Means ms ns → (l m : Place) (s e : ℕ) {is js : List Item} → Together text is js
       → Together text (itemsOf true l s e ms ++ is) (itemsOf false m s e ns ++ js)
   extent-next ms ns (equal xs) l m s e t = means-next xs l m s e t
-  extent-next ms ns Means.thirteen l m s e t = next (beside.Same.thirteen refl refl refl refl refl) t
+  extent-next ms ns Means.thirteen l m s e t = next (beside.Same.thirteen refl refl refl refl refl refl) t
 
   alike-next : (l m : Place) (s : ℕ) (o q : Outcome) (i : SoFar) {is js : List Item} → Alike (i .bytes) o q → Together text is js
       → Together text (extentItems true l s o i ++ is) (extentItems false m s q i ++ js)

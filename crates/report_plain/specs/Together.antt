@@ -18,8 +18,8 @@ pub data Means : List Meaning → List Meaning → Type 0 where
 -- two items that are the same but for their places, and for 13 and 10
 pub data Same (i j : Item) : Type 0 where
   same : i .kind ≡ j .kind → i .detail ≡ j .detail → i .start ≡ j .start → i .end ≡ j .end → i .text ≡ j .text → Same i j
-  thirteen : i .kind ≡ kind.firstError + kind.InvalidCharDelimiter → j .kind ≡ kind.firstError + kind.InvalidCharName → i .start ≡ j .start → i .end ≡ j .end
-      → i .text ≡ j .text → Same i j
+  thirteen : i .kind ≡ kind.firstError + kind.InvalidCharDelimiter → j .kind ≡ kind.firstError + kind.InvalidCharName → i .detail ≡ j .detail
+      → i .start ≡ j .start → i .end ≡ j .end → i .text ≡ j .text → Same i j
 
 -- the items of report mode, and those of plain mode
 pub data Together (text : List ℕ) : List Item → List Item → Type 0 where
