@@ -69,6 +69,11 @@ pub const FAMILIES: &[Family] = &[
     lists("comments", "all texts of up to 8 of 6 characters that make comments", short::comments),
     lists("brackets", "all texts of up to 6 of 10 brackets, comments, words and strings", short::brackets),
     lists("numbers", "all texts of up to 6 of 17 characters that make numbers", short::numbers),
+    lists(
+        "bars",
+        "all texts of up to 5 of 16 characters that make number runs and what ends them, vertical lines among it",
+        short::bars,
+    ),
     lists("bytes", "all byte sequences of up to 3 bytes", short::bytes),
     lists("long", "every kind of item, 4,090 to 4,102 bytes long", long::texts),
     draws("reals", "numbers by their grammar, some damaged", real::texts),

@@ -84,6 +84,12 @@ pub fn numbers(_: &mut Random, sink: &mut Sink) {
     all("", IN_NUMBERS, 6, sink);
 }
 
+const IN_BARS: &[&str] = &["0", "1", "+", "-", ".", "/", "e", "i", "n", "#x", "a", "|", ";", "\"", "\\", " "];
+
+pub fn bars(_: &mut Random, sink: &mut Sink) {
+    all("", IN_BARS, 5, sink);
+}
+
 pub fn bytes(_: &mut Random, sink: &mut Sink) {
     for n in 0..=3u32 {
         for value in 0..1u32 << (8 * n) {

@@ -1,5 +1,6 @@
 //! The whole-text call against the Rust: every word of every record, the parts of every number and the text memory, in both modes,
-//! with comments kept and skipped. Plain mode's judge is the Rust as it is; report mode's is the aid (`report`), with a number's ends and the places of errors changed.
+//! with comments kept and skipped. Plain mode's judge is the Rust as it is; report mode's is the Rust with one line changed, and the
+//! requests' rules on an error's place put on what it answers (`report`).
 //!
 //! Each text is read into memory that is just large enough, into memory with one record or one byte too few (22), and under a mode
 //! that is none (25); a text that is not UTF-8 is refused (21). Memory that a call must leave alone is compared too.
@@ -12,8 +13,8 @@ use std::panic::{self, AssertUnwindSafe};
 use std::str;
 
 const FAMILIES: &[&str] = &[
-    "short", "escapes", "hashes", "digits", "characters", "here", "comments", "brackets", "numbers", "long", "reals",
-    "nests", "plans", "damaged", "bad",
+    "short", "escapes", "hashes", "digits", "characters", "here", "comments", "brackets", "numbers", "bars", "long",
+    "reals", "nests", "plans", "damaged", "bad",
 ];
 
 /// How many texts of a family are read at most. Of the numbers those of up to 5 characters: the number call itself is compared on all

@@ -1,4 +1,4 @@
-//! Report mode's judge: the Rust with the ends of a number changed (`steel_report`), and with the requests' rules put on what it answers.
+//! Report mode's judge: the Rust with one line changed (`steel_report`), and the requests' rules put on what it answers.
 //! (ii): "In report mode an error that sets no range of its own now has its extent as place." (vii): "In report mode the place of error 11
 //! becomes the one failing character, or the empty position for detail 1, or the digit at which it overflowed for detail 3", and error 10
 //! is "13 if the name contains `;`, `"`, `'` or `,` after its first character, with the place of the first of these".

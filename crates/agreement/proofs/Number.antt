@@ -1,6 +1,6 @@
 -- Numbers: a number run goes on to a delimiter, and is one Number where its bytes are a number.
 use Prim.Native.Nat.{ℕ, _<_}
-use mathlib.Core.Path.{_≡_, refl, _∙_}
+use mathlib.Core.Path.{_≡_, refl, ap, _∙_}
 use mathlib.Core.Bool.{Bool, true, false}
 use mathlib.Core.List.{List, [], _∷_, _++_}
 use lib.ListN.{length, getD}
@@ -15,7 +15,7 @@ use Rattle.numbers.specs.Grammar.{justOf, zeroParts, judged, parseNumber}
 use Rattle.items.specs.declared.Outcome.the-variants.{Run}
 use Rattle.items.specs.Classes.{startsRun, firstOf, staysRun, endsRun, inRun, afterHash, number, stopsRun}
 use Rattle.items.specs.Meaning.{runMeans, none}
-use Rattle.items.specs.Readers.{got, readRun, readHash, readItem, SoFar}
+use Rattle.items.specs.Readers.{soFar, got, readRun, readHash, readItem, SoFar}
 use Rattle.items.specs.Kinds as kind
 use Rattle.agreement.specs.Delimiter.{numberDelimiters, Ends, atEnd, before}
 use Rattle.agreement.specs.Number.{Sign, no-sign, plus-sign, minus-sign, Infnan, plus-inf, minus-inf, plus-nan, minus-nan, RealText, a-real, an-infnan}
@@ -23,7 +23,7 @@ use Rattle.agreement.specs.Reading.{nothing, ReadAs}
 use Rattle.agreement.specs.Repeated.{Many, done, more}
 use Rattle.agreement.proofs.Classes.{at-one-of, many-all}
 use Rattle.agreement.proofs.Computed.{infnan-number}
-use Rattle.agreement.proofs.Reading.{eats, got-whole, read-one}
+use Rattle.agreement.proofs.Reading.{eats, eats-whole, got-whole, read-one}
 use Rattle.agreement.proofs.Reals.{many-map, many-append, Numeral, numeral-is, leaders, sign-numerals, shape, signed-text, real-parse, Shape}
 use Rattle.agreement.proofs.Ureal.{ureal-real}
 
@@ -38,15 +38,20 @@ unfolding readRun inRun
 run-stays report i cs done = refl
 run-stays report i cs (more h m) = rw (h, readRun) (run-stays report _ cs m)
 
-stops-run : (report : Bool) (c : ℕ) → oneOf (numberDelimiters report) c ≡ true → inRun report c ≡ stopsRun
+-- every delimiter ends a run that is a number; a vertical line no other
+stops-run : (report : Bool) (raw : List ℕ) {p : Parts} → parseNumber raw ≡ parsed.Is p → (c : ℕ) → oneOf (numberDelimiters report) c ≡ true → inRun report raw c ≡ stopsRun
 unfolding inRun staysRun endsRun isBlank
-stops-run true c h = at-one-of (inRun true) stopsRun (numberDelimiters true) c refl h
-stops-run false c h = at-one-of (inRun false) stopsRun (numberDelimiters false) c refl h
+stops-run true raw n c h = at-one-of (inRun true raw) stopsRun (numberDelimiters true) c (rw n) h
+stops-run false raw n c h = at-one-of (inRun false raw) stopsRun (numberDelimiters false) c refl h
 
-run-stops : (report : Bool) (i : SoFar) {cs : List ℕ} → Ends (numberDelimiters report) cs → readRun report i cs ≡ got Run i cs
+run-stops : (report : Bool) (i : SoFar) {p : Parts} {cs : List ℕ} → parseNumber (i .bytes) ≡ parsed.Is p → Ends (numberDelimiters report) cs → readRun report i cs ≡ got Run i cs
 unfolding readRun
-run-stops report i atEnd = refl
-run-stops report i (before {c = c} h) = rw (stops-run report c h, readRun)
+run-stops report i n atEnd = refl
+run-stops report i n (before {c = c} h) = rw (stops-run report (i .bytes) n c h, readRun)
+
+-- the bytes of a run are those of its characters
+run-number : (at : ℕ) (t : List ℕ) {p : Parts} → parseNumber (bytesOf t) ≡ parsed.Is p → parseNumber (eats (soFar [] at) t .bytes) ≡ parsed.Is p
+run-number at t n = ap (λ (i : SoFar). parseNumber (i .bytes)) (eats-whole at t) ∙ n
 
 begins-run : (c : ℕ) → startsRun c ≡ true → firstOf c ≡ number
 unfolding firstOf startsRun
@@ -64,7 +69,7 @@ module _ (report : Bool) (c : ℕ) {t cs : List ℕ} where
   number-run s m p n e = record {
     text = λ at. none;
     one = read-one report c t cs Run kind.Number 0 (λ at. none) (run-nonblank c s) refl
-        (λ at. rw (begins-run c s, readItem) (run-stays report _ cs m ∙ (run-stops report _ e ∙ got-whole Run at (c ∷ t) cs)))
+        (λ at. rw (begins-run c s, readItem) (run-stays report _ cs m ∙ (run-stops report _ (run-number at (c ∷ t) n) e ∙ got-whole Run at (c ∷ t) cs)))
         (λ last at. refl)
         (λ at. rw n);
     spells = λ at. refl;
@@ -77,7 +82,7 @@ module _ (report : Bool) (c : ℕ) {t cs : List ℕ} where
   prefixed-run s m p n e = record {
     text = λ at. none;
     one = read-one report (code "#") (c ∷ t) cs Run kind.Number 0 (λ at. none) refl refl
-        (λ at. rw (s, readHash) (run-stays report _ cs m ∙ (run-stops report _ e ∙ got-whole Run at (code "#" ∷ c ∷ t) cs)))
+        (λ at. rw (s, readHash) (run-stays report _ cs m ∙ (run-stops report _ (run-number at (code "#" ∷ c ∷ t) n) e ∙ got-whole Run at (code "#" ∷ c ∷ t) cs)))
         (λ last at. refl)
         (λ at. rw n);
     spells = λ at. refl;

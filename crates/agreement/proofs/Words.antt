@@ -131,17 +131,17 @@ pub data RunOrWord : Outcome → Type 0 where
 delimits : (f : ℕ → Bool) → map f delimiters ≡ map (λ k. false) delimiters → (c : ℕ) → oneOf delimiters c ≡ true → f c ≡ false
 delimits f e c h = at-one-of f false delimiters c e h
 
--- what ends a run breaks a word, a vertical line apart
-ends-breaks : (report : Bool) (c : ℕ) → eqb c (code "|") ≡ false → endsRun report c ≡ true → breaksWord c ≡ true
+-- what ends a run breaks a word
+ends-breaks : (report : Bool) (c : ℕ) → endsRun report c ≡ true → breaksWord c ≡ true
 unfolding endsRun breaksWord
-ends-breaks report c n h =
+ends-breaks report c h =
     by-bool (oneOf (codes "([)]{}'\"`;,") c)
     (λ e. rw e)
     (λ e. rw e
     (by-bool (oneOf (codes "()[]") c)
     (λ f. let z = at-one-of (λ k. oneOf (codes "([)]{}'\"`;,") k) true (codes "()[]") c refl f in cc)
-    (λ f. by-bool (oneOf (codes ";\"|") c)
-    (λ g. let z = at-one-of (λ k. if eqb k (code "|") then true else oneOf (codes "([)]{}'\"`;,") k) true (codes ";\"|") c refl g in let y = rw n at z in cc)
+    (λ f. by-bool (oneOf (codes ";\"") c)
+    (λ g. let z = at-one-of (λ k. oneOf (codes "([)]{}'\"`;,") k) true (codes ";\"") c refl g in cc)
     (λ g. rw (f, g) at h))))
 
 module _ (report : Bool) where
@@ -152,7 +152,7 @@ module _ (report : Bool) where
   run-ends (before {c = c} {cs = cs} h) =
       by-bool (endsRun report c)
       (λ e. (Run, run, λ i. rw (delimits staysRun refl c h, e, readRun)))
-      (λ e. (Word, word, λ i. rw (delimits staysRun refl c h, e, readRun) (word-begins report i c cs (delimits (λ k. eqb k (code "|")) refl c h) ∙ word-ends i (before h))))
+      (λ e. (Word, word, λ i. rw (delimits staysRun refl c h, e, delimits (λ k. eqb k (code "|")) refl c h, readRun) (word-begins report i c cs (delimits (λ k. eqb k (code "|")) refl c h) ∙ word-ends i (before h))))
 
   -- a run goes on to the end of an identifier
   run-on : {t cs : List ℕ} → Many Goes t → Ends delimiters cs → (o : Outcome) × (RunOrWord o) × ((i : SoFar) → readRun report i (t ++ cs) ≡ got o (eats i t) cs)
@@ -163,8 +163,8 @@ module _ (report : Bool) where
       by-bool (staysRun c)
       (λ f. (further .0, further .1, λ i. rw (f, readRun) (further .2 (eat i c))))
       (λ f. by-bool (endsRun report c)
-      (λ g. let z = ends-breaks report c (h .no-line) g in let y = rw z at (h .goes-on) in let w : _≡_ {A = ℕ} 0 1 = cc in absurd (omega arith))
-      (λ g. (Word, word, λ i. rw (f, g, readRun) (word-begins report i c (t ++ cs) (h .no-line) ∙ (word-on i cs (more h m) ∙ word-ends _ e)))))
+      (λ g. let z = ends-breaks report c g in let y = rw z at (h .goes-on) in let w : _≡_ {A = ℕ} 0 1 = cc in absurd (omega arith))
+      (λ g. (Word, word, λ i. rw (f, g, h .no-line, readRun) (word-begins report i c (t ++ cs) (h .no-line) ∙ (word-on i cs (more h m) ∙ word-ends _ e)))))
 
 -- ---- what words mean
 

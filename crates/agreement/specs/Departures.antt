@@ -142,12 +142,12 @@ table =
     ∷ row "B20" "#xe+1i" (identifier 0 6 ∷ [])
     -- <peculiar identifier> of two characters or more that begins with +: two identifiers of one extent
     ∷ row "B21" "+a" (sourced kind.Identifier 0 2 0 1 ∷ sourced kind.Identifier 0 2 1 2 ∷ [])
-    -- a vertical line is a <delimiter> after a sign and a dot: report mode reads what the standard has
-    ∷ moded "B22" "+|a|" (sourced kind.Identifier 0 4 0 1 ∷ sourced kind.Identifier 0 4 1 4 ∷ []) (identifier 0 1 ∷ lined 1 4 ∷ [])
+    -- a vertical line is a <delimiter> after a sign and a dot
+    ∷ row "B22" "+|a|" (sourced kind.Identifier 0 4 0 1 ∷ sourced kind.Identifier 0 4 1 4 ∷ [])
     -- and where the lines are empty or no plus stands before them
-    ∷ moded "B23" "-||" (failed kind.IncompleteIdentifier 0 0 3 ∷ []) (identifier 0 1 ∷ lined 1 3 ∷ [])
-    ∷ moded "B23" ".||" (failed kind.IncompleteIdentifier 0 0 3 ∷ []) (bare kind.Dot 0 0 1 ∷ lined 1 3 ∷ [])
-    -- and after a word, in neither mode
+    ∷ row "B23" "-||" (failed kind.IncompleteIdentifier 0 0 3 ∷ [])
+    ∷ row "B23" ".||" (failed kind.IncompleteIdentifier 0 0 3 ∷ [])
+    -- and after a word
     ∷ row "B24" "a||" (identifier 0 3 ∷ [])
     -- also where it is not closed
     ∷ row "B25" "a|" (identifier 0 2 ∷ [])

@@ -198,7 +198,7 @@ module _ (i : SoFar) (c : ℕ) where
   goes-on report ph.HereBody h = if-all G (hereEnds (i .bytes)) (here-string h) (here-on h)
   goes-on report ph.InWord h = goes-word (inWord c)
   goes-on report ph.WordEscape h = tt
-  goes-on report ph.InRun h = goes-run (inRun report c)
+  goes-on report ph.InRun h = goes-run (inRun report (i .bytes) c)
   goes-on report ph.InHash h = goes-hash (inHash c)
   goes-on report ph.HashEscape h = tt
   goes-on report ph.HashTick h = goes-then (hashKind (i .bytes)) (kind-hash (i .bytes))

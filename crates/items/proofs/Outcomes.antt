@@ -205,7 +205,7 @@ module _ (D : ℕ → Type 0) (small : (d : ℕ) → d < 2 ^ 32 → D d) (n : �
     goes-on report ph.HereBody h = if-is (Goes D n i c) (hereEnds (i .bytes)) (λ e. e) (λ e. tt)
     goes-on report ph.InWord h = goes-word (inWord c)
     goes-on report ph.WordEscape h = tt
-    goes-on report ph.InRun h = goes-run (inRun report c)
+    goes-on report ph.InRun h = goes-run (inRun report (i .bytes) c)
     goes-on report ph.InHash h = goes-hash (inHash c)
     goes-on report ph.HashEscape h = tt
     goes-on report ph.HashTick h = goes-then (hashKind (i .bytes)) (fine-kind D small n (i .bytes))

@@ -171,7 +171,7 @@ module _ (s : ℕ) (i : SoFar) (c : ℕ) (later : s ≤ i .at) where
   goes-on ph.HereBody h = if-all G (hereEnds (i .bytes)) tt tt
   goes-on ph.InWord h = goes-word (inWord c)
   goes-on ph.WordEscape h = tt
-  goes-on ph.InRun h = goes-run (inRun true c)
+  goes-on ph.InRun h = goes-run (inRun true (i .bytes) c)
   goes-on ph.InHash h = goes-hash (inHash c)
   goes-on ph.HashEscape h = tt
   goes-on ph.HashTick h = goes-then (hashKind (i .bytes)) (own-kind s (i .at) (i .bytes))

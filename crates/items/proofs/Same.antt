@@ -158,7 +158,7 @@ module _ (report : Bool) where
   run-same : (i : SoFar) (cs : List ℕ) → scanOf report ph.InRun i cs ≡ readRun report i cs
   unfolding scanOf readRun
   run-same i [] = refl
-  run-same i (c ∷ cs) = by-run (inRun report c)
+  run-same i (c ∷ cs) = by-run (inRun report (i .bytes) c)
       (λ e. rw (e, scanOf, readRun) (run-same (eat i c) cs))
       (λ e. rw (e, scanOf, readRun))
       (λ e. rw (e, scanOf, readRun) (enter-same i c cs))

@@ -1,11 +1,15 @@
 -- What a character is where it stands: the tests of the Rust's functions, one class type for each place, in the Rust's order.
 -- The readers and the machine go by these classes; where one certain character matters, such as a newline or `{`, they ask for it.
 use Prim.Native.Nat.{ℕ}
-use mathlib.Core.Bool.{Bool, true}
+use mathlib.Core.Bool.{Bool, true, false}
+use mathlib.Core.List.{List}
 use lib.Dec.{eqb}
 use Rattle.laws.specs.Choice.{if_then_else_}
 use Rattle.laws.specs.Quoted.{code, codes, oneOf}
 use Rattle.chars.specs.Blank.{isBlank}
+use Rattle.numbers.specs.Grammar.{parseNumber}
+use Rattle.numbers.specs.declared.Parsed.{Parsed}
+use Rattle.numbers.specs.declared.Parsed.the-variants as parsed
 use Rattle.items.specs.declared.Quotes.{Quotes}
 use Rattle.items.specs.declared.Quotes.the-variants.{Double, Lines}
 use Rattle.items.specs.Kinds as kind
@@ -141,18 +145,30 @@ pub data InRun : Type 0 where
 unfoldable pub staysRun : ℕ → Bool
 staysRun c = oneOf (codes "+-./@0123456789aAbBcCdDeEfFin") c
 
--- Which characters end a number run, so that it may be a number: round and square brackets and blanks; in report mode `;`, `"` and `|`
--- too, as R7RS's delimiters do (E8; 02 (iii), `12|Birch|`). At any other character the run goes on as a word: E16, `12,5`
+-- Which characters end a number run, so that it may be a number: round and square brackets and blanks; in report mode `;` and `"` too,
+-- as R7RS's delimiters do (E8). At any other character the run goes on as a word: E16, `12,5`
 unfoldable pub endsRun : Bool → ℕ → Bool
 endsRun report c =
     if oneOf (codes "()[]") c then true
-    else if oneOf (codes ";\"|") c then report
+    else if oneOf (codes ";\"") c then report
     else isBlank c
 
-unfoldable pub inRun : Bool → ℕ → InRun
-inRun report c =
+-- whether a run is a number, or error 8
+abbrev pub numeric : Parsed → Bool
+numeric (parsed.Is p) = true
+numeric parsed.NoNumber = false
+numeric parsed.ZeroDenominator = true
+
+-- In report mode a vertical line ends a run too, the bytes `raw` so far, where these are a number (02 (iii), `12|Birch|`). Where they are
+-- none the run goes on as in plain mode: `-|a|`
+abbrev pub barsRun : Bool → List ℕ → ℕ → Bool
+barsRun report raw c = if eqb c (code "|") then (if report then numeric (parseNumber raw) else false) else false
+
+unfoldable pub inRun : Bool → List ℕ → ℕ → InRun
+inRun report raw c =
     if staysRun c then stays
     else if endsRun report c then stopsRun
+    else if barsRun report raw c then stopsRun
     else leaves
 
 -- ---- after `#`: `Lexer::next`

@@ -93,20 +93,40 @@ table =
     -- E8, in both modes
     ∷ plain "14.7;gps" (sourced kind.Identifier 0 4 0 4 ∷ bare kind.Comment 0 4 8 ∷ []) []
     ∷ reported "14.7;gps" (bare kind.Number 0 0 4 ∷ bare kind.Comment 0 4 8 ∷ []) []
-    -- 02 (iii), in both modes: a vertical line ends a number run in report mode
+    -- 02 (iii), in both modes: a vertical line ends a number in report mode
     ∷ plain "12|Birch|" (error kind.IncompleteIdentifier 0 0 9 0 9 ∷ []) []
     ∷ reported "12|Birch|" (bare kind.Number 0 0 2 ∷ sourced kind.Identifier 2 9 3 8 ∷ []) []
+    ∷ plain "1||" (error kind.IncompleteIdentifier 0 0 3 0 3 ∷ []) []
     ∷ reported "1||" (bare kind.Number 0 0 1 ∷ sourced kind.Identifier 1 3 2 2 ∷ []) []
-    ∷ reported "-|a|" (sourced kind.Identifier 0 1 0 1 ∷ sourced kind.Identifier 1 4 2 3 ∷ []) []
-    ∷ plain "+|a|" (sourced kind.Identifier 0 4 0 1 ∷ sourced kind.Identifier 0 4 1 4 ∷ []) []
-    ∷ reported "+|a|" (sourced kind.Identifier 0 1 0 1 ∷ sourced kind.Identifier 1 4 2 3 ∷ []) []
-    ∷ reported "-||" (sourced kind.Identifier 0 1 0 1 ∷ sourced kind.Identifier 1 3 2 2 ∷ []) []
+    ∷ plain "12|" (error kind.IncompleteIdentifier 0 0 3 0 3 ∷ []) []
     ∷ reported "12|" (bare kind.Number 0 0 2 ∷ error kind.IncompleteIdentifier 0 2 3 2 3 ∷ []) []
+    ∷ plain "1/0|a|" (error kind.IncompleteIdentifier 0 0 6 0 6 ∷ []) []
     ∷ reported "1/0|a|" (error kind.ZeroDenominator 0 0 3 0 3 ∷ sourced kind.Identifier 3 6 4 5 ∷ []) []
+    ∷ plain "+5|a|" (sourced kind.Identifier 0 5 0 1 ∷ sourced kind.Identifier 0 5 1 5 ∷ []) []
+    ∷ reported "+5|a|" (bare kind.Number 0 0 2 ∷ sourced kind.Identifier 2 5 3 4 ∷ []) []
+    ∷ plain "+i|a|" (sourced kind.Identifier 0 5 0 1 ∷ sourced kind.Identifier 0 5 1 5 ∷ []) []
+    ∷ reported "+i|a|" (bare kind.Number 0 0 2 ∷ sourced kind.Identifier 2 5 3 4 ∷ []) []
     -- `#x` begins a number run too
+    ∷ plain "#x1F|a|" (error kind.IncompleteIdentifier 0 0 7 0 7 ∷ []) []
     ∷ reported "#x1F|a|" (bare kind.Number 0 0 4 ∷ sourced kind.Identifier 4 7 5 6 ∷ []) []
+    ∷ plain "12|a\\|" (error kind.IncompleteIdentifier 0 0 6 0 6 ∷ []) []
     ∷ reported "12|a\\|" (bare kind.Number 0 0 2 ∷ decoded kind.Identifier 2 6 0 2 ∷ []) (spelled "a|")
     ∷ reported "|a|12" (sourced kind.Identifier 0 3 1 2 ∷ bare kind.Number 0 3 5 ∷ []) []
+    -- a run that is no number goes on there, as in plain mode
+    ∷ plain "-|a|" (error kind.IncompleteIdentifier 0 0 4 0 4 ∷ []) []
+    ∷ reported "-|a|" (error kind.IncompleteIdentifier 0 0 4 0 4 ∷ []) []
+    ∷ plain "+|a|" (sourced kind.Identifier 0 4 0 1 ∷ sourced kind.Identifier 0 4 1 4 ∷ []) []
+    ∷ reported "+|a|" (sourced kind.Identifier 0 4 0 1 ∷ sourced kind.Identifier 0 4 1 4 ∷ []) []
+    ∷ plain "-||" (error kind.IncompleteIdentifier 0 0 3 0 3 ∷ []) []
+    ∷ reported "-||" (error kind.IncompleteIdentifier 0 0 3 0 3 ∷ []) []
+    ∷ plain ".||" (error kind.IncompleteIdentifier 0 0 3 0 3 ∷ []) []
+    ∷ reported ".||" (error kind.IncompleteIdentifier 0 0 3 0 3 ∷ []) []
+    ∷ plain "1a|b|" (error kind.IncompleteIdentifier 0 0 5 0 5 ∷ []) []
+    ∷ reported "1a|b|" (error kind.IncompleteIdentifier 0 0 5 0 5 ∷ []) []
+    ∷ plain "#xn|a|" (error kind.IncompleteIdentifier 0 0 6 0 6 ∷ []) []
+    ∷ reported "#xn|a|" (error kind.IncompleteIdentifier 0 0 6 0 6 ∷ []) []
+    ∷ plain "#xZ|a|" (sourced kind.Identifier 0 6 0 6 ∷ []) []
+    ∷ reported "#xZ|a|" (sourced kind.Identifier 0 6 0 6 ∷ []) []
     -- a word still goes on there
     ∷ reported "a|b|" (sourced kind.Identifier 0 4 0 4 ∷ []) []
     -- E9
@@ -145,7 +165,7 @@ table =
     ∷ reported "|\\x100000000;" (error kind.InvalidHexEscapeLiteral 3 0 13 11 12 ∷ []) []
     -- lines after a plus, and after `#<`
     ∷ plain "+|\\xG;" (error kind.InvalidHexEscapeLiteral 2 0 6 2 6 ∷ []) []
-    ∷ reported "+|\\xG;" (sourced kind.Identifier 0 1 0 1 ∷ error kind.InvalidHexEscapeLiteral 2 1 6 4 5 ∷ []) []
+    ∷ reported "+|\\xG;" (error kind.InvalidHexEscapeLiteral 2 0 6 4 5 ∷ []) []
     ∷ reported "#<|\\xG;" (error kind.InvalidHexEscapeLiteral 2 0 7 5 6 ∷ []) []
     ∷ plain "#\\x4G" (error kind.InvalidHexEscapeLiteral 2 0 5 0 5 ∷ []) []
     ∷ reported "#\\x4G" (error kind.InvalidHexEscapeLiteral 2 0 5 4 5 ∷ []) []

@@ -232,7 +232,7 @@ readWord report i (c ∷ cs) = elim (eqb c (code "|")) [ true ↦ readQuoted rep
 
 unfoldable pub readRun : Bool → SoFar → List ℕ → Read
 readRun report i [] = got Run i []
-readRun report i (c ∷ cs) = elim (inRun report c) [
+readRun report i (c ∷ cs) = elim (inRun report (i .bytes) c) [
   | stays ↦ readRun report (eat i c) cs
   | stopsRun ↦ got Run i (c ∷ cs)
   | leaves ↦ readWord report i (c ∷ cs)

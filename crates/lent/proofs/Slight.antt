@@ -171,7 +171,7 @@ module _ (i : SoFar) (c : ℕ) (small : Small c) where
   slight-step report ph.HereBody h = if-all Eaten (hereEnds (i .bytes)) tt tt
   slight-step report ph.InWord h = slight-word (inWord c)
   slight-step report ph.WordEscape h = tt
-  slight-step report ph.InRun h = slight-run (inRun report c)
+  slight-step report ph.InRun h = slight-run (inRun report (i .bytes) c)
   slight-step report ph.InHash h = slight-hash (inHash c)
   slight-step report ph.HashEscape h = tt
   slight-step report ph.HashTick h = slight-kind

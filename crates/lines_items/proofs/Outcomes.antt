@@ -328,7 +328,7 @@ module _ (M : ℕ → Type 0) (report : Bool) where
     goes-on ph.HereBody h = if-all Goes (hereEnds (i .bytes)) h (third-stays h)
     goes-on ph.InWord h = goes-word (inWord c)
     goes-on ph.WordEscape h = tt
-    goes-on ph.InRun h = goes-run (inRun report c)
+    goes-on ph.InRun h = goes-run (inRun report (i .bytes) c)
     goes-on ph.InHash h = goes-hash (inHash c)
     goes-on ph.HashEscape h = tt
     goes-on ph.HashTick h = goes-then (hashKind (i .bytes)) (known-kind (i .bytes))

@@ -255,7 +255,7 @@ module _ (i : SoFar) (c : ℕ) (some : 1 ≤ length (i .bytes)) (fits : length (
   goes-on report ph.HereBody h = if-all G (hereEnds (i .bytes)) tt tt
   goes-on report ph.InWord h = goes-word (inWord c)
   goes-on report ph.WordEscape h = tt
-  goes-on report ph.InRun h = goes-run (inRun report c)
+  goes-on report ph.InRun h = goes-run (inRun report (i .bytes) c)
   goes-on report ph.InHash h = goes-hash (inHash c)
   goes-on report ph.HashEscape h = tt
   goes-on report ph.HashTick h = goes-then (hashKind (i .bytes)) (hash-ranges (i .bytes))

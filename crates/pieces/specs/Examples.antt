@@ -82,6 +82,9 @@ table =
     -- 02 (iii): in report mode a number ends at a vertical line
     ∷ reported "12|Birch|" (texted kind.Number 0 2 "12" ∷ texted kind.Identifier 2 9 "Birch" ∷ [])
     ∷ reported "1|a|" (texted kind.Number 0 1 "1" ∷ texted kind.Identifier 1 4 "a" ∷ [])
+    -- and what is no number goes on there, as in plain mode
+    ∷ reported "-|a|" (error kind.IncompleteIdentifier 0 0 4 0 4 ∷ [])
+    ∷ reported "+|a|" (texted kind.Identifier 0 4 "+" ∷ texted kind.Identifier 0 4 "|a|" ∷ [])
     -- E9 and E11: decoded text
     ∷ plain "|a\\|" (texted kind.Identifier 0 4 "a|" ∷ [])
     ∷ plain "\"\\x+41;\"" (texted kind.StringLiteral 0 8 "A" ∷ [])

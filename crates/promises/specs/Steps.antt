@@ -4,12 +4,15 @@ use mathlib.Core.Path.{_≡_, refl}
 use mathlib.Core.Bool.{true, false}
 use mathlib.Core.List.{[], _∷_}
 use Rattle.laws.specs.Quoted.{code, codes, within}
-use Rattle.laws.specs.Texts.{span, begins, same}
+use Rattle.laws.specs.Texts.{span, starts, begins, same}
 use Rattle.chars.specs.Encode.{isScalar, utf8, width, encode, bytesOf, spelled}
 use Rattle.chars.specs.Blank.{isBlank}
 use Rattle.chars.specs.Utf8.{first, rest, front}
-use Rattle.digits.specs.Digits.{digitOf}
+use Rattle.digits.specs.Digits.{digitOf, sign, uinteger, value, fit, signed, wholeOf, integer}
 use Rattle.digits.specs.Hex.{hexDigits, hexAfterPlus, hexValue}
+use Rattle.numbers.specs.Reals.{exponentMarker, exponent, suffix, pointOf, dotted, undotted, decimal, infnan, integralOf, rationalOf, denominator, exact, orElse, ureal, real}
+use Rattle.numbers.specs.Grammar.{justOf, complexOf, polarOf, endsI, imaginary, aloneOf, pairOf, toSign, startsE, rectangular, complex}
+use Rattle.numbers.specs.Grammar.{zeroInt, zeroReal, zeroParts, judged, radixMark, prefix, parseNumber}
 use Rattle.items.specs.Kinds as kind
 use Rattle.items.specs.Classes.{startsRun, firstOf, inQuotes, afterBackslash, stopsHex, inHex, inTrim, inNest, breaksWord, inWord, staysRun, endsRun, inRun, afterHash}
 use Rattle.items.specs.Machine.{onFirst, stepOf, finishOf, scanOf}
@@ -26,9 +29,12 @@ pub record Rows : Type 0 where
   -- step: a semicolon ends a number run in report mode alone (E8)
   pub semicolon : stepOf false ph.InRun (soFar (spelled "14.7") 4) (code ";") ≡ Stop Word
   pub reported : stepOf true ph.InRun (soFar (spelled "14.7") 4) (code ";") ≡ Stop Run
-  -- so does a vertical line, which in plain mode goes on to the next one (E13)
+  -- so does a vertical line after a number, which in plain mode goes on to the next one (E13)
   pub bar : stepOf false ph.InRun (soFar (spelled "12") 2) (code "|") ≡ Eat (ph.Quoted Lines)
   pub reported-bar : stepOf true ph.InRun (soFar (spelled "12") 2) (code "|") ≡ Stop Run
+  pub reported-zero : stepOf true ph.InRun (soFar (spelled "1/0") 3) (code "|") ≡ Stop Run
+  -- where the run is no number it goes on in report mode too
+  pub reported-sign : stepOf true ph.InRun (soFar (spelled "-") 1) (code "|") ≡ Eat (ph.Quoted Lines)
   -- what breaks a hex escape off lies in its extent and not in its place
   pub broken : stepOf false (ph.Hex Double (code ";") 1 3) (soFar (spelled "\"\\x4") 4) (code "\"") ≡ Eat (ph.Done (ErrorAt kind.UnclosedHexEscape (code ";") 1 4))
   -- digits that fail: in plain mode the whole escape is the place, in report mode what fails (02 (vii))
@@ -45,9 +51,11 @@ pub record Rows : Type 0 where
 
 rows : Rows
 -- the list only permits the computing
-unfolding within span begins same isScalar utf8 width encode bytesOf isBlank first rest front digitOf hexDigits hexAfterPlus hexValue
-    startsRun firstOf inQuotes afterBackslash stopsHex inHex inTrim inNest breaksWord inWord staysRun endsRun inRun afterHash linedOf
-    scalarOf pastFailing scanOf
+unfolding within span starts begins same isScalar utf8 width encode bytesOf isBlank first rest front digitOf sign uinteger value fit signed
+    wholeOf integer hexDigits hexAfterPlus hexValue exponentMarker exponent suffix pointOf dotted undotted decimal infnan integralOf
+    rationalOf denominator exact orElse ureal real justOf complexOf polarOf endsI imaginary aloneOf pairOf toSign startsE rectangular
+    complex zeroInt zeroReal zeroParts judged radixMark prefix parseNumber startsRun firstOf inQuotes afterBackslash stopsHex inHex inTrim
+    inNest breaksWord inWord staysRun endsRun inRun afterHash linedOf scalarOf pastFailing scanOf
 rows = record {
   comma = refl;
   comma-at = refl;
@@ -55,6 +63,8 @@ rows = record {
   reported = refl;
   bar = refl;
   reported-bar = refl;
+  reported-zero = refl;
+  reported-sign = refl;
   broken = refl;
   unreported = refl;
   failing = refl;

@@ -94,7 +94,7 @@ pub fn step(report: bool, phase: Phase, raw: &[u8], at: usize, c: u32) -> Next
         Phase::HereBody => here::here_body(raw),
         Phase::InWord => words::read_word(c),
         Phase::WordEscape => Next::Eat(Phase::InWord),
-        Phase::InRun => words::read_number(report, c),
+        Phase::InRun => words::read_number(report, raw, c),
         Phase::InHash => hash::read_hash_value(raw, c),
         Phase::HashEscape => Next::Eat(Phase::InHash),
         Phase::HashTick => hash::hash_then(hash::hash_kind(raw), c),

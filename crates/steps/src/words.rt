@@ -5,9 +5,12 @@ use items::Next;
 use items::Outcome;
 use items::Phase;
 use items::Quotes;
+use numbers::Parsed;
+use numbers::parse_number;
 ghost use mathlib.Core.Path.{_≡_};
 ghost use Rattle.laws.specs.Quoted.{codes, oneOf};
-ghost use Rattle.items.specs.Classes.{breaksWord, inWord, staysRun, endsRun, inRun};
+ghost use Rattle.numbers.specs.Grammar.{parseNumber};
+ghost use Rattle.items.specs.Classes.{breaksWord, inWord, staysRun, endsRun, numeric, barsRun, inRun};
 ghost use Rattle.items.specs.Machine.{onWord, enterWord, onRun};
 
 // Whether a character ends a word.
@@ -73,26 +76,53 @@ pub(crate) fn stays_run(c: u32) -> bool
     }
 }
 
-// Whether a character ends a number run, so that it may be a number. The one place where report mode differs.
+// Whether a character ends a number run, so that it may be a number, whatever its bytes are. With `bars_run` the one place where report
+// mode differs in where an item ends.
 pub(crate) fn ends_run(report: bool, c: u32) -> bool
     ensures { λ r. ⌜ r ≡ endsRun report c ⌝ }
 {
     match c {
         OPEN_ROUND | OPEN_SQUARE => true,
         CLOSE_ROUND | CLOSE_SQUARE => true,
-        SEMICOLON | DOUBLE_QUOTE | VERTICAL => report,
+        SEMICOLON | DOUBLE_QUOTE => report,
         _ => is_blank(c),
     }
 }
 
-// In a number run: `read_number`.
-pub(crate) fn read_number(report: bool, c: u32) -> Next
-    ensures { λ r. ⌜ r ≡ onRun (inRun report c) c ⌝ }
+// Whether the bytes of a number run are a number, or error 8.
+fn is_numeric(raw: &[u8]) -> bool
+    ensures { λ r. ⌜ r ≡ numeric (parseNumber (now (raw .entry))) ⌝ }
+{
+    match parse_number(raw) {
+        Parsed::Is(_parts) => true,
+        Parsed::NoNumber => false,
+        Parsed::ZeroDenominator => true,
+    }
+}
+
+// Whether a character is a vertical line that ends a number run: in report mode, where the run's bytes are a number.
+fn bars_run(report: bool, raw: &[u8], c: u32) -> bool
+    ensures { λ r. ⌜ r ≡ barsRun report (now (raw .entry)) c ⌝ }
+{
+    if c == VERTICAL {
+        if report {
+            return is_numeric(raw);
+        }
+    }
+    false
+}
+
+// In a number run, whose bytes so far are `raw`: `read_number`.
+pub(crate) fn read_number(report: bool, raw: &[u8], c: u32) -> Next
+    ensures { λ r. ⌜ r ≡ onRun (inRun report (now (raw .entry)) c) c ⌝ }
 {
     if stays_run(c) {
         return Next::Eat(Phase::InRun);
     }
     if ends_run(report, c) {
+        return Next::Stop(Outcome::Run);
+    }
+    if bars_run(report, raw, c) {
         return Next::Stop(Outcome::Run);
     }
     enter_word(c)

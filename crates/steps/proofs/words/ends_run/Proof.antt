@@ -1,4 +1,4 @@
--- The arms are the characters of `endsRun`, three of them as the mode says; else blanks decide.
+-- The arms are the characters of `endsRun`, two of them as the mode says; else blanks decide.
 use mathlib.Core.Logic.{inl, inr, ⊎-elim}
 use borrow.Author.Tests.{ne-eqb}
 use borrow.Author.Needs.{needs}
@@ -19,7 +19,7 @@ returns-2 c = ⊎-elim (λ h. rw h) (λ h. rw h) (c .match .keys2)
 
 returns-3 : tie.Need-returns-3
 unfolding endsRun
-returns-3 c = ⊎-elim (λ h. rw h) (⊎-elim (λ h. rw h) (λ h. rw h)) (c .match .keys3)
+returns-3 c = ⊎-elim (λ h. rw h) (λ h. rw h) (c .match .keys3)
 
 returns-4 : tie.Need-returns-4
 unfolding endsRun
@@ -29,8 +29,7 @@ returns-4 c = simp (
   ne-eqb _ _ (λ h. c .before .match .rest .0 .1 (inl h)),
   ne-eqb _ _ (λ h. c .before .match .rest .0 .1 (inr h)),
   ne-eqb _ _ (λ h. c .before .match .rest .1 (inl h)),
-  ne-eqb _ _ (λ h. c .before .match .rest .1 (inr (inl h))),
-  ne-eqb _ _ (λ h. c .before .match .rest .1 (inr (inr h))),
+  ne-eqb _ _ (λ h. c .before .match .rest .1 (inr h)),
   c .is-blank .ensures,
 )
 

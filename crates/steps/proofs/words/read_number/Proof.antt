@@ -19,14 +19,26 @@ returns-2 : tie.Need-returns-2
 unfolding inRun
 returns-2 c = simp (sym (c .before .before .before .stays-run .ensures) ∙ c .before .before .if1 .left, sym (c .before .ends-run .ensures) ∙ c .if2 .taken)
 
-enter-word-requires : tie.Need-enter-word-requires
-enter-word-requires c κs = search needs
+bars-run-requires : tie.Need-bars-run-requires
+bars-run-requires c κs = search needs
 
 returns-3 : tie.Need-returns-3
 unfolding inRun
 returns-3 c = simp (
-  sym (c .before .before .before .before .stays-run .ensures) ∙ c .before .before .before .if1 .left,
-  sym (c .before .before .ends-run .ensures) ∙ c .before .if2 .left,
+  sym (c .before .before .before .before .before .stays-run .ensures) ∙ c .before .before .before .before .if1 .left,
+  sym (c .before .before .before .ends-run .ensures) ∙ c .before .before .if2 .left,
+  sym (c .before .bars-run .ensures) ∙ c .if3 .taken,
+)
+
+enter-word-requires : tie.Need-enter-word-requires
+enter-word-requires c κs = search needs
+
+returns-4 : tie.Need-returns-4
+unfolding inRun
+returns-4 c = simp (
+  sym (c .before .before .before .before .before .before .stays-run .ensures) ∙ c .before .before .before .before .before .if1 .left,
+  sym (c .before .before .before .before .ends-run .ensures) ∙ c .before .before .before .if2 .left,
+  sym (c .before .before .bars-run .ensures) ∙ c .before .if3 .left,
   c .enter-word .ensures,
 )
 
@@ -38,5 +50,7 @@ read-number-spec =
     returns
     ends-run-requires
     returns-2
+    bars-run-requires
+    returns-3
     enter-word-requires
-    returns-3)
+    returns-4)
