@@ -137,6 +137,12 @@ MIHADRENA_ASSERT(sizeof(mihadrena_record) == 4 * MIHADRENA_RECORD_WORDS, "a reco
 /* Of the coordinate calls. */
 #define MIHADRENA_NO_COORDINATE 28 /* no decimal, or too many digits or too large an exponent for one exact step: 0 */
 
+/* Of item files: the reader's come with the number in the file at which it fails, the writer's with the record. */
+#define MIHADRENA_CUT_SHORT 29    /* a number, or the item, is cut short */
+#define MIHADRENA_WRONG_NUMBER 30 /* a number longer than needed, over 32 bits, or with a fifth group that goes on */
+#define MIHADRENA_OVER_SUM 31     /* a start or an end over 32 bits */
+#define MIHADRENA_GOES_BACK 32    /* an item starts before the one before it, or its extent, place or text ends before it starts */
+
 /* Of the line calls. */
 #define MIHADRENA_LINES_NO_ROOM 33 /* the line starts, or the answers, don't fit: how many words are needed */
 #define MIHADRENA_NO_PLACE 34      /* the place lies past the end or inside a character: the place */
@@ -145,6 +151,9 @@ MIHADRENA_ASSERT(sizeof(mihadrena_record) == 4 * MIHADRENA_RECORD_WORDS, "a reco
 #define MIHADRENA_NO_PARTY 35 /* the party is neither of the two: 0 */
 #define MIHADRENA_NO_ROOM 36  /* the name is absent, and the party's own half lacks the entry or the bytes: 0 */
 #define MIHADRENA_NO_NAME 37  /* there is no such number: 0 */
+
+/* Of many fields in one call. */
+#define MIHADRENA_BAD_ENDS 38 /* the ends go back or pass the source: 0 */
 
 /* Of mihadrena_number_by. */
 #define MIHADRENA_UNKNOWN_CHOICE 39 /* the choice of reader is neither of the two: 0, and no word is written */
@@ -158,6 +167,9 @@ MIHADRENA_ASSERT(sizeof(mihadrena_record) == 4 * MIHADRENA_RECORD_WORDS, "a reco
 #define MIHADRENA_TOO_DEEP 44      /* a bracket, a mark or #; inside MIHADRENA_DEEPEST others */
 #define MIHADRENA_ERROR_ITEM 45    /* an error: ## */
 #define MIHADRENA_FEW_NODES 46     /* the nodes do not fit */
+
+/* Of writing a plan back. */
+#define MIHADRENA_UNWRITTEN 47 /* an error or comment item: its record */
 
 /* What is lent is not what it should be: of mihadrena_nest a kind or a detail that no record has, of the line calls an index that isn't the
  * text's, which comes with 0. */

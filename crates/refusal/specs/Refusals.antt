@@ -65,6 +65,24 @@ limit = 4294967295
 abbrev pub noCoordinate : ℕ
 noCoordinate = 28
 
+-- ---- item files; the reader's with the number in the file, the writer's with the record
+
+-- a number, or the item, is cut short
+abbrev pub cutShort : ℕ
+cutShort = 29
+
+-- a number longer than needed, over 32 bits, or with a fifth group that goes on
+abbrev pub wrongNumber : ℕ
+wrongNumber = 30
+
+-- a start or an end over 32 bits
+abbrev pub overSum : ℕ
+overSum = 31
+
+-- an item that starts before the one before it, or whose extent, place or text ends before it starts
+abbrev pub goesBack : ℕ
+goesBack = 32
+
 -- ---- line and column
 
 -- the line starts, or the answers, don't fit; with the number needed
@@ -88,6 +106,12 @@ noRoom = 36
 -- there is no name of this number
 abbrev pub noName : ℕ
 noName = 37
+
+-- ---- many fields in one call
+
+-- the ends go back or pass the source; with 0
+abbrev pub badEnds : ℕ
+badEnds = 38
 
 -- ---- the number call
 
@@ -125,8 +149,14 @@ errorItem = 45
 abbrev pub fewNodes : ℕ
 fewNodes = 46
 
+-- ---- writing a plan back
+
+-- an error or comment item, which is not written; with its record
+abbrev pub unwritten : ℕ
+unwritten = 47
+
 -- ---- what is lent is not what it should be
 
--- a kind or a detail that no record has; an index that is not the text's
+-- a kind or a detail that no record has, an extent or a text that is not whole characters of what is lent; an index that is not the text's
 abbrev pub alien : ℕ
 alien = 48

@@ -52,6 +52,20 @@ pub const LIMIT_VALUE: u64 = LIMIT as u64;
 // the text is not one decimal, or has too many digits or too large an exponent
 pub const NO_COORDINATE: u32 = 28;
 
+// ---- item files; the reader's with the number in the file, the writer's with the record
+
+// a number, or the item, is cut short
+pub const CUT_SHORT: u32 = 29;
+
+// a number longer than needed, over 32 bits, or with a fifth group that goes on
+pub const WRONG_NUMBER: u32 = 30;
+
+// a start or an end over 32 bits
+pub const OVER_SUM: u32 = 31;
+
+// an item that starts before the one before it, or whose extent, place or text ends before it starts
+pub const GOES_BACK: u32 = 32;
+
 // ---- line and column
 
 // the line starts, or the answers, don't fit; with the number needed
@@ -70,6 +84,11 @@ pub const NO_ROOM: u32 = 36;
 
 // there is no name of this number
 pub const NO_NAME: u32 = 37;
+
+// ---- many fields in one call
+
+// the ends go back or pass the source; with 0
+pub const BAD_ENDS: u32 = 38;
 
 // ---- the number call
 
@@ -99,7 +118,12 @@ pub const ERROR_ITEM: u32 = 45;
 // the nodes do not fit; with 0
 pub const FEW_NODES: u32 = 46;
 
+// ---- writing a plan back
+
+// an error or comment item, which is not written; with its record
+pub const UNWRITTEN: u32 = 47;
+
 // ---- what is lent is not what it should be
 
-// a kind or a detail that no record has; an index that is not the text's
+// a kind or a detail that no record has, an extent or a text that is not whole characters of what is lent; an index that is not the text's
 pub const ALIEN: u32 = 48;

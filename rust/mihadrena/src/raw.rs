@@ -108,11 +108,16 @@ pub const NO_MODE: u32 = 25;
 pub const AFTER_END: u32 = 26;
 pub const OUT_OF_BOUNDS: u32 = 27;
 pub const NO_COORDINATE: u32 = 28;
+pub const CUT_SHORT: u32 = 29;
+pub const WRONG_NUMBER: u32 = 30;
+pub const OVER_SUM: u32 = 31;
+pub const GOES_BACK: u32 = 32;
 pub const LINES_NO_ROOM: u32 = 33;
 pub const NO_PLACE: u32 = 34;
 pub const NO_PARTY: u32 = 35;
 pub const NO_ROOM: u32 = 36;
 pub const NO_NAME: u32 = 37;
+pub const BAD_ENDS: u32 = 38;
 pub const UNKNOWN_CHOICE: u32 = 39;
 pub const BRACKET_OPEN: u32 = 40;
 pub const WRONG_CLOSE: u32 = 41;
@@ -121,6 +126,7 @@ pub const MARK_WAITS: u32 = 43;
 pub const TOO_DEEP: u32 = 44;
 pub const ERROR_ITEM: u32 = 45;
 pub const FEW_NODES: u32 = 46;
+pub const UNWRITTEN: u32 = 47;
 pub const ALIEN: u32 = 48;
 
 /// The longest text, in bytes.
