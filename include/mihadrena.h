@@ -124,7 +124,8 @@ MIHADRENA_ASSERT(sizeof(mihadrena_record) == 4 * MIHADRENA_RECORD_WORDS, "a reco
 /* A refused call changes nothing that it was lent but its values; of mihadrena_number and mihadrena_number_by the first word, of the
  * coordinate calls `place`, of the name table's calls the numbers that they tell, which are then 0. Reading in pieces, a stop (20, 21 and
  * 23) changes the state too, and mihadrena_open makes a plain state of a mode that is none. With each stands what it comes with: a call
- * that is lent values puts that into values[0], a second number into values[1]. */
+ * that is lent values puts that into values[0], a second number into values[1], which is 0 where there is none; a piece or end call has
+ * the bytes taken there. */
 #define MIHADRENA_TOO_LONG 20      /* the text exceeds MIHADRENA_LONGEST bytes: MIHADRENA_LONGEST */
 #define MIHADRENA_NOT_UTF8 21      /* bytes aren't UTF-8: the start of the first bad sequence */
 #define MIHADRENA_TOO_FEW 22       /* records or text memory are too few: items and text bytes needed */
@@ -415,7 +416,7 @@ static inline const uint8_t *mihadrena_text(const mihadrena_record *record, cons
 
 typedef struct mihadrena_figure {
     uint64_t has;
-    uint64_t minus; /* 1 for a minus sign */
+    uint64_t minus; /* 1 for a minus sign; of an integer, a numerator or a denominator that is zero 0: -0 */
     uint64_t first;
     uint64_t second;
 } mihadrena_figure;
@@ -567,7 +568,7 @@ uint32_t mihadrena_lines(const uint8_t *text, size_t text_length, uint32_t *inde
 
 /* Line and column of a byte place, in values[0] and values[1]; the end of the text is a place. MIHADRENA_ALIEN, also of a text that has no
  * index, before MIHADRENA_NO_PLACE. Each call holds the index against the text, one pass over it: for many places see
- * mihadrena_locate_all.
+ * mihadrena_locate_all. `place` is a size_t, as a length is; mihadrena_locate_all takes places of 32 bits, as records have them.
  *
  *     mihadrena_locate((const uint8_t *)"a\n\xce\xbb" "b\n", 6, index, 3, 4, values, 2);  // line 2, column 2
  */
@@ -643,7 +644,8 @@ MIHADRENA_ASSERT(sizeof(mihadrena_node) == 4 * MIHADRENA_NODE_WORDS, "a node is 
  *
  * MIHADRENA_SERVED: values[0] is how many nodes were written; all memory behind them stays as it was. A refused call writes no node, and
  * values[0] is what it comes with. With no room for a value none is written. There are never more nodes than records. The records' depths
- * are not looked at.
+ * are not looked at. Words behind the last whole record, where records_length is no multiple of MIHADRENA_RECORD_WORDS, are no record; so
+ * with nodes_length, of which nodes_length / MIHADRENA_NODE_WORDS nodes are the room.
  *
  *     // records of (a), from mihadrena_read
  *     mihadrena_node nodes[3];
