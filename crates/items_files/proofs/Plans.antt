@@ -1,0 +1,204 @@
+-- A plan that was read can be stored: the records of every text that the whole-text call served go on, so the writer never answers 32.
+use mathlib.Core.Path.{_≡_, refl, sym, ap, _∙_, subst}
+use mathlib.Core.Bool.{Bool, _&&_}
+use mathlib.Core.List.{List, [], _∷_, _++_}
+use mathlib.Core.Logic.{⊎-elim}
+use Prim.Native.Nat.{ℕ, _+_, _-_, _*_, _/_, _%_, _^_, _≤_, _<_}
+use native.Mathlib.Omega.{arith}
+use lib.ListN.{length, take, drop, length-append}
+use lib.Seq.{take-at, take-all}
+use lib.Dec.{eqb, leb, ltb}
+use borrow.Author.Tests.{le-ltb, ltb-false}
+use Rattle.laws.specs.Lent.{written}
+use Rattle.laws.proofs.Choice.{if-all, if-is}
+use Rattle.chars.specs.Utf8.{chars, firstBad}
+use Rattle.chars.specs.declared.Utf8.{Utf8}
+use Rattle.chars.specs.declared.Utf8.the-variants.{Good, Bad}
+use Rattle.chars.specs.Encode.{isScalar}
+use Rattle.chars.proofs.Good.{Scalars, good-bytes, good-scalars}
+use Rattle.chars.proofs.Scalar.{scalar-true}
+use Rattle.refusal.specs.Refusals as refusal
+use Rattle.items.specs.Items.{Item, items, kept, records, recordOf, depthAfter, memoryOf, texts, byteCount, recordWords}
+use Rattle.items.specs.Meaning.{Text, none, source, decoded}
+use Rattle.items.specs.Whole.{Call, call, limit, isMode, inReport, itemsIn, deliver, ifGood}
+use Rattle.items.specs.Whole as whole
+use Rattle.items.specs.Kinds as kind
+use Rattle.items.proofs.Every.{Every, every-then}
+use Rattle.items.proofs.Fit.{Fits, records-length, records-fit}
+use Rattle.items.proofs.Meanings.{Inside}
+use Rattle.items.proofs.Order.{Follows, InOrder, Placed, items-placed, items-order}
+use Rattle.items.proofs.Skipped.{kept-every}
+use Rattle.items.proofs.Splits.{length-bytes}
+use Rattle.refusal.specs.Refusals.{tooFew, goesBack}
+use Rattle.items_files.specs.Groups.{image}
+use Rattle.items_files.specs.Layout.{base, after, before, first}
+use Rattle.items_files.specs.Answers.{served, refused, Outcome, outcome}
+use Rattle.items_files.specs.Write.{wholeRecords, file, on, goes, measured, store, writeOf}
+use Rattle.items_files.specs.declared.Before.{Before}
+use Rattle.items_files.specs.declared.Measured.the-variants.{Bytes}
+use Rattle.items_files.proofs.Groups.{groups-few}
+use Rattle.items_files.proofs.Trips as trips
+use Rattle.items_files.proofs.Round.{Writable}
+
+-- ---- a record goes on where its start is not before the last one, and no end before its start
+
+ten-on : (kind detail start «end» from to src text past depth last p : ℕ) (rest : List ℕ) → p ≤ start → start ≤ «end» → from ≤ to → text ≤ past
+    → ((j : ℕ) → goes (before 0 depth start) j rest ≡ on) → (j : ℕ)
+    → goes (before 0 last p) j (kind ∷ detail ∷ start ∷ «end» ∷ from ∷ to ∷ src ∷ text ∷ past ∷ depth ∷ rest) ≡ on
+unfolding goes base after
+ten-on kind detail start «end» from to src text past depth last p rest a b c d g j =
+    rw (
+      le-ltb kind 0 (omega arith),
+      le-ltb detail 0 (omega arith),
+      le-ltb start p a,
+      le-ltb «end» start b,
+      le-ltb from 0 (omega arith),
+      le-ltb to from c,
+      le-ltb src 0 (omega arith),
+      le-ltb text 0 (omega arith),
+      le-ltb past text d,
+      le-ltb depth 0 (omega arith),
+    )
+    (g _)
+
+record-on : (n free depth last p : ℕ) (i : Item) (t : Text) (rest : List ℕ) → i .text ≡ t → p ≤ i .start → Placed n i
+    → ((j : ℕ) → goes (before 0 depth (i .start)) j rest ≡ on) → (j : ℕ) → goes (before 0 last p) j (recordOf free depth i ++ rest) ≡ on
+record-on n free depth last p i none rest e h q g j =
+    rw e (ten-on (i .kind) (i .detail) (i .start) (i .end) (i .place .from) (i .place .to) 0 0 0 depth last p rest h (omega (arith, q .some)) (q .place .0) (omega arith) g j)
+record-on n free depth last p i (source a b) rest e h q g j =
+    let x : Inside (i .start) (i .end) (source a b) = subst (Inside (i .start) (i .end)) e (q .text) in
+    rw e (ten-on (i .kind) (i .detail) (i .start) (i .end) (i .place .from) (i .place .to) 1 a b depth last p rest h (omega (arith, q .some)) (q .place .0) (x .1 .0) g j)
+record-on n free depth last p i (decoded bs) rest e h q g j =
+    rw e (ten-on (i .kind) (i .detail) (i .start) (i .end) (i .place .from) (i .place .to) 2 free (free + length bs) depth last p rest h (omega (arith, q .some)) (q .place .0) (omega arith) g j)
+
+-- items in order start in order
+starts-on : (n : ℕ) (i : Item) (is : List Item) → Placed n i → Every (Follows i) is → Every (λ (k : Item). i .start ≤ k .start) is
+starts-on n i is p h =
+    every-then (Follows i) (λ (k : Item). i .start ≤ k .start) (λ k f. ⊎-elim (λ x. omega (arith, x, p .some)) (λ x. omega (arith, x .0)) f) is h
+
+records-on : (n free depth last p : ℕ) (is : List Item) → Every (λ (i : Item). p ≤ i .start) is → Every (Placed n) is → InOrder is
+    → (j : ℕ) → goes (before 0 last p) j (records free depth is) ≡ on
+unfolding records goes
+records-on n free depth last p [] h q o j = refl
+records-on n free depth last p (i ∷ is) h q o j =
+    record-on n free depth last p i (i .text) (records (free + length (memoryOf (i .text))) (depthAfter (i .kind) depth) is) refl (h .0) (q .0)
+    (records-on n (free + length (memoryOf (i .text))) (depthAfter (i .kind) depth) depth (i .start) is (starts-on n i is (q .0) (o .0)) (q .1) (o .1)) j
+
+-- what is kept is in order still
+kept-order : (skip : Bool) (is : List Item) → InOrder is → InOrder (kept skip is)
+unfolding kept
+kept-order skip [] o = tt
+kept-order skip (i ∷ is) o =
+    let more : InOrder (kept skip is) = kept-order skip is (o .1) in
+    let both : InOrder (i ∷ kept skip is) = (kept-every (Follows i) skip is (o .0), more) in
+    if-all InOrder (skip && eqb (i .kind) kind.Comment) more both
+
+any-start : (is : List Item) → Every (λ (i : Item). 0 ≤ i .start) is
+any-start [] = tt
+any-start (i ∷ is) = (omega arith, any-start is)
+
+fit-words : (ws : List ℕ) → Every Fits ws → trips.Words ws
+fit-words [] h = trips.none
+fit-words (w ∷ ws) h = trips.some {w = w} (omega (arith, h .0)) (fit-words ws (h .1))
+
+-- the records of the items of any characters that fit
+pub records-writable : (report skip : Bool) (cs : List ℕ) → Every Fits cs → byteCount cs < 2 ^ 32 → Writable (records 0 0 (kept skip (items report cs)))
+records-writable report skip cs h long =
+    let is : List Item = kept skip (items report cs) in
+    record {
+      tens = omega (arith, records-length 0 0 is);
+      words = fit-words (records 0 0 is) (records-fit report skip cs h long);
+      onward =
+          records-on (byteCount cs) 0 0 0 0 is (any-start is)
+          (kept-every (Placed (byteCount cs)) skip (items report cs) (items-placed report cs))
+          (kept-order skip (items report cs) (items-order report cs)) 0;
+    }
+
+-- ---- of the whole-text call
+
+scalars-fit : (cs : List ℕ) → Scalars cs → Every Fits cs
+scalars-fit [] h = tt
+scalars-fit (c ∷ cs) h = (⊎-elim (λ x. omega (arith, x)) (λ x. omega (arith, x .1)) (scalar-true c (h .0)), scalars-fit cs (h .1))
+
+pub source-writable : (s : List ℕ) (mode : ℕ) (skip : Bool) → firstBad s ≡ Good → length s ≤ limit → Writable (records 0 0 (itemsIn s mode skip))
+source-writable s mode skip g h =
+    records-writable (inReport mode) skip (chars s) (scalars-fit (chars s) (good-scalars s g))
+    (omega (arith, length-bytes (chars s), ap length (good-bytes s g)))
+
+module _ (s : List ℕ) (mode : ℕ) (skip : Bool) (recs text : List ℕ) (n m : ℕ) where
+  -- what a call that served leaves
+  record Delivered (k : Call) : Type 0 where
+    good : firstBad s ≡ Good
+    short : length s ≤ limit
+    count : n ≡ length (itemsIn s mode skip)
+    wrote : k .records ≡ written (records 0 0 (itemsIn s mode skip)) recs
+
+  abbrev Leaves : Call → Type 0
+  Leaves k = k .answer ≡ whole.served n m → Delivered k
+
+  refused-not : (number a b : ℕ) → Leaves (call (whole.refused number a b) recs text)
+  refused-not number a b e = absurd (let z : _≡_ {A = ℕ} 0 1 = cc in omega arith)
+
+  delivered : firstBad s ≡ Good → length s ≤ limit → Leaves (deliver (itemsIn s mode skip) recs text)
+  unfolding deliver
+  delivered g l =
+      let is : List Item = itemsIn s mode skip in
+      if-all Leaves (leb (length is) (length recs / recordWords))
+      (if-all Leaves (leb (length (texts is)) (length text))
+      (λ e. record { good = g; short = l; count = cc; wrote = refl })
+      (refused-not refusal.tooFew (length is) (length (texts is))))
+      (refused-not refusal.tooFew (length is) (length (texts is)))
+
+  good-only : (u : Utf8) → firstBad s ≡ u → length s ≤ limit → Leaves (ifGood u (deliver (itemsIn s mode skip) recs text) recs text)
+  good-only Good g l = delivered g l
+  good-only (Bad p) g l = refused-not refusal.notUtf8 p 0
+
+  leaves : Leaves (whole.readOf s mode skip recs text)
+  unfolding whole.readOf
+  leaves =
+      if-all Leaves (isMode mode)
+      (if-is Leaves (ltb limit (length s)) (λ _. refused-not refusal.tooLong limit 0) (λ e. good-only (firstBad s) refl (ltb-false limit (length s) e)))
+      (refused-not refusal.noMode mode 0)
+
+  module _ (e : whole.readOf s mode skip recs text .answer ≡ whole.served n m) where
+    -- the records that the call left
+    abbrev pub plan : List ℕ
+    plan = take (recordWords * n) (whole.readOf s mode skip recs text .records)
+
+    plan-is : plan ≡ records 0 0 (itemsIn s mode skip)
+    plan-is =
+        let l : Delivered (whole.readOf s mode skip recs text) = leaves e in
+        let rs : List ℕ = records 0 0 (itemsIn s mode skip) in
+        ap (take (recordWords * n)) (l .wrote)
+        ∙ take-at rs (drop (length rs) recs) (recordWords * n) (records-length 0 0 (itemsIn s mode skip) ∙ ap (λ (k : ℕ). recordWords * k) (sym (l .count)))
+
+    -- WHATEVER `read` SERVED, in either mode, comments kept or skipped, can be stored
+    pub read-plans : Writable plan
+    read-plans = let l : Delivered (whole.readOf s mode skip recs text) = leaves e in subst Writable (sym plan-is) (source-writable s mode skip (l .good) (l .short))
+
+-- ---- what the writer answers to records that can be stored: 22, or it serves; never 32
+
+pub file-few : (b : Before) (ws : List ℕ) → length (file b ws) ≤ 5 * length ws
+unfolding file
+file-few b [] = omega arith
+file-few b (w ∷ ws) =
+    omega (arith, groups-few 4 (w - base b), file-few (after b w) ws, length-append (image (w - base b)) (file (after b w) ws))
+
+module _ (ws out : List ℕ) (g : Writable ws) where
+  whole-is : wholeRecords ws ≡ ws
+  whole-is = take-all (length ws / recordWords * recordWords) ws (omega (arith, g .tens))
+
+  pub stored : writeOf ws out ≡ store (Bytes (length (file first ws))) (file first ws) out
+  unfolding writeOf measured
+  stored = rw (whole-is, g .onward)
+
+  pub stored-fits : length (file first ws) ≤ length out → writeOf ws out ≡ outcome (served (length (file first ws))) (written (file first ws) out)
+  stored-fits h = stored ∙ rw (le-ltb (length out) (length (file first ws)) h)
+
+  pub never-back : (k : ℕ) → writeOf ws out .answer ≡ refused goesBack k → ⊥
+  never-back k e =
+      let n : ℕ = length (file first ws) in
+      if-all (λ (o : Outcome). o .answer ≡ refused goesBack k → ⊥) (ltb (length out) n)
+      (λ q. let z : tooFew ≡ goesBack = cc in omega (arith, z))
+      (λ q. let z : _≡_ {A = ℕ} 0 1 = cc in omega arith)
+      (sym (ap (λ (o : Outcome). o .answer) stored) ∙ e)
