@@ -128,3 +128,7 @@ module _ {n : ℕ} {old out : List ℕ} {rest i : ℕ} (fits : length (image n) 
   putting-end h =
       rw (g .whole, last-group (g .more) rest (putting-last h), g .lies, ← g .count)
       (written-push (g .done) old rest (omega (arith, putting-room, g .count)))
+
+-- a number of one group is stored at once
+pub one-stored : (n : ℕ) (old : List ℕ) → n < 128 → 1 ≤ length old → (1 ≡ length (image n)) × (set old 0 n ≡ written (image n) old)
+one-stored n old h fits = rw (last-group 4 n h) (refl, written-push [] old n fits)

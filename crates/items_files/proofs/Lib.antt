@@ -1,5 +1,7 @@
 pub mod Tests
 pub mod Groups
+pub mod Laid
+pub mod Records
 pub mod Writer
 pub mod Reader
 pub mod Filler

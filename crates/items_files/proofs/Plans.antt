@@ -38,38 +38,20 @@ use Rattle.items_files.specs.declared.Before.{Before}
 use Rattle.items_files.specs.declared.Measured.the-variants.{Bytes}
 use Rattle.items_files.proofs.Groups.{groups-few}
 use Rattle.items_files.proofs.Trips as trips
+use Rattle.items_files.proofs.Records.{ten-goes}
 use Rattle.items_files.proofs.Round.{Writable}
 
 -- ---- a record goes on where its start is not before the last one, and no end before its start
 
-ten-on : (kind detail start «end» from to src text past depth last p : ℕ) (rest : List ℕ) → p ≤ start → start ≤ «end» → from ≤ to → text ≤ past
-    → ((j : ℕ) → goes (before 0 depth start) j rest ≡ on) → (j : ℕ)
-    → goes (before 0 last p) j (kind ∷ detail ∷ start ∷ «end» ∷ from ∷ to ∷ src ∷ text ∷ past ∷ depth ∷ rest) ≡ on
-unfolding goes base after
-ten-on kind detail start «end» from to src text past depth last p rest a b c d g j =
-    rw (
-      le-ltb kind 0 (omega arith),
-      le-ltb detail 0 (omega arith),
-      le-ltb start p a,
-      le-ltb «end» start b,
-      le-ltb from 0 (omega arith),
-      le-ltb to from c,
-      le-ltb src 0 (omega arith),
-      le-ltb text 0 (omega arith),
-      le-ltb past text d,
-      le-ltb depth 0 (omega arith),
-    )
-    (g _)
-
 record-on : (n free depth last p : ℕ) (i : Item) (t : Text) (rest : List ℕ) → i .text ≡ t → p ≤ i .start → Placed n i
     → ((j : ℕ) → goes (before 0 depth (i .start)) j rest ≡ on) → (j : ℕ) → goes (before 0 last p) j (recordOf free depth i ++ rest) ≡ on
 record-on n free depth last p i none rest e h q g j =
-    rw e (ten-on (i .kind) (i .detail) (i .start) (i .end) (i .place .from) (i .place .to) 0 0 0 depth last p rest h (omega (arith, q .some)) (q .place .0) (omega arith) g j)
+    rw e (ten-goes (i .kind) (i .detail) (i .start) (i .end) (i .place .from) (i .place .to) 0 0 0 depth last p rest h (omega (arith, q .some)) (q .place .0) (omega arith) j ∙ g (j + recordWords))
 record-on n free depth last p i (source a b) rest e h q g j =
     let x : Inside (i .start) (i .end) (source a b) = subst (Inside (i .start) (i .end)) e (q .text) in
-    rw e (ten-on (i .kind) (i .detail) (i .start) (i .end) (i .place .from) (i .place .to) 1 a b depth last p rest h (omega (arith, q .some)) (q .place .0) (x .1 .0) g j)
+    rw e (ten-goes (i .kind) (i .detail) (i .start) (i .end) (i .place .from) (i .place .to) 1 a b depth last p rest h (omega (arith, q .some)) (q .place .0) (x .1 .0) j ∙ g (j + recordWords))
 record-on n free depth last p i (decoded bs) rest e h q g j =
-    rw e (ten-on (i .kind) (i .detail) (i .start) (i .end) (i .place .from) (i .place .to) 2 free (free + length bs) depth last p rest h (omega (arith, q .some)) (q .place .0) (omega arith) g j)
+    rw e (ten-goes (i .kind) (i .detail) (i .start) (i .end) (i .place .from) (i .place .to) 2 free (free + length bs) depth last p rest h (omega (arith, q .some)) (q .place .0) (omega arith) j ∙ g (j + recordWords))
 
 -- items in order start in order
 starts-on : (n : ℕ) (i : Item) (is : List Item) → Placed n i → Every (Follows i) is → Every (λ (k : Item). i .start ≤ k .start) is

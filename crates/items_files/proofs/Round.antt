@@ -9,7 +9,7 @@ use borrow.Author.Tests.{lt-ltb, le-ltb, ltb-true, ltb-false}
 use Rattle.items.specs.Items.{recordWords}
 use Rattle.items_files.specs.Layout.{base, after, first, numbers}
 use Rattle.laws.specs.Choice.{if_then_else_}
-use Rattle.items_files.specs.Groups.{image}
+use Rattle.items_files.specs.Groups.{image, images}
 use Rattle.laws.specs.Lent.{written}
 use Rattle.refusal.specs.Refusals.{tooFew, goesBack}
 use Rattle.items_files.specs.Answers.{served, refused, Outcome, outcome}
@@ -31,11 +31,6 @@ pub ten : (p l kind detail start «end» from to source text past depth : ℕ) (
     ∷ numbers (record { which = 0; last = depth; start = start }) rest
 unfolding numbers base after
 ten p l kind detail start «end» from to source text past depth rest = refl
-
--- a file is the groups of these numbers, one after the other
-abbrev pub images : List ℕ → List ℕ
-images [] = []
-images (n ∷ ns) = image n ++ images ns
 
 pub file-numbers : (b : Before) (ws : List ℕ) → file b ws ≡ images (numbers b ws)
 unfolding file numbers

@@ -2,10 +2,13 @@
 -- text source, text start, text length, depth. So each word of a record is stored less a base: the third less the previous item's
 -- start (0 for the first item), the ends, which are the fourth, sixth and ninth, less the word before, the others whole.
 use Prim.Native.Nat.{ℕ, _+_, _-_}
+use mathlib.Core.Bool.{Bool, true}
 use mathlib.Core.List.{List, [], _∷_}
 use lib.Dec.{eqb, ltb}
 use Rattle.laws.specs.Choice.{if_then_else_}
 use Rattle.items.specs.Items.{ownWords}
+use Rattle.items.specs.declared.Nine.{Nine}
+use Rattle.items.specs.declared.Record.{Record}
 use Rattle.items_files.specs.declared.Before.{Before}
 
 abbrev pub before : ℕ → ℕ → ℕ → Before
@@ -44,3 +47,33 @@ first = before 0 0 0
 unfoldable pub numbers : Before → List ℕ → List ℕ
 numbers b [] = []
 numbers b (w ∷ ws) = (w - base b) ∷ numbers (after b w) ws
+
+-- ---- the same of a whole record, after an item that starts at p
+
+-- "kind, detail, start less the previous item's start, extent length, place start, place length, text source, text start, text length, depth"
+abbrev pub numbersOf : ℕ → Record → List ℕ
+numbersOf p r =
+    r .nine .kind
+    ∷ r .nine .detail
+    ∷ (r .nine .start - p)
+    ∷ (r .nine .end - r .nine .start)
+    ∷ r .nine .from
+    ∷ (r .nine .to - r .nine .from)
+    ∷ r .nine .source
+    ∷ r .nine .first
+    ∷ (r .nine .past - r .nine .first)
+    ∷ r .depth
+    ∷ []
+
+-- whether one of its words is below its base
+unfoldable pub goesBack : ℕ → Nine → Bool
+goesBack p r =
+    if ltb (r .start) p
+    then true
+    else
+    (if ltb (r .end) (r .start)
+    then true
+    else
+    (if ltb (r .to) (r .from)
+    then true
+    else ltb (r .past) (r .first)))

@@ -31,7 +31,7 @@ returns : tie.Need-returns
 returns c = writes-short (c .before .before .before .before .before .before .before .before .args .records .now) (c .before .before .before .before .before .before .before .before .args .out .now) (sym (c .before .before .before .before .measure .ensures) ∙ c .before .before .seen2 .given .1) (c .if1 .taken)
 
 put-words-requires : tie.Need-put-words-requires
-put-words-requires c κs = let m = measured-bytes (take (length (c .before .before .before .before .before .before .before .before .before .args .records .now) / recordWords * recordWords) (c .before .before .before .before .before .before .before .before .before .args .records .now)) (sym (c .before .before .before .before .before .measure .ensures) ∙ c .before .before .before .seen2 .given .1) in (m .0, omega (arith, m .1, c .before .if1 .left))
+put-words-requires c κs = let m = measured-bytes (take (length (c .before .before .before .before .before .before .before .before .before .args .records .now) / recordWords * recordWords) (c .before .before .before .before .before .before .before .before .before .args .records .now)) (sym (c .before .before .before .before .before .measure .ensures) ∙ c .before .before .before .seen2 .given .1) in (whole-tens (c .before .before .before .before .before .before .before .before .before .args .records .now), m .0, omega (arith, m .1, c .before .if1 .left))
 
 returns-2 : tie.Need-returns-2
 returns-2 c = writes-back (c .before .before .before .before .before .before .before .args .records .now) (c .before .before .before .before .before .before .before .args .out .now) (sym (c .before .before .before .measure .ensures) ∙ c .before .seen .given .1)
