@@ -8,5 +8,5 @@ pub mod Filler
 pub mod Trips
 pub mod Calls
 pub mod Round
-pub mod Plans
+pub mod Stored
 pub mod Answers

@@ -1,47 +1,40 @@
--- A plan that was read can be stored: the records of every text that the whole-text call served go on, so the writer never answers 32.
+-- WHATEVER THE WHOLE-TEXT CALL SERVED CAN BE STORED, in either mode, comments kept or skipped.
 use mathlib.Core.Path.{_≡_, refl, sym, ap, _∙_, subst}
-use mathlib.Core.Bool.{Bool, _&&_}
+use mathlib.Core.Bool.{Bool}
 use mathlib.Core.List.{List, [], _∷_, _++_}
-use mathlib.Core.Logic.{⊎-elim}
-use Prim.Native.Nat.{ℕ, _+_, _-_, _*_, _/_, _%_, _^_, _≤_, _<_}
+use Prim.Native.Nat.{ℕ, _+_, _*_, _/_, _^_, _≤_, _<_}
 use native.Mathlib.Omega.{arith}
-use lib.ListN.{length, take, drop, length-append}
-use lib.Seq.{take-at, take-all}
-use lib.Dec.{eqb, leb, ltb}
-use borrow.Author.Tests.{le-ltb, ltb-false}
+use lib.ListN.{length, take, drop}
+use lib.Seq.{take-at}
+use lib.Dec.{leb, ltb}
+use borrow.Author.Tests.{ltb-false}
 use Rattle.laws.specs.Lent.{written}
 use Rattle.laws.proofs.Choice.{if-all, if-is}
 use Rattle.chars.specs.Utf8.{chars, firstBad}
 use Rattle.chars.specs.declared.Utf8.{Utf8}
 use Rattle.chars.specs.declared.Utf8.the-variants.{Good, Bad}
-use Rattle.chars.specs.Encode.{isScalar}
-use Rattle.chars.proofs.Good.{Scalars, good-bytes, good-scalars}
-use Rattle.chars.proofs.Scalar.{scalar-true}
+use Rattle.chars.proofs.Good.{good-bytes, good-scalars}
 use Rattle.refusal.specs.Refusals as refusal
+use Rattle.refusal.specs.Refusals.{goesBack}
 use Rattle.items.specs.Items.{Item, items, kept, records, recordOf, depthAfter, memoryOf, texts, byteCount, recordWords}
 use Rattle.items.specs.Meaning.{Text, none, source, decoded}
 use Rattle.items.specs.Whole.{Call, call, limit, isMode, inReport, itemsIn, deliver, ifGood}
 use Rattle.items.specs.Whole as whole
-use Rattle.items.specs.Kinds as kind
-use Rattle.items.proofs.Every.{Every, every-then}
+use Rattle.items.proofs.Every.{Every}
 use Rattle.items.proofs.Fit.{Fits, records-length, records-fit}
 use Rattle.items.proofs.Meanings.{Inside}
-use Rattle.items.proofs.Order.{Follows, InOrder, Placed, items-placed, items-order}
+use Rattle.items.proofs.Order.{InOrder, Placed, items-placed, items-order}
 use Rattle.items.proofs.Skipped.{kept-every}
 use Rattle.items.proofs.Splits.{length-bytes}
-use Rattle.refusal.specs.Refusals.{tooFew, goesBack}
-use Rattle.items_files.specs.Groups.{image}
-use Rattle.items_files.specs.Layout.{base, after, before, first}
-use Rattle.items_files.specs.Answers.{served, refused, Outcome, outcome}
-use Rattle.items_files.specs.Write.{wholeRecords, file, on, goes, measured, store, writeOf}
-use Rattle.items_files.specs.declared.Before.{Before}
-use Rattle.items_files.specs.declared.Measured.the-variants.{Bytes}
-use Rattle.items_files.proofs.Groups.{groups-few}
-use Rattle.items_files.proofs.Trips as trips
+use Rattle.items_files.specs.Layout.{before}
+use Rattle.items_files.specs.Answers.{refused}
+use Rattle.items_files.specs.Write.{on, goes, writeOf}
 use Rattle.items_files.proofs.Records.{ten-goes}
 use Rattle.items_files.proofs.Round.{Writable}
-
--- ---- a record goes on where its start is not before the last one, and no end before its start
+use Rattle.items_files.proofs.Stored.{never-back}
+use Rattle.items_files.proofs.Trips as trips
+use Rattle.items_files_plans.specs.Plans.{wholePlan}
+use Rattle.items_files_plans.proofs.Items.{starts-on, kept-order, any-start, scalars-fit}
 
 record-on : (n free depth last p : ℕ) (i : Item) (t : Text) (rest : List ℕ) → i .text ≡ t → p ≤ i .start → Placed n i
     → ((j : ℕ) → goes (before 0 depth (i .start)) j rest ≡ on) → (j : ℕ) → goes (before 0 last p) j (recordOf free depth i ++ rest) ≡ on
@@ -53,11 +46,6 @@ record-on n free depth last p i (source a b) rest e h q g j =
 record-on n free depth last p i (decoded bs) rest e h q g j =
     rw e (ten-goes (i .kind) (i .detail) (i .start) (i .end) (i .place .from) (i .place .to) 2 free (free + length bs) depth last p rest h (omega (arith, q .some)) (q .place .0) (omega arith) j ∙ g (j + recordWords))
 
--- items in order start in order
-starts-on : (n : ℕ) (i : Item) (is : List Item) → Placed n i → Every (Follows i) is → Every (λ (k : Item). i .start ≤ k .start) is
-starts-on n i is p h =
-    every-then (Follows i) (λ (k : Item). i .start ≤ k .start) (λ k f. ⊎-elim (λ x. omega (arith, x, p .some)) (λ x. omega (arith, x .0)) f) is h
-
 records-on : (n free depth last p : ℕ) (is : List Item) → Every (λ (i : Item). p ≤ i .start) is → Every (Placed n) is → InOrder is
     → (j : ℕ) → goes (before 0 last p) j (records free depth is) ≡ on
 unfolding records goes
@@ -65,19 +53,6 @@ records-on n free depth last p [] h q o j = refl
 records-on n free depth last p (i ∷ is) h q o j =
     record-on n free depth last p i (i .text) (records (free + length (memoryOf (i .text))) (depthAfter (i .kind) depth) is) refl (h .0) (q .0)
     (records-on n (free + length (memoryOf (i .text))) (depthAfter (i .kind) depth) depth (i .start) is (starts-on n i is (q .0) (o .0)) (q .1) (o .1)) j
-
--- what is kept is in order still
-kept-order : (skip : Bool) (is : List Item) → InOrder is → InOrder (kept skip is)
-unfolding kept
-kept-order skip [] o = tt
-kept-order skip (i ∷ is) o =
-    let more : InOrder (kept skip is) = kept-order skip is (o .1) in
-    let both : InOrder (i ∷ kept skip is) = (kept-every (Follows i) skip is (o .0), more) in
-    if-all InOrder (skip && eqb (i .kind) kind.Comment) more both
-
-any-start : (is : List Item) → Every (λ (i : Item). 0 ≤ i .start) is
-any-start [] = tt
-any-start (i ∷ is) = (omega arith, any-start is)
 
 fit-words : (ws : List ℕ) → Every Fits ws → trips.Words ws
 fit-words [] h = trips.none
@@ -95,12 +70,6 @@ records-writable report skip cs h long =
           (kept-every (Placed (byteCount cs)) skip (items report cs) (items-placed report cs))
           (kept-order skip (items report cs) (items-order report cs)) 0;
     }
-
--- ---- of the whole-text call
-
-scalars-fit : (cs : List ℕ) → Scalars cs → Every Fits cs
-scalars-fit [] h = tt
-scalars-fit (c ∷ cs) h = (⊎-elim (λ x. omega (arith, x)) (λ x. omega (arith, x .1)) (scalar-true c (h .0)), scalars-fit cs (h .1))
 
 pub source-writable : (s : List ℕ) (mode : ℕ) (skip : Bool) → firstBad s ≡ Good → length s ≤ limit → Writable (records 0 0 (itemsIn s mode skip))
 source-writable s mode skip g h =
@@ -143,9 +112,8 @@ module _ (s : List ℕ) (mode : ℕ) (skip : Bool) (recs text : List ℕ) (n m :
       (refused-not refusal.noMode mode 0)
 
   module _ (e : whole.readOf s mode skip recs text .answer ≡ whole.served n m) where
-    -- the records that the call left
-    abbrev pub plan : List ℕ
-    plan = take (recordWords * n) (whole.readOf s mode skip recs text .records)
+    abbrev plan : List ℕ
+    plan = wholePlan n (whole.readOf s mode skip recs text)
 
     plan-is : plan ≡ records 0 0 (itemsIn s mode skip)
     plan-is =
@@ -155,32 +123,9 @@ module _ (s : List ℕ) (mode : ℕ) (skip : Bool) (recs text : List ℕ) (n m :
         ∙ take-at rs (drop (length rs) recs) (recordWords * n) (records-length 0 0 (itemsIn s mode skip) ∙ ap (λ (k : ℕ). recordWords * k) (sym (l .count)))
 
     -- WHATEVER `read` SERVED, in either mode, comments kept or skipped, can be stored
-    pub read-plans : Writable plan
+    pub read-plans : Writable (wholePlan n (whole.readOf s mode skip recs text))
     read-plans = let l : Delivered (whole.readOf s mode skip recs text) = leaves e in subst Writable (sym plan-is) (source-writable s mode skip (l .good) (l .short))
 
--- ---- what the writer answers to records that can be stored: 22, or it serves; never 32
-
-pub file-few : (b : Before) (ws : List ℕ) → length (file b ws) ≤ 5 * length ws
-unfolding file
-file-few b [] = omega arith
-file-few b (w ∷ ws) =
-    omega (arith, groups-few 4 (w - base b), file-few (after b w) ws, length-append (image (w - base b)) (file (after b w) ws))
-
-module _ (ws out : List ℕ) (g : Writable ws) where
-  whole-is : wholeRecords ws ≡ ws
-  whole-is = take-all (length ws / recordWords * recordWords) ws (omega (arith, g .tens))
-
-  pub stored : writeOf ws out ≡ store (Bytes (length (file first ws))) (file first ws) out
-  unfolding writeOf measured
-  stored = rw (whole-is, g .onward)
-
-  pub stored-fits : length (file first ws) ≤ length out → writeOf ws out ≡ outcome (served (length (file first ws))) (written (file first ws) out)
-  stored-fits h = stored ∙ rw (le-ltb (length out) (length (file first ws)) h)
-
-  pub never-back : (k : ℕ) → writeOf ws out .answer ≡ refused goesBack k → ⊥
-  never-back k e =
-      let n : ℕ = length (file first ws) in
-      if-all (λ (o : Outcome). o .answer ≡ refused goesBack k → ⊥) (ltb (length out) n)
-      (λ q. let z : tooFew ≡ goesBack = cc in omega (arith, z))
-      (λ q. let z : _≡_ {A = ℕ} 0 1 = cc in omega arith)
-      (sym (ap (λ (o : Outcome). o .answer) stored) ∙ e)
+    -- and the writer never answers 32
+    pub read-never-32 : (out : List ℕ) (k : ℕ) → writeOf (wholePlan n (whole.readOf s mode skip recs text)) out .answer ≡ refused goesBack k → ⊥
+    read-never-32 out k = never-back plan out read-plans k
