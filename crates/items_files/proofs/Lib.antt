@@ -9,4 +9,3 @@ pub mod Trips
 pub mod Calls
 pub mod Round
 pub mod Stored
-pub mod Answers
