@@ -11,7 +11,7 @@ use borrow.Author.Tests.{lt-ltb, le-ltb}
 use Rattle.items_files.specs.Groups.{groups, image}
 use Rattle.laws.specs.Lent.{written}
 use Rattle.laws.proofs.Lent.{written-push, length-written}
-use Rattle.items_files.proofs.Tests.{by-less}
+use Rattle.lines.proofs.Tests.{by-less}
 
 pub last-group : (m n : ℕ) → n < 128 → groups m n ≡ n ∷ []
 unfolding groups

@@ -22,7 +22,7 @@ use Rattle.items_files.specs.Read.{Reading, reading, Took, goesOn, word,
 use Rattle.items_files.specs.declared.Before.{Before}
 use Rattle.items_files.specs.declared.Number.{Number}
 use Rattle.items_files.specs.declared.Number.the-variants.{Whole, Wrong, Cut}
-use Rattle.items_files.proofs.Tests.{by-less, by-equal}
+use Rattle.lines.proofs.Tests.{by-less, by-equal}
 
 -- ---- the bounds of a number that is being read
 

@@ -20,7 +20,7 @@ use Rattle.items_files.specs.Read as reader
 use Rattle.items_files.specs.declared.Before.{Before}
 use Rattle.items_files.specs.declared.Measured.{Measured}
 use Rattle.items_files.specs.declared.Measured.the-variants.{Bytes, Back}
-use Rattle.items_files.proofs.Tests.{by-less}
+use Rattle.lines.proofs.Tests.{by-less}
 use Rattle.items_files.proofs.Calls.{measured-bytes}
 use Rattle.items_files.proofs.Trips as trips
 

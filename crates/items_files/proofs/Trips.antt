@@ -19,7 +19,7 @@ use Rattle.items_files.specs.Numbers.{fifth}
 use Rattle.items_files.specs.Read.{Reading, Took, goesOn, word, bad, entered, taken, between, Found, all, fails, push, told, ended, readFrom, opening}
 use Rattle.items_files.specs.declared.Before.{Before}
 use Rattle.laws.proofs.Choice.{by-bool}
-use Rattle.items_files.proofs.Tests.{by-less, by-equal}
+use Rattle.lines.proofs.Tests.{by-less, by-equal}
 use Rattle.items_files.proofs.Writer.{no-back}
 use Rattle.items_files.proofs.Groups.{last-group, more-groups}
 use Rattle.items_files.proofs.Reader.{Fine, zero-value, View, v-on, v-word, v-bad, view, fine-on, fine-between, fine-less, weight-low, weight-high}

@@ -20,7 +20,7 @@ use Rattle.items_files.specs.declared.Before.{Before}
 use Rattle.items_files.specs.declared.Measured.the-variants.{Bytes, Back}
 use Rattle.items_files.proofs.Laid.{Laid, laid-start, laid-length, laid-more, images-few}
 use Rattle.items_files.proofs.Records.{Onward, onward, record-goes, record-back, record-forth, record-file}
-use Rattle.items_files.proofs.Tests.{by-less}
+use Rattle.lines.proofs.Tests.{by-less}
 
 file-end : (s : List ℕ) (b : Before) (i : ℕ) → length s ≤ i → file b (drop i s) ≡ []
 unfolding file
