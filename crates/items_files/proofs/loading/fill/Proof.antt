@@ -28,13 +28,22 @@ base-of-requires : tie.Need-base-of-requires Inv-loop μ-loop
 base-of-requires c κs = search needs
 
 add-w : tie.Need-add-w Inv-loop μ-loop
-add-w c = omega (arith, filling-sum (c .before .before .before .before .before .before .before .before .before .args .file .now) (c .before .before .before .before .before .before .before .before .before .args .records .now) (c .before .before .before .before .before .before .loop .b) (c .before .before .before .before .before .before .loop .n) (c .before .before .before .before .before .before .loop .i) (c .before .before .before .before .before .before .before .before .before .pre .0) (c .before .before .before .before .before .before .before .before .before .pre .1) (c .before .before .before .before .before .before .loop .inv) (c .before .before .before .before .before .loop-test .taken) (sym (c .before .before .number .given .1) ∙ c .before .before .before .before .number-at .ensures) (c .base-of .ensures))
+add-w c =
+    let turn = c .before .before .before .before .before .before in
+    let entry = c .before .before .before .before .before .before .before .before .before in
+    omega (arith, filling-sum (entry .args .file .now) (entry .args .records .now) (turn .loop .b) (turn .loop .n) (turn .loop .i) (entry .pre .0) (entry .pre .1) (turn .loop .inv) (c .before .before .before .before .before .loop-test .taken) (sym (c .before .before .number .given .1) ∙ c .before .before .before .before .number-at .ensures) (c .base-of .ensures))
 
 mul-records : tie.Need-mul-records Inv-loop μ-loop
-mul-records c = omega (arith, filling-room (c .before .before .before .before .before .before .before .before .before .args .file .now) (c .before .before .before .before .before .before .before .before .before .args .records .now) (c .before .before .before .before .before .before .loop .b) (c .before .before .before .before .before .before .loop .n) (c .before .before .before .before .before .before .loop .i) (c .before .before .before .before .before .before .before .before .before .pre .0) (c .before .before .before .before .before .before .before .before .before .pre .1) (c .before .before .before .before .before .before .loop .inv) (c .before .before .before .before .before .loop-test .taken) (sym (c .before .before .number .given .1) ∙ c .before .before .before .before .number-at .ensures) (c .base-of .ensures), filling-length (c .before .before .before .before .before .before .before .before .before .args .file .now) (c .before .before .before .before .before .before .before .before .before .args .records .now) (c .before .before .before .before .before .before .loop .b) (c .before .before .before .before .before .before .loop .n) (c .before .before .before .before .before .before .loop .i) (c .before .before .before .before .before .before .before .before .before .pre .0) (c .before .before .before .before .before .before .before .before .before .pre .1) (c .before .before .before .before .before .before .loop .inv))
+mul-records c =
+    let turn = c .before .before .before .before .before .before in
+    let entry = c .before .before .before .before .before .before .before .before .before in
+    omega (arith, filling-room (entry .args .file .now) (entry .args .records .now) (turn .loop .b) (turn .loop .n) (turn .loop .i) (entry .pre .0) (entry .pre .1) (turn .loop .inv) (c .before .before .before .before .before .loop-test .taken) (sym (c .before .before .number .given .1) ∙ c .before .before .before .before .number-at .ensures) (c .base-of .ensures), filling-length (entry .args .file .now) (entry .args .records .now) (turn .loop .b) (turn .loop .n) (turn .loop .i) (entry .pre .0) (entry .pre .1) (turn .loop .inv))
 
 slice-write-records : tie.Need-slice-write-records Inv-loop μ-loop
-slice-write-records c = filling-room (c .before .before .before .before .before .before .before .before .before .args .file .now) (c .before .before .before .before .before .before .before .before .before .args .records .now) (c .before .before .before .before .before .before .loop .b) (c .before .before .before .before .before .before .loop .n) (c .before .before .before .before .before .before .loop .i) (c .before .before .before .before .before .before .before .before .before .pre .0) (c .before .before .before .before .before .before .before .before .before .pre .1) (c .before .before .before .before .before .before .loop .inv) (c .before .before .before .before .before .loop-test .taken) (sym (c .before .before .number .given .1) ∙ c .before .before .before .before .number-at .ensures) (c .base-of .ensures)
+slice-write-records c =
+    let turn = c .before .before .before .before .before .before in
+    let entry = c .before .before .before .before .before .before .before .before .before in
+    filling-room (entry .args .file .now) (entry .args .records .now) (turn .loop .b) (turn .loop .n) (turn .loop .i) (entry .pre .0) (entry .pre .1) (turn .loop .inv) (c .before .before .before .before .before .loop-test .taken) (sym (c .before .before .number .given .1) ∙ c .before .before .before .before .number-at .ensures) (c .base-of .ensures)
 
 after-word-requires : tie.Need-after-word-requires Inv-loop μ-loop
 after-word-requires c κs = search needs
@@ -43,34 +52,58 @@ add-n : tie.Need-add-n Inv-loop μ-loop
 add-n c = omega (arith, c .before .before .before .before .before .before .before .loop .inv .scan .few)
 
 loop-less : tie.Need-loop-less Inv-loop μ-loop
-loop-less c = omega (arith, next-place (c .before .before .before .before .before .before .before .before .before .before .args .file .now) (c .before .before .before .before .before .before .before .loop .i) _ _ (c .before .before .before .before .before .before .before .loop .inv .scan .inside) (sym (c .before .before .before .number .given .1) ∙ c .before .before .before .before .before .number-at .ensures) .0)
+loop-less c =
+    let turn = c .before .before .before .before .before .before .before in
+    let entry = c .before .before .before .before .before .before .before .before .before .before in
+    omega (arith, next-place (entry .args .file .now) (turn .loop .i) _ _ (turn .loop .inv .scan .inside) (sym (c .before .before .before .number .given .1) ∙ c .before .before .before .before .before .number-at .ensures) .0)
 
 loop-again : tie.Need-loop-again Inv-loop μ-loop
-loop-again c = filling-word (c .before .before .before .before .before .before .before .before .before .before .args .file .now) (c .before .before .before .before .before .before .before .before .before .before .args .records .now) (c .before .before .before .before .before .before .before .loop .b) (c .before .before .before .before .before .before .before .loop .n) (c .before .before .before .before .before .before .before .loop .i) (c .before .before .before .before .before .before .before .before .before .before .pre .0) (c .before .before .before .before .before .before .before .before .before .before .pre .1) (c .before .before .before .before .before .before .before .loop .inv) (c .before .before .before .before .before .before .loop-test .taken) (sym (c .before .before .before .number .given .1) ∙ c .before .before .before .before .before .number-at .ensures) (c .before .base-of .ensures) (c .after-word .ensures)
+loop-again c =
+    let turn = c .before .before .before .before .before .before .before in
+    let entry = c .before .before .before .before .before .before .before .before .before .before in
+    filling-word (entry .args .file .now) (entry .args .records .now) (turn .loop .b) (turn .loop .n) (turn .loop .i) (entry .pre .0) (entry .pre .1) (turn .loop .inv) (c .before .before .before .before .before .before .loop-test .taken) (sym (c .before .before .before .number .given .1) ∙ c .before .before .before .before .before .number-at .ensures) (c .before .base-of .ensures) (c .after-word .ensures)
 
 enum-told : tie.Need-enum-told Inv-loop μ-loop
 enum-told c = search needs
 
 same-length : tie.Need-same-length Inv-loop μ-loop
-same-length c = filling-length (c .before .before .before .before .before .before .before .args .file .now) (c .before .before .before .before .before .before .before .args .records .now) (c .before .before .before .before .loop .b) (c .before .before .before .before .loop .n) (c .before .before .before .before .loop .i) (c .before .before .before .before .before .before .before .pre .0) (c .before .before .before .before .before .before .before .pre .1) (c .before .before .before .before .loop .inv)
+same-length c =
+    let turn = c .before .before .before .before in
+    let entry = c .before .before .before .before .before .before .before in
+    filling-length (entry .args .file .now) (entry .args .records .now) (turn .loop .b) (turn .loop .n) (turn .loop .i) (entry .pre .0) (entry .pre .1) (turn .loop .inv)
 
 returns : tie.Need-returns Inv-loop μ-loop
-returns c = never-wrong (c .before .before .before .before .before .before .before .args .file .now) (c .before .before .before .before .loop .b) (c .before .before .before .before .loop .n) (c .before .before .before .before .loop .i) (c .before .before .before .before .loop .inv .scan) (c .before .before .before .before .before .before .before .pre .0) (c .before .before .before .loop-test .taken) (sym (c .enum-told .given .1) ∙ c .before .before .number-at .ensures)
+returns c =
+    let turn = c .before .before .before .before in
+    let entry = c .before .before .before .before .before .before .before in
+    never-wrong (entry .args .file .now) (turn .loop .b) (turn .loop .n) (turn .loop .i) (turn .loop .inv .scan) (entry .pre .0) (c .before .before .before .loop-test .taken) (sym (c .enum-told .given .1) ∙ c .before .before .number-at .ensures)
 
 enum-told-2 : tie.Need-enum-told-2 Inv-loop μ-loop
 enum-told-2 c = search needs
 
 same-length-2 : tie.Need-same-length-2 Inv-loop μ-loop
-same-length-2 c = filling-length (c .before .before .before .before .before .before .before .args .file .now) (c .before .before .before .before .before .before .before .args .records .now) (c .before .before .before .before .loop .b) (c .before .before .before .before .loop .n) (c .before .before .before .before .loop .i) (c .before .before .before .before .before .before .before .pre .0) (c .before .before .before .before .before .before .before .pre .1) (c .before .before .before .before .loop .inv)
+same-length-2 c =
+    let turn = c .before .before .before .before in
+    let entry = c .before .before .before .before .before .before .before in
+    filling-length (entry .args .file .now) (entry .args .records .now) (turn .loop .b) (turn .loop .n) (turn .loop .i) (entry .pre .0) (entry .pre .1) (turn .loop .inv)
 
 returns-2 : tie.Need-returns-2 Inv-loop μ-loop
-returns-2 c = never-cut (c .before .before .before .before .before .before .before .args .file .now) (c .before .before .before .before .loop .b) (c .before .before .before .before .loop .n) (c .before .before .before .before .loop .i) (c .before .before .before .before .loop .inv .scan) (c .before .before .before .before .before .before .before .pre .0) (c .before .before .before .loop-test .taken) (sym (c .enum-told2 .given .1) ∙ c .before .before .number-at .ensures)
+returns-2 c =
+    let turn = c .before .before .before .before in
+    let entry = c .before .before .before .before .before .before .before in
+    never-cut (entry .args .file .now) (turn .loop .b) (turn .loop .n) (turn .loop .i) (turn .loop .inv .scan) (entry .pre .0) (c .before .before .before .loop-test .taken) (sym (c .enum-told2 .given .1) ∙ c .before .before .number-at .ensures)
 
 same-length-3 : tie.Need-same-length-3 Inv-loop μ-loop
-same-length-3 c = filling-length (c .before .before .before .before .args .file .now) (c .before .before .before .before .args .records .now) (c .before .loop .b) (c .before .loop .n) (c .before .loop .i) (c .before .before .before .before .pre .0) (c .before .before .before .before .pre .1) (c .before .loop .inv)
+same-length-3 c =
+    let turn = c .before in
+    let entry = c .before .before .before .before in
+    filling-length (entry .args .file .now) (entry .args .records .now) (turn .loop .b) (turn .loop .n) (turn .loop .i) (entry .pre .0) (entry .pre .1) (turn .loop .inv)
 
 returns-3 : tie.Need-returns-3 Inv-loop μ-loop
-returns-3 c = filling-end (c .before .before .before .before .args .file .now) (c .before .before .before .before .args .records .now) (c .before .loop .b) (c .before .loop .n) (c .before .loop .i) (c .before .before .before .before .pre .0) (c .before .before .before .before .pre .1) (c .before .loop .inv) (c .loop-test .left)
+returns-3 c =
+    let turn = c .before in
+    let entry = c .before .before .before .before in
+    filling-end (entry .args .file .now) (entry .args .records .now) (turn .loop .b) (turn .loop .n) (turn .loop .i) (entry .pre .0) (entry .pre .1) (turn .loop .inv) (c .loop-test .left)
 
 pub fill-spec : {M : Type 1} → statement M
 fill-spec =

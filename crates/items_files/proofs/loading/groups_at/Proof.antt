@@ -27,28 +27,47 @@ add-t14 : tie.Need-add-t14 Inv-loop μ-loop
 add-t14 c = omega arith
 
 returns : tie.Need-returns Inv-loop μ-loop
-returns c = numbering-zero (c .before .before .before .before .before .before .args .file .now) (c .before .before .before .before .before .before .args .at) (c .before .before .before .before .before .loop .inv) (c .before .before .before .before .loop-test .taken) (c .before .before .if1 .taken) (c .before .if2 .taken) (c .if3 .taken)
+returns c =
+    let turn = c .before .before .before .before .before in
+    let entry = c .before .before .before .before .before .before in
+    numbering-zero (entry .args .file .now) (entry .args .at) (turn .loop .inv) (c .before .before .before .before .loop-test .taken) (c .before .before .if1 .taken) (c .before .if2 .taken) (c .if3 .taken)
 
 returns-2 : tie.Need-returns-2 Inv-loop μ-loop
-returns-2 c = numbering-long (c .before .before .before .before .before .before .args .file .now) (c .before .before .before .before .before .before .args .at) (c .before .before .before .before .before .loop .inv) (c .before .before .before .before .loop-test .taken) (c .before .before .if1 .taken) (c .before .if2 .taken) (c .if3 .left)
+returns-2 c =
+    let turn = c .before .before .before .before .before in
+    let entry = c .before .before .before .before .before .before in
+    numbering-long (entry .args .file .now) (entry .args .at) (turn .loop .inv) (c .before .before .before .before .loop-test .taken) (c .before .before .if1 .taken) (c .before .if2 .taken) (c .if3 .left)
 
 cast-n : tie.Need-cast-n Inv-loop μ-loop
-cast-n c = omega (arith, weight-low (reading (c .before .before .before .before .loop .value) (c .before .before .before .before .loop .weight) first) (c .before .before .before .before .loop .inv .fine), c .before .before .before .before .loop .inv .fine .small)
+cast-n c =
+    let turn = c .before .before .before .before in
+    omega (arith, weight-low (reading (turn .loop .value) (turn .loop .weight) first) (turn .loop .inv .fine), turn .loop .inv .fine .small)
 
 cast-n-2 : tie.Need-cast-n-2 Inv-loop μ-loop
-cast-n-2 c = omega (arith, weight-low (reading (c .before .before .before .before .loop .value) (c .before .before .before .before .loop .weight) first) (c .before .before .before .before .loop .inv .fine))
+cast-n-2 c =
+    let turn = c .before .before .before .before in
+    omega (arith, weight-low (reading (turn .loop .value) (turn .loop .weight) first) (turn .loop .inv .fine))
 
 cast-n-3 : tie.Need-cast-n-3 Inv-loop μ-loop
 cast-n-3 c = search needs
 
 mul-n : tie.Need-mul-n Inv-loop μ-loop
-mul-n c = let w = weight-low (reading (c .before .before .before .before .loop .value) (c .before .before .before .before .loop .weight) first) (c .before .before .before .before .loop .inv .fine) in let k : getD (c .before .before .before .before .before .args .file .now) (c .before .before .before .before .loop .i) 0 ≤ 127 = omega arith in omega (arith, mul-le-mul w k)
+mul-n c =
+    let turn = c .before .before .before .before in
+    let entry = c .before .before .before .before .before in
+    let w = weight-low (reading (turn .loop .value) (turn .loop .weight) first) (turn .loop .inv .fine) in let k : getD (entry .args .file .now) (turn .loop .i) 0 ≤ 127 = omega arith in omega (arith, mul-le-mul w k)
 
 add-n : tie.Need-add-n Inv-loop μ-loop
-add-n c = omega (arith, weight-low (reading (c .before .before .before .before .loop .value) (c .before .before .before .before .loop .weight) first) (c .before .before .before .before .loop .inv .fine), group-small (reading (c .before .before .before .before .loop .value) (c .before .before .before .before .loop .weight) first) (c .before .before .before .before .loop .inv .fine) (getD (c .before .before .before .before .before .args .file .now) (c .before .before .before .before .loop .i) 0) (omega arith))
+add-n c =
+    let turn = c .before .before .before .before in
+    let entry = c .before .before .before .before .before in
+    omega (arith, weight-low (reading (turn .loop .value) (turn .loop .weight) first) (turn .loop .inv .fine), group-small (reading (turn .loop .value) (turn .loop .weight) first) (turn .loop .inv .fine) (getD (entry .args .file .now) (turn .loop .i) 0) (omega arith))
 
 returns-3 : tie.Need-returns-3 Inv-loop μ-loop
-returns-3 c = numbering-over (c .before .before .before .before .before .before .args .file .now) (c .before .before .before .before .before .before .args .at) (c .before .before .before .before .before .loop .inv) (c .before .before .before .before .loop-test .taken) (c .before .before .if1 .taken) (c .before .if2 .left) (c .if4 .taken)
+returns-3 c =
+    let turn = c .before .before .before .before .before in
+    let entry = c .before .before .before .before .before .before in
+    numbering-over (entry .args .file .now) (entry .args .at) (turn .loop .inv) (c .before .before .before .before .loop-test .taken) (c .before .before .if1 .taken) (c .before .if2 .left) (c .if4 .taken)
 
 cast-t19 : tie.Need-cast-t19 Inv-loop μ-loop
 cast-t19 c = search needs
@@ -57,22 +76,38 @@ add-t20 : tie.Need-add-t20 Inv-loop μ-loop
 add-t20 c = omega arith
 
 returns-4 : tie.Need-returns-4 Inv-loop μ-loop
-returns-4 c = numbering-whole (c .before .before .before .before .before .before .args .file .now) (c .before .before .before .before .before .before .args .at) (c .before .before .before .before .before .loop .inv) (c .before .before .before .before .loop-test .taken) (c .before .before .if1 .taken) (c .before .if2 .left) (c .if4 .left)
+returns-4 c =
+    let turn = c .before .before .before .before .before in
+    let entry = c .before .before .before .before .before .before in
+    numbering-whole (entry .args .file .now) (entry .args .at) (turn .loop .inv) (c .before .before .before .before .loop-test .taken) (c .before .before .if1 .taken) (c .before .if2 .left) (c .if4 .left)
 
 returns-5 : tie.Need-returns-5 Inv-loop μ-loop
-returns-5 c = numbering-fifth (c .before .before .before .before .before .args .file .now) (c .before .before .before .before .before .args .at) (c .before .before .before .before .loop .inv) (c .before .before .before .loop-test .taken) (c .before .if1 .left) (c .if5 .taken)
+returns-5 c =
+    let turn = c .before .before .before .before in
+    let entry = c .before .before .before .before .before in
+    numbering-fifth (entry .args .file .now) (entry .args .at) (turn .loop .inv) (c .before .before .before .loop-test .taken) (c .before .if1 .left) (c .if5 .taken)
 
 cast-value : tie.Need-cast-value Inv-loop μ-loop
-cast-value c = omega (arith, c .before .before .shared-slice-known .given (c .before .before .before .before .loop .i) .fits)
+cast-value c =
+    let turn = c .before .before .before .before in
+    omega (arith, c .before .before .shared-slice-known .given (turn .loop .i) .fits)
 
 mul-value : tie.Need-mul-value Inv-loop μ-loop
-mul-value c = let w = weight-less (reading (c .before .before .before .before .loop .value) (c .before .before .before .before .loop .weight) first) (c .before .before .before .before .loop .inv .fine) (c .if5 .left) in let k : getD (c .before .before .before .before .before .args .file .now) (c .before .before .before .before .loop .i) 0 - 128 ≤ 127 = omega (arith, c .before .before .shared-slice-known .given (c .before .before .before .before .loop .i) .fits) in omega (arith, mul-le-mul w k)
+mul-value c =
+    let turn = c .before .before .before .before in
+    let entry = c .before .before .before .before .before in
+    let w = weight-less (reading (turn .loop .value) (turn .loop .weight) first) (turn .loop .inv .fine) (c .if5 .left) in let k : getD (entry .args .file .now) (turn .loop .i) 0 - 128 ≤ 127 = omega (arith, c .before .before .shared-slice-known .given (turn .loop .i) .fits) in omega (arith, mul-le-mul w k)
 
 add-value : tie.Need-add-value Inv-loop μ-loop
-add-value c = omega (arith, weight-less (reading (c .before .before .before .before .loop .value) (c .before .before .before .before .loop .weight) first) (c .before .before .before .before .loop .inv .fine) (c .if5 .left), group-small (reading (c .before .before .before .before .loop .value) (c .before .before .before .before .loop .weight) first) (c .before .before .before .before .loop .inv .fine) (getD (c .before .before .before .before .before .args .file .now) (c .before .before .before .before .loop .i) 0 - 128) (omega (arith, c .before .before .shared-slice-known .given (c .before .before .before .before .loop .i) .fits)))
+add-value c =
+    let turn = c .before .before .before .before in
+    let entry = c .before .before .before .before .before in
+    omega (arith, weight-less (reading (turn .loop .value) (turn .loop .weight) first) (turn .loop .inv .fine) (c .if5 .left), group-small (reading (turn .loop .value) (turn .loop .weight) first) (turn .loop .inv .fine) (getD (entry .args .file .now) (turn .loop .i) 0 - 128) (omega (arith, c .before .before .shared-slice-known .given (turn .loop .i) .fits)))
 
 mul-weight : tie.Need-mul-weight Inv-loop μ-loop
-mul-weight c = omega (arith, weight-less (reading (c .before .before .before .before .loop .value) (c .before .before .before .before .loop .weight) first) (c .before .before .before .before .loop .inv .fine) (c .if5 .left))
+mul-weight c =
+    let turn = c .before .before .before .before in
+    omega (arith, weight-less (reading (turn .loop .value) (turn .loop .weight) first) (turn .loop .inv .fine) (c .if5 .left))
 
 add-i : tie.Need-add-i Inv-loop μ-loop
 add-i c = omega arith
@@ -81,10 +116,16 @@ loop-less : tie.Need-loop-less Inv-loop μ-loop
 loop-less c = omega arith
 
 loop-again : tie.Need-loop-again Inv-loop μ-loop
-loop-again c = numbering-on (c .before .before .before .before .before .args .file .now) (c .before .before .before .before .before .args .at) (c .before .before .before .before .loop .inv) (c .before .before .before .loop-test .taken) (c .before .if1 .left) (c .before .before .shared-slice-known .given (c .before .before .before .before .loop .i) .fits) (c .if5 .left)
+loop-again c =
+    let turn = c .before .before .before .before in
+    let entry = c .before .before .before .before .before in
+    numbering-on (entry .args .file .now) (entry .args .at) (turn .loop .inv) (c .before .before .before .loop-test .taken) (c .before .if1 .left) (c .before .before .shared-slice-known .given (turn .loop .i) .fits) (c .if5 .left)
 
 returns-6 : tie.Need-returns-6 Inv-loop μ-loop
-returns-6 c = numbering-end (c .before .before .args .file .now) (c .before .before .args .at) (c .before .loop .inv) (c .loop-test .left)
+returns-6 c =
+    let turn = c .before in
+    let entry = c .before .before in
+    numbering-end (entry .args .file .now) (entry .args .at) (turn .loop .inv) (c .loop-test .left)
 
 pub groups-at-spec : {M : Type 1} → statement M
 groups-at-spec =

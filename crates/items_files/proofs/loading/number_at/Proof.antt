@@ -14,7 +14,9 @@ add-t8 : tie.Need-add-t8
 add-t8 c = search needs
 
 returns : tie.Need-returns
-returns c = one-group (c .before .before .before .args .file .now) (c .before .before .before .args .at) (c .before .before .before .pre) (c .if1 .taken)
+returns c =
+    let entry = c .before .before .before in
+    one-group (entry .args .file .now) (entry .args .at) (entry .pre) (c .if1 .taken)
 
 groups-at-requires : tie.Need-groups-at-requires
 groups-at-requires c κs = search needs

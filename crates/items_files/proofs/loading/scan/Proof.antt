@@ -36,7 +36,10 @@ add-word : tie.Need-add-word Inv-loop μ-loop
 add-word c = search needs
 
 returns : tie.Need-returns Inv-loop μ-loop
-returns c = scanning-over (c .before .before .before .before .before .before .before .before .before .args .file .now) (c .before .before .before .before .before .before .before .loop .b) (c .before .before .before .before .before .before .before .loop .n) (c .before .before .before .before .before .before .before .loop .i) (c .before .before .before .before .before .before .before .loop .inv) (c .before .before .before .before .before .before .loop-test .taken) (sym (c .before .before .before .number .given .1) ∙ c .before .before .before .before .before .number-at .ensures) (c .before .base-of .ensures) (c .if1 .taken)
+returns c =
+    let turn = c .before .before .before .before .before .before .before in
+    let entry = c .before .before .before .before .before .before .before .before .before in
+    scanning-over (entry .args .file .now) (turn .loop .b) (turn .loop .n) (turn .loop .i) (turn .loop .inv) (c .before .before .before .before .before .before .loop-test .taken) (sym (c .before .before .before .number .given .1) ∙ c .before .before .before .before .before .number-at .ensures) (c .before .base-of .ensures) (c .if1 .taken)
 
 cast-after-word : tie.Need-cast-after-word Inv-loop μ-loop
 cast-after-word c = search needs
@@ -48,28 +51,46 @@ add-n : tie.Need-add-n Inv-loop μ-loop
 add-n c = omega (arith, c .before .before .before .before .before .before .before .before .loop .inv .few)
 
 loop-less : tie.Need-loop-less Inv-loop μ-loop
-loop-less c = omega (arith, next-place (c .before .before .before .before .before .before .before .before .before .before .args .file .now) (c .before .before .before .before .before .before .before .before .loop .i) _ _ (c .before .before .before .before .before .before .before .before .loop .inv .inside) (sym (c .before .before .before .before .number .given .1) ∙ c .before .before .before .before .before .before .number-at .ensures) .0)
+loop-less c =
+    let turn = c .before .before .before .before .before .before .before .before in
+    let entry = c .before .before .before .before .before .before .before .before .before .before in
+    omega (arith, next-place (entry .args .file .now) (turn .loop .i) _ _ (turn .loop .inv .inside) (sym (c .before .before .before .before .number .given .1) ∙ c .before .before .before .before .before .before .number-at .ensures) .0)
 
 loop-again : tie.Need-loop-again Inv-loop μ-loop
-loop-again c = scanning-word (c .before .before .before .before .before .before .before .before .before .before .args .file .now) (c .before .before .before .before .before .before .before .before .loop .b) (c .before .before .before .before .before .before .before .before .loop .n) (c .before .before .before .before .before .before .before .before .loop .i) (c .before .before .before .before .before .before .before .before .loop .inv) (c .before .before .before .before .before .before .before .loop-test .taken) (sym (c .before .before .before .before .number .given .1) ∙ c .before .before .before .before .before .before .number-at .ensures) (c .before .before .base-of .ensures) (c .before .if1 .left) (c .after-word .ensures)
+loop-again c =
+    let turn = c .before .before .before .before .before .before .before .before in
+    let entry = c .before .before .before .before .before .before .before .before .before .before in
+    scanning-word (entry .args .file .now) (turn .loop .b) (turn .loop .n) (turn .loop .i) (turn .loop .inv) (c .before .before .before .before .before .before .before .loop-test .taken) (sym (c .before .before .before .before .number .given .1) ∙ c .before .before .before .before .before .before .number-at .ensures) (c .before .before .base-of .ensures) (c .before .if1 .left) (c .after-word .ensures)
 
 enum-told : tie.Need-enum-told Inv-loop μ-loop
 enum-told c = search needs
 
 returns-2 : tie.Need-returns-2 Inv-loop μ-loop
-returns-2 c = scanning-wrong (c .before .before .before .before .before .before .args .file .now) (c .before .before .before .before .loop .b) (c .before .before .before .before .loop .n) (c .before .before .before .before .loop .i) (c .before .before .before .before .loop .inv) (c .before .before .before .loop-test .taken) (sym (c .enum-told .given .1) ∙ c .before .before .number-at .ensures)
+returns-2 c =
+    let turn = c .before .before .before .before in
+    let entry = c .before .before .before .before .before .before in
+    scanning-wrong (entry .args .file .now) (turn .loop .b) (turn .loop .n) (turn .loop .i) (turn .loop .inv) (c .before .before .before .loop-test .taken) (sym (c .enum-told .given .1) ∙ c .before .before .number-at .ensures)
 
 enum-told-2 : tie.Need-enum-told-2 Inv-loop μ-loop
 enum-told-2 c = search needs
 
 returns-3 : tie.Need-returns-3 Inv-loop μ-loop
-returns-3 c = scanning-cut (c .before .before .before .before .before .before .args .file .now) (c .before .before .before .before .loop .b) (c .before .before .before .before .loop .n) (c .before .before .before .before .loop .i) (c .before .before .before .before .loop .inv) (c .before .before .before .loop-test .taken) (sym (c .enum-told2 .given .1) ∙ c .before .before .number-at .ensures)
+returns-3 c =
+    let turn = c .before .before .before .before in
+    let entry = c .before .before .before .before .before .before in
+    scanning-cut (entry .args .file .now) (turn .loop .b) (turn .loop .n) (turn .loop .i) (turn .loop .inv) (c .before .before .before .loop-test .taken) (sym (c .enum-told2 .given .1) ∙ c .before .before .number-at .ensures)
 
 returns-4 : tie.Need-returns-4 Inv-loop μ-loop
-returns-4 c = scanning-all (c .before .before .before .before .before .args .file .now) (c .before .before .before .loop .b) (c .before .before .before .loop .n) (c .before .before .before .loop .i) (c .before .before .before .loop .inv) (c .before .before .loop-test .left) (c .if2 .taken)
+returns-4 c =
+    let turn = c .before .before .before in
+    let entry = c .before .before .before .before .before in
+    scanning-all (entry .args .file .now) (turn .loop .b) (turn .loop .n) (turn .loop .i) (turn .loop .inv) (c .before .before .loop-test .left) (c .if2 .taken)
 
 returns-5 : tie.Need-returns-5 Inv-loop μ-loop
-returns-5 c = scanning-short (c .before .before .before .before .before .args .file .now) (c .before .before .before .loop .b) (c .before .before .before .loop .n) (c .before .before .before .loop .i) (c .before .before .before .loop .inv) (c .before .before .loop-test .left) (c .if2 .left)
+returns-5 c =
+    let turn = c .before .before .before in
+    let entry = c .before .before .before .before .before in
+    scanning-short (entry .args .file .now) (turn .loop .b) (turn .loop .n) (turn .loop .i) (turn .loop .inv) (c .before .before .loop-test .left) (c .if2 .left)
 
 pub scan-spec : {M : Type 1} → statement M
 scan-spec =
