@@ -657,6 +657,52 @@ MIHADRENA_ASSERT(sizeof(mihadrena_node) == 4 * MIHADRENA_NODE_WORDS, "a node is 
 uint32_t mihadrena_nest(const uint32_t *records, size_t records_length, uint32_t *nodes, size_t nodes_length, uint64_t *values,
                         size_t values_length);
 
+/* -- Item files ------------------------------------------------------------------------------------------------------------ */
+
+/* Records as a file: ten numbers an item, each in groups of seven bits, so that a stored plan takes about a quarter of its records' bytes
+ * and need not be read again. docs/ITEMFILE.md has the format on one page, and what to keep beside such a file: it holds neither the source
+ * nor the text memory that its records point into. Every list of records has one file, and every file that is served is the file of the
+ * records that it gives. */
+
+/* The most bytes that an item takes, and how many values the two calls write. */
+#define MIHADRENA_ITEM_FILE_BYTES 50
+#define MIHADRENA_ITEMS_VALUES 1
+
+/* Writes the item file of the records in `records` from the front of `out` on; words left over behind the last whole record are not looked
+ * at. MIHADRENA_SERVED: values[0] is how many bytes it has, and all memory behind them stays as it was. Refusals, in this order:
+ * MIHADRENA_GOES_BACK, at the first record that starts before the one before it, or whose extent, place or text ends before it starts:
+ * values[0] is the record, from 0; MIHADRENA_TOO_FEW: values[0] is how many bytes are needed. Then `out` keeps every byte. Records that
+ * mihadrena_read, the piece calls or mihadrena_reader_next gave, one after another, are never MIHADRENA_GOES_BACK. With fewer than
+ * MIHADRENA_ITEMS_VALUES values none is written.
+ *
+ *     const uint8_t source[] = "(a";
+ *     mihadrena_record records[2];
+ *     uint8_t text[2], file[2 * MIHADRENA_ITEM_FILE_BYTES];
+ *     uint64_t values[2];
+ *     mihadrena_read(source, 2, MIHADRENA_REPORT, false, (uint32_t *)records, 2 * MIHADRENA_RECORD_WORDS, text, 2, values, 2);
+ *     mihadrena_items_write((const uint32_t *)records, 2 * MIHADRENA_RECORD_WORDS, file, sizeof file, values, MIHADRENA_ITEMS_VALUES);
+ *     // MIHADRENA_SERVED, values[0] == 20: 0 0 0 1 0 1 0 0 0 0 27 0 1 1 1 1 1 1 1 1
+ */
+uint32_t mihadrena_items_write(const uint32_t *records, size_t records_length, uint8_t *out, size_t out_length, uint64_t *values,
+                               size_t values_length);
+
+/* Reads an item file: its records go to `records` from the front on. MIHADRENA_SERVED: values[0] is how many items it has, and all memory
+ * behind them stays as it was. Refusals: at the first number that fails, and then values[0] is which number of the file it is, from 0,
+ * MIHADRENA_WRONG_NUMBER, else MIHADRENA_CUT_SHORT, or MIHADRENA_OVER_SUM; after these MIHADRENA_TOO_FEW: values[0] is how many items there
+ * are. Then `records` keeps every word.
+ *
+ * Any bytes may be given: every call ends in one of these answers, after at most two passes over the file. A file that is served has items
+ * whose starts and ends do not go back, and no more is known of it: its kinds may be none that a lexer gives, and its places may lie past
+ * any source. mihadrena_nest looks at kinds and details (MIHADRENA_ALIEN), and so does writing a plan back; mihadrena_text_mark looks at a
+ * text's places.
+ *
+ *     const uint8_t twice[] = {28, 128, 0};
+ *     mihadrena_items_read(twice, 3, (uint32_t *)records, 0, values, MIHADRENA_ITEMS_VALUES);
+ *     // MIHADRENA_WRONG_NUMBER, values[0] == 1: 0 takes one group, here it has two
+ */
+uint32_t mihadrena_items_read(const uint8_t *file, size_t file_length, uint32_t *records, size_t records_length, uint64_t *values,
+                              size_t values_length);
+
 /* -- One name table for planner and contractor ----------------------------------------------------------------------------- */
 
 /* A table gives each distinct name a number, the same for both parties. It lies in memory that the caller keeps: this many words and bytes,

@@ -11,11 +11,7 @@ fn main() {
     let folder = env::var_os(FOLDER).map_or_else(|| here.join("../../target/staticlib"), PathBuf::from);
     let archive = folder.join("libmihadrena.a");
     println!("cargo:rerun-if-changed={}", archive.display());
-    assert!(
-        archive.exists(),
-        "no {}: run `.ci/archive` first, or name its folder in {FOLDER}",
-        archive.display()
-    );
+    assert!(archive.exists(), "no {}: run `.ci/archive` first, or name its folder in {FOLDER}", archive.display());
     println!("cargo:rustc-link-search=native={}", folder.display());
     println!("cargo:rustc-link-lib=static=mihadrena");
 }

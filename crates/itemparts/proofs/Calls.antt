@@ -56,7 +56,7 @@ between-front : (from to : ℕ) (u v : List ℕ) → from ≤ to → to ≤ leng
 between-front from to u v a b =
     ap (take (to - from)) (drop-append-le from u v (omega arith)) ∙ take-append-le (to - from) (drop from u) v (omega (arith, length-drop from u))
 
-before-every : (P : Item → Type 0) (n : ℕ) (is : List Item) → Every P is → Every P (endsBefore n is)
+pub before-every : (P : Item → Type 0) (n : ℕ) (is : List Item) → Every P is → Every P (endsBefore n is)
 unfolding endsBefore
 before-every P n [] h = tt
 before-every P n (i ∷ is) h = if-all (Every P) (ltb (i .end) n) (h .0, before-every P n is (h .1)) (before-every P n is (h .1))

@@ -276,6 +276,12 @@ pub const DEEPEST: usize = 64;
 /// How many values `mihadrena_nest` writes.
 pub const NEST_VALUES: usize = 1;
 
+/// The most bytes that an item takes in an item file.
+pub const ITEM_FILE_BYTES: usize = 50;
+
+/// How many values `mihadrena_items_write` and `mihadrena_items_read` write.
+pub const ITEMS_VALUES: usize = 1;
+
 // The readers of `mihadrena_number_by`.
 pub const BOUGHT: u32 = 0;
 pub const STANDARD: u32 = 1;
@@ -454,6 +460,22 @@ extern "C" {
         end: u32,
         value: *mut f64,
         place: *mut u64,
+    ) -> u32;
+    pub fn mihadrena_items_write(
+        records: *const u32,
+        records_length: usize,
+        out: *mut u8,
+        out_length: usize,
+        values: *mut u64,
+        values_length: usize,
+    ) -> u32;
+    pub fn mihadrena_items_read(
+        file: *const u8,
+        file_length: usize,
+        records: *mut u32,
+        records_length: usize,
+        values: *mut u64,
+        values_length: usize,
     ) -> u32;
     pub fn mihadrena_names_open(words: *mut u32, words_length: usize, bytes: *const u8, bytes_length: usize) -> u32;
     pub fn mihadrena_names_enter(

@@ -1,7 +1,7 @@
 //! Each refusal of a call in Rust tells the number that C is told.
 use mihadrena::{
-    coordinate, nest, raw, record_coordinate, Items, LineIndex, LineRefusal, Names, NoCoordinate, NoName, NotNested,
-    Options, Party, Record, Refusal,
+    coordinate, nest, raw, read_items, record_coordinate, write_items, FileRefusal, Items, LineIndex, LineRefusal,
+    Names, NoCoordinate, NoName, NotNested, Options, Party, Record, Refusal,
 };
 
 /// How `nest` refuses a text, with room for so many nodes.
@@ -66,4 +66,22 @@ fn names() {
     assert_eq!((full, full.map(NoName::number)), (Some(NoName::NoRoom), Some(raw::NO_ROOM)));
     let none = names.name(0).err();
     assert_eq!((none, none.map(NoName::number)), (Some(NoName::NoNumber), Some(raw::NO_NAME)));
+}
+
+#[test]
+fn item_files() {
+    let back = Record { start: 2, end: 1, ..Record::default() };
+    let mut records = [Record::default(); 1];
+    for (answer, refusal, number) in [
+        (write_items(&[Record::default(), back], &mut []), FileRefusal::GoesBack(1), raw::GOES_BACK),
+        (write_items(&[Record::default()], &mut [0; 9]), FileRefusal::TooFew(10), raw::TOO_FEW),
+        (read_items(&[28], &mut records), FileRefusal::CutShort(1), raw::CUT_SHORT),
+        (read_items(&[128, 0], &mut records), FileRefusal::WrongNumber(0), raw::WRONG_NUMBER),
+        (read_items(&[28, 0, 255, 255, 255, 255, 15, 1], &mut records), FileRefusal::OverSum(3), raw::OVER_SUM),
+        (read_items(&[0; 20], &mut records), FileRefusal::TooFew(2), raw::TOO_FEW),
+    ] {
+        assert_eq!(answer, Err(refusal));
+        assert_eq!(refusal.number(), number);
+    }
+    assert_eq!(records, [Record::default(); 1]);
 }

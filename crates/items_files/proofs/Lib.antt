@@ -1,0 +1,10 @@
+pub mod Groups
+pub mod Laid
+pub mod Records
+pub mod Writer
+pub mod Reader
+pub mod Filler
+pub mod Trips
+pub mod Calls
+pub mod Round
+pub mod Stored

@@ -1,0 +1,7 @@
+pub mod Groups
+pub mod Layout
+pub mod Answers
+pub mod Write
+pub mod Numbers
+pub mod Read
+pub mod Examples

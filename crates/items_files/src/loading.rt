@@ -1,0 +1,132 @@
+// The reader's two passes: the first looks at every number and writes nothing, the second writes the words.
+use crate::Before;
+use crate::Number;
+use crate::Scanned;
+use crate::layout;
+ghost use mathlib.Core.Bool.{true};
+ghost use mathlib.Core.Path.{_≡_};
+ghost use Prim.Native.Nat.{_≤_, _<_};
+ghost use lib.ListN.{length, drop};
+ghost use Rattle.laws.specs.Lent.{written};
+ghost use Rattle.items_files.specs.Answers.{counted};
+ghost use Rattle.items_files.specs.Numbers.{numberOf};
+ghost use Rattle.items_files.specs.Read.{opening, readFrom, sizes, wordsIn, sound};
+
+// The largest number of 32 bits.
+const MOST: u64 = 4294967295;
+
+// The weight of the fifth group.
+const FIFTH: u32 = 268435456;
+
+// The number that stands at a place, group by group.
+fn groups_at(file: &[u8], at: usize) -> Number
+    ensures { λ r. ⌜ r ≡ numberOf 0 1 at (drop at (now (file .entry))) ⌝ }
+{
+    let mut value: u32 = 0;
+    let mut weight: u32 = 1;
+    let mut i = at;
+    while i < file.len() {
+        let c = file[i];
+        if c < 128 {
+            if c == 0 {
+                if weight == 1 {
+                    return Number::Whole(0, i + 1);
+                }
+                return Number::Wrong;
+            }
+            let n = value as u64 + weight as u64 * c as u64;
+            if MOST < n {
+                return Number::Wrong;
+            }
+            return Number::Whole(n as u32, i + 1);
+        }
+        if weight == FIFTH {
+            return Number::Wrong;
+        }
+        value = value + weight * (c - 128) as u32;
+        weight = weight * 128;
+        i += 1;
+    }
+    Number::Cut
+}
+
+// The number that stands at a place of the file: most have one group.
+fn number_at(file: &[u8], at: usize) -> Number
+    requires { ⌜ at < length (now file) ⌝ }
+    ensures { λ r. ⌜ r ≡ numberOf 0 1 at (drop at (now (file .entry))) ⌝ }
+{
+    let c = file[at];
+    if c < 128 {
+        return Number::Whole(c as u32, at + 1);
+    }
+    groups_at(file, at)
+}
+
+// The words of a file, or the first number that fails.
+pub fn scan(file: &[u8]) -> Scanned
+    ensures { λ r. ⌜ counted r ≡ sizes (readFrom opening 0 (now (file .entry))) ⌝ }
+{
+    let mut b = Before {
+        which: 0,
+        last: 0,
+        start: 0,
+    };
+    let mut n: usize = 0;
+    let mut i: usize = 0;
+    while i < file.len() {
+        let number = number_at(file, i);
+        match number {
+            Number::Whole(value, next) => {
+                let word = layout::base_of(b) as u64 + value as u64;
+                if MOST < word {
+                    return Scanned::Over(n);
+                }
+                b = layout::after_word(b, word as u32);
+                n += 1;
+                i = next;
+            }
+            Number::Wrong => {
+                return Scanned::Wrong(n);
+            }
+            Number::Cut => {
+                return Scanned::Cut(n);
+            }
+        }
+    }
+    if b.which == 0 {
+        return Scanned::Words(n);
+    }
+    Scanned::Cut(n)
+}
+
+// The words of a file that has no number that fails, from the start of the memory on.
+pub fn fill(file: &[u8], records: &mut [u32])
+    requires { ⌜ (sound (readFrom opening 0 (now file)) ≡ true) × (length (wordsIn (readFrom opening 0 (now file))) ≤ length (now records)) ⌝ }
+    ensures { λ _. ⌜ now (records .exit) ≡ written (wordsIn (readFrom opening 0 (now (file .entry)))) (now (records .entry)) ⌝ }
+{
+    let mut b = Before {
+        which: 0,
+        last: 0,
+        start: 0,
+    };
+    let mut n: usize = 0;
+    let mut i: usize = 0;
+    while i < file.len() {
+        let number = number_at(file, i);
+        match number {
+            Number::Whole(value, next) => {
+                let w = layout::base_of(b) + value;
+                records[n] = w;
+                b = layout::after_word(b, w);
+                n += 1;
+                i = next;
+            }
+            Number::Wrong => {
+                return;
+            }
+            Number::Cut => {
+                return;
+            }
+        }
+    }
+}

@@ -1,0 +1,94 @@
+// The calls of the crate `items_files` for programs in C and Rust: each answer as a number and one value.
+use items_files::ReadAnswer;
+use items_files::WriteAnswer;
+use refusal::CUT_SHORT;
+use refusal::GOES_BACK;
+use refusal::OVER_SUM;
+use refusal::SERVED;
+use refusal::TOO_FEW;
+use refusal::WRONG_NUMBER;
+ghost use mathlib.Core.Path.{_≡_};
+ghost use mathlib.Core.List.{[], _∷_};
+ghost use Rattle.chars.specs.Encode.{lay};
+ghost use Rattle.items_files.specs.Answers.{wrote, got};
+ghost use Rattle.items_files.specs.Write.{writeOf};
+ghost use Rattle.items_files.specs.Read.{readOf};
+ghost use Rattle.items_files_exports.specs.Told.{numberOf, valueOf};
+
+// How many values are written.
+const VALUES: usize = 1;
+
+// An answer: its number and its value.
+struct Told {
+    number: u32,
+    value: u64,
+}
+
+// An answer of a number and a value.
+fn tell(number: u32, value: usize) -> Told
+    ensures { λ r. ⌜ (r .number ≡ number) × (r .value ≡ value) ⌝ }
+{
+    Told {
+        number,
+        value: value as u64,
+    }
+}
+
+// The writer's answer by its number and its value.
+fn tell_write(a: WriteAnswer) -> Told
+    ensures { λ r. ⌜ (r .number ≡ numberOf (wrote a)) × (r .value ≡ valueOf (wrote a)) ⌝ }
+{
+    match a {
+        WriteAnswer::Stored(bytes) => tell(SERVED, bytes),
+        WriteAnswer::Back(record) => tell(GOES_BACK, record),
+        WriteAnswer::TooFew(bytes) => tell(TOO_FEW, bytes),
+    }
+}
+
+// The reader's answer by its number and its value.
+fn tell_read(a: ReadAnswer) -> Told
+    ensures { λ r. ⌜ (r .number ≡ numberOf (got a)) × (r .value ≡ valueOf (got a)) ⌝ }
+{
+    match a {
+        ReadAnswer::Loaded(items) => tell(SERVED, items),
+        ReadAnswer::Cut(number) => tell(CUT_SHORT, number),
+        ReadAnswer::Wrong(number) => tell(WRONG_NUMBER, number),
+        ReadAnswer::Over(number) => tell(OVER_SUM, number),
+        ReadAnswer::TooFew(items) => tell(TOO_FEW, items),
+    }
+}
+
+// Writes the value, if there is room.
+fn put_value(values: &mut [u64], value: u64)
+    ensures { λ _. ⌜ now (values .exit) ≡ lay (value ∷ []) (now (values .entry)) ⌝ }
+{
+    if values.len() < VALUES {
+        return;
+    }
+    values[0] = value;
+}
+
+// Stores the records as an item file, from the front of `out` on. `values` gets how many bytes it has, or what the refusal comes with;
+// where there is no room for it, it is left as it was.
+#[no_mangle]
+pub extern "C" fn mihadrena_items_write(records: &[u32], out: &mut [u8], values: &mut [u64]) -> u32
+    ensures { λ r. ⌜ r ≡ numberOf (writeOf (now (records .entry)) (now (out .entry)) .answer) ⌝ }
+    ensures { λ _. ⌜ now (values .exit) ≡ lay (valueOf (writeOf (now (records .entry)) (now (out .entry)) .answer) ∷ []) (now (values .entry)) ⌝ }
+    ensures { λ _. ⌜ now (out .exit) ≡ writeOf (now (records .entry)) (now (out .entry)) .memory ⌝ }
+{
+    let told = tell_write(items_files::write(records, out));
+    put_value(values, told.value);
+    told.number
+}
+
+// Reads an item file into records, from the front of `records` on. `values` gets how many items it has, or what the refusal comes with.
+#[no_mangle]
+pub extern "C" fn mihadrena_items_read(file: &[u8], records: &mut [u32], values: &mut [u64]) -> u32
+    ensures { λ r. ⌜ r ≡ numberOf (readOf (now (file .entry)) (now (records .entry)) .answer) ⌝ }
+    ensures { λ _. ⌜ now (values .exit) ≡ lay (valueOf (readOf (now (file .entry)) (now (records .entry)) .answer) ∷ []) (now (values .entry)) ⌝ }
+    ensures { λ _. ⌜ now (records .exit) ≡ readOf (now (file .entry)) (now (records .entry)) .memory ⌝ }
+{
+    let told = tell_read(items_files::read(file, records));
+    put_value(values, told.value);
+    told.number
+}
