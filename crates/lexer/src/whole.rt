@@ -11,6 +11,7 @@ use crate::glance::skim_item;
 use crate::opening::OUTSIDE;
 use crate::opening::open;
 use crate::reading::next_item;
+use crate::reading::past_blanks;
 use crate::reading::stand;
 use escapes::decode;
 use items::Nine;
@@ -74,7 +75,7 @@ pub fn put_text(source: &[u8], r: Nine, free: &mut [u8])
 }
 
 // The items from a spot on, and the bytes of their decoded texts.
-fn count(source: &[u8], spot: Spot) -> Needed
+pub fn count(source: &[u8], spot: Spot) -> Needed
     requires { ⌜ length (now source) ≤ limit ⌝ }
     ensures { λ r. ⌜ r ≡ neededOf (allItems (now (source .entry)) spot) ⌝ }
 {
@@ -160,7 +161,7 @@ fn put_told(source: &[u8], p: Spot, recs: &mut [u32], free: usize, from: usize, 
 }
 
 // Writes the records of the items from a spot on, and their decoded texts; answers how many records and bytes those are.
-fn write(source: &[u8], spot: Spot, recs: &mut [u32], text: &mut [u8]) -> Needed
+pub fn write(source: &[u8], spot: Spot, recs: &mut [u32], text: &mut [u8]) -> Needed
     requires { ⌜ length (now source) ≤ limit ⌝ }
     requires { ⌜ recordWords * length (allItems (now source) spot) ≤ length (now recs) ⌝ }
     requires { ⌜ length (texts (allItems (now source) spot)) ≤ length (now text) ⌝ }
@@ -176,6 +177,13 @@ fn write(source: &[u8], spot: Spot, recs: &mut [u32], text: &mut [u8]) -> Needed
         let told = put_told(source, p, recs, free, w, depth);
         w = told.words;
         depth = told.depth;
+        let at = told.spot.at;
+        if source.len() <= past_blanks(source, at) {
+            return Needed {
+                items: w / WORDS,
+                text: free,
+            };
+        }
         match next_item(source, told.spot, free) {
             Found::One(r, q) => {
                 let row = Record {

@@ -1,0 +1,278 @@
+-- What the request says: "the records and texts must equal single whole-text calls made one by one".
+use Rattle.refusal.specs.Refusals as refusal
+use Rattle.chars.specs.Utf8.{firstBad}
+use Rattle.chars.specs.declared.Utf8.{Utf8}
+use Rattle.chars.specs.declared.Utf8.the-variants.{Good, Bad}
+use Rattle.laws.specs.Choice.{if_then_else_}
+use Rattle.laws.specs.Lent.{written}
+use Rattle.laws.proofs.Choice.{by-bool}
+use Rattle.items.specs.Items.{Item, recordWords, records, texts}
+use Rattle.items.specs.Whole.{Answer, served, refused, Call, call, limit, isMode, itemsIn, deliver, ifGood, readOf}
+use Rattle.items.proofs.Fit.{records-length}
+use Rattle.lexer_fields.specs.Fields.{Field, field, fieldBy, fieldOf, fieldsOn, parts, inOrder, rowWords, itemCount, recordsIn, textsIn, rowOf, rowsFrom, FieldsCall, fieldsCall, fieldsIn, deliverFields, fieldsOf}
+use Rattle.lexer_fields.specs.Each.{alone, Marked, Single, endAfter, oneBy, asOne}
+use Rattle.lexer_fields.proofs.Parts.{in-order, part-length, count-append, texts-append, records-append, rows-append, records-in-length, rows-length, fields-length}
+use Prim.Native.Nat.{ℕ, _+_, _-_, _*_, _/_, _≤_, _<_}
+use mathlib.Core.Path.{_≡_, refl, sym, ap, _∙_, subst}
+use mathlib.Core.Bool.{Bool, true, false}
+use mathlib.Core.List.{List, [], _∷_, _++_, append-assoc, append-nil}
+use lib.ListN.{length, take, drop, length-append}
+use lib.Seq.{take-at, drop-at, drop-drop, take-all}
+use native.Mathlib.Nat.{sub-zero}
+use lib.Dec.{eqb, leb, ltb}
+use native.Mathlib.Omega.{arith}
+use borrow.Author.Tests.{le-leb, le-ltb, leb-true, ltb-false}
+
+-- ---- one call for one part
+
+-- with room for the part's items and texts, or more
+single-call : (mode : ℕ) (skip : Bool) (part recs text : List ℕ) → isMode mode ≡ true → length part ≤ limit → length (fieldOf mode skip part .items) ≤ length recs / recordWords
+    → length (texts (fieldOf mode skip part .items)) ≤ length text
+    → readOf part mode skip recs text
+    ≡ alone (fieldOf mode skip part .mark) (fieldOf mode skip part .place) (length (fieldOf mode skip part .items)) (length (texts (fieldOf mode skip part .items)))
+    (records 0 0 (fieldOf mode skip part .items)) (texts (fieldOf mode skip part .items)) recs text
+unfolding readOf deliver fieldOf
+single-call mode skip part recs text m short hr ht = rw (m, le-ltb limit (length part) short) (by (firstBad part) hr ht)
+  where
+    by : (u : Utf8) → length (fieldBy u (itemsIn part mode skip) .items) ≤ length recs / recordWords → length (texts (fieldBy u (itemsIn part mode skip) .items)) ≤ length text
+        → ifGood u (deliver (itemsIn part mode skip) recs text) recs text
+        ≡ alone (fieldBy u (itemsIn part mode skip) .mark) (fieldBy u (itemsIn part mode skip) .place) (length (fieldBy u (itemsIn part mode skip) .items))
+        (length (texts (fieldBy u (itemsIn part mode skip) .items))) (records 0 0 (fieldBy u (itemsIn part mode skip) .items)) (texts (fieldBy u (itemsIn part mode skip) .items)) recs text
+    by Good a b =
+        rw (
+          le-leb (length (itemsIn part mode skip)) (length recs / recordWords) a,
+          le-leb (length (texts (itemsIn part mode skip))) (length text) b,
+        )
+    by (Bad p) a b = refl
+
+-- ---- parts of what was written
+
+middle : (a b c old : List ℕ) (n : ℕ) → length a ≡ n → take (length b) (drop n (written (a ++ (b ++ c)) old)) ≡ b
+middle a b c old n e =
+    let w : List ℕ = drop (length (a ++ (b ++ c))) old in
+    ap (λ (l : List ℕ). take (length b) (drop n l)) (append-assoc a (b ++ c) w)
+    ∙ ap (take (length b)) (drop-at a ((b ++ c) ++ w) n e)
+    ∙ ap (take (length b)) (append-assoc b c w)
+    ∙ take-at b (c ++ w) (length b) refl
+
+-- ---- a call that is served
+
+is-marked : (mode : ℕ) (skip : Bool) (part : List ℕ)
+    → Marked (firstBad part) (fieldOf mode skip part .mark) (fieldOf mode skip part .place) (length (fieldOf mode skip part .items)) (length (texts (fieldOf mode skip part .items)))
+unfolding fieldOf texts
+is-marked mode skip part = by (firstBad part)
+  where
+    by : (u : Utf8) → Marked u (fieldBy u (itemsIn part mode skip) .mark) (fieldBy u (itemsIn part mode skip) .place) (length (fieldBy u (itemsIn part mode skip) .items)) (length (texts (fieldBy u (itemsIn part mode skip) .items)))
+    by Good = (refl, refl)
+    by (Bad p) = (refl, refl, refl, refl)
+
+-- the rows with the totals after them: each begins where the one before ends
+next-row : (r t : ℕ) (f : Field) (after : List Field)
+    → take 2 (drop rowWords (rowsFrom r t (f ∷ after) ++ ((r + itemCount (f ∷ after)) ∷ (t + length (textsIn (f ∷ after))) ∷ [])))
+    ≡ (r + length (f .items)) ∷ (t + length (texts (f .items))) ∷ []
+unfolding rowsFrom itemCount textsIn
+next-row r t f [] =
+    let a : r + (length (f .items) + 0) ≡ r + length (f .items) = omega arith in
+    let b : t + length (texts (f .items) ++ []) ≡ t + length (texts (f .items)) = ap (λ (l : List ℕ). t + length l) (append-nil (texts (f .items))) in
+    ap (λ (x : ℕ). x ∷ (t + length (texts (f .items) ++ [])) ∷ []) a ∙ ap (λ (x : ℕ). (r + length (f .items)) ∷ x ∷ []) b
+next-row r t f (g ∷ after) = refl
+
+-- and begin with the first record and the first text byte
+begins : (r t : ℕ) (fs : List Field) (n b : ℕ) → n ≡ r + itemCount fs → b ≡ t + length (textsIn fs) → take 2 (rowsFrom r t fs ++ (n ∷ b ∷ [])) ≡ r ∷ t ∷ []
+unfolding rowsFrom itemCount textsIn
+begins r t [] n b p q = let x : n ≡ r = omega arith in let y : b ≡ t = omega arith in rw (x, y)
+begins r t (f ∷ fs) n b p q = refl
+
+module _ (mode : ℕ) (skip : Bool) (m : isMode mode ≡ true) where
+  -- the parts before one, the part and those after it
+  served-single : (before after : List Field) (part rows recs text : List ℕ) → length part ≤ limit → (all : List Field) → all ≡ before ++ (fieldOf mode skip part ∷ after)
+      → (out : FieldsCall) → out .rows ≡ written (rowsFrom 0 0 all) rows → out .records ≡ written (recordsIn all) recs → out .text ≡ written (textsIn all) text
+      → Single mode skip part out (length all) (itemCount all) (length (textsIn all)) (length before)
+  unfolding rowsFrom recordsIn textsIn
+  served-single before after part rows recs text short all e out hw hr ht =
+      let f : Field = fieldOf mode skip part in
+      let n : ℕ = itemCount before in
+      let t : ℕ = length (textsIn before) in
+      let w : List ℕ = rowsFrom (0 + n + length (f .items)) (0 + t + length (texts (f .items))) after in
+      let split : rowsFrom 0 0 all ≡ rowsFrom 0 0 before ++ rowsFrom n t (f ∷ after) =
+      ap (rowsFrom 0 0) e ∙ rows-append 0 0 before (f ∷ after)
+      ∙ ap (λ (x : ℕ). rowsFrom 0 0 before ++ rowsFrom x (0 + t) (f ∷ after)) (omega arith)
+      ∙ ap (λ (x : ℕ). rowsFrom 0 0 before ++ rowsFrom n x (f ∷ after)) (omega arith) in
+      let a : take rowWords (drop (rowWords * length before) (out .rows)) ≡ rowOf n t f =
+      ap (λ (l : List ℕ). take rowWords (drop (rowWords * length before) l)) (hw ∙ ap (λ (l : List ℕ). written l rows) split)
+      ∙ middle (rowsFrom 0 0 before) (rowOf n t f) (rowsFrom (n + length (f .items)) (t + length (texts (f .items))) after) rows (rowWords * length before) (rows-length 0 0 before) in
+      let b : take (recordWords * length (f .items)) (drop (recordWords * n) (out .records)) ≡ records 0 0 (f .items) =
+      ap (λ (l : List ℕ). take (recordWords * length (f .items)) (drop (recordWords * n) l)) (hr ∙ ap (λ (l : List Field). written (recordsIn l) recs) e ∙ ap (λ (l : List ℕ). written l recs) (records-append before (f ∷ after)))
+      ∙ ap (λ (x : ℕ). take x (drop (recordWords * n) (written (recordsIn before ++ (records 0 0 (f .items) ++ recordsIn after)) recs))) (sym (records-length 0 0 (f .items)))
+      ∙ middle (recordsIn before) (records 0 0 (f .items)) (recordsIn after) recs (recordWords * n) (records-in-length before) in
+      let c : take (length (texts (f .items))) (drop t (out .text)) ≡ texts (f .items) =
+      ap (λ (l : List ℕ). take (length (texts (f .items))) (drop t l)) (ht ∙ ap (λ (l : List Field). written (textsIn l) text) e ∙ ap (λ (l : List ℕ). written l text) (texts-append before (f ∷ after)))
+      ∙ middle (textsIn before) (texts (f .items)) (textsIn after) text t refl in
+      let totals : List ℕ = itemCount all ∷ length (textsIn all) ∷ [] in
+      let tot : totals ≡ (n + itemCount (f ∷ after)) ∷ (t + length (textsIn (f ∷ after))) ∷ [] =
+      ap (λ (l : List Field). itemCount l ∷ length (textsIn l) ∷ []) e
+      ∙ ap (λ (x : ℕ). x ∷ length (textsIn (before ++ (f ∷ after))) ∷ []) (count-append before (f ∷ after))
+      ∙ ap (λ (x : ℕ). (n + itemCount (f ∷ after)) ∷ x ∷ []) (ap length (texts-append before (f ∷ after)) ∙ length-append (textsIn before) (textsIn (f ∷ after))) in
+      let shape : take (rowWords * length all) (out .rows) ++ totals
+      ≡ rowsFrom 0 0 before ++ (rowsFrom n t (f ∷ after) ++ ((n + itemCount (f ∷ after)) ∷ (t + length (textsIn (f ∷ after))) ∷ [])) =
+      ap (λ (l : List ℕ). take (rowWords * length all) l ++ totals) hw
+      ∙ ap (λ (l : List ℕ). l ++ totals) (take-at (rowsFrom 0 0 all) (drop (length (rowsFrom 0 0 all)) rows) (rowWords * length all) (rows-length 0 0 all))
+      ∙ ap (λ (l : List ℕ). l ++ totals) split
+      ∙ append-assoc (rowsFrom 0 0 before) (rowsFrom n t (f ∷ after)) totals
+      ∙ ap (λ (l : List ℕ). rowsFrom 0 0 before ++ (rowsFrom n t (f ∷ after) ++ l)) tot in
+      let step : rowWords * (length before + 1) ≡ rowWords * length before + rowWords = omega arith in
+      let d : take 2 (drop (rowWords * (length before + 1)) (take (rowWords * length all) (out .rows) ++ totals)) ≡ (n + length (f .items)) ∷ (t + length (texts (f .items))) ∷ [] =
+      ap (λ (l : List ℕ). take 2 (drop (rowWords * (length before + 1)) l)) shape
+      ∙ ap (λ (x : ℕ). take 2 (drop x (rowsFrom 0 0 before ++ (rowsFrom n t (f ∷ after) ++ ((n + itemCount (f ∷ after)) ∷ (t + length (textsIn (f ∷ after))) ∷ []))))) step
+      ∙ ap (take 2) (sym (drop-drop rowWords (rowWords * length before) (rowsFrom 0 0 before ++ (rowsFrom n t (f ∷ after) ++ ((n + itemCount (f ∷ after)) ∷ (t + length (textsIn (f ∷ after))) ∷ [])))))
+      ∙ ap (λ (l : List ℕ). take 2 (drop rowWords l)) (drop-at (rowsFrom 0 0 before) (rowsFrom n t (f ∷ after) ++ ((n + itemCount (f ∷ after)) ∷ (t + length (textsIn (f ∷ after))) ∷ [])) (rowWords * length before) (rows-length 0 0 before))
+      ∙ next-row n t f after in
+      record {
+        first = n;
+        byte = t;
+        mark = f .mark;
+        place = f .place;
+        row = a;
+        items = length (f .items);
+        bytes = length (texts (f .items));
+        next = d;
+        marked = is-marked mode skip part;
+        same = λ rs bs hi hb. single-call mode skip part rs bs m short hi hb
+            ∙ ap (λ (l : List ℕ). alone (f .mark) (f .place) (length (f .items)) (length (texts (f .items))) l (texts (f .items)) rs bs) (sym b)
+            ∙ ap (λ (l : List ℕ). alone (f .mark) (f .place) (length (f .items)) (length (texts (f .items))) (take (recordWords * length (f .items)) (drop (recordWords * n) (out .records))) l rs bs) (sym c);
+      }
+
+-- ---- which part is which
+
+module _ (s : List ℕ) (mode : ℕ) (skip : Bool) where
+  fields-split : (a b : List ℕ) (from : ℕ) → fieldsOn mode skip (parts s from (a ++ b)) ≡ fieldsOn mode skip (parts s from a) ++ fieldsOn mode skip (parts s (endAfter from a) b)
+  unfolding fieldsOn parts
+  fields-split [] b from = refl
+  fields-split (e ∷ a) b from = ap (λ (l : List Field). fieldOf mode skip (take (e - from) (drop from s)) ∷ l) (fields-split a b e)
+
+  order-split : (a b : List ℕ) (from : ℕ) → from ≤ length s → inOrder (length s) from (a ++ b) ≡ true → (endAfter from a ≤ length s) × (inOrder (length s) (endAfter from a) b ≡ true)
+  order-split [] b from h o = (h, o)
+  order-split (e ∷ a) b from h o = let k = in-order mode skip (length s) from e (a ++ b) o in order-split a b e (k .1) (k .2)
+
+-- ---- a call that is served, by its answer
+
+module _ (s ends : List ℕ) (mode : ℕ) (skip : Bool) (rows recs text : List ℕ) (n t : ℕ) where
+  abbrev fs : List Field
+  fs = fieldsIn s ends mode skip
+
+  -- it was not refused, and is the definition's
+  pub record Served : Type 0 where
+    pub mode-fits : isMode mode ≡ true
+    pub order : inOrder (length s) 0 ends ≡ true
+    pub short : length s ≤ limit
+    pub items : itemCount fs ≡ n
+    pub bytes : length (textsIn fs) ≡ t
+    pub gives : fieldsOf s ends mode skip rows recs text ≡ fieldsCall (served n t) (written (rowsFrom 0 0 fs) rows) (written (recordsIn fs) recs) (written (textsIn fs) text)
+
+  not-served : {k a b : ℕ} → refused k a b ≡ served n t → ⊥
+  not-served e = let y : _≡_ {A = ℕ} 0 1 = cc in absurd (omega arith)
+
+  pub is-served : fieldsOf s ends mode skip rows recs text .answer ≡ served n t → Served
+  unfolding fieldsOf deliverFields
+  is-served e =
+      by-bool (isMode mode)
+      (λ m. by-bool (inOrder (length s) 0 ends)
+      (λ o. by-bool (ltb limit (length s))
+      (λ l. absurd (not-served (rw (m, o, l) at e)))
+      (λ l. by-bool (leb (length fs) (length rows / rowWords))
+      (λ a. by-bool (leb (itemCount fs) (length recs / recordWords))
+      (λ b. by-bool (leb (length (textsIn fs)) (length text))
+      (λ c. let z : served (itemCount fs) (length (textsIn fs)) ≡ served n t = rw (m, o, l, a, b, c) at e in
+      let x : itemCount fs ≡ n = cc in
+      let y : length (textsIn fs) ≡ t = cc in
+      record {
+        mode-fits = m;
+        order = o;
+        short = ltb-false limit (length s) l;
+        items = x;
+        bytes = y;
+        gives = rw (m, o, l, a, b, c) (ap (λ (k : Answer). fieldsCall k (written (rowsFrom 0 0 fs) rows) (written (recordsIn fs) recs) (written (textsIn fs) text)) z);
+      })
+      (λ c. absurd (not-served (rw (m, o, l, a, b, c) at e))))
+      (λ b. absurd (not-served (rw (m, o, l, a, b) at e))))
+      (λ a. absurd (not-served (rw (m, o, l, a) at e)))))
+      (λ o. absurd (not-served (rw (m, o) at e))))
+      (λ m. absurd (not-served (rw m at e)))
+
+  -- Each part of a call that is served: its row, and the slices of records and of texts that the row names are what the whole-text call
+  -- gives for that part alone
+  pub fields-single : fieldsOf s ends mode skip rows recs text .answer ≡ served n t → (before : List ℕ) (e : ℕ) (after : List ℕ) → ends ≡ before ++ (e ∷ after)
+      → Single mode skip (take (e - endAfter 0 before) (drop (endAfter 0 before) s)) (fieldsOf s ends mode skip rows recs text) (length ends) n t (length before)
+  unfolding fieldsOn parts
+  fields-single h before e after q =
+      let v : Served = is-served h in
+      let from : ℕ = endAfter 0 before in
+      let part : List ℕ = take (e - from) (drop from s) in
+      let o = order-split s mode skip before (e ∷ after) 0 (omega arith) (subst (λ (l : List ℕ). inOrder (length s) 0 l ≡ true) q (v .order)) in
+      let k = in-order mode skip (length s) from e after (o .1) in
+      let short : length part ≤ limit = omega (arith, part-length mode skip s from e (k .1), k .1, v .short) in
+      let all : fs ≡ fieldsOn mode skip (parts s 0 before) ++ (fieldOf mode skip part ∷ fieldsOn mode skip (parts s e after)) =
+      ap (λ (l : List ℕ). fieldsIn s l mode skip) q ∙ fields-split s mode skip before (e ∷ after) 0 in
+      let z = served-single mode skip (v .mode-fits) (fieldsOn mode skip (parts s 0 before)) (fieldsOn mode skip (parts s e after)) part rows recs text short fs all
+      (fieldsOf s ends mode skip rows recs text) (ap (λ (x : FieldsCall). x .rows) (v .gives)) (ap (λ (x : FieldsCall). x .records) (v .gives)) (ap (λ (x : FieldsCall). x .text) (v .gives)) in
+      let out : FieldsCall = fieldsOf s ends mode skip rows recs text in
+      subst (λ (x : ℕ). Single mode skip part out (length ends) n t x) (fields-length mode skip s before 0)
+      (subst (λ (x : ℕ). Single mode skip part out (length ends) n x (length (fieldsOn mode skip (parts s 0 before)))) (v .bytes)
+      (subst (λ (x : ℕ). Single mode skip part out (length ends) x (length (textsIn fs)) (length (fieldsOn mode skip (parts s 0 before)))) (v .items)
+      (subst (λ (x : ℕ). Single mode skip part out x (itemCount fs) (length (textsIn fs)) (length (fieldsOn mode skip (parts s 0 before)))) (fields-length mode skip s ends 0) z)))
+
+  -- The rows' slices follow one another without gap: the row after any parts, or the totals after all, begins with how many records and text
+  -- bytes those parts gave
+  pub fields-joined : fieldsOf s ends mode skip rows recs text .answer ≡ served n t → (before after : List ℕ) → ends ≡ before ++ after
+      → take 2 (drop (rowWords * length before) (take (rowWords * length ends) (fieldsOf s ends mode skip rows recs text .rows) ++ (n ∷ t ∷ [])))
+      ≡ itemCount (fieldsIn s before mode skip) ∷ length (textsIn (fieldsIn s before mode skip)) ∷ []
+  fields-joined h before after q =
+      let v : Served = is-served h in
+      let a : List Field = fieldsOn mode skip (parts s 0 before) in
+      let b : List Field = fieldsOn mode skip (parts s (endAfter 0 before) after) in
+      let all : fs ≡ a ++ b = ap (λ (l : List ℕ). fieldsIn s l mode skip) q ∙ fields-split s mode skip before after 0 in
+      let totals : List ℕ = n ∷ t ∷ [] in
+      let i : n ≡ itemCount a + itemCount b = sym (v .items) ∙ ap itemCount all ∙ count-append a b in
+      let j : t ≡ length (textsIn a) + length (textsIn b) =
+      sym (v .bytes) ∙ ap (λ (l : List Field). length (textsIn l)) all ∙ ap length (texts-append a b) ∙ length-append (textsIn a) (textsIn b) in
+      let split : rowsFrom 0 0 fs ≡ rowsFrom 0 0 a ++ rowsFrom (itemCount a) (length (textsIn a)) b =
+      ap (rowsFrom 0 0) all ∙ rows-append 0 0 a b
+      ∙ ap (λ (x : ℕ). rowsFrom 0 0 a ++ rowsFrom x (0 + length (textsIn a)) b) (omega arith)
+      ∙ ap (λ (x : ℕ). rowsFrom 0 0 a ++ rowsFrom (itemCount a) x b) (omega arith) in
+      let shape : take (rowWords * length ends) (fieldsOf s ends mode skip rows recs text .rows) ++ totals
+      ≡ rowsFrom 0 0 a ++ (rowsFrom (itemCount a) (length (textsIn a)) b ++ totals) =
+      ap (λ (x : FieldsCall). take (rowWords * length ends) (x .rows) ++ totals) (v .gives)
+      ∙ ap (λ (l : List ℕ). l ++ totals) (take-at (rowsFrom 0 0 fs) (drop (length (rowsFrom 0 0 fs)) rows) (rowWords * length ends) (rows-length 0 0 fs ∙ ap (λ (x : ℕ). rowWords * x) (fields-length mode skip s ends 0)))
+      ∙ ap (λ (l : List ℕ). l ++ totals) split
+      ∙ append-assoc (rowsFrom 0 0 a) (rowsFrom (itemCount a) (length (textsIn a)) b) totals in
+      ap (λ (l : List ℕ). take 2 (drop (rowWords * length before) l)) shape
+      ∙ ap (take 2) (drop-at (rowsFrom 0 0 a) (rowsFrom (itemCount a) (length (textsIn a)) b ++ totals) (rowWords * length before) (rows-length 0 0 a ∙ ap (λ (x : ℕ). rowWords * x) (fields-length mode skip s before 0)))
+      ∙ begins (itemCount a) (length (textsIn a)) b n t i j
+
+-- ---- one part that is the whole source
+
+module _ (s : List ℕ) (mode : ℕ) (skip : Bool) (rows recs text : List ℕ) (room : 1 ≤ length rows / rowWords) where
+  one-good : (is : List Item) → deliverFields (field 0 0 is ∷ []) rows recs text ≡ asOne (deliver is recs text) rows
+  unfolding deliverFields deliver itemCount recordsIn textsIn rowsFrom
+  one-good is =
+      let a : length is + 0 ≡ length is = omega arith in
+      rw (le-leb 1 (length rows / rowWords) room, a, append-nil (texts is), append-nil (records 0 0 is))
+      (by-bool (leb (length is) (length recs / recordWords))
+      (λ b. by-bool (leb (length (texts is)) (length text)) (λ c. rw (b, c)) (λ c. rw (b, c)))
+      (λ b. rw b))
+
+  one-bad : (p : ℕ) → deliverFields (field refusal.notUtf8 p [] ∷ []) rows recs text ≡ asOne (call (refused refusal.notUtf8 p 0) recs text) rows
+  unfolding deliverFields itemCount recordsIn textsIn rowsFrom records texts
+  one-bad p = rw (le-leb 1 (length rows / rowWords) room, le-leb 0 (length recs / recordWords) (omega arith), le-leb 0 (length text) (omega arith))
+
+  pub fields-one : fieldsOf s (length s ∷ []) mode skip rows recs text ≡ asOne (readOf s mode skip recs text) rows
+  unfolding fieldsOf readOf inOrder fieldsOn parts fieldOf
+  fields-one = by-bool (isMode mode)
+      (λ m. by-bool (ltb limit (length s))
+      (λ l. rw (m, l, le-leb 0 (length s) (omega arith), le-leb (length s) (length s) (omega arith)))
+      (λ l. rw (m, l, le-leb 0 (length s) (omega arith), le-leb (length s) (length s) (omega arith), sub-zero (length s), take-all (length s) s (omega arith)) (by (firstBad s))))
+      (λ m. rw m)
+    where
+      by : (u : Utf8) → deliverFields (fieldBy u (itemsIn s mode skip) ∷ []) rows recs text ≡ asOne (ifGood u (deliver (itemsIn s mode skip) recs text) recs text) rows
+      by Good = one-good (itemsIn s mode skip)
+      by (Bad p) = one-bad p
