@@ -8,14 +8,14 @@ use Rattle.chars.proofs.Width.{wide, width-utf8, utf8-one, utf8-two, utf8-three
 use Rattle.chars.proofs.Table.{within-in}
 use Rattle.laws.specs.Choice.{if_then_else_}
 use Rattle.laws.specs.Quoted.{within}
-use Rattle.laws.proofs.Choice.{by-bool}
+use Rattle.laws.proofs.Choice.{by-bool, no-yes, yes-no}
 use Rattle.laws.proofs.Places.{here, past}
 use Rattle.items.specs.Items.{Item}
 use Rattle.items.specs.Whole.{itemsIn}
 use Rattle.lexer_fields.specs.Fields.{Field, fieldBy, fieldOf, fieldsOn, fieldsIn, parts, inOrder}
 use Rattle.lexer_fields.specs.Answers.{continues, between, wellCut, Known, Unmarked, AllKnown, Fine}
 use Rattle.lexer_fields.proofs.Parts.{in-order}
-use Rattle.lexer_fields.proofs.Going.{Going, rest, part, this, e}
+use Rattle.lexer_fields.proofs.Progress.{Progress, rest, part, this, e}
 use Prim.Native.Nat.{ℕ, zero, suc, _+_, _-_, _≤_, _<_}
 use mathlib.Core.Path.{_≡_, refl, sym, ap, _∙_, subst}
 use mathlib.Core.Bool.{Bool, true, false}
@@ -92,8 +92,7 @@ cut-at (c ∷ cs) h (suc n) e = by-bool (leb (width c) (suc n))
         let z : within 0x80 0xBF (getD (utf8 c ++ bytesOf cs) (suc n) 0) ≡ true =
         ap (λ (x : List ℕ). within 0x80 0xBF (getD (x ++ bytesOf cs) (suc n) 0)) (p .shape)
         ∙ tail-at (p .later) (bytesOf cs) (p .tails) n (omega (arith, ap length (p .shape))) in
-        let y : true ≡ false = sym z ∙ e in
-        let x : _≡_ {A = ℕ} 0 1 = cc in absurd (omega arith)
+        yes-no (sym z ∙ e)
 
 pub good-cut : (s : List ℕ) → firstBad s ≡ Good → (n : ℕ) → continues s n ≡ false → (firstBad (take n s) ≡ Good) × (firstBad (drop n s) ≡ Good)
 good-cut s g n e =
@@ -108,7 +107,7 @@ good-cut s g n e =
 between-cons : (s : List ℕ) (e : ℕ) (ends : List ℕ) → between s (e ∷ ends) ≡ true → (continues s e ≡ false) × (between s ends ≡ true)
 unfolding between
 between-cons s e ends h = by-bool (continues s e)
-    (λ a. let z : false ≡ true = rw a at h in let y : _≡_ {A = ℕ} 0 1 = cc in absurd (omega arith))
+    (λ a. no-yes (rw a at h))
     (λ a. (a, rw a at h))
 
 module _ (mode : ℕ) (skip : Bool) where
@@ -129,7 +128,7 @@ module _ (mode : ℕ) (skip : Bool) where
   unfolding fieldsOn parts
   parts-good s [] from o g b = tt
   parts-good s (e ∷ ends) from o g b =
-      let k = in-order mode skip (length s) from e ends o in
+      let k = in-order (length s) from e ends o in
       let t = between-cons s e ends b in
       let q : from + (e - from) ≡ e = omega (arith, k .0) in
       let c = good-cut (drop from s) g (e - from) (ap (within 0x80 0xBF) (getD-drop from s (e - from) 0 ∙ ap (λ (x : ℕ). getD s x 0) q) ∙ t .0) in (
@@ -142,21 +141,19 @@ module _ (mode : ℕ) (skip : Bool) where
     where
       by : (u : Utf8) → firstBad s ≡ u → wellCut (firstBad s) (between s ends) ≡ true → Unmarked (fieldsIn s ends mode skip)
       by Good f h = parts-good s ends 0 o f (sym (ap (λ (v : Utf8). wellCut v (between s ends)) f) ∙ h)
-      by (Bad at) f h =
-          let z : false ≡ true = sym (ap (λ (v : Utf8). wellCut v (between s ends)) f) ∙ h in
-          let y : _≡_ {A = ℕ} 0 1 = cc in absurd (omega arith)
+      by (Bad at) f h = no-yes (sym (ap (λ (v : Utf8). wellCut v (between s ends)) f) ∙ h)
 
-  unmarked-at : (a : List Field) (f : Field) (b : List Field) → Unmarked (a ++ (f ∷ b)) → f .mark ≡ 0
-  unmarked-at [] f b h = h .0
-  unmarked-at (g ∷ a) f b h = unmarked-at a f b (h .1)
+unmarked-at : (a : List Field) (f : Field) (b : List Field) → Unmarked (a ++ (f ∷ b)) → f .mark ≡ 0
+unmarked-at [] f b h = h .0
+unmarked-at (g ∷ a) f b h = unmarked-at a f b (h .1)
 
 -- the part at which a loop stands
-pub this-known : (s ends : List ℕ) (mode : ℕ) (skip : Bool) (i from n free : ℕ) (done : List Field) (g : Going s ends mode skip i from n free done) (h : i < length ends)
-    (known : Bool) → AllKnown known s ends mode skip → Known known (part s ends mode skip i from n free done g h)
-this-known s ends mode skip i from n free done g h known a k =
-    mark-good mode skip (part s ends mode skip i from n free done g h)
-    (unmarked-at mode skip done (this s ends mode skip i from n free done g h) (fieldsOn mode skip (parts s (e s ends mode skip i from n free done g h) (drop (i + 1) ends)))
-    (subst Unmarked (g .all ∙ ap (λ (l : List Field). done ++ l) (rest s ends mode skip i from n free done g h)) (a k)))
+module _ {s ends : List ℕ} {mode : ℕ} {skip : Bool} {i from n free : ℕ} {done : List Field} (g : Progress s ends mode skip i from n free done) (h : i < length ends) where
+  pub this-known : (known : Bool) → AllKnown known s ends mode skip → Known known (part g h)
+  this-known known a k =
+      mark-good mode skip (part g h)
+      (unmarked-at done (this g h) (fieldsOn mode skip (parts s (e g h) (drop (i + 1) ends)))
+      (subst Unmarked (g .all ∙ ap (λ (l : List Field). done ++ l) (rest g h)) (a k)))
 
 -- ---- the ends by the tests of the code
 

@@ -7,7 +7,7 @@ use Rattle.lexer_fields.specs.Fields.{Field, rowWords, itemCount, record
 use Rattle.lexer_fields.specs.Answers.{totalOf, Fine, Room}
 use Rattle.lexer_fields.specs.declared.Total.{Total}
 use Rattle.lexer_fields.proofs.Parts.{fields-length}
-use Rattle.lexer_fields.proofs.Going.{few}
+use Rattle.lexer_fields.proofs.Progress.{few}
 use Prim.Native.Nat.{ℕ, _*_, _/_, _≤_, _<_}
 use mathlib.Core.Path.{_≡_, refl, sym, ap, _∙_}
 use mathlib.Core.Bool.{Bool, true, false}

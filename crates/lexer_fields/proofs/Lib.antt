@@ -1,8 +1,8 @@
+pub mod Singles
 pub mod Parts
-pub mod Going
+pub mod Progress
 pub mod Cuts
-pub mod Alone
+pub mod OnePart
 pub mod Writing
 pub mod Ordered
 pub mod Delivered
-pub mod Singles

@@ -27,6 +27,6 @@ module _ (n : ℕ) (ends : List ℕ) (i from : ℕ) where
       unfolding inOrder
       goes-past l = sym (next ∙ rw (le-leb from (getD ends i 0) k, lt-leb (getD ends i 0) n l))
 
-      pub goes-on : getD ends i 0 ≤ n → inOrder n (getD ends i 0) (drop (i + 1) ends) ≡ inOrder n from (drop i ends)
+      pub end-follows : getD ends i 0 ≤ n → inOrder n (getD ends i 0) (drop (i + 1) ends) ≡ inOrder n from (drop i ends)
       unfolding inOrder
-      goes-on l = sym (next ∙ rw (le-leb from (getD ends i 0) k, le-leb (getD ends i 0) n l))
+      end-follows l = sym (next ∙ rw (le-leb from (getD ends i 0) k, le-leb (getD ends i 0) n l))

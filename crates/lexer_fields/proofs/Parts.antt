@@ -7,7 +7,7 @@ use Rattle.items.specs.Whole.{inReport, itemsIn}
 use Rattle.items.proofs.Fit.{records-length}
 use Rattle.lexer.proofs.Opens.{few-items}
 use Rattle.lexer.specs.Inner.{Few}
-use Rattle.laws.proofs.Choice.{by-bool}
+use Rattle.laws.proofs.Choice.{by-bool, no-yes}
 use Rattle.lexer_fields.specs.Fields.{Field, field, fieldBy, fieldOf, fieldsOn, parts, inOrder, rowWords, itemCount, recordsIn, textsIn, rowOf, rowsFrom}
 use Prim.Native.Nat.{ℕ, zero, suc, _+_, _-_, _*_, _≤_, _<_}
 use mathlib.Core.Path.{_≡_, refl, sym, ap, _∙_, subst}
@@ -43,6 +43,19 @@ pub first-bad-ahead : (s : List ℕ) (p : ℕ) → firstBad s ≡ Bad p → p �
 unfolding firstBad
 first-bad-ahead s p e = let h : p ≤ 0 + length s = subst (Ahead (0 + length s)) e (bad-ahead s 0 0) in omega arith
 
+-- ---- one end after the other
+
+pub in-order : (n from e : ℕ) (ends : List ℕ) → inOrder n from (e ∷ ends) ≡ true → (from ≤ e) × (e ≤ n) × (inOrder n e ends ≡ true)
+unfolding inOrder
+in-order n from e ends h = by-bool (leb from e)
+    (λ a. by-bool (leb e n)
+    (λ b. (leb-true from e a, leb-true e n b, rw (a, b) at h))
+    (λ b. no-yes (rw (a, b) at h)))
+    (λ a. no-yes (rw a at h))
+
+pub part-length : (s : List ℕ) (from e : ℕ) → e ≤ length s → length (take (e - from) (drop from s)) ≡ e - from
+part-length s from e h = length-take-le (e - from) (drop from s) (omega (arith, length-drop from s))
+
 -- ---- how much a part gives
 
 module _ (mode : ℕ) (skip : Bool) where
@@ -55,17 +68,6 @@ module _ (mode : ℕ) (skip : Bool) where
       by (Bad p) = (omega arith, omega arith)
 
   -- and the parts from a place on, which end in order
-  pub in-order : (n from e : ℕ) (ends : List ℕ) → inOrder n from (e ∷ ends) ≡ true → (from ≤ e) × (e ≤ n) × (inOrder n e ends ≡ true)
-  unfolding inOrder
-  in-order n from e ends h = by-bool (leb from e)
-      (λ a. by-bool (leb e n)
-      (λ b. (leb-true from e a, leb-true e n b, rw (a, b) at h))
-      (λ b. let z : false ≡ true = rw (a, b) at h in let y : _≡_ {A = ℕ} 0 1 = cc in absurd (omega arith)))
-      (λ a. let z : false ≡ true = rw a at h in let y : _≡_ {A = ℕ} 0 1 = cc in absurd (omega arith))
-
-  pub part-length : (s : List ℕ) (from e : ℕ) → e ≤ length s → length (take (e - from) (drop from s)) ≡ e - from
-  part-length s from e h = length-take-le (e - from) (drop from s) (omega (arith, length-drop from s))
-
   pub few-fields : (s ends : List ℕ) (from : ℕ) → from ≤ length s → inOrder (length s) from ends ≡ true
       → (from + itemCount (fieldsOn mode skip (parts s from ends)) ≤ length s) × (from + length (textsIn (fieldsOn mode skip (parts s from ends))) ≤ length s)
   unfolding fieldsOn parts itemCount textsIn

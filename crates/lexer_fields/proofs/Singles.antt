@@ -152,7 +152,7 @@ module _ (s : List ℕ) (mode : ℕ) (skip : Bool) where
 
   order-split : (a b : List ℕ) (from : ℕ) → from ≤ length s → inOrder (length s) from (a ++ b) ≡ true → (endAfter from a ≤ length s) × (inOrder (length s) (endAfter from a) b ≡ true)
   order-split [] b from h o = (h, o)
-  order-split (e ∷ a) b from h o = let k = in-order mode skip (length s) from e (a ++ b) o in order-split a b e (k .1) (k .2)
+  order-split (e ∷ a) b from h o = let k = in-order (length s) from e (a ++ b) o in order-split a b e (k .1) (k .2)
 
 -- ---- a call that is served, by its answer
 
@@ -209,8 +209,8 @@ module _ (s ends : List ℕ) (mode : ℕ) (skip : Bool) (rows recs text : List �
       let from : ℕ = endAfter 0 before in
       let part : List ℕ = take (e - from) (drop from s) in
       let o = order-split s mode skip before (e ∷ after) 0 (omega arith) (subst (λ (l : List ℕ). inOrder (length s) 0 l ≡ true) q (v .order)) in
-      let k = in-order mode skip (length s) from e after (o .1) in
-      let short : length part ≤ limit = omega (arith, part-length mode skip s from e (k .1), k .1, v .short) in
+      let k = in-order (length s) from e after (o .1) in
+      let short : length part ≤ limit = omega (arith, part-length s from e (k .1), k .1, v .short) in
       let all : fs ≡ fieldsOn mode skip (parts s 0 before) ++ (fieldOf mode skip part ∷ fieldsOn mode skip (parts s e after)) =
       ap (λ (l : List ℕ). fieldsIn s l mode skip) q ∙ fields-split s mode skip before (e ∷ after) 0 in
       let z = served-single mode skip (v .mode-fits) (fieldsOn mode skip (parts s 0 before)) (fieldsOn mode skip (parts s e after)) part rows recs text short fs all

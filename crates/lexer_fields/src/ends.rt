@@ -32,7 +32,7 @@ pub fn in_order(n: usize, ends: &[u32]) -> bool
 }
 
 // Whether the byte at a place goes on with a character.
-fn goes_on(source: &[u8], at: usize) -> bool
+fn continues(source: &[u8], at: usize) -> bool
     ensures { λ r. ⌜ r ≡ continues (now (source .entry)) at ⌝ }
 {
     if source.len() <= at {
@@ -52,7 +52,7 @@ fn between_all(source: &[u8], ends: &[u32]) -> bool
     let mut i: usize = 0;
     while i < ends.len() {
         let end = ends[i] as usize;
-        if goes_on(source, end) {
+        if continues(source, end) {
             return false;
         }
         i += 1;

@@ -20,10 +20,17 @@ enum-told-2 : tie.Need-enum-told-2
 enum-told-2 c = search needs
 
 returns : tie.Need-returns
-returns c = let entry = c .before .before .before .before .before .before in c .between-all .ensures ∙ ap (λ (u : Utf8). wellCut u (between (now (entry .args .source)) (now (entry .args .ends)))) (sym (c .before .enum-told .given .1) ∙ c .before .before .before .first-bad .ensures)
+returns c =
+    let asked = c .before .before .before in
+    let entry = asked .before .before .before in
+    c .between-all .ensures
+    ∙ ap (λ (u : Utf8). wellCut u (between (now (entry .args .source)) (now (entry .args .ends)))) (sym (c .before .enum-told .given .1) ∙ asked .first-bad .ensures)
 
 returns-2 : tie.Need-returns-2
-returns-2 c = let entry = c .before .before .before .before .before in ap (λ (u : Utf8). wellCut u (between (now (entry .args .source)) (now (entry .args .ends)))) (sym (c .enum-told2 .given .1) ∙ c .before .before .first-bad .ensures)
+returns-2 c =
+    let asked = c .before .before in
+    let entry = asked .before .before .before in
+    ap (λ (u : Utf8). wellCut u (between (now (entry .args .source)) (now (entry .args .ends)))) (sym (c .enum-told2 .given .1) ∙ asked .first-bad .ensures)
 
 pub all-known-spec : {M : Type 1} → statement M
 all-known-spec =

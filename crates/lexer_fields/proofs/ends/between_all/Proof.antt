@@ -28,11 +28,16 @@ shared-slice-read-end c = c .before .loop-test .taken
 cast-end : tie.Need-cast-end Inv-loop μ-loop
 cast-end c = omega (arith, c .shared-slice-known3 .given (c .before .before .loop .i))
 
-goes-on-requires : tie.Need-goes-on-requires Inv-loop μ-loop
-goes-on-requires c κs = search needs
+continues-requires : tie.Need-continues-requires Inv-loop μ-loop
+continues-requires c κs = search needs
 
 returns : tie.Need-returns Inv-loop μ-loop
-returns c = let entry = c .before .before .before .before .before .before .before in let l = c .before .before .before .before .loop in lies-inside (now (entry .args .source)) (now (entry .args .ends)) (l .i) (c .before .before .before .loop-test .taken) (sym (c .before .goes-on .ensures) ∙ c .if1 .taken) ∙ l .inv .1
+returns c =
+    let test = c .before .before .before in
+    let turn = test .before in
+    let entry = turn .before .before .before in
+    lies-inside (now (entry .args .source)) (now (entry .args .ends)) (turn .loop .i) (test .loop-test .taken)
+    (sym (c .before .continues .ensures) ∙ c .if1 .taken) ∙ turn .loop .inv .1
 
 add-i : tie.Need-add-i Inv-loop μ-loop
 add-i c = omega (arith, c .before .before .before .before .before .before .before .good)
@@ -41,10 +46,20 @@ loop-less : tie.Need-loop-less Inv-loop μ-loop
 loop-less c = omega (arith, c .before .before .before .loop-test .taken)
 
 loop-again : tie.Need-loop-again Inv-loop μ-loop
-loop-again c = let entry = c .before .before .before .before .before .before .before in let l = c .before .before .before .before .loop in (omega (arith, c .before .before .before .loop-test .taken), lies-between (now (entry .args .source)) (now (entry .args .ends)) (l .i) (c .before .before .before .loop-test .taken) (sym (c .before .goes-on .ensures) ∙ c .if1 .left) ∙ l .inv .1)
+loop-again c =
+    let test = c .before .before .before in
+    let turn = test .before in
+    let entry = turn .before .before .before in (
+      omega (arith, test .loop-test .taken),
+      lies-between (now (entry .args .source)) (now (entry .args .ends)) (turn .loop .i) (test .loop-test .taken)
+          (sym (c .before .continues .ensures) ∙ c .if1 .left) ∙ turn .loop .inv .1,
+    )
 
 returns-2 : tie.Need-returns-2 Inv-loop μ-loop
-returns-2 c = let entry = c .before .before .before .before in let l = c .before .loop in between-done (now (entry .args .source)) (now (entry .args .ends)) (l .i) (c .loop-test .left) ∙ l .inv .1
+returns-2 c =
+    let turn = c .before in
+    let entry = turn .before .before .before in
+    between-done (now (entry .args .source)) (now (entry .args .ends)) (turn .loop .i) (c .loop-test .left) ∙ turn .loop .inv .1
 
 pub between-all-spec : {M : Type 1} → statement M
 between-all-spec =
@@ -56,7 +71,7 @@ between-all-spec =
     mul-end
     shared-slice-read-end
     cast-end
-    goes-on-requires
+    continues-requires
     returns
     add-i
     loop-less

@@ -1,3 +1,4 @@
+-- Four stores from the front on.
 use native.Mathlib.Omega.{arith}
 use mathlib.Core.List.{[], _∷_}
 use lib.ListN.{length-set}
@@ -5,30 +6,22 @@ use lib.Seq.{sets-eq}
 use borrow.Author.Needs.{needs}
 use Rattle.lexer_fields.proofs.rows.put_row.Statement.{statement}
 use Rattle.lexer_fields.proofs.rows.put_row.Tie as tie
-use Rattle.lexer_fields.proofs.rows.put_row.Reads as reads
-use Rattle.lexer_fields.proofs.rows.put_row.Lts as lts
 
--- src/rows.rt:17:5
 slice-write-rows : tie.Need-slice-write-rows
 slice-write-rows c = search needs
 
--- src/rows.rt:18:5
 slice-write-rows-2 : tie.Need-slice-write-rows-2
 slice-write-rows-2 c = simp length-set (omega arith)
 
--- src/rows.rt:19:5
 slice-write-rows-3 : tie.Need-slice-write-rows-3
 slice-write-rows-3 c = simp length-set (omega arith)
 
--- src/rows.rt:20:5
 slice-write-rows-4 : tie.Need-slice-write-rows-4
 slice-write-rows-4 c = search needs
 
--- src/rows.rt:13:1
 same-length : tie.Need-same-length
 same-length c = search needs
 
--- src/rows.rt:13:1
 returns : tie.Need-returns
 returns c = sets-eq (c .args .first ∷ c .args .byte ∷ c .args .mark ∷ c .args .place ∷ []) (c .args .rows .now) 0 (omega arith)
 

@@ -3,7 +3,7 @@ use mathlib.Core.Path.{_≡_, sym, _∙_}
 use denote.Ref.{now}
 use Rattle.chars.specs.Utf8.{firstBad}
 use Rattle.chars.specs.declared.Utf8.the-variants.{Good, Bad}
-use Rattle.lexer_fields.proofs.Alone.{opens-at, good-part, bad-short, bad-part}
+use Rattle.lexer_fields.proofs.OnePart.{opens-at, good-part, bad-short, bad-part}
 use borrow.Author.Needs.{needs}
 use Rattle.lexer_fields.proofs.single.count_part.Statement.{statement}
 use Rattle.lexer_fields.proofs.single.count_part.Tie as tie
@@ -30,13 +30,31 @@ enum-known-at : tie.Need-enum-known-at
 enum-known-at c = search needs
 
 not-utf8-requires : tie.Need-not-utf8-requires
-not-utf8-requires c κs = let entry = c .before .before .before .before .before in let e : Bad (c .before .at .given .0 .0) ≡ firstBad (now (entry .args .part)) = sym (c .before .at .given .1) ∙ c .before .before .before .seen .ensures in bad-short (now (entry .args .part)) (entry .args .mode) (entry .args .skip) (c .before .at .given .0 .0) e (entry .pre .0)
+not-utf8-requires c κs =
+    let told = c .before in
+    let asked = told .before .before in
+    let entry = asked .before .before in
+    let bad : Bad (told .at .given .0 .0) ≡ firstBad (now (entry .args .part)) = sym (told .at .given .1) ∙ asked .seen .ensures in
+    bad-short (now (entry .args .part)) (entry .args .mode) (entry .args .skip) (told .at .given .0 .0) bad (entry .pre .0)
 
 returns : tie.Need-returns
-returns c = let entry = c .before .before .before .before .before .before .before .before in let g : Good ≡ firstBad (now (entry .args .part)) = sym (c .before .before .before .before .enum-told .given .1) ∙ c .before .before .before .before .before .before .seen .ensures in let o = opens-at (now (entry .args .part)) (entry .args .mode) (entry .args .skip) (c .before .before .spot-at .result) (c .before .before .before .first-place .result) (c .before .before .spot-at .ensures) (c .before .before .before .first-place .ensures) in good-part (now (entry .args .part)) (entry .args .mode) (entry .args .skip) g (c .before .before .spot-at .result) o (c .before .count .result) (c .read-well .result) (c .before .count .ensures) (c .read-well .ensures)
+returns c =
+    let stood = c .before .before in
+    let placed = stood .before in
+    let asked = placed .before .before .before in
+    let entry = asked .before .before in
+    let good : Good ≡ firstBad (now (entry .args .part)) = sym (placed .before .enum-told .given .1) ∙ asked .seen .ensures in
+    let opens = opens-at (now (entry .args .part)) (entry .args .mode) (entry .args .skip) (stood .spot-at .result) (placed .first-place .result) (stood .spot-at .ensures) (placed .first-place .ensures) in
+    good-part (now (entry .args .part)) (entry .args .mode) (entry .args .skip) good (stood .spot-at .result) opens
+    (c .before .count .result) (c .read-well .result) (c .before .count .ensures) (c .read-well .ensures)
 
 returns-2 : tie.Need-returns-2
-returns-2 c = let entry = c .before .before .before .before .before .before in let e : Bad (c .before .before .at .given .0 .0) ≡ firstBad (now (entry .args .part)) = sym (c .before .before .at .given .1) ∙ c .before .before .before .before .seen .ensures in bad-part (now (entry .args .part)) (entry .args .mode) (entry .args .skip) (c .before .before .at .given .0 .0) e (c .not-utf8 .result) (c .not-utf8 .ensures)
+returns-2 c =
+    let told = c .before .before in
+    let asked = told .before .before in
+    let entry = asked .before .before in
+    let bad : Bad (told .at .given .0 .0) ≡ firstBad (now (entry .args .part)) = sym (told .at .given .1) ∙ asked .seen .ensures in
+    bad-part (now (entry .args .part)) (entry .args .mode) (entry .args .skip) (told .at .given .0 .0) bad (c .not-utf8 .result) (c .not-utf8 .ensures)
 
 pub count-part-spec : {M : Type 1} → statement M
 count-part-spec =

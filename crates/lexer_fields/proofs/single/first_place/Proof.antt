@@ -2,7 +2,7 @@
 use mathlib.Core.Path.{sym, ap, _∙_}
 use denote.Ref.{now}
 use Rattle.lexer.specs.declared.Position.{Position}
-use Rattle.lexer_fields.proofs.Alone.{start-plain}
+use Rattle.lexer_fields.proofs.OnePart.{start-plain}
 use borrow.Author.Needs.{needs}
 use Rattle.lexer_fields.proofs.single.first_place.Statement.{statement}
 use Rattle.lexer_fields.proofs.single.first_place.Tie as tie

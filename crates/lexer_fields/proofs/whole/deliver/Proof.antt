@@ -52,7 +52,16 @@ returns-3 : tie.Need-returns-3
 returns-3 c = search needs
 
 write-requires : tie.Need-write-requires
-write-requires c κs = (c .before .before .before .before .before .before .before .before .before .before .before .pre .0, (c .before .before .before .before .before .before .before .before .before .before .before .pre .1, ample-room (now (c .before .before .before .before .before .before .before .before .before .before .before .args .source)) (now (c .before .before .before .before .before .before .before .before .before .before .before .args .ends)) (c .before .before .before .before .before .before .before .before .before .before .before .args .mode) (c .before .before .before .before .before .before .before .before .before .before .before .args .skip) (now (c .before .before .before .before .before .before .before .before .before .before .before .args .rows)) (now (c .before .before .before .before .before .before .before .before .before .before .before .args .recs)) (now (c .before .before .before .before .before .before .before .before .before .before .before .args .text)) (c .before .before .before .before .before .before .before .before .before .before .before .pre .0) (c .before .before .before .before .before .if1 .left) (c .before .before .before .before .if2 .left) (c .before .before .before .if3 .left)))
+write-requires c κs =
+    let tested = c .before .before .before in
+    let entry = tested .before .before .before .before .before .before .before .before in (
+      entry .pre .0,
+      (
+        entry .pre .1,
+        ample-room (now (entry .args .source)) (now (entry .args .ends)) (entry .args .mode) (entry .args .skip) (now (entry .args .rows)) (now (entry .args .recs)) (now (entry .args .text))
+            (entry .pre .0) (tested .before .before .if1 .left) (tested .before .if2 .left) (tested .if3 .left),
+      ),
+    )
 
 same-length-10 : tie.Need-same-length-10
 same-length-10 c = search needs
@@ -64,7 +73,13 @@ same-length-12 : tie.Need-same-length-12
 same-length-12 c = search needs
 
 returns-4 : tie.Need-returns-4
-returns-4 c = ample (now (c .before .before .before .before .before .before .before .before .before .before .before .before .before .before .before .before .before .before .args .source)) (now (c .before .before .before .before .before .before .before .before .before .before .before .before .before .before .before .before .before .before .args .ends)) (c .before .before .before .before .before .before .before .before .before .before .before .before .before .before .before .before .before .before .args .mode) (c .before .before .before .before .before .before .before .before .before .before .before .before .before .before .before .before .before .before .args .skip) (now (c .before .before .before .before .before .before .before .before .before .before .before .before .before .before .before .before .before .before .args .rows)) (now (c .before .before .before .before .before .before .before .before .before .before .before .before .before .before .before .before .before .before .args .recs)) (now (c .before .before .before .before .before .before .before .before .before .before .before .before .before .before .before .before .before .before .args .text)) (c .before .before .before .before .before .before .before .before .before .before .before .before .before .before .before .before .before .before .pre .0) (c .before .before .before .before .before .before .before .before .before .before .before .before .if1 .left) (c .before .before .before .before .before .before .before .before .before .before .before .if2 .left) (c .before .before .before .before .before .before .before .before .before .before .if3 .left) (c .before .before .before .before .before .before .write .result) (c .before .before .before .before .before .before .write .ensures .0) (c .before .before .before .before .before .before .write .ensures .1 .0) (c .before .before .before .before .before .before .write .ensures .1 .1 .0) (c .before .before .before .before .before .before .write .ensures .1 .1 .1)
+returns-4 c =
+    let wrote = c .before .before .before .before .before .before in
+    let tested = wrote .before .before .before .before in
+    let entry = tested .before .before .before .before .before .before .before .before in
+    ample (now (entry .args .source)) (now (entry .args .ends)) (entry .args .mode) (entry .args .skip) (now (entry .args .rows)) (now (entry .args .recs)) (now (entry .args .text))
+    (entry .pre .0) (tested .before .before .if1 .left) (tested .before .if2 .left) (tested .if3 .left) (wrote .write .result)
+    (wrote .write .ensures .0) (wrote .write .ensures .1 .0) (wrote .write .ensures .1 .1 .0) (wrote .write .ensures .1 .1 .1)
 
 pub deliver-spec : {M : Type 1} → statement M
 deliver-spec =

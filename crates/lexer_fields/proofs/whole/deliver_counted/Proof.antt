@@ -9,16 +9,38 @@ count-requires : tie.Need-count-requires
 count-requires c κs = search needs
 
 returns : tie.Need-returns
-returns c = few-rows (now (c .before .before .before .before .before .before .before .args .source)) (now (c .before .before .before .before .before .before .before .args .ends)) (c .before .before .before .before .before .before .before .args .mode) (c .before .before .before .before .before .before .before .args .skip) (now (c .before .before .before .before .before .before .before .args .rows)) (now (c .before .before .before .before .before .before .before .args .recs)) (now (c .before .before .before .before .before .before .before .args .text)) (c .before .count .result) (c .before .count .ensures) (c .if1 .taken)
+returns c =
+    let counted = c .before in
+    let entry = counted .before .before .before .before .before .before in
+    few-rows (now (entry .args .source)) (now (entry .args .ends)) (entry .args .mode) (entry .args .skip) (now (entry .args .rows)) (now (entry .args .recs)) (now (entry .args .text))
+    (counted .count .result) (counted .count .ensures) (c .if1 .taken)
 
 returns-2 : tie.Need-returns-2
-returns-2 c = few-records (now (c .before .before .before .before .before .before .before .before .args .source)) (now (c .before .before .before .before .before .before .before .before .args .ends)) (c .before .before .before .before .before .before .before .before .args .mode) (c .before .before .before .before .before .before .before .before .args .skip) (now (c .before .before .before .before .before .before .before .before .args .rows)) (now (c .before .before .before .before .before .before .before .before .args .recs)) (now (c .before .before .before .before .before .before .before .before .args .text)) (c .before .before .count .result) (c .before .before .count .ensures) (c .before .if1 .left) (c .if2 .taken)
+returns-2 c =
+    let counted = c .before .before in
+    let entry = counted .before .before .before .before .before .before in
+    few-records (now (entry .args .source)) (now (entry .args .ends)) (entry .args .mode) (entry .args .skip) (now (entry .args .rows)) (now (entry .args .recs)) (now (entry .args .text))
+    (counted .count .result) (counted .count .ensures) (c .before .if1 .left) (c .if2 .taken)
 
 returns-3 : tie.Need-returns-3
-returns-3 c = little-text (now (c .before .before .before .before .before .before .before .before .before .args .source)) (now (c .before .before .before .before .before .before .before .before .before .args .ends)) (c .before .before .before .before .before .before .before .before .before .args .mode) (c .before .before .before .before .before .before .before .before .before .args .skip) (now (c .before .before .before .before .before .before .before .before .before .args .rows)) (now (c .before .before .before .before .before .before .before .before .before .args .recs)) (now (c .before .before .before .before .before .before .before .before .before .args .text)) (c .before .before .before .count .result) (c .before .before .before .count .ensures) (c .before .before .if1 .left) (c .before .if2 .left) (c .if3 .taken)
+returns-3 c =
+    let counted = c .before .before .before in
+    let entry = counted .before .before .before .before .before .before in
+    little-text (now (entry .args .source)) (now (entry .args .ends)) (entry .args .mode) (entry .args .skip) (now (entry .args .rows)) (now (entry .args .recs)) (now (entry .args .text))
+    (counted .count .result) (counted .count .ensures) (c .before .before .if1 .left) (c .before .if2 .left) (c .if3 .taken)
 
 write-requires : tie.Need-write-requires
-write-requires c κs = (c .before .before .before .before .before .before .before .before .before .before .before .before .pre .0, (c .before .before .before .before .before .before .before .before .before .before .before .before .pre .1, room (now (c .before .before .before .before .before .before .before .before .before .before .before .before .args .source)) (now (c .before .before .before .before .before .before .before .before .before .before .before .before .args .ends)) (c .before .before .before .before .before .before .before .before .before .before .before .before .args .mode) (c .before .before .before .before .before .before .before .before .before .before .before .before .args .skip) (now (c .before .before .before .before .before .before .before .before .before .before .before .before .args .rows)) (now (c .before .before .before .before .before .before .before .before .before .before .before .before .args .recs)) (now (c .before .before .before .before .before .before .before .before .before .before .before .before .args .text)) (c .before .before .before .before .before .before .count .result) (c .before .before .before .before .before .before .count .ensures) (c .before .before .before .before .before .if1 .left) (c .before .before .before .before .if2 .left) (c .before .before .before .if3 .left)))
+write-requires c κs =
+    let tested = c .before .before .before in
+    let counted = tested .before .before .before in
+    let entry = counted .before .before .before .before .before .before in (
+      entry .pre .0,
+      (
+        entry .pre .1,
+        room (now (entry .args .source)) (now (entry .args .ends)) (entry .args .mode) (entry .args .skip) (now (entry .args .rows)) (now (entry .args .recs)) (now (entry .args .text))
+            (counted .count .result) (counted .count .ensures) (tested .before .before .if1 .left) (tested .before .if2 .left) (tested .if3 .left),
+      ),
+    )
 
 same-length : tie.Need-same-length
 same-length c = search needs
@@ -30,7 +52,14 @@ same-length-3 : tie.Need-same-length-3
 same-length-3 c = search needs
 
 returns-4 : tie.Need-returns-4
-returns-4 c = delivered (now (c .before .before .before .before .before .before .before .before .before .before .before .before .before .before .before .before .before .before .before .args .source)) (now (c .before .before .before .before .before .before .before .before .before .before .before .before .before .before .before .before .before .before .before .args .ends)) (c .before .before .before .before .before .before .before .before .before .before .before .before .before .before .before .before .before .before .before .args .mode) (c .before .before .before .before .before .before .before .before .before .before .before .before .before .before .before .before .before .before .before .args .skip) (now (c .before .before .before .before .before .before .before .before .before .before .before .before .before .before .before .before .before .before .before .args .rows)) (now (c .before .before .before .before .before .before .before .before .before .before .before .before .before .before .before .before .before .before .before .args .recs)) (now (c .before .before .before .before .before .before .before .before .before .before .before .before .before .before .before .before .before .before .before .args .text)) (c .before .before .before .before .before .before .before .before .before .before .before .before .before .count .result) (c .before .before .before .before .before .before .before .before .before .before .before .before .before .count .ensures) (c .before .before .before .before .before .before .before .before .before .before .before .before .if1 .left) (c .before .before .before .before .before .before .before .before .before .before .before .if2 .left) (c .before .before .before .before .before .before .before .before .before .before .if3 .left) (c .before .before .before .before .before .before .write .ensures .1 .0) (c .before .before .before .before .before .before .write .ensures .1 .1 .0) (c .before .before .before .before .before .before .write .ensures .1 .1 .1)
+returns-4 c =
+    let wrote = c .before .before .before .before .before .before in
+    let tested = wrote .before .before .before .before in
+    let counted = tested .before .before .before in
+    let entry = counted .before .before .before .before .before .before in
+    delivered (now (entry .args .source)) (now (entry .args .ends)) (entry .args .mode) (entry .args .skip) (now (entry .args .rows)) (now (entry .args .recs)) (now (entry .args .text))
+    (counted .count .result) (counted .count .ensures) (tested .before .before .if1 .left) (tested .before .if2 .left) (tested .if3 .left)
+    (wrote .write .ensures .1 .0) (wrote .write .ensures .1 .1 .0) (wrote .write .ensures .1 .1 .1)
 
 pub deliver-counted-spec : {M : Type 1} → statement M
 deliver-counted-spec =

@@ -9,26 +9,40 @@ use Rattle.lexer_fields.proofs.whole.read_fields.Statement.{statement}
 use Rattle.lexer_fields.proofs.whole.read_fields.Tie as tie
 
 returns : tie.Need-returns
-returns c = no-mode (now (c .before .before .before .before .before .before .args .source)) (now (c .before .before .before .before .before .before .args .ends)) (c .before .before .before .before .before .before .args .mode) (c .before .before .before .before .before .before .args .skip) (now (c .before .before .before .before .before .before .args .rows)) (now (c .before .before .before .before .before .before .args .recs)) (now (c .before .before .before .before .before .before .args .text)) (c .if1 .taken)
+returns c =
+    let entry = c .before .before .before .before .before .before in
+    no-mode (now (entry .args .source)) (now (entry .args .ends)) (entry .args .mode) (entry .args .skip) (now (entry .args .rows)) (now (entry .args .recs)) (now (entry .args .text)) (c .if1 .taken)
 
 in-order-requires : tie.Need-in-order-requires
 in-order-requires c κs = search needs
 
 returns-2 : tie.Need-returns-2
-returns-2 c = bad-ends (now (c .before .before .before .before .before .before .before .before .args .source)) (now (c .before .before .before .before .before .before .before .before .args .ends)) (c .before .before .before .before .before .before .before .before .args .mode) (c .before .before .before .before .before .before .before .before .args .skip) (now (c .before .before .before .before .before .before .before .before .args .rows)) (now (c .before .before .before .before .before .before .before .before .args .recs)) (now (c .before .before .before .before .before .before .before .before .args .text)) (c .before .before .if1 .left) (sym (c .before .in-order .ensures) ∙ not-true (c .before .in-order .result) (c .if2 .taken))
+returns-2 c =
+    let ordered = c .before in
+    let entry = ordered .before .before .before .before .before .before .before in
+    bad-ends (now (entry .args .source)) (now (entry .args .ends)) (entry .args .mode) (entry .args .skip) (now (entry .args .rows)) (now (entry .args .recs)) (now (entry .args .text))
+    (ordered .before .if1 .left) (sym (ordered .in-order .ensures) ∙ not-true (ordered .in-order .result) (c .if2 .taken))
 
 returns-3 : tie.Need-returns-3
-returns-3 c = too-long (now (c .before .before .before .before .before .before .before .before .before .args .source)) (now (c .before .before .before .before .before .before .before .before .before .args .ends)) (c .before .before .before .before .before .before .before .before .before .args .mode) (c .before .before .before .before .before .before .before .before .before .args .skip) (now (c .before .before .before .before .before .before .before .before .before .args .rows)) (now (c .before .before .before .before .before .before .before .before .before .args .recs)) (now (c .before .before .before .before .before .before .before .before .before .args .text)) (c .before .before .before .if1 .left) (sym (c .before .before .in-order .ensures) ∙ not-false (c .before .before .in-order .result) (c .before .if2 .left)) (c .if3 .taken)
+returns-3 c =
+    let ordered = c .before .before in
+    let entry = ordered .before .before .before .before .before .before .before in
+    too-long (now (entry .args .source)) (now (entry .args .ends)) (entry .args .mode) (entry .args .skip) (now (entry .args .rows)) (now (entry .args .recs)) (now (entry .args .text))
+    (ordered .before .if1 .left) (sym (ordered .in-order .ensures) ∙ not-false (ordered .in-order .result) (c .before .if2 .left)) (c .if3 .taken)
 
 all-known-requires : tie.Need-all-known-requires
 all-known-requires c κs = search needs
 
 deliver-requires : tie.Need-deliver-requires
 deliver-requires c κs =
-    let entry = c .before .before .before .before .before .before .before .before .before .before .before .before .before in
-    let order = sym (c .before .before .before .before .before .before .in-order .ensures) ∙ not-false (c .before .before .before .before .before .before .in-order .result) (c .before .before .before .before .before .if2 .left) in (
-      is-fine (now (entry .args .source)) (now (entry .args .ends)) (entry .args .mode) (entry .args .skip) (now (entry .args .rows)) (now (entry .args .recs)) (now (entry .args .text)) (c .before .before .before .before .before .before .before .if1 .left) order (c .before .before .before .before .if3 .left),
-      all-known (entry .args .mode) (entry .args .skip) (now (entry .args .source)) (now (entry .args .ends)) (c .before .before .before .all-known .result) order (c .before .before .before .all-known .ensures),
+    let asked = c .before .before .before in
+    let ordered = asked .before .before .before in
+    let entry = ordered .before .before .before .before .before .before .before in
+    let order = sym (ordered .in-order .ensures) ∙ not-false (ordered .in-order .result) (asked .before .before .if2 .left) in (
+      is-fine (now (entry .args .source)) (now (entry .args .ends)) (entry .args .mode) (entry .args .skip) (now (entry .args .rows)) (now (entry .args .recs)) (now (entry .args .text))
+          (ordered .before .if1 .left) order (asked .before .if3 .left),
+      all-known (entry .args .mode) (entry .args .skip) (now (entry .args .source)) (now (entry .args .ends))
+          (asked .all-known .result) order (asked .all-known .ensures),
     )
 
 same-length : tie.Need-same-length
@@ -42,9 +56,13 @@ same-length-3 c = search needs
 
 returns-4 : tie.Need-returns-4
 returns-4 c =
-    let entry = c .before .before .before .before .before .before .before .before .before .before .before .before .before .before .before .before .before .before .before .before in
-    c .before .before .before .before .before .before .deliver .ensures
-    ∙ sym (is-delivered (now (entry .args .source)) (now (entry .args .ends)) (entry .args .mode) (entry .args .skip) (now (entry .args .rows)) (now (entry .args .recs)) (now (entry .args .text)) (c .before .before .before .before .before .before .before .before .before .before .before .before .before .before .if1 .left) (sym (c .before .before .before .before .before .before .before .before .before .before .before .before .before .in-order .ensures) ∙ not-false (c .before .before .before .before .before .before .before .before .before .before .before .before .before .in-order .result) (c .before .before .before .before .before .before .before .before .before .before .before .before .if2 .left)) (c .before .before .before .before .before .before .before .before .before .before .before .if3 .left))
+    let served = c .before .before .before .before .before .before in
+    let tested = served .before .before .before .before .before in
+    let ordered = tested .before .before in
+    let entry = ordered .before .before .before .before .before .before .before in
+    served .deliver .ensures
+    ∙ sym (is-delivered (now (entry .args .source)) (now (entry .args .ends)) (entry .args .mode) (entry .args .skip) (now (entry .args .rows)) (now (entry .args .recs)) (now (entry .args .text))
+    (ordered .before .if1 .left) (sym (ordered .in-order .ensures) ∙ not-false (ordered .in-order .result) (tested .before .if2 .left)) (tested .if3 .left))
 
 pub read-fields-spec : {M : Type 1} → statement M
 read-fields-spec =

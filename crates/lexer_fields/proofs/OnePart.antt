@@ -4,7 +4,7 @@ use Rattle.chars.specs.Encode.{utf8, bytesOf}
 use Rattle.chars.proofs.Good.{good-bytes}
 use Rattle.laws.specs.Quoted.{code}
 use Rattle.laws.specs.Choice.{if_then_else_}
-use Rattle.laws.proofs.Choice.{by-bool}
+use Rattle.laws.proofs.Choice.{by-bool, yes-no}
 use Rattle.chars.specs.declared.Utf8.{Utf8}
 use Rattle.chars.specs.declared.Utf8.the-variants.{Good, Bad}
 use Rattle.laws.specs.Lent.{written}
@@ -47,8 +47,7 @@ start-plain s g h = by (chars s) refl
     by [] e = refl
     by (c ∷ cs) e = by-bool (eqb c (code "#"))
         (λ b. let q : getD s 0 0 ≡ code "#" = ap (λ (l : List ℕ). getD l 0 0) (sym (good-bytes s g) ∙ ap bytesOf e) ∙ hash-first c cs (eqb-true c (code "#") b) in
-        let z : true ≡ false = sym (ap (λ (x : ℕ). eqb x (code "#")) q) ∙ h in
-        let y : _≡_ {A = ℕ} 0 1 = cc in absurd (omega arith))
+        yes-no (sym (ap (λ (x : ℕ). eqb x (code "#")) q) ∙ h))
         (λ b. rw b)
 
 pub opens-at : (s : List ℕ) (mode : ℕ) (skip : Bool) (p : Spot) (at : ℕ) → p ≡ spotAt at mode skip → at ≡ startOf (chars s) → p ≡ opening s (inReport mode) skip .spot
