@@ -62,12 +62,11 @@ static void read_all(table *t)
         fail("refusal", answer);
 }
 
-/* An item of a part: its text, or its bytes; of an error its number and its place in the part. */
+/* An item of a part: its text, or its bytes; of an error its place in the part. */
 static void print_item(const mihadrena_record *record, const uint8_t *part, size_t length, const uint8_t *text, size_t bytes)
 {
     if (record->kind > MIHADRENA_FIRST_ERROR) {
-        printf(" [error %" PRIu32 " at %" PRIu32 "..%" PRIu32 "]", record->kind - MIHADRENA_FIRST_ERROR, record->place_start,
-               record->place_end);
+        printf(" [error at %" PRIu32 "..%" PRIu32 "]", record->place_start, record->place_end);
         return;
     }
     const uint8_t *own = mihadrena_text(record, part, length, text, bytes);
@@ -103,7 +102,7 @@ int main(int count, char **words)
     read_all(&t);
     for (size_t i = t.columns; i < t.parts; i++) {
         size_t column = i % t.columns, from = column == 0 ? 0 : t.ends[column - 1];
-        printf("%s%.*s:", column == 0 ? "\n" : "", (int)(t.ends[column] - 1 - from), (const char *)t.source + from);
+        printf("%s%.*s:", column == 0 && i > t.columns ? "\n" : "", (int)(t.ends[column] - 1 - from), (const char *)t.source + from);
         print_part(&t, i);
     }
     return EXIT_SUCCESS;

@@ -1,26 +1,22 @@
 -- Writing: what the two lent memories hold while the items are read on.
 use Rattle.laws.specs.Lent.{written}
 use Rattle.laws.proofs.Lent.{length-written, part-written}
-use Rattle.chars.specs.Utf8.{sequences, chars}
 use Rattle.items.specs.Items.{Item, depthAfter, depthPast, recordWords, recordOf, wordsOf, memoryOf, records, texts}
 use Rattle.items.specs.declared.Nine.{Nine}
 use Rattle.items.proofs.Fit.{records-length}
 use Rattle.meaning.specs.Records.{packed}
-use Rattle.lexer.specs.Reading.{nextAt, allFrom, allItems, startFrom, foundOf}
+use Rattle.lexer.specs.Reading.{nextAt, allFrom, allItems, foundOf}
 use Rattle.lexer.specs.Inner.{bytesFor, freeAfter, deepAt, neededOf}
 use Rattle.lexer.specs.Writing.{Going, Writing, Roomy}
 use Rattle.lexer.specs.declared.Spot.{Spot}
 use Rattle.lexer.specs.declared.Found.the-variants.{One, End}
-use Rattle.lexer.specs.declared.Start.the-variants.{Nothing}
 use Rattle.lexer.proofs.Moves.{Moved, Whole}
-use Rattle.lexer.proofs.Turns.{turn-nothing}
-use Rattle.lexer.proofs.Nexts.{next-at-ends}
 use Rattle.lexer.proofs.Memory.{record-packed, bytes-packed, texts-join, texts-more, records-more, past-more}
 use Rattle.lexer.proofs.Going.{going, going-end, counted, going-on, it, it-packed, it-moved}
 use Prim.Native.Nat.{ℕ, _+_, _-_, _/_, _≤_, _<_}
 use mathlib.Core.Path.{_≡_, refl, sym, ap, _∙_, subst}
 use mathlib.Core.List.{List, [], _∷_, _++_, append-nil}
-use lib.ListN.{length, length-append, take, drop, drop-of-length-le}
+use lib.ListN.{length, length-append, take, drop}
 use native.Mathlib.Omega.{arith}
 use borrow.Rule.Slice.PartMut.{putMid}
 
@@ -133,10 +129,3 @@ module _ (s : List ℕ) (start : Spot) (recs₀ text₀ : List ℕ) (roomy : Roo
             rows = part-written (records 0 0 (g .done)) (row) recs₀ (g .rows) (g .count) (front (g .going) .0) hx ∙ ap (λ (l : List ℕ). written l recs₀) (sym more-records);
             bytes = g .bytes ∙ ap (λ (l : List ℕ). written l text₀) (sym same);
           }
-
--- only blanks are left from a spot on: the place past them is the end
-pub ends-here : (s : List ℕ) (p : Spot) (free at : ℕ) → startFrom at (chars (drop at s)) ≡ startFrom (p .at) (chars (drop (p .at) s)) → length s ≤ at → End ≡ foundOf free (nextAt s p)
-unfolding startFrom chars sequences
-ends-here s p free at e h =
-    let n : startFrom at (chars (drop at s)) ≡ Nothing = ap (λ (l : List ℕ). startFrom at (chars l)) (drop-of-length-le s h) in
-    sym (ap (foundOf free) (next-at-ends s p (turn-nothing s p (sym e ∙ n))))

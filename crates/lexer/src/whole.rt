@@ -11,7 +11,6 @@ use crate::glance::skim_item;
 use crate::opening::OUTSIDE;
 use crate::opening::open;
 use crate::reading::next_item;
-use crate::reading::past_blanks;
 use crate::reading::stand;
 use escapes::decode;
 use items::Nine;
@@ -126,7 +125,14 @@ fn record_at(m: Means, start: usize, end: usize, free: usize, depth: u32) -> Rec
 }
 
 // Writes the records of the items from a spot on, from a word of the records on, as far as one look tells each: none has a decoded text.
-fn put_told(source: &[u8], p: Spot, recs: &mut [u32], free: usize, from: usize, deep: u32) -> Wrote
+pub fn put_told(
+    source: &[u8],
+    p: Spot,
+    recs: &mut [u32],
+    free: usize,
+    from: usize,
+    deep: u32,
+) -> Wrote
     requires { ⌜ (length (now source) ≤ limit) × Amid (now source) p (now recs) free deep from ⌝ }
     ensures { λ r. ⌜ Onward (now (source .entry)) p (now (recs .entry)) free deep from (r .spot) (now (recs .exit)) (r .depth) (r .words) ⌝ }
 {
@@ -177,13 +183,6 @@ pub fn write(source: &[u8], spot: Spot, recs: &mut [u32], text: &mut [u8]) -> Ne
         let told = put_told(source, p, recs, free, w, depth);
         w = told.words;
         depth = told.depth;
-        let at = told.spot.at;
-        if source.len() <= past_blanks(source, at) {
-            return Needed {
-                items: w / WORDS,
-                text: free,
-            };
-        }
         match next_item(source, told.spot, free) {
             Found::One(r, q) => {
                 let row = Record {

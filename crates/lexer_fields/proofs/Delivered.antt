@@ -3,7 +3,7 @@ use Rattle.refusal.specs.Refusals as refusal
 use Rattle.laws.specs.Lent.{written}
 use Rattle.items.specs.Items.{recordWords}
 use Rattle.items.specs.Whole.{served, refused, limit, isMode}
-use Rattle.lexer_fields.specs.Fields.{Field, rowWords, itemCount, recordsIn, textsIn, rowsFrom, inOrder, fieldsIn, fieldsCall, deliverFields, fieldsOf}
+use Rattle.lexer_fields.specs.Fields.{Field, rowWords, itemCount, recordsIn, textsIn, rowsFrom, inOrder, fieldsIn, FieldsCall, fieldsCall, deliverFields, fieldsOf}
 use Rattle.lexer_fields.specs.Answers.{totalOf, Fine, Room}
 use Rattle.lexer_fields.specs.declared.Total.{Total}
 use Rattle.lexer_fields.proofs.Parts.{fields-length}
@@ -108,6 +108,6 @@ module _ (s ends : List ℕ) (mode : ℕ) (skip : Bool) (rows recs text : List �
       pub is-fine : length s ≤ limit → Fine s ends mode
       is-fine h = (a-mode, o, h)
 
-      pub is-delivered : length s ≤ limit → fieldsOf s ends mode skip rows recs text ≡ deliverFields fs rows recs text
+      pub is-delivered : length s ≤ limit → {c : FieldsCall} → c ≡ deliverFields fs rows recs text → c ≡ fieldsOf s ends mode skip rows recs text
       unfolding fieldsOf
-      is-delivered h = rw (a-mode, o, le-ltb limit (length s) h)
+      is-delivered h e = rw (a-mode, o, le-ltb limit (length s) h) e

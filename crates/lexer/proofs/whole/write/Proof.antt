@@ -11,7 +11,7 @@ use Rattle.lexer.specs.Reading.{nextAt, foundOf, sizeOf}
 use Rattle.lexer.specs.Inner.{bytesFor}
 use Rattle.lexer.specs.Writing.{Writing, Roomy}
 use Rattle.lexer.specs.declared.Found.the-variants.{One}
-use Rattle.lexer.proofs.Writing.{ends-here, writing, written-all, writing-end, writing-on, has-moved, room, text-fits, recs-length, text-length}
+use Rattle.lexer.proofs.Writing.{writing, written-all, writing-end, writing-on, has-moved, room, text-fits, recs-length, text-length}
 use borrow.Author.Needs.{needs}
 use Rattle.lexer.proofs.whole.write.Statement.{statement}
 use Rattle.lexer.proofs.whole.write.Tie as tie
@@ -44,26 +44,26 @@ told c =
     (entry .args .spot) (now (entry .args .recs)) (now (entry .args .text)) (turn .loop .text) (fit c) (turn .loop .inv)
 
 one : (c : tie.After-known-told Inv-loop μ-loop) → One (c .before .r .given .0 .0) (c .before .r .given .0 .1 .0)
-    ≡ foundOf (c .before .before .before .before .before .before .before .before .before .before .loop .free)
-    (nextAt (now (c .before .before .before .before .before .before .before .before .before .before .before .before .before .before .args .source))
-    (c .before .before .before .before .before .before .before .before .put-told .result .spot))
+    ≡ foundOf (c .before .before .before .before .before .before .before .before .loop .free)
+    (nextAt (now (c .before .before .before .before .before .before .before .before .before .before .before .before .args .source))
+    (c .before .before .before .before .before .before .put-told .result .spot))
 one c = sym (c .before .r .given .1) ∙ c .before .before .before .next-item .ensures
 
-fits : (c : tie.After-known-told Inv-loop μ-loop) → (c .before .before .before .before .before .before .before .before .put-told .result .words + recordWords
-    ≤ length (c .before .before .before .before .before .before .before .before .put-told .last .1 .1 .0))
-    × (c .before .before .before .before .before .before .before .before .before .before .loop .free
-    + length (bytesFor (now (c .before .before .before .before .before .before .before .before .before .before .before .before .before .before .args .source))
-    (c .before .r .given .0 .0)) ≤ length (c .before .before .before .before .before .before .before .before .before .before .loop .text))
+fits : (c : tie.After-known-told Inv-loop μ-loop) → (c .before .before .before .before .before .before .put-told .result .words + recordWords
+    ≤ length (c .before .before .before .before .before .before .put-told .last .1 .1 .0))
+    × (c .before .before .before .before .before .before .before .before .loop .free
+    + length (bytesFor (now (c .before .before .before .before .before .before .before .before .before .before .before .before .args .source))
+    (c .before .r .given .0 .0)) ≤ length (c .before .before .before .before .before .before .before .before .loop .text))
 fits c =
-    let earlier = c .before .before .before .before .before .before in
+    let earlier = c .before .before .before .before in
     let entry = earlier .before .before .before .before .before .before .before .before in
     room (now (entry .args .source)) (entry .args .spot) (now (entry .args .recs))
     (now (entry .args .text)) (fit (earlier)) (told (earlier)) (c .before .r .given .0 .0) (c .before .r .given .0 .1 .0) (one c)
 
-same : (c : tie.After-known-told Inv-loop μ-loop) → length (c .before .before .before .before .before .before .before .before .put-told .last .1 .1 .0)
-    ≡ length (now (c .before .before .before .before .before .before .before .before .before .before .before .before .before .before .args .recs))
+same : (c : tie.After-known-told Inv-loop μ-loop) → length (c .before .before .before .before .before .before .put-told .last .1 .1 .0)
+    ≡ length (now (c .before .before .before .before .before .before .before .before .before .before .before .before .args .recs))
 same c =
-    let earlier = c .before .before .before .before .before .before in
+    let earlier = c .before .before .before .before in
     let entry = earlier .before .before .before .before .before .before .before .before in
     recs-length (now (entry .args .source)) (entry .args .spot) (now (entry .args .recs)) (now (entry .args .text)) (fit (earlier)) (told (earlier))
 
@@ -87,40 +87,14 @@ put-told-requires c κs =
       },
     )
 
-past-blanks-requires : tie.Need-past-blanks-requires Inv-loop μ-loop
-past-blanks-requires c κs = search needs
-
-same-length : tie.Need-same-length Inv-loop μ-loop
-same-length c =
-    let earlier = c .before .before in
-    let entry = earlier .before .before .before .before .before .before .before .before in
-    recs-length (now (entry .args .source)) (entry .args .spot) (now (entry .args .recs)) (now (entry .args .text)) (fit (earlier)) (told (earlier))
-
-same-length-2 : tie.Need-same-length-2 Inv-loop μ-loop
-same-length-2 c =
-    let earlier = c .before .before in
-    let entry = earlier .before .before .before .before .before .before .before .before in
-    text-length (now (entry .args .source)) (entry .args .spot) (now (entry .args .recs)) (now (entry .args .text)) (fit (earlier)) (told (earlier))
-
-returns : tie.Need-returns Inv-loop μ-loop
-returns c =
-    let earlier = c .before .before in
-    let entry = earlier .before .before .before .before .before .before .before .before in
-    let e = ends-here (now (entry .args .source)) (earlier .before .before .put-told .result .spot) (earlier .before .before .before .before .loop .free)
-    (c .before .past-blanks .result) (c .before .past-blanks .ensures) (c .if1 .taken) in (
-      written-all (now (entry .args .source))
-          (entry .args .spot) (now (entry .args .recs)) (now (entry .args .text)) (fit (earlier)) (told (earlier)) _ refl e,
-      writing-end (now (entry .args .source)) (entry .args .spot) (now (entry .args .recs)) (now (entry .args .text)) (fit (earlier)) (told (earlier)) e,
-    )
-
 next-item-requires : tie.Need-next-item-requires Inv-loop μ-loop
-next-item-requires c κs = (c .before .before .before .before .before .before .before .before .before .before .pre .0, told (c .before .before) .going .behind)
+next-item-requires c κs = (c .before .before .before .before .before .before .before .before .pre .0, told c .going .behind)
 
 enum-known-r : tie.Need-enum-known-r Inv-loop μ-loop
 enum-known-r c = search needs
 
 mul-put : tie.Need-mul-put Inv-loop μ-loop
-mul-put c = let good = c .before .before .before .before .before .before .before .before .before .before .before .before .before .before .good in omega (arith, fits c, same c)
+mul-put c = let good = c .before .before .before .before .before .before .before .before .before .before .before .before .good in omega (arith, fits c, same c)
 
 sub-put : tie.Need-sub-put Inv-loop μ-loop
 sub-put c = omega (arith, fits c)
@@ -132,7 +106,7 @@ part-put-end : tie.Need-part-put-end Inv-loop μ-loop
 part-put-end c = omega arith
 
 put-requires : tie.Need-put-requires Inv-loop μ-loop
-put-requires c κs = let t = c .before .before .before .before .before .before .before .before .before .put-told in omega (arith, fits (c .before), length-part (t .last .1 .1 .0) (t .result .words))
+put-requires c κs = let t = c .before .before .before .before .before .before .before .put-told in omega (arith, fits (c .before), length-part (t .last .1 .1 .0) (t .result .words))
 
 sub-put-text : tie.Need-sub-put-text Inv-loop μ-loop
 sub-put-text c = omega (arith, fits (c .before .before .before .before))
@@ -147,9 +121,9 @@ put-text-requires : tie.Need-put-text-requires Inv-loop μ-loop
 put-text-requires c κs =
     let earlier = c .before .before .before .before .before in
     let at-r = earlier .before in
-    let there = at-r .before .before .before .before .before in
+    let there = at-r .before .before .before in
     let entry = there .before .before .before .before .before .before .before .before in
-    let l = c .before .before .before .before .before .before .before .before .before .before .before .before .before .before .before .loop in
+    let l = c .before .before .before .before .before .before .before .before .before .before .before .before .before .loop in
     text-fits (now (entry .args .source)) (entry .args .spot) (now (entry .args .recs)) (now (entry .args .text))
     (fit (there)) (told (there)) (at-r .r .given .0 .0) (at-r .r .given .0 .1 .0) (one (earlier))
     (length (take (length (l .text) - l .free) (drop (l .free) (l .text)))) (omega (arith, fits (earlier), length-part (l .text) (l .free)))
@@ -161,7 +135,7 @@ add-w : tie.Need-add-w Inv-loop μ-loop
 add-w c =
     let earlier = c .before .before .before .before .before .before .before .before .before in
     let good =
-    c .before .before .before .before .before .before .before .before .before .before .before .before .before .before .before .before .before .before .before .before .before .before .before .good in
+    c .before .before .before .before .before .before .before .before .before .before .before .before .before .before .before .before .before .before .before .before .before .good in
     omega (arith, fits (earlier), same (earlier))
 
 free-after-requires : tie.Need-free-after-requires Inv-loop μ-loop
@@ -170,7 +144,7 @@ free-after-requires c κs = search needs
 loop-less : tie.Need-loop-less Inv-loop μ-loop
 loop-less c =
     let at-r = c .before .before .before .before .before .before .before .before .before .before .before in
-    let earlier = at-r .before .before .before .before .before in
+    let earlier = at-r .before .before .before in
     let entry = earlier .before .before .before .before .before .before .before .before in
     omega (
       arith,
@@ -184,7 +158,7 @@ loop-again : tie.Need-loop-again Inv-loop μ-loop
 loop-again c =
     let at-put-text = c .before .before .before .before in
     let at-r = at-put-text .before .before .before .before .before .before .before in
-    let earlier = at-r .before .before .before .before .before in
+    let earlier = at-r .before .before .before in
     let entry = earlier .before .before .before .before .before .before .before .before in
     writing-on (now (entry .args .source)) (entry .args .spot) (now (entry .args .recs)) (now (entry .args .text)) (fit (earlier))
     (told (earlier)) (at-r .r .given .0 .0) (at-r .r .given .0 .1 .0) (one (at-put-text .before .before .before .before .before .before))
@@ -194,21 +168,21 @@ loop-again c =
 enum-told : tie.Need-enum-told Inv-loop μ-loop
 enum-told c = search needs
 
-same-length-3 : tie.Need-same-length-3 Inv-loop μ-loop
-same-length-3 c =
-    let entry = c .before .before .before .before .before .before .before .before .before .before .before .before .before in
+same-length : tie.Need-same-length Inv-loop μ-loop
+same-length c =
+    let entry = c .before .before .before .before .before .before .before .before .before .before .before in
     recs-length (now (entry .args .source))
-    (entry .args .spot) (now (entry .args .recs)) (now (entry .args .text)) (fit (c .before .before .before .before .before)) (told (c .before .before .before .before .before))
+    (entry .args .spot) (now (entry .args .recs)) (now (entry .args .text)) (fit (c .before .before .before)) (told (c .before .before .before))
 
-same-length-4 : tie.Need-same-length-4 Inv-loop μ-loop
-same-length-4 c =
-    let entry = c .before .before .before .before .before .before .before .before .before .before .before .before .before in
+same-length-2 : tie.Need-same-length-2 Inv-loop μ-loop
+same-length-2 c =
+    let entry = c .before .before .before .before .before .before .before .before .before .before .before in
     text-length (now (entry .args .source))
-    (entry .args .spot) (now (entry .args .recs)) (now (entry .args .text)) (fit (c .before .before .before .before .before)) (told (c .before .before .before .before .before))
+    (entry .args .spot) (now (entry .args .recs)) (now (entry .args .text)) (fit (c .before .before .before)) (told (c .before .before .before))
 
-returns-2 : tie.Need-returns-2 Inv-loop μ-loop
-returns-2 c =
-    let earlier = c .before .before .before .before .before in
+returns : tie.Need-returns Inv-loop μ-loop
+returns c =
+    let earlier = c .before .before .before in
     let entry = earlier .before .before .before .before .before .before .before .before in
     let e = sym (c .enum-told .given .1) ∙ c .before .before .next-item .ensures in (
       written-all (now (entry .args .source))
@@ -224,10 +198,6 @@ write-spec =
     μ-loop
     loop-holds
     put-told-requires
-    past-blanks-requires
-    same-length
-    same-length-2
-    returns
     next-item-requires
     enum-known-r
     mul-put
@@ -245,6 +215,6 @@ write-spec =
     loop-less
     loop-again
     enum-told
-    same-length-3
-    same-length-4
-    returns-2)
+    same-length
+    same-length-2
+    returns)

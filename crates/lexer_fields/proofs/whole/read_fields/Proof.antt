@@ -60,9 +60,8 @@ returns-4 c =
     let tested = served .before .before .before .before .before in
     let ordered = tested .before .before in
     let entry = ordered .before .before .before .before .before .before .before in
-    served .deliver .ensures
-    ∙ sym (is-delivered (now (entry .args .source)) (now (entry .args .ends)) (entry .args .mode) (entry .args .skip) (now (entry .args .rows)) (now (entry .args .recs)) (now (entry .args .text))
-    (ordered .before .if1 .left) (sym (ordered .in-order .ensures) ∙ not-false (ordered .in-order .result) (tested .before .if2 .left)) (tested .if3 .left))
+    is-delivered (now (entry .args .source)) (now (entry .args .ends)) (entry .args .mode) (entry .args .skip) (now (entry .args .rows)) (now (entry .args .recs)) (now (entry .args .text))
+    (ordered .before .if1 .left) (sym (ordered .in-order .ensures) ∙ not-false (ordered .in-order .result) (tested .before .if2 .left)) (tested .if3 .left) (served .deliver .ensures)
 
 pub read-fields-spec : {M : Type 1} → statement M
 read-fields-spec =
