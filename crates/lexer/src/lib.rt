@@ -17,12 +17,10 @@ mod whole;
 pub use opening::open;
 pub use opening::start as begin;
 pub use reader::next_at;
-pub use reading::past_blanks;
 pub use text::text_and_mark;
 pub use text::text_mark;
 pub use text::text_of;
 pub use whole::count;
-pub use whole::put_told;
 pub use whole::read;
 pub use whole::write;
 

@@ -125,14 +125,7 @@ fn record_at(m: Means, start: usize, end: usize, free: usize, depth: u32) -> Rec
 }
 
 // Writes the records of the items from a spot on, from a word of the records on, as far as one look tells each: none has a decoded text.
-pub fn put_told(
-    source: &[u8],
-    p: Spot,
-    recs: &mut [u32],
-    free: usize,
-    from: usize,
-    deep: u32,
-) -> Wrote
+fn put_told(source: &[u8], p: Spot, recs: &mut [u32], free: usize, from: usize, deep: u32) -> Wrote
     requires { ⌜ (length (now source) ≤ limit) × Amid (now source) p (now recs) free deep from ⌝ }
     ensures { λ r. ⌜ Onward (now (source .entry)) p (now (recs .entry)) free deep from (r .spot) (now (recs .exit)) (r .depth) (r .words) ⌝ }
 {

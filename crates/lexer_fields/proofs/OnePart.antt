@@ -1,5 +1,5 @@
 -- One part by what its UTF-8 is.
-use Rattle.chars.specs.Utf8.{chars, firstBad, sequences}
+use Rattle.chars.specs.Utf8.{chars, firstBad}
 use Rattle.chars.specs.Encode.{utf8, bytesOf}
 use Rattle.chars.proofs.Good.{good-bytes}
 use Rattle.laws.specs.Quoted.{code}
@@ -10,29 +10,21 @@ use Rattle.chars.specs.declared.Utf8.the-variants.{Good, Bad}
 use Rattle.laws.specs.Lent.{written}
 use Rattle.items.specs.Items.{Item, recordWords, records, texts}
 use Rattle.items.specs.Whole.{limit, inReport, itemsIn}
-use Rattle.items.proofs.Fit.{records-length}
 use Rattle.lexer.specs.Opening.{startOf, opening}
-use Rattle.lexer.specs.Reading.{nextAt, allFrom, allItems, startFrom, foundOf}
+use Rattle.lexer.specs.Reading.{allItems}
 use Rattle.lexer.specs.Inner.{neededOf}
-use Rattle.lexer.specs.Writing.{Writing, Roomy, Amid, Onward}
 use Rattle.lexer.specs.declared.Spot.{Spot}
 use Rattle.lexer.specs.declared.Needed.{Needed}
-use Rattle.lexer.specs.declared.Found.the-variants.{End}
-use Rattle.lexer.specs.declared.Start.the-variants.{Nothing}
 use Rattle.lexer.proofs.Opens.{reads-all}
-use Rattle.lexer.proofs.Turns.{turn-nothing}
-use Rattle.lexer.proofs.Nexts.{next-at-ends}
-use Rattle.lexer.proofs.Writing.{writing, written-all, writing-end, recs-length}
 use Rattle.lexer_fields.specs.Fields.{Field, field, fieldBy, fieldOf}
 use Rattle.lexer_fields.specs.Answers.{partOf, spotAt}
 use Rattle.lexer_fields.specs.declared.Part.{Part}
 use Rattle.lexer_fields.proofs.Parts.{first-bad-ahead}
-use Prim.Native.Nat.{ℕ, _+_, _-_, _*_, _/_, _≤_}
+use Prim.Native.Nat.{ℕ, _*_, _≤_}
 use mathlib.Core.Path.{_≡_, refl, sym, ap, _∙_}
 use mathlib.Core.Bool.{Bool, true, false}
 use mathlib.Core.List.{List, [], _∷_, _++_}
-use lib.ListN.{length, getD, drop, drop-of-length-le, length-append}
-use lib.Seq.{drop-drop, drop-append-add}
+use lib.ListN.{length, getD}
 use lib.Dec.{eqb}
 use native.Mathlib.Omega.{arith}
 use borrow.Author.Tests.{eqb-true}
@@ -106,54 +98,3 @@ module _ (s : List ℕ) (mode : ℕ) (skip : Bool) where
     pub bad-texts : {old : List ℕ} → old ≡ written (texts (fieldOf mode skip s .items)) old
     unfolding texts
     bad-texts {old} = ap (λ (f : Field). written (texts (f .items)) old) (sym is-bad)
-
--- ---- items that one look after the other tells
-
--- only blanks are left from a spot on: the place past them is the end
-ends-here : (s : List ℕ) (p : Spot) (free at : ℕ) → startFrom at (chars (drop at s)) ≡ startFrom (p .at) (chars (drop (p .at) s)) → length s ≤ at
-    → End ≡ foundOf free (nextAt s p)
-unfolding startFrom chars sequences
-ends-here s p free at e h =
-    let n : startFrom at (chars (drop at s)) ≡ Nothing = ap (λ (l : List ℕ). startFrom at (chars l)) (drop-of-length-le s h) in
-    sym (ap (foundOf free) (next-at-ends s p (turn-nothing s p (sym e ∙ n))))
-
--- what is written over the front of it is as if it had not been there
-rewritten : (l k old : List ℕ) → length k ≤ length l → written l (written k old) ≡ written l old
-rewritten l k old h =
-    let q : length l ≡ length k + (length l - length k) = omega arith in
-    ap (λ (x : List ℕ). l ++ x)
-    (ap (λ (n : ℕ). drop n (k ++ drop (length k) old)) q
-    ∙ drop-append-add k (drop (length k) old) (length l - length k)
-    ∙ drop-drop (length l - length k) (length k) old
-    ∙ ap (λ (n : ℕ). drop n old) (sym q))
-
-module _ (s : List ℕ) (start : Spot) (recs₀ text₀ : List ℕ) (roomy : Roomy s start recs₀ text₀) where
-  pub amid-start : Amid s start recs₀ 0 0 0
-  amid-start = record { start = start; recs₀ = recs₀; text₀ = text₀; text = text₀; roomy = roomy; writing = writing s start recs₀ text₀ roomy }
-
-  module _ {recs : List ℕ} {p : Spot} {depth w : ℕ} (on : Onward s start recs₀ 0 0 0 p recs depth w) where
-    told : Writing s start recs₀ text₀ recs text₀ p 0 depth w
-    told = on .on start recs₀ text₀ text₀ roomy (writing s start recs₀ text₀ roomy)
-
-    pub told-length : length recs ≡ length recs₀
-    told-length = recs-length s start recs₀ text₀ roomy told
-
-    -- they are all
-    pub told-all : (at : ℕ) → startFrom at (chars (drop at s)) ≡ startFrom (p .at) (chars (drop (p .at) s)) → length s ≤ at
-        → (record { items = w / recordWords; text = 0 } ≡ neededOf (allItems s start))
-        × ((recs ≡ written (records 0 0 (allItems s start)) recs₀) × (text₀ ≡ written (texts (allItems s start)) text₀))
-    told-all at e h =
-        let z = ends-here s p 0 at e h in (written-all s start recs₀ text₀ roomy told _ refl z, writing-end s start recs₀ text₀ roomy told z)
-
-    -- they are the first of all, which are then written over them
-    pub told-over : {new : List ℕ} → new ≡ written (records 0 0 (allItems s start)) recs → new ≡ written (records 0 0 (allItems s start)) recs₀
-    told-over e =
-        let done = told .done in
-        e ∙ ap (written (records 0 0 (allItems s start))) (told .rows)
-        ∙ rewritten (records 0 0 (allItems s start)) (records 0 0 done) recs₀ (omega (
-          arith,
-          records-length 0 0 (allItems s start),
-          records-length 0 0 done,
-          ap length (told .going .items),
-          length-append done (allFrom (told .going .left) s p),
-        ))

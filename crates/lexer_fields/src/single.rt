@@ -3,15 +3,11 @@ use crate::Part;
 use chars::Utf8;
 use chars::first_bad;
 use items::modes::REPORT;
-use lexer::Needed;
 use lexer::Spot;
 use lexer::begin;
 use lexer::count;
-use lexer::past_blanks;
-use lexer::put_told;
 use lexer::write;
 use meaning::Range;
-use meaning::records::WORDS;
 use refusal::NOT_UTF8;
 ghost use mathlib.Core.Path.{_≡_};
 ghost use lib.Dec.{eqb};
@@ -22,8 +18,6 @@ ghost use Rattle.laws.specs.Quoted.{code};
 ghost use Rattle.chars.specs.Utf8.{chars, firstBad};
 ghost use Rattle.chars.specs.declared.Utf8.the-variants.{Good};
 ghost use Rattle.lexer.specs.Opening.{startOf};
-ghost use Rattle.lexer.specs.Reading.{allItems};
-ghost use Rattle.lexer.specs.Inner.{neededOf};
 ghost use Rattle.items.specs.Items.{recordWords, records, texts};
 ghost use Rattle.items.specs.Whole.{limit};
 ghost use Rattle.lexer_fields.specs.Fields.{fieldOf};
@@ -34,12 +28,6 @@ const HASH: u8 = b'#';
 
 // No error range was set yet.
 const UNSET: u32 = 0;
-
-// Outside all brackets.
-const OUTSIDE: u32 = 0;
-
-// How many bytes a short part has at most.
-const SHORT: usize = 64;
 
 // The mark of a part that is UTF-8, and its place.
 const NO_MARK: u32 = 0;
@@ -91,14 +79,21 @@ fn begins_hash(part: &[u8]) -> bool
     b == HASH
 }
 
+// Where reading starts in a part that begins with #: past a first line.
+fn past_line(part: &[u8], mode: u32, skip: bool) -> usize
+    ensures { λ r. ⌜ r ≡ startOf (chars (now (part .entry))) ⌝ }
+{
+    let position = begin(part, mode, skip);
+    position.spot.at
+}
+
 // Where reading starts in a part, which is UTF-8: only after a # is its first line looked at.
 fn first_place(part: &[u8], mode: u32, skip: bool) -> usize
     requires { ⌜ firstBad (now part) ≡ Good ⌝ }
     ensures { λ r. ⌜ r ≡ startOf (chars (now (part .entry))) ⌝ }
 {
     if begins_hash(part) {
-        let position = begin(part, mode, skip);
-        return position.spot.at;
+        return past_line(part, mode, skip);
     }
     0
 }
@@ -134,42 +129,6 @@ pub fn count_part(part: &[u8], known: bool, mode: u32, skip: bool) -> Part
     }
 }
 
-// Writes the records of the items from a spot on, and their decoded texts, where one look tells most items: those are written first, and if
-// they are all, that is all. Else the items are written from the start.
-fn write_short(part: &[u8], spot: Spot, recs: &mut [u32], text: &mut [u8]) -> Needed
-    requires { ⌜ length (now part) ≤ limit ⌝ }
-    requires { ⌜ recordWords * length (allItems (now part) spot) ≤ length (now recs) ⌝ }
-    requires { ⌜ length (texts (allItems (now part) spot)) ≤ length (now text) ⌝ }
-    ensures { λ r. ⌜ r ≡ neededOf (allItems (now (part .entry)) spot) ⌝ }
-    ensures { λ _. ⌜ now (recs .exit) ≡ written (records 0 0 (allItems (now (part .entry)) spot)) (now (recs .entry)) ⌝ }
-    ensures { λ _. ⌜ now (text .exit) ≡ written (texts (allItems (now (part .entry)) spot)) (now (text .entry)) ⌝ }
-{
-    let told = put_told(part, spot, recs, 0, 0, OUTSIDE);
-    let at = told.spot.at;
-    if part.len() <= past_blanks(part, at) {
-        return Needed {
-            items: told.words / WORDS,
-            text: 0,
-        };
-    }
-    write(part, spot, recs, text)
-}
-
-// The same of any part: a long one is written at once, so that none of its items is written twice.
-fn write_items(part: &[u8], spot: Spot, recs: &mut [u32], text: &mut [u8]) -> Needed
-    requires { ⌜ length (now part) ≤ limit ⌝ }
-    requires { ⌜ recordWords * length (allItems (now part) spot) ≤ length (now recs) ⌝ }
-    requires { ⌜ length (texts (allItems (now part) spot)) ≤ length (now text) ⌝ }
-    ensures { λ r. ⌜ r ≡ neededOf (allItems (now (part .entry)) spot) ⌝ }
-    ensures { λ _. ⌜ now (recs .exit) ≡ written (records 0 0 (allItems (now (part .entry)) spot)) (now (recs .entry)) ⌝ }
-    ensures { λ _. ⌜ now (text .exit) ≡ written (texts (allItems (now (part .entry)) spot)) (now (text .entry)) ⌝ }
-{
-    if SHORT < part.len() {
-        return write(part, spot, recs, text);
-    }
-    write_short(part, spot, recs, text)
-}
-
 // What a part gives, its records and its decoded texts written from the start of the lent memory on.
 pub fn write_part(
     part: &[u8],
@@ -189,7 +148,7 @@ pub fn write_part(
     match seen(part, known) {
         Utf8::Good => {
             let at = first_place(part, mode, skip);
-            let n = write_items(part, spot_at(at, mode, skip), recs, text);
+            let n = write(part, spot_at(at, mode, skip), recs, text);
             read_well(n.items, n.text)
         }
         Utf8::Bad(at) => not_utf8(at),

@@ -20,8 +20,8 @@ first-place-requires c κs = sym (sym (c .enum-told .given .1) ∙ c .before .be
 spot-at-requires : tie.Need-spot-at-requires
 spot-at-requires c κs = search needs
 
-write-items-requires : tie.Need-write-items-requires
-write-items-requires c κs =
+write-requires : tie.Need-write-requires
+write-requires c κs =
     let stood = c .before .before in
     let placed = stood .before in
     let asked = placed .before .before .before in
@@ -63,10 +63,10 @@ returns c =
     let good : Good ≡ firstBad (now (entry .args .part)) = sym (placed .before .enum-told .given .1) ∙ asked .seen .ensures in
     let opens = opens-at (now (entry .args .part)) (entry .args .mode) (entry .args .skip) (stood .spot-at .result) (placed .first-place .result) (stood .spot-at .ensures) (placed .first-place .ensures) in (
       good-part (now (entry .args .part)) (entry .args .mode) (entry .args .skip) good (stood .spot-at .result) opens
-          (wrote .write-items .result) (c .read-well .result) (wrote .write-items .ensures .0) (c .read-well .ensures),
+          (wrote .write .result) (c .read-well .result) (wrote .write .ensures .0) (c .read-well .ensures),
       (
-        good-records (now (entry .args .part)) (entry .args .mode) (entry .args .skip) good (stood .spot-at .result) opens (now (entry .args .recs)) (wrote .write-items .ensures .1 .0),
-        good-texts (now (entry .args .part)) (entry .args .mode) (entry .args .skip) good (stood .spot-at .result) opens (now (entry .args .text)) (wrote .write-items .ensures .1 .1),
+        good-records (now (entry .args .part)) (entry .args .mode) (entry .args .skip) good (stood .spot-at .result) opens (now (entry .args .recs)) (wrote .write .ensures .1 .0),
+        good-texts (now (entry .args .part)) (entry .args .mode) (entry .args .skip) good (stood .spot-at .result) opens (now (entry .args .text)) (wrote .write .ensures .1 .1),
       ),
     )
 
@@ -88,7 +88,7 @@ write-part-spec =
     enum-told
     first-place-requires
     spot-at-requires
-    write-items-requires
+    write-requires
     read-well-requires
     enum-known-at
     not-utf8-requires
