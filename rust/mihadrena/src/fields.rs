@@ -182,9 +182,9 @@ impl<'a> Fields<'a> {
             return Err(Refusal::NotUtf8(row.place as usize));
         }
         let from = part.checked_sub(1).map_or(0, |before| self.ends[before] as usize);
-        let ((first, byte), (next, past)) = (self.starts(part), self.starts(part + 1));
+        let ((first, byte), (next, end)) = (self.starts(part), self.starts(part + 1));
         let source = &self.source[from..self.ends[part] as usize];
-        Ok(Items::of(source, &self.records[first..next], &self.text[byte..past]))
+        Ok(Items::of(source, &self.records[first..next], &self.text[byte..end]))
     }
 }
 
