@@ -104,7 +104,7 @@ unfolding recordsIn
 records-append [] b = refl
 records-append (f ∷ a) b = rw (records-append a b) (sym (append-assoc (records 0 0 (f .items)) (recordsIn a) (recordsIn b)))
 
-pub rows-append : (r t : ℕ) (a b : List Field) → rowsFrom r t (a ++ b) ≡ rowsFrom r t a ++ rowsFrom (r + itemCount a) (t + length (textsIn a)) b
+rows-append : (r t : ℕ) (a b : List Field) → rowsFrom r t (a ++ b) ≡ rowsFrom r t a ++ rowsFrom (r + itemCount a) (t + length (textsIn a)) b
 unfolding rowsFrom itemCount textsIn
 rows-append r t [] b = let x : r + 0 ≡ r = omega arith in let y : t + 0 ≡ t = omega arith in rw (x, y)
 rows-append r t (f ∷ a) b =
@@ -113,6 +113,13 @@ rows-append r t (f ∷ a) b =
     ap (λ (l : List ℕ). rowOf r t f ++ l) (rows-append (r + length (f .items)) (t + length (texts (f .items))) a b)
     ∙ ap (λ (n : ℕ). rowOf r t f ++ (rowsFrom (r + length (f .items)) (t + length (texts (f .items))) a ++ rowsFrom n (t + length (texts (f .items)) + length (textsIn a)) b)) x
     ∙ ap (λ (n : ℕ). rowOf r t f ++ (rowsFrom (r + length (f .items)) (t + length (texts (f .items))) a ++ rowsFrom (r + itemCount (f ∷ a)) n b)) y
+
+-- the rows of the parts after some, from the start
+pub rows-after : (a b : List Field) → rowsFrom 0 0 (a ++ b) ≡ rowsFrom 0 0 a ++ rowsFrom (itemCount a) (length (textsIn a)) b
+rows-after a b =
+    rows-append 0 0 a b
+    ∙ ap (λ (x : ℕ). rowsFrom 0 0 a ++ rowsFrom x (0 + length (textsIn a)) b) (omega arith)
+    ∙ ap (λ (x : ℕ). rowsFrom 0 0 a ++ rowsFrom (itemCount a) x b) (omega arith)
 
 pub records-in-length : (fs : List Field) → length (recordsIn fs) ≡ recordWords * itemCount fs
 unfolding recordsIn itemCount

@@ -9,9 +9,10 @@ use Rattle.laws.proofs.Choice.{by-bool}
 use Rattle.items.specs.Items.{Item, recordWords, records, texts}
 use Rattle.items.specs.Whole.{Answer, served, refused, Call, call, limit, isMode, itemsIn, deliver, ifGood, readOf}
 use Rattle.items.proofs.Fit.{records-length}
-use Rattle.lexer_fields.specs.Fields.{Field, field, fieldBy, fieldOf, fieldsOn, parts, inOrder, rowWords, itemCount, recordsIn, textsIn, rowOf, rowsFrom, FieldsCall, fieldsCall, fieldsIn, deliverFields, fieldsOf}
+use Rattle.lexer_fields.specs.Fields.{Field, field, fieldBy, fieldOf, fieldsOn, fieldsIn, parts, inOrder, rowWords, itemCount, recordsIn, textsIn, rowOf, rowsFrom}
+use Rattle.lexer_fields.specs.Fields.{FieldsCall, fieldsCall, deliverFields, fieldsOf}
 use Rattle.lexer_fields.specs.Each.{alone, Marked, Single, endAfter, oneBy, asOne}
-use Rattle.lexer_fields.proofs.Parts.{in-order, part-length, count-append, texts-append, records-append, rows-append, records-in-length, rows-length, fields-length}
+use Rattle.lexer_fields.proofs.Parts.{in-order, part-length, count-append, texts-append, records-append, rows-after, records-in-length, rows-length, fields-length}
 use Prim.Native.Nat.{ℕ, _+_, _-_, _*_, _/_, _≤_, _<_}
 use mathlib.Core.Path.{_≡_, refl, sym, ap, _∙_, subst}
 use mathlib.Core.Bool.{Bool, true, false}
@@ -55,92 +56,63 @@ middle a b c old n e =
     ∙ ap (take (length b)) (append-assoc b c w)
     ∙ take-at b (c ++ w) (length b) refl
 
--- ---- a call that is served
+-- ---- the slices that a row names
 
 is-marked : (mode : ℕ) (skip : Bool) (part : List ℕ)
-    → Marked (firstBad part) (fieldOf mode skip part .mark) (fieldOf mode skip part .place) (length (fieldOf mode skip part .items)) (length (texts (fieldOf mode skip part .items)))
+    → Marked (firstBad part) (fieldOf mode skip part .mark) (fieldOf mode skip part .place)
+    (length (fieldOf mode skip part .items)) (length (texts (fieldOf mode skip part .items)))
 unfolding fieldOf texts
 is-marked mode skip part = by (firstBad part)
   where
-    by : (u : Utf8) → Marked u (fieldBy u (itemsIn part mode skip) .mark) (fieldBy u (itemsIn part mode skip) .place) (length (fieldBy u (itemsIn part mode skip) .items)) (length (texts (fieldBy u (itemsIn part mode skip) .items)))
+    by : (u : Utf8) → Marked u (fieldBy u (itemsIn part mode skip) .mark) (fieldBy u (itemsIn part mode skip) .place)
+        (length (fieldBy u (itemsIn part mode skip) .items)) (length (texts (fieldBy u (itemsIn part mode skip) .items)))
     by Good = (refl, refl)
     by (Bad p) = (refl, refl, refl, refl)
 
--- the rows with the totals after them: each begins where the one before ends
-next-row : (r t : ℕ) (f : Field) (after : List Field)
-    → take 2 (drop rowWords (rowsFrom r t (f ∷ after) ++ ((r + itemCount (f ∷ after)) ∷ (t + length (textsIn (f ∷ after))) ∷ [])))
-    ≡ (r + length (f .items)) ∷ (t + length (texts (f .items))) ∷ []
-unfolding rowsFrom itemCount textsIn
-next-row r t f [] =
-    let a : r + (length (f .items) + 0) ≡ r + length (f .items) = omega arith in
-    let b : t + length (texts (f .items) ++ []) ≡ t + length (texts (f .items)) = ap (λ (l : List ℕ). t + length l) (append-nil (texts (f .items))) in
-    ap (λ (x : ℕ). x ∷ (t + length (texts (f .items) ++ [])) ∷ []) a ∙ ap (λ (x : ℕ). (r + length (f .items)) ∷ x ∷ []) b
-next-row r t f (g ∷ after) = refl
+module _ (before after : List Field) (f : Field) (old : List ℕ) where
+  row-there : take rowWords (drop (rowWords * length before) (written (rowsFrom 0 0 (before ++ (f ∷ after))) old))
+      ≡ rowOf (itemCount before) (length (textsIn before)) f
+  unfolding rowsFrom
+  row-there =
+      ap (λ (l : List ℕ). take rowWords (drop (rowWords * length before) (written l old))) (rows-after before (f ∷ after))
+      ∙ middle (rowsFrom 0 0 before) (rowOf (itemCount before) (length (textsIn before)) f) _ old (rowWords * length before) (rows-length 0 0 before)
 
--- and begin with the first record and the first text byte
+  records-there : take (recordWords * length (f .items)) (drop (recordWords * itemCount before) (written (recordsIn (before ++ (f ∷ after))) old))
+      ≡ records 0 0 (f .items)
+  unfolding recordsIn
+  records-there =
+      ap (λ (x : ℕ). take x (drop (recordWords * itemCount before) (written (recordsIn (before ++ (f ∷ after))) old))) (sym (records-length 0 0 (f .items)))
+      ∙ ap (λ (l : List ℕ). take (length (records 0 0 (f .items))) (drop (recordWords * itemCount before) (written l old))) (records-append before (f ∷ after))
+      ∙ middle (recordsIn before) (records 0 0 (f .items)) (recordsIn after) old (recordWords * itemCount before) (records-in-length before)
+
+  texts-there : take (length (texts (f .items))) (drop (length (textsIn before)) (written (textsIn (before ++ (f ∷ after))) old)) ≡ texts (f .items)
+  unfolding textsIn
+  texts-there =
+      ap (λ (l : List ℕ). take (length (texts (f .items))) (drop (length (textsIn before)) (written l old))) (texts-append before (f ∷ after))
+      ∙ middle (textsIn before) (texts (f .items)) (textsIn after) old (length (textsIn before)) refl
+
+-- ---- the rows with the totals after them: each begins where the one before ends
+
 begins : (r t : ℕ) (fs : List Field) (n b : ℕ) → n ≡ r + itemCount fs → b ≡ t + length (textsIn fs) → take 2 (rowsFrom r t fs ++ (n ∷ b ∷ [])) ≡ r ∷ t ∷ []
 unfolding rowsFrom itemCount textsIn
 begins r t [] n b p q = let x : n ≡ r = omega arith in let y : b ≡ t = omega arith in rw (x, y)
 begins r t (f ∷ fs) n b p q = refl
 
-module _ (mode : ℕ) (skip : Bool) (m : isMode mode ≡ true) where
-  -- the parts before one, the part and those after it
-  served-single : (before after : List Field) (part rows recs text : List ℕ) → length part ≤ limit → (all : List Field) → all ≡ before ++ (fieldOf mode skip part ∷ after)
-      → (out : FieldsCall) → out .rows ≡ written (rowsFrom 0 0 all) rows → out .records ≡ written (recordsIn all) recs → out .text ≡ written (textsIn all) text
-      → Single mode skip part out (length all) (itemCount all) (length (textsIn all)) (length before)
-  unfolding rowsFrom recordsIn textsIn
-  served-single before after part rows recs text short all e out hw hr ht =
-      let f : Field = fieldOf mode skip part in
-      let n : ℕ = itemCount before in
-      let t : ℕ = length (textsIn before) in
-      let w : List ℕ = rowsFrom (0 + n + length (f .items)) (0 + t + length (texts (f .items))) after in
-      let split : rowsFrom 0 0 all ≡ rowsFrom 0 0 before ++ rowsFrom n t (f ∷ after) =
-      ap (rowsFrom 0 0) e ∙ rows-append 0 0 before (f ∷ after)
-      ∙ ap (λ (x : ℕ). rowsFrom 0 0 before ++ rowsFrom x (0 + t) (f ∷ after)) (omega arith)
-      ∙ ap (λ (x : ℕ). rowsFrom 0 0 before ++ rowsFrom n x (f ∷ after)) (omega arith) in
-      let a : take rowWords (drop (rowWords * length before) (out .rows)) ≡ rowOf n t f =
-      ap (λ (l : List ℕ). take rowWords (drop (rowWords * length before) l)) (hw ∙ ap (λ (l : List ℕ). written l rows) split)
-      ∙ middle (rowsFrom 0 0 before) (rowOf n t f) (rowsFrom (n + length (f .items)) (t + length (texts (f .items))) after) rows (rowWords * length before) (rows-length 0 0 before) in
-      let b : take (recordWords * length (f .items)) (drop (recordWords * n) (out .records)) ≡ records 0 0 (f .items) =
-      ap (λ (l : List ℕ). take (recordWords * length (f .items)) (drop (recordWords * n) l)) (hr ∙ ap (λ (l : List Field). written (recordsIn l) recs) e ∙ ap (λ (l : List ℕ). written l recs) (records-append before (f ∷ after)))
-      ∙ ap (λ (x : ℕ). take x (drop (recordWords * n) (written (recordsIn before ++ (records 0 0 (f .items) ++ recordsIn after)) recs))) (sym (records-length 0 0 (f .items)))
-      ∙ middle (recordsIn before) (records 0 0 (f .items)) (recordsIn after) recs (recordWords * n) (records-in-length before) in
-      let c : take (length (texts (f .items))) (drop t (out .text)) ≡ texts (f .items) =
-      ap (λ (l : List ℕ). take (length (texts (f .items))) (drop t l)) (ht ∙ ap (λ (l : List Field). written (textsIn l) text) e ∙ ap (λ (l : List ℕ). written l text) (texts-append before (f ∷ after)))
-      ∙ middle (textsIn before) (texts (f .items)) (textsIn after) text t refl in
-      let totals : List ℕ = itemCount all ∷ length (textsIn all) ∷ [] in
-      let tot : totals ≡ (n + itemCount (f ∷ after)) ∷ (t + length (textsIn (f ∷ after))) ∷ [] =
-      ap (λ (l : List Field). itemCount l ∷ length (textsIn l) ∷ []) e
-      ∙ ap (λ (x : ℕ). x ∷ length (textsIn (before ++ (f ∷ after))) ∷ []) (count-append before (f ∷ after))
-      ∙ ap (λ (x : ℕ). (n + itemCount (f ∷ after)) ∷ x ∷ []) (ap length (texts-append before (f ∷ after)) ∙ length-append (textsIn before) (textsIn (f ∷ after))) in
-      let shape : take (rowWords * length all) (out .rows) ++ totals
-      ≡ rowsFrom 0 0 before ++ (rowsFrom n t (f ∷ after) ++ ((n + itemCount (f ∷ after)) ∷ (t + length (textsIn (f ∷ after))) ∷ [])) =
-      ap (λ (l : List ℕ). take (rowWords * length all) l ++ totals) hw
-      ∙ ap (λ (l : List ℕ). l ++ totals) (take-at (rowsFrom 0 0 all) (drop (length (rowsFrom 0 0 all)) rows) (rowWords * length all) (rows-length 0 0 all))
-      ∙ ap (λ (l : List ℕ). l ++ totals) split
-      ∙ append-assoc (rowsFrom 0 0 before) (rowsFrom n t (f ∷ after)) totals
-      ∙ ap (λ (l : List ℕ). rowsFrom 0 0 before ++ (rowsFrom n t (f ∷ after) ++ l)) tot in
-      let step : rowWords * (length before + 1) ≡ rowWords * length before + rowWords = omega arith in
-      let d : take 2 (drop (rowWords * (length before + 1)) (take (rowWords * length all) (out .rows) ++ totals)) ≡ (n + length (f .items)) ∷ (t + length (texts (f .items))) ∷ [] =
-      ap (λ (l : List ℕ). take 2 (drop (rowWords * (length before + 1)) l)) shape
-      ∙ ap (λ (x : ℕ). take 2 (drop x (rowsFrom 0 0 before ++ (rowsFrom n t (f ∷ after) ++ ((n + itemCount (f ∷ after)) ∷ (t + length (textsIn (f ∷ after))) ∷ []))))) step
-      ∙ ap (take 2) (sym (drop-drop rowWords (rowWords * length before) (rowsFrom 0 0 before ++ (rowsFrom n t (f ∷ after) ++ ((n + itemCount (f ∷ after)) ∷ (t + length (textsIn (f ∷ after))) ∷ [])))))
-      ∙ ap (λ (l : List ℕ). take 2 (drop rowWords l)) (drop-at (rowsFrom 0 0 before) (rowsFrom n t (f ∷ after) ++ ((n + itemCount (f ∷ after)) ∷ (t + length (textsIn (f ∷ after))) ∷ [])) (rowWords * length before) (rows-length 0 0 before))
-      ∙ next-row n t f after in
-      record {
-        first = n;
-        byte = t;
-        mark = f .mark;
-        place = f .place;
-        row = a;
-        items = length (f .items);
-        bytes = length (texts (f .items));
-        next = d;
-        marked = is-marked mode skip part;
-        same = λ rs bs hi hb. single-call mode skip part rs bs m short hi hb
-            ∙ ap (λ (l : List ℕ). alone (f .mark) (f .place) (length (f .items)) (length (texts (f .items))) l (texts (f .items)) rs bs) (sym b)
-            ∙ ap (λ (l : List ℕ). alone (f .mark) (f .place) (length (f .items)) (length (texts (f .items))) (take (recordWords * length (f .items)) (drop (recordWords * n) (out .records))) l rs bs) (sym c);
-      }
+module _ (a b : List Field) (old : List ℕ) where
+  abbrev totals : List ℕ
+  totals = itemCount (a ++ b) ∷ length (textsIn (a ++ b)) ∷ []
+
+  joined-there : take 2 (drop (rowWords * length a) (take (rowWords * length (a ++ b)) (written (rowsFrom 0 0 (a ++ b)) old) ++ totals))
+      ≡ itemCount a ∷ length (textsIn a) ∷ []
+  joined-there =
+      ap (λ (l : List ℕ). take 2 (drop (rowWords * length a) (l ++ totals)))
+      (take-at (rowsFrom 0 0 (a ++ b)) (drop (length (rowsFrom 0 0 (a ++ b))) old) (rowWords * length (a ++ b)) (rows-length 0 0 (a ++ b)) ∙ rows-after a b)
+      ∙ ap (λ (l : List ℕ). take 2 (drop (rowWords * length a) l))
+      (append-assoc (rowsFrom 0 0 a) (rowsFrom (itemCount a) (length (textsIn a)) b) totals)
+      ∙ ap (take 2)
+      (drop-at (rowsFrom 0 0 a) (rowsFrom (itemCount a) (length (textsIn a)) b ++ totals) (rowWords * length a) (rows-length 0 0 a))
+      ∙ begins (itemCount a) (length (textsIn a)) b (itemCount (a ++ b)) (length (textsIn (a ++ b)))
+      (count-append a b) (ap length (texts-append a b) ∙ length-append (textsIn a) (textsIn b))
 
 -- ---- which part is which
 
@@ -150,9 +122,10 @@ module _ (s : List ℕ) (mode : ℕ) (skip : Bool) where
   fields-split [] b from = refl
   fields-split (e ∷ a) b from = ap (λ (l : List Field). fieldOf mode skip (take (e - from) (drop from s)) ∷ l) (fields-split a b e)
 
-  order-split : (a b : List ℕ) (from : ℕ) → from ≤ length s → inOrder (length s) from (a ++ b) ≡ true → (endAfter from a ≤ length s) × (inOrder (length s) (endAfter from a) b ≡ true)
-  order-split [] b from h o = (h, o)
-  order-split (e ∷ a) b from h o = let k = in-order (length s) from e (a ++ b) o in order-split a b e (k .1) (k .2)
+order-split : (s a b : List ℕ) (from : ℕ) → from ≤ length s → inOrder (length s) from (a ++ b) ≡ true
+    → (endAfter from a ≤ length s) × (inOrder (length s) (endAfter from a) b ≡ true)
+order-split s [] b from h o = (h, o)
+order-split s (e ∷ a) b from h o = let k = in-order (length s) from e (a ++ b) o in order-split s a b e (k .1) (k .2)
 
 -- ---- a call that is served, by its answer
 
@@ -199,28 +172,6 @@ module _ (s ends : List ℕ) (mode : ℕ) (skip : Bool) (rows recs text : List �
       (λ o. absurd (not-served (rw (m, o) at e))))
       (λ m. absurd (not-served (rw m at e)))
 
-  -- Each part of a call that is served: its row, and the slices of records and of texts that the row names are what the whole-text call
-  -- gives for that part alone
-  pub fields-single : fieldsOf s ends mode skip rows recs text .answer ≡ served n t → (before : List ℕ) (e : ℕ) (after : List ℕ) → ends ≡ before ++ (e ∷ after)
-      → Single mode skip (take (e - endAfter 0 before) (drop (endAfter 0 before) s)) (fieldsOf s ends mode skip rows recs text) (length ends) n t (length before)
-  unfolding fieldsOn parts
-  fields-single h before e after q =
-      let v : Served = is-served h in
-      let from : ℕ = endAfter 0 before in
-      let part : List ℕ = take (e - from) (drop from s) in
-      let o = order-split s mode skip before (e ∷ after) 0 (omega arith) (subst (λ (l : List ℕ). inOrder (length s) 0 l ≡ true) q (v .order)) in
-      let k = in-order (length s) from e after (o .1) in
-      let short : length part ≤ limit = omega (arith, part-length s from e (k .1), k .1, v .short) in
-      let all : fs ≡ fieldsOn mode skip (parts s 0 before) ++ (fieldOf mode skip part ∷ fieldsOn mode skip (parts s e after)) =
-      ap (λ (l : List ℕ). fieldsIn s l mode skip) q ∙ fields-split s mode skip before (e ∷ after) 0 in
-      let z = served-single mode skip (v .mode-fits) (fieldsOn mode skip (parts s 0 before)) (fieldsOn mode skip (parts s e after)) part rows recs text short fs all
-      (fieldsOf s ends mode skip rows recs text) (ap (λ (x : FieldsCall). x .rows) (v .gives)) (ap (λ (x : FieldsCall). x .records) (v .gives)) (ap (λ (x : FieldsCall). x .text) (v .gives)) in
-      let out : FieldsCall = fieldsOf s ends mode skip rows recs text in
-      subst (λ (x : ℕ). Single mode skip part out (length ends) n t x) (fields-length mode skip s before 0)
-      (subst (λ (x : ℕ). Single mode skip part out (length ends) n x (length (fieldsOn mode skip (parts s 0 before)))) (v .bytes)
-      (subst (λ (x : ℕ). Single mode skip part out (length ends) x (length (textsIn fs)) (length (fieldsOn mode skip (parts s 0 before)))) (v .items)
-      (subst (λ (x : ℕ). Single mode skip part out x (itemCount fs) (length (textsIn fs)) (length (fieldsOn mode skip (parts s 0 before)))) (fields-length mode skip s ends 0) z)))
-
   -- The rows' slices follow one another without gap: the row after any parts, or the totals after all, begins with how many records and text
   -- bytes those parts gave
   pub fields-joined : fieldsOf s ends mode skip rows recs text .answer ≡ served n t → (before after : List ℕ) → ends ≡ before ++ after
@@ -228,26 +179,73 @@ module _ (s ends : List ℕ) (mode : ℕ) (skip : Bool) (rows recs text : List �
       ≡ itemCount (fieldsIn s before mode skip) ∷ length (textsIn (fieldsIn s before mode skip)) ∷ []
   fields-joined h before after q =
       let v : Served = is-served h in
-      let a : List Field = fieldsOn mode skip (parts s 0 before) in
+      let a : List Field = fieldsIn s before mode skip in
       let b : List Field = fieldsOn mode skip (parts s (endAfter 0 before) after) in
       let all : fs ≡ a ++ b = ap (λ (l : List ℕ). fieldsIn s l mode skip) q ∙ fields-split s mode skip before after 0 in
-      let totals : List ℕ = n ∷ t ∷ [] in
-      let i : n ≡ itemCount a + itemCount b = sym (v .items) ∙ ap itemCount all ∙ count-append a b in
-      let j : t ≡ length (textsIn a) + length (textsIn b) =
-      sym (v .bytes) ∙ ap (λ (l : List Field). length (textsIn l)) all ∙ ap length (texts-append a b) ∙ length-append (textsIn a) (textsIn b) in
-      let split : rowsFrom 0 0 fs ≡ rowsFrom 0 0 a ++ rowsFrom (itemCount a) (length (textsIn a)) b =
-      ap (rowsFrom 0 0) all ∙ rows-append 0 0 a b
-      ∙ ap (λ (x : ℕ). rowsFrom 0 0 a ++ rowsFrom x (0 + length (textsIn a)) b) (omega arith)
-      ∙ ap (λ (x : ℕ). rowsFrom 0 0 a ++ rowsFrom (itemCount a) x b) (omega arith) in
-      let shape : take (rowWords * length ends) (fieldsOf s ends mode skip rows recs text .rows) ++ totals
-      ≡ rowsFrom 0 0 a ++ (rowsFrom (itemCount a) (length (textsIn a)) b ++ totals) =
-      ap (λ (x : FieldsCall). take (rowWords * length ends) (x .rows) ++ totals) (v .gives)
-      ∙ ap (λ (l : List ℕ). l ++ totals) (take-at (rowsFrom 0 0 fs) (drop (length (rowsFrom 0 0 fs)) rows) (rowWords * length ends) (rows-length 0 0 fs ∙ ap (λ (x : ℕ). rowWords * x) (fields-length mode skip s ends 0)))
-      ∙ ap (λ (l : List ℕ). l ++ totals) split
-      ∙ append-assoc (rowsFrom 0 0 a) (rowsFrom (itemCount a) (length (textsIn a)) b) totals in
-      ap (λ (l : List ℕ). take 2 (drop (rowWords * length before) l)) shape
-      ∙ ap (take 2) (drop-at (rowsFrom 0 0 a) (rowsFrom (itemCount a) (length (textsIn a)) b ++ totals) (rowWords * length before) (rows-length 0 0 a ∙ ap (λ (x : ℕ). rowWords * x) (fields-length mode skip s before 0)))
-      ∙ begins (itemCount a) (length (textsIn a)) b n t i j
+      let held : List ℕ = written (rowsFrom 0 0 fs) rows in
+      ap (λ (x : FieldsCall). take 2 (drop (rowWords * length before) (take (rowWords * length ends) (x .rows) ++ (n ∷ t ∷ [])))) (v .gives)
+      ∙ ap (λ (x : ℕ). take 2 (drop (rowWords * length before) (take (rowWords * length ends) held ++ (x ∷ t ∷ [])))) (sym (v .items))
+      ∙ ap (λ (x : ℕ). take 2 (drop (rowWords * length before) (take (rowWords * length ends) held ++ (itemCount fs ∷ x ∷ [])))) (sym (v .bytes))
+      ∙ ap (λ (x : ℕ). take 2 (drop (rowWords * length before) (take (rowWords * x) held ++ (itemCount fs ∷ length (textsIn fs) ∷ []))))
+      (sym (fields-length mode skip s ends 0))
+      ∙ ap (λ (x : ℕ). take 2 (drop (rowWords * x) (take (rowWords * length fs) held ++ (itemCount fs ∷ length (textsIn fs) ∷ []))))
+      (sym (fields-length mode skip s before 0))
+      ∙ ap (λ (l : List Field). take 2 (drop (rowWords * length a) (take (rowWords * length l) (written (rowsFrom 0 0 l) rows) ++ (itemCount l ∷ length (textsIn l) ∷ [])))) all
+      ∙ joined-there a b rows
+
+  -- Each part of a call that is served: its row, and the slices of records and of texts that the row names are what the whole-text call
+  -- gives for that part alone
+  pub fields-single : fieldsOf s ends mode skip rows recs text .answer ≡ served n t → (before : List ℕ) (e : ℕ) (after : List ℕ) → ends ≡ before ++ (e ∷ after)
+      → Single mode skip (take (e - endAfter 0 before) (drop (endAfter 0 before) s)) (fieldsOf s ends mode skip rows recs text) (length ends) n t (length before)
+  unfolding fieldsOn parts itemCount textsIn
+  fields-single h before e after q =
+      let v : Served = is-served h in
+      let from : ℕ = endAfter 0 before in
+      let part : List ℕ = take (e - from) (drop from s) in
+      let f : Field = fieldOf mode skip part in
+      let a : List Field = fieldsIn s before mode skip in
+      let b : List Field = fieldsOn mode skip (parts s e after) in
+      let all : fs ≡ a ++ (f ∷ b) = ap (λ (l : List ℕ). fieldsIn s l mode skip) q ∙ fields-split s mode skip before (e ∷ after) 0 in
+      let o = order-split s before (e ∷ after) 0 (omega arith) (subst (λ (l : List ℕ). inOrder (length s) 0 l ≡ true) q (v .order)) in
+      let k = in-order (length s) from e after (o .1) in
+      let short : length part ≤ limit = omega (arith, part-length s from e (k .1), k .1, v .short) in
+      let out : FieldsCall = fieldsOf s ends mode skip rows recs text in
+      let own : take (recordWords * length (f .items)) (drop (recordWords * itemCount a) (out .records)) ≡ records 0 0 (f .items) =
+      ap (λ (x : FieldsCall). take (recordWords * length (f .items)) (drop (recordWords * itemCount a) (x .records))) (v .gives)
+      ∙ ap (λ (l : List Field). take (recordWords * length (f .items)) (drop (recordWords * itemCount a) (written (recordsIn l) recs))) all
+      ∙ records-there a b f recs in
+      let own-text : take (length (texts (f .items))) (drop (length (textsIn a)) (out .text)) ≡ texts (f .items) =
+      ap (λ (x : FieldsCall). take (length (texts (f .items))) (drop (length (textsIn a)) (x .text))) (v .gives)
+      ∙ ap (λ (l : List Field). take (length (texts (f .items))) (drop (length (textsIn a)) (written (textsIn l) text))) all
+      ∙ texts-there a b f text in
+      let up-to : fieldsIn s (before ++ (e ∷ [])) mode skip ≡ a ++ (f ∷ []) = fields-split s mode skip before (e ∷ []) 0 in
+      let count : itemCount (fieldsIn s (before ++ (e ∷ [])) mode skip) ≡ itemCount a + length (f .items) =
+      ap itemCount up-to ∙ count-append a (f ∷ []) ∙ omega arith in
+      let length-to : length (textsIn (fieldsIn s (before ++ (e ∷ [])) mode skip)) ≡ length (textsIn a) + length (texts (f .items)) =
+      ap (λ (l : List Field). length (textsIn l)) up-to ∙ ap length (texts-append a (f ∷ [])) ∙ length-append (textsIn a) (textsIn (f ∷ []))
+      ∙ omega (arith, length-append (texts (f .items)) []) in
+      let step : length before + 1 ≡ length (before ++ (e ∷ [])) = omega (arith, length-append before (e ∷ [])) in
+      record {
+        first = itemCount a;
+        byte = length (textsIn a);
+        mark = f .mark;
+        place = f .place;
+        row = ap (λ (x : FieldsCall). take rowWords (drop (rowWords * length before) (x .rows))) (v .gives)
+            ∙ ap (λ (x : ℕ). take rowWords (drop (rowWords * x) (written (rowsFrom 0 0 fs) rows))) (sym (fields-length mode skip s before 0))
+            ∙ ap (λ (l : List Field). take rowWords (drop (rowWords * length a) (written (rowsFrom 0 0 l) rows))) all
+            ∙ row-there a b f rows;
+        items = length (f .items);
+        bytes = length (texts (f .items));
+        next = ap (λ (x : ℕ). take 2 (drop (rowWords * x) (take (rowWords * length ends) (out .rows) ++ (n ∷ t ∷ [])))) step
+            ∙ fields-joined h (before ++ (e ∷ [])) after (q ∙ sym (append-assoc before (e ∷ []) after))
+            ∙ ap (λ (x : ℕ). x ∷ length (textsIn (fieldsIn s (before ++ (e ∷ [])) mode skip)) ∷ []) count
+            ∙ ap (λ (x : ℕ). (itemCount a + length (f .items)) ∷ x ∷ []) length-to;
+        marked = is-marked mode skip part;
+        same = λ rs bs hi hb. single-call mode skip part rs bs (v .mode-fits) short hi hb
+            ∙ ap (λ (l : List ℕ). alone (f .mark) (f .place) (length (f .items)) (length (texts (f .items))) l (texts (f .items)) rs bs) (sym own)
+            ∙ ap (λ (l : List ℕ). alone (f .mark) (f .place) (length (f .items)) (length (texts (f .items)))
+            (take (recordWords * length (f .items)) (drop (recordWords * itemCount a) (out .records))) l rs bs) (sym own-text);
+      }
 
 -- ---- one part that is the whole source
 

@@ -7,7 +7,7 @@ use Rattle.items.proofs.Fit.{records-length}
 use Rattle.lexer_fields.specs.Fields.{Field, rowWords, itemCount, recordsIn, textsIn, rowOf, rowsFrom, fieldsIn}
 use Rattle.lexer_fields.specs.Answers.{partOf, totalOf, Fine, Room}
 use Rattle.lexer_fields.specs.declared.Part.{Part}
-use Rattle.lexer_fields.proofs.Parts.{count-append, texts-append, records-append, rows-append, records-in-length, rows-length, fields-length}
+use Rattle.lexer_fields.proofs.Parts.{count-append, texts-append, records-append, rows-after, records-in-length, rows-length, fields-length}
 use Rattle.lexer_fields.proofs.Progress.{Progress, at-start, moves-on, fits, few, left, all-done, this}
 use Prim.Native.Nat.{ℕ, _+_, _-_, _*_, _≤_, _<_}
 use mathlib.Core.Path.{_≡_, refl, sym, ap, _∙_, subst}
@@ -87,9 +87,9 @@ module _ {s ends : List ℕ} {mode : ℕ} {skip : Bool} {rows₀ recs₀ text₀
           let a : length (rowsFrom 0 0 (g .done)) ≡ i * rowWords = omega (arith, rows-length 0 0 (g .done), g .at .count) in
           let b : length (recordsIn (g .done)) ≡ w = omega (arith, records-in-length (g .done), g .at .items, g .words) in
           let more : rowsFrom 0 0 (g .done ++ (f ∷ [])) ≡ rowsFrom 0 0 (g .done) ++ (n ∷ free ∷ p .mark ∷ p .place ∷ []) =
-          rows-append 0 0 (g .done) (f ∷ [])
-          ∙ ap (λ (k : ℕ). rowsFrom 0 0 (g .done) ++ rowOf k (0 + length (textsIn (g .done))) f) (omega (arith, g .at .items))
-          ∙ ap (λ (k : ℕ). rowsFrom 0 0 (g .done) ++ rowOf n k f) (omega (arith, g .at .bytes))
+          rows-after (g .done) (f ∷ [])
+          ∙ ap (λ (k : ℕ). rowsFrom 0 0 (g .done) ++ rowOf k (length (textsIn (g .done))) f) (g .at .items)
+          ∙ ap (λ (k : ℕ). rowsFrom 0 0 (g .done) ++ rowOf n k f) (g .at .bytes)
           ∙ ap (λ (u : Part). rowsFrom 0 0 (g .done) ++ (n ∷ free ∷ u .mark ∷ u .place ∷ [])) (sym q) in
           let more-recs : recordsIn (g .done ++ (f ∷ [])) ≡ recordsIn (g .done) ++ records 0 0 (f .items) =
           records-append (g .done) (f ∷ []) ∙ ap (λ (l : List ℕ). recordsIn (g .done) ++ l) (append-nil (records 0 0 (f .items))) in

@@ -79,21 +79,14 @@ fn begins_hash(part: &[u8]) -> bool
     b == HASH
 }
 
-// Where reading starts in a part that begins with #: past a first line.
-fn past_line(part: &[u8], mode: u32, skip: bool) -> usize
-    ensures { λ r. ⌜ r ≡ startOf (chars (now (part .entry))) ⌝ }
-{
-    let position = begin(part, mode, skip);
-    position.spot.at
-}
-
 // Where reading starts in a part, which is UTF-8: only after a # is its first line looked at.
 fn first_place(part: &[u8], mode: u32, skip: bool) -> usize
     requires { ⌜ firstBad (now part) ≡ Good ⌝ }
     ensures { λ r. ⌜ r ≡ startOf (chars (now (part .entry))) ⌝ }
 {
     if begins_hash(part) {
-        return past_line(part, mode, skip);
+        let position = begin(part, mode, skip);
+        return position.spot.at;
     }
     0
 }

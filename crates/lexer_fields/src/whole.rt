@@ -100,7 +100,8 @@ fn deliver_counted(
 ) -> FieldsAnswer
     requires { ⌜ Fine (now source) (now ends) mode ⌝ }
     requires { ⌜ AllKnown known (now source) (now ends) mode skip ⌝ }
-    ensures { λ r. ⌜ fieldsCall (answerOf r) (now (rows .exit)) (now (recs .exit)) (now (text .exit)) ≡ deliverFields (fieldsIn (now (source .entry)) (now (ends .entry)) mode skip) (now (rows .entry)) (now (recs .entry)) (now (text .entry)) ⌝ }
+    ensures { λ r. ⌜ fieldsCall (answerOf r) (now (rows .exit)) (now (recs .exit)) (now (text .exit))
+        ≡ deliverFields (fieldsIn (now (source .entry)) (now (ends .entry)) mode skip) (now (rows .entry)) (now (recs .entry)) (now (text .entry)) ⌝ }
 {
     let needed = count(source, ends, known, mode, skip);
     let items = needed.items;
@@ -132,7 +133,8 @@ fn deliver(
 ) -> FieldsAnswer
     requires { ⌜ Fine (now source) (now ends) mode ⌝ }
     requires { ⌜ AllKnown known (now source) (now ends) mode skip ⌝ }
-    ensures { λ r. ⌜ fieldsCall (answerOf r) (now (rows .exit)) (now (recs .exit)) (now (text .exit)) ≡ deliverFields (fieldsIn (now (source .entry)) (now (ends .entry)) mode skip) (now (rows .entry)) (now (recs .entry)) (now (text .entry)) ⌝ }
+    ensures { λ r. ⌜ fieldsCall (answerOf r) (now (rows .exit)) (now (recs .exit)) (now (text .exit))
+        ≡ deliverFields (fieldsIn (now (source .entry)) (now (ends .entry)) mode skip) (now (rows .entry)) (now (recs .entry)) (now (text .entry)) ⌝ }
 {
     if rows.len() / ROW < ends.len() {
         return deliver_counted(source, ends, known, mode, skip, rows, recs, text);
@@ -158,7 +160,8 @@ pub fn read_fields(
     recs: &mut [u32],
     text: &mut [u8],
 ) -> FieldsAnswer
-    ensures { λ r. ⌜ fieldsCall (answerOf r) (now (rows .exit)) (now (recs .exit)) (now (text .exit)) ≡ fieldsOf (now (source .entry)) (now (ends .entry)) mode skip (now (rows .entry)) (now (recs .entry)) (now (text .entry)) ⌝ }
+    ensures { λ r. ⌜ fieldsCall (answerOf r) (now (rows .exit)) (now (recs .exit)) (now (text .exit))
+        ≡ fieldsOf (now (source .entry)) (now (ends .entry)) mode skip (now (rows .entry)) (now (recs .entry)) (now (text .entry)) ⌝ }
 {
     if REPORT < mode {
         return FieldsAnswer::NoMode(mode);

@@ -44,7 +44,8 @@ returns c =
     let asked = placed .before .before .before in
     let entry = asked .before .before in
     let good : Good ≡ firstBad (now (entry .args .part)) = sym (placed .before .enum-told .given .1) ∙ asked .seen .ensures in
-    let opens = opens-at (now (entry .args .part)) (entry .args .mode) (entry .args .skip) (stood .spot-at .result) (placed .first-place .result) (stood .spot-at .ensures) (placed .first-place .ensures) in
+    let opens =
+    opens-at (now (entry .args .part)) (entry .args .mode) (entry .args .skip) (stood .spot-at .result) (placed .first-place .result) (stood .spot-at .ensures) (placed .first-place .ensures) in
     good-part (now (entry .args .part)) (entry .args .mode) (entry .args .skip) good (stood .spot-at .result) opens
     (c .before .count .result) (c .read-well .result) (c .before .count .ensures) (c .read-well .ensures)
 

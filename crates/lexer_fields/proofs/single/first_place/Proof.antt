@@ -1,6 +1,7 @@
 -- Only after a # is there a line to pass over.
-use mathlib.Core.Path.{sym, _∙_}
+use mathlib.Core.Path.{sym, ap, _∙_}
 use denote.Ref.{now}
+use Rattle.lexer.specs.declared.Position.{Position}
 use Rattle.lexer_fields.proofs.OnePart.{start-plain}
 use borrow.Author.Needs.{needs}
 use Rattle.lexer_fields.proofs.single.first_place.Statement.{statement}
@@ -9,11 +10,11 @@ use Rattle.lexer_fields.proofs.single.first_place.Tie as tie
 begins-hash-requires : tie.Need-begins-hash-requires
 begins-hash-requires c κs = search needs
 
-past-line-requires : tie.Need-past-line-requires
-past-line-requires c κs = search needs
+start-requires : tie.Need-start-requires
+start-requires c κs = search needs
 
 returns : tie.Need-returns
-returns c = search needs
+returns c = ap (λ (p : Position). p .spot .at) (c .start .ensures)
 
 returns-2 : tie.Need-returns-2
 returns-2 c =
@@ -25,6 +26,6 @@ first-place-spec =
     tie.close
     (tie.spec
     begins-hash-requires
-    past-line-requires
+    start-requires
     returns
     returns-2)

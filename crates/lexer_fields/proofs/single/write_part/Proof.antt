@@ -27,7 +27,8 @@ write-requires c κs =
     let asked = placed .before .before .before in
     let entry = asked .before .before .before .before in
     let good : Good ≡ firstBad (now (entry .args .part)) = sym (placed .before .enum-told .given .1) ∙ asked .seen .ensures in
-    let opens = opens-at (now (entry .args .part)) (entry .args .mode) (entry .args .skip) (stood .spot-at .result) (placed .first-place .result) (stood .spot-at .ensures) (placed .first-place .ensures) in (
+    let opens =
+    opens-at (now (entry .args .part)) (entry .args .mode) (entry .args .skip) (stood .spot-at .result) (placed .first-place .result) (stood .spot-at .ensures) (placed .first-place .ensures) in (
       entry .pre .0 .0,
       good-room (now (entry .args .part)) (entry .args .mode) (entry .args .skip) good (stood .spot-at .result) opens
           (now (entry .args .recs)) (now (entry .args .text)) (entry .pre .1 .0) (entry .pre .1 .1),
@@ -61,7 +62,8 @@ returns c =
     let asked = placed .before .before .before in
     let entry = asked .before .before .before .before in
     let good : Good ≡ firstBad (now (entry .args .part)) = sym (placed .before .enum-told .given .1) ∙ asked .seen .ensures in
-    let opens = opens-at (now (entry .args .part)) (entry .args .mode) (entry .args .skip) (stood .spot-at .result) (placed .first-place .result) (stood .spot-at .ensures) (placed .first-place .ensures) in (
+    let opens =
+    opens-at (now (entry .args .part)) (entry .args .mode) (entry .args .skip) (stood .spot-at .result) (placed .first-place .result) (stood .spot-at .ensures) (placed .first-place .ensures) in (
       good-part (now (entry .args .part)) (entry .args .mode) (entry .args .skip) good (stood .spot-at .result) opens
           (wrote .write .result) (c .read-well .result) (wrote .write .ensures .0) (c .read-well .ensures),
       (
@@ -77,7 +79,10 @@ returns-2 c =
     let entry = asked .before .before .before .before in
     let bad : Bad (told .at .given .0 .0) ≡ firstBad (now (entry .args .part)) = sym (told .at .given .1) ∙ asked .seen .ensures in (
       bad-part (now (entry .args .part)) (entry .args .mode) (entry .args .skip) (told .at .given .0 .0) bad (c .not-utf8 .result) (c .not-utf8 .ensures),
-      (bad-records (now (entry .args .part)) (entry .args .mode) (entry .args .skip) (told .at .given .0 .0) bad, bad-texts (now (entry .args .part)) (entry .args .mode) (entry .args .skip) (told .at .given .0 .0) bad),
+      (
+        bad-records (now (entry .args .part)) (entry .args .mode) (entry .args .skip) (told .at .given .0 .0) bad,
+        bad-texts (now (entry .args .part)) (entry .args .mode) (entry .args .skip) (told .at .given .0 .0) bad,
+      ),
     )
 
 pub write-part-spec : {M : Type 1} → statement M
