@@ -5,7 +5,7 @@
 //! with empty parts, with bytes past the last end. Each is read into memory that is just large enough and into memory that is ample, into
 //! memory with a row, a record or a byte too few (22), with ends that go back or pass the source (38), and under a mode that is none (25).
 //! Memory that a call must leave alone is compared too.
-use crate::lexer::{self, Read, MODES, NO_MODE};
+use crate::lexer::{self, Read, MODES, NO_MODE, OLD_BYTE, OLD_VALUE, OLD_WORD, PAST};
 use crate::tally::{shown, Count, Tally};
 use crate::Options;
 use gen::Random;
@@ -156,12 +156,6 @@ fn refusals(tally: &mut Tally, source: &[u8], ends: &[u32]) {
         tally.same(refused(proved::NO_MODE, NO_MODE as usize, 0), call(NO_MODE), input);
     }
 }
-
-/// What memory holds before a call, and how much of it lies past what is lent.
-const OLD_WORD: u32 = 0xA5A5_A5A5;
-const OLD_BYTE: u8 = 0xA5;
-const OLD_VALUE: u64 = 0xA5A5_A5A5_A5A5_A5A5;
-const PAST: usize = 4;
 
 /// The proved call.
 struct Call<'a> {

@@ -117,10 +117,10 @@ struct Call {
 }
 
 /// What memory holds before a call, and how much of it lies past what is lent.
-const OLD_WORD: u32 = 0xA5A5_A5A5;
-const OLD_BYTE: u8 = 0xA5;
-const OLD_VALUE: u64 = 0xA5A5_A5A5_A5A5_A5A5;
-const PAST: usize = 4;
+pub const OLD_WORD: u32 = 0xA5A5_A5A5;
+pub const OLD_BYTE: u8 = 0xA5;
+pub const OLD_VALUE: u64 = 0xA5A5_A5A5_A5A5_A5A5;
+pub const PAST: usize = 4;
 
 impl Call {
     /// Reads a text into so many words and bytes of memory.

@@ -8,6 +8,7 @@ use Rattle.laws.proofs.Choice.{by-bool, yes-no}
 use Rattle.chars.specs.declared.Utf8.{Utf8}
 use Rattle.chars.specs.declared.Utf8.the-variants.{Good, Bad}
 use Rattle.laws.specs.Lent.{written}
+use Rattle.refusal.specs.Refusals as refusal
 use Rattle.items.specs.Items.{Item, recordWords, records, texts}
 use Rattle.items.specs.Whole.{limit, inReport, itemsIn}
 use Rattle.lexer.specs.Opening.{startOf, opening}
@@ -83,11 +84,11 @@ module _ (s : List ℕ) (mode : ℕ) (skip : Bool) where
     pub bad-short : length s ≤ limit → at ≤ limit
     bad-short short = omega (arith, first-bad-ahead s at (sym e))
 
-    is-bad : fieldOf mode skip s ≡ field 21 at []
+    is-bad : fieldOf mode skip s ≡ field refusal.notUtf8 at []
     unfolding fieldOf
     is-bad = ap (λ (u : Utf8). fieldBy u (itemsIn s mode skip)) (sym e)
 
-    pub bad-part : (r : Part) → r ≡ part 21 at 0 0 → r ≡ partOf (fieldOf mode skip s)
+    pub bad-part : (r : Part) → r ≡ part refusal.notUtf8 at 0 0 → r ≡ partOf (fieldOf mode skip s)
     unfolding texts
     bad-part r h = h ∙ ap partOf (sym is-bad)
 

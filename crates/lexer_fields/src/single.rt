@@ -15,6 +15,7 @@ ghost use Prim.Native.Nat.{_*_, _≤_};
 ghost use lib.ListN.{length, getD};
 ghost use Rattle.laws.specs.Lent.{written};
 ghost use Rattle.laws.specs.Quoted.{code};
+ghost use Rattle.refusal.specs.Refusals as refusals;
 ghost use Rattle.chars.specs.Utf8.{chars, firstBad};
 ghost use Rattle.chars.specs.declared.Utf8.the-variants.{Good};
 ghost use Rattle.lexer.specs.Opening.{startOf};
@@ -47,7 +48,7 @@ fn read_well(items: usize, text: usize) -> Part
 // A part that is not UTF-8.
 fn not_utf8(at: usize) -> Part
     requires { ⌜ at ≤ limit ⌝ }
-    ensures { λ r. ⌜ r ≡ record { mark = 21; place = at; items = 0; text = 0 } ⌝ }
+    ensures { λ r. ⌜ r ≡ record { mark = refusals.notUtf8; place = at; items = 0; text = 0 } ⌝ }
 {
     Part {
         mark: NOT_UTF8,
