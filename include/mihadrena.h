@@ -236,15 +236,15 @@ MIHADRENA_ASSERT(sizeof(mihadrena_row) == 4 * MIHADRENA_ROW_WORDS, "a row is MIH
 
 /* Reads each part of a source as a text of its own. Part i goes from the end before it, the first from 0, to ends[i]; bytes past the last
  * end belong to no part, and a part may be empty. A row for each part goes to `rows`, MIHADRENA_ROW_WORDS words each, the parts' records to
- * `records` and their decoded texts to `text`, each from the front on and without gap. A part's records are those that mihadrena_read writes
- * for the part alone: extents and places count from the part's start, text memory places from its first text byte, depth starts at 0, and
- * nothing that was read in one part tells in the next.
+ * `records` and their decoded texts to `text`, each from the front on and without gap. A part's records are those that mihadrena_read
+ * writes for the part alone: extents and places count from the part's start, text memory places from its first text byte, depth starts at
+ * 0, and nothing that was read in one part tells in the next.
  *
  * MIHADRENA_SERVED: values[0] is how many items were written, values[1] how many bytes of text; all memory behind them stays as it was.
  * Refusals, in this order: MIHADRENA_NO_MODE; MIHADRENA_BAD_ENDS, which comes with 0; MIHADRENA_TOO_LONG for the source; MIHADRENA_TOO_FEW
  * with the items and the text bytes of all parts, also where the rows are too few: as many as there are ends are needed, and where both
- * values fit the rows do not. A refused call writes nothing else. A part that is not UTF-8 is no refusal: its row tells, and the next part is
- * read. With fewer than MIHADRENA_FIELDS_VALUES values none is written.
+ * values fit the rows do not. A refused call writes nothing else. A part that is not UTF-8 is no refusal: its row tells, and the next part
+ * is read. With fewer than MIHADRENA_FIELDS_VALUES values none is written.
  *
  * All parts together never have more items than the source has bytes, and never need more text memory than that.
  *

@@ -21,8 +21,8 @@ static uint64_t items;
 
 static uint32_t whole(size_t length)
 {
-    uint32_t answer = mihadrena_read(source, length, MIHADRENA_REPORT, false, records, LONGEST * MIHADRENA_RECORD_WORDS, text, LONGEST, values,
-                                     MIHADRENA_READ_VALUES);
+    uint32_t answer = mihadrena_read(source, length, MIHADRENA_REPORT, false, records, LONGEST * MIHADRENA_RECORD_WORDS, text, LONGEST,
+                                     values, MIHADRENA_READ_VALUES);
     items = values[0];
     return answer;
 }
