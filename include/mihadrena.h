@@ -218,6 +218,53 @@ uint32_t mihadrena_read(const uint8_t *source, size_t source_length, uint32_t mo
                         uint32_t *records, size_t records_length, uint8_t *text, size_t text_length,
                         uint64_t *values, size_t values_length);
 
+/* -- Many fields in one call ----------------------------------------------------------------------------------------------- */
+
+/* How many words a row has: one row for each part. */
+#define MIHADRENA_ROW_WORDS 4
+
+typedef struct mihadrena_row {
+    uint32_t first_record; /* the part's first record; its records go on to the next row's, those of the last part to values[0] */
+    uint32_t first_byte;   /* its first text byte; its text memory goes on to the next row's, that of the last part to values[1] */
+    uint32_t mark;         /* MIHADRENA_SERVED, or MIHADRENA_NOT_UTF8: then it has no records and no text */
+    uint32_t place;        /* of MIHADRENA_NOT_UTF8, the start of the first bad sequence, from the part's start; else 0 */
+} mihadrena_row;
+
+MIHADRENA_ASSERT(sizeof(mihadrena_row) == 4 * MIHADRENA_ROW_WORDS, "a row is MIHADRENA_ROW_WORDS words");
+
+/* How many values mihadrena_read_fields writes. */
+#define MIHADRENA_FIELDS_VALUES 2
+
+/* Reads each part of a source as a text of its own. Part i goes from the end before it, the first from 0, to ends[i]; bytes past the last
+ * end belong to no part, and a part may be empty. A row for each part goes to `rows`, MIHADRENA_ROW_WORDS words each, the parts' records to
+ * `records` and their decoded texts to `text`, each from the front on and without gap. A part's records are those that mihadrena_read
+ * writes for the part alone: extents and places count from the part's start, text memory places from its first text byte, depth starts at
+ * 0, and nothing that was read in one part tells in the next.
+ *
+ * MIHADRENA_SERVED: values[0] is how many items were written, values[1] how many bytes of text; all memory behind them stays as it was.
+ * Refusals, in this order: MIHADRENA_NO_MODE; MIHADRENA_BAD_ENDS, which comes with 0; MIHADRENA_TOO_LONG for the source; MIHADRENA_TOO_FEW
+ * with the items and the text bytes of all parts, also where the rows are too few: as many as there are ends are needed, and where both
+ * values fit the rows do not. A refused call writes nothing else. A part that is not UTF-8 is no refusal: its row tells, and the next part
+ * is read. With fewer than MIHADRENA_FIELDS_VALUES values none is written.
+ *
+ * All parts together never have more items than the source has bytes, and never need more text memory than that.
+ *
+ *     const uint8_t source[] = "(a)\xFF" "14.7";
+ *     const uint32_t ends[] = {3, 4, 8};
+ *     mihadrena_row rows[3];
+ *     mihadrena_record records[8];
+ *     uint8_t text[8];
+ *     uint64_t values[MIHADRENA_FIELDS_VALUES];
+ *     uint32_t answer = mihadrena_read_fields(source, sizeof source - 1, ends, 3, MIHADRENA_REPORT, false,
+ *                                             (uint32_t *)rows, 3 * MIHADRENA_ROW_WORDS, (uint32_t *)records, 8 * MIHADRENA_RECORD_WORDS,
+ *                                             text, sizeof text, values, MIHADRENA_FIELDS_VALUES);
+ *     // answer == MIHADRENA_SERVED, values[0] == 4, values[1] == 0; the rows are {0, 0, 0, 0}, {3, 0, MIHADRENA_NOT_UTF8, 0} and
+ *     // {3, 0, 0, 0}, and records[3] is the number, its extent 0..4
+ */
+uint32_t mihadrena_read_fields(const uint8_t *source, size_t source_length, const uint32_t *ends, size_t ends_length, uint32_t mode,
+                               bool skip_comments, uint32_t *rows, size_t rows_length, uint32_t *records, size_t records_length,
+                               uint8_t *text, size_t text_length, uint64_t *values, size_t values_length);
+
 /* -- Reading in pieces ----------------------------------------------------------------------------------------------------- */
 
 /* What a piece or end call answers beside refusals. */

@@ -40,6 +40,31 @@ static void read_and_text(void)
     expect(answer == MIHADRENA_OUT_OF_BOUNDS, "mihadrena_text_mark, no text");
 }
 
+static void fields(void)
+{
+    const uint8_t source[] = "(a)\xFF"
+                             "14.7";
+    const uint32_t ends[] = {3, 4, 8};
+    mihadrena_row rows[3];
+    mihadrena_record records[8];
+    uint8_t text[8];
+    uint64_t values[MIHADRENA_FIELDS_VALUES];
+    uint32_t answer = mihadrena_read_fields(source, sizeof source - 1, ends, 3, MIHADRENA_REPORT, false, (uint32_t *)rows,
+                                            3 * MIHADRENA_ROW_WORDS, (uint32_t *)records, 8 * MIHADRENA_RECORD_WORDS, text, sizeof text,
+                                            values, MIHADRENA_FIELDS_VALUES);
+    expect(answer == MIHADRENA_SERVED && values[0] == 4 && values[1] == 0, "mihadrena_read_fields");
+    expect(rows[0].first_record == 0 && rows[0].mark == MIHADRENA_SERVED && rows[1].first_record == 3 &&
+               rows[1].mark == MIHADRENA_NOT_UTF8 && rows[1].place == 0 && rows[2].first_record == 3 && rows[2].mark == MIHADRENA_SERVED,
+           "the rows");
+    expect(records[3].kind == MIHADRENA_NUMBER && records[3].start == 0 && records[3].end == 4, "the last part's record");
+    answer = mihadrena_read_fields(source, 7, ends, 3, MIHADRENA_REPORT, false, (uint32_t *)rows, 0, (uint32_t *)records, 0, text, 0,
+                                   values, MIHADRENA_FIELDS_VALUES);
+    expect(answer == MIHADRENA_BAD_ENDS && values[0] == 0 && values[1] == 0, "mihadrena_read_fields, bad ends");
+    answer = mihadrena_read_fields(source, sizeof source - 1, ends, 3, MIHADRENA_REPORT, false, (uint32_t *)rows, 0, (uint32_t *)records,
+                                   8 * MIHADRENA_RECORD_WORDS, text, sizeof text, values, MIHADRENA_FIELDS_VALUES);
+    expect(answer == MIHADRENA_TOO_FEW && values[0] == 4 && values[1] == 0, "mihadrena_read_fields, too few rows");
+}
+
 static void pieces(void)
 {
     mihadrena_state state;
@@ -208,6 +233,7 @@ static void reader(void)
 int main(void)
 {
     read_and_text();
+    fields();
     depths();
     reader();
     pieces();

@@ -31,7 +31,7 @@ pub type Read = fn(&str, bool, &mut Reading) -> u64;
 
 const PLAIN: u32 = 0;
 const REPORT: u32 = 1;
-const NO_MODE: u32 = 2;
+pub const NO_MODE: u32 = 2;
 /// Each mode, and who judges it.
 pub const MODES: [(u32, Read); 2] = [(PLAIN, steel::read), (REPORT, report::read)];
 
@@ -118,10 +118,10 @@ struct Call {
 }
 
 /// What memory holds before a call, and how much of it lies past what is lent.
-const OLD_WORD: u32 = 0xA5A5_A5A5;
-const OLD_BYTE: u8 = 0xA5;
-const OLD_VALUE: u64 = 0xA5A5_A5A5_A5A5_A5A5;
-const PAST: usize = 4;
+pub const OLD_WORD: u32 = 0xA5A5_A5A5;
+pub const OLD_BYTE: u8 = 0xA5;
+pub const OLD_VALUE: u64 = 0xA5A5_A5A5_A5A5_A5A5;
+pub const PAST: usize = 4;
 
 impl Call {
     /// Reads a text into so many words and bytes of memory.
@@ -139,23 +139,22 @@ impl Call {
             && self.text[decoded..].iter().all(|&byte| byte == OLD_BYTE);
         match number {
             _ if !kept => Answer::Overwrote,
-            proved::SERVED => Answer::Served(self.reading(source, items, decoded)),
+            proved::SERVED => Answer::Served(reading(source, &self.records[..items * WORDS], &self.text[..decoded])),
             _ => Answer::Refused { number, values: [first, second] },
         }
     }
+}
 
-    /// The records and the text memory that were written; a number's parts are what the number call gives for its extent.
-    fn reading(&self, source: &[u8], items: usize, decoded: usize) -> Reading {
-        const NUMBER: u32 = 29;
-        let records = self.records[..items * WORDS].chunks_exact(WORDS);
-        let items = records.map(|words| {
-            let record: item::Record = words.try_into().expect("a record");
-            let [kind, _, start, end, ..] = record;
-            let number = (kind == NUMBER).then(|| source.get(start as usize..end as usize).and_then(numbers::parts));
-            Item { record, number: number.flatten() }
-        });
-        Reading { items: items.collect(), memory: self.text[..decoded].to_vec() }
-    }
+/// The records and the text memory that were written of a source; a number's parts are what the number call gives for its extent.
+pub fn reading(source: &[u8], records: &[u32], memory: &[u8]) -> Reading {
+    const NUMBER: u32 = 29;
+    let items = records.chunks_exact(WORDS).map(|words| {
+        let record: item::Record = words.try_into().expect("a record");
+        let [kind, _, start, end, ..] = record;
+        let number = (kind == NUMBER).then(|| source.get(start as usize..end as usize).and_then(numbers::parts));
+        Item { record, number: number.flatten() }
+    });
+    Reading { items: items.collect(), memory: memory.to_vec() }
 }
 
 /// The proved call in each mode, as the Rust's readers are called; the reading is empty where it is refused.

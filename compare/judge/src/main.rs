@@ -13,6 +13,7 @@ mod chars;
 mod coverage;
 mod differences;
 mod examples;
+mod fields;
 mod huge;
 mod lexer;
 mod numbers;
@@ -63,6 +64,7 @@ const PARTS: &[Part] = &[
     ("chars", chars::judge),
     ("numbers", numbers::judge),
     ("lexer", lexer::judge),
+    ("fields", fields::judge),
     ("pieces", pieces::judge),
     ("edges", pieces::edges::judge),
     ("coverage", coverage::judge),

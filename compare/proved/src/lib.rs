@@ -23,6 +23,22 @@ extern "C" {
         values: *mut u64,
         count: usize,
     ) -> u32;
+    fn mihadrena_read_fields(
+        source: *const u8,
+        length: usize,
+        ends: *const u32,
+        parts: usize,
+        mode: u32,
+        skip: bool,
+        rows: *mut u32,
+        row_words: usize,
+        records: *mut u32,
+        words: usize,
+        text: *mut u8,
+        bytes: usize,
+        values: *mut u64,
+        count: usize,
+    ) -> u32;
     fn mihadrena_open(mode: u32, skip: bool, bytes: *mut u8, room: usize, words: *mut u64, count: usize) -> u32;
     fn mihadrena_piece(
         bytes: *mut u8,
@@ -82,6 +98,7 @@ pub const TOO_LONG: u32 = 20;
 pub const NOT_UTF8: u32 = 21;
 pub const TOO_FEW: u32 = 22;
 pub const NO_MODE: u32 = 25;
+pub const BAD_ENDS: u32 = 38;
 
 /// How many words `number` writes, and what else it answers: a number, none, 01's error 8.
 pub const NUMBER_WORDS: usize = 27;
@@ -109,6 +126,33 @@ pub fn read(source: &[u8], mode: u32, skip: bool, records: &mut [u32], text: &mu
     let (words, bytes, count) = (records.len(), text.len(), values.len());
     let (records, text, values) = (records.as_mut_ptr(), text.as_mut_ptr(), values.as_mut_ptr());
     unsafe { mihadrena_read(source.as_ptr(), source.len(), mode, skip, records, words, text, bytes, values, count) }
+}
+
+/// The words of a row: what `read_fields` tells of a part.
+pub const ROW_WORDS: usize = 4;
+
+#[allow(clippy::too_many_arguments)]
+pub fn read_fields(
+    source: &[u8],
+    ends: &[u32],
+    mode: u32,
+    skip: bool,
+    rows: &mut [u32],
+    records: &mut [u32],
+    text: &mut [u8],
+    values: &mut [u64],
+) -> u32 {
+    let (source, length) = (source.as_ptr(), source.len());
+    let (rows, row_words) = (rows.as_mut_ptr(), rows.len());
+    let (records, words) = (records.as_mut_ptr(), records.len());
+    let (text, bytes) = (text.as_mut_ptr(), text.len());
+    let (values, count) = (values.as_mut_ptr(), values.len());
+    let (ends, parts) = (ends.as_ptr(), ends.len());
+    unsafe {
+        mihadrena_read_fields(
+            source, length, ends, parts, mode, skip, rows, row_words, records, words, text, bytes, values, count,
+        )
+    }
 }
 
 /// What a piece state has.

@@ -122,7 +122,7 @@ pub reads-all : (s : List ℕ) (report skip : Bool) → allItems s (opening s re
 reads-all s report skip = all-read s (opening s report skip .spot) refl ∙ ap (kept skip) (sym (start-items s report (chars s) refl))
 
 -- they are no more than its bytes, nor are their decoded texts
-few-items : (s : List ℕ) (report skip : Bool) → Few s (kept skip (items report (chars s)))
+pub few-items : (s : List ℕ) (report skip : Bool) → Few s (kept skip (items report (chars s)))
 few-items s report skip =
     let is : List Item = items report (chars s) in
     let r : 0 + byteCount (chars s) ≤ length s = room s (chars s) 0 (omega arith) refl in (

@@ -15,11 +15,14 @@ mod text;
 mod whole;
 
 pub use opening::open;
+pub use opening::start as begin;
 pub use reader::next_at;
 pub use text::text_and_mark;
 pub use text::text_mark;
 pub use text::text_of;
+pub use whole::count;
 pub use whole::read;
+pub use whole::write;
 
 // Where in a source reading stands.
 pub struct Spot {

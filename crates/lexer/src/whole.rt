@@ -74,7 +74,7 @@ pub fn put_text(source: &[u8], r: Nine, free: &mut [u8])
 }
 
 // The items from a spot on, and the bytes of their decoded texts.
-fn count(source: &[u8], spot: Spot) -> Needed
+pub fn count(source: &[u8], spot: Spot) -> Needed
     requires { ⌜ length (now source) ≤ limit ⌝ }
     ensures { λ r. ⌜ r ≡ neededOf (allItems (now (source .entry)) spot) ⌝ }
 {
@@ -160,7 +160,7 @@ fn put_told(source: &[u8], p: Spot, recs: &mut [u32], free: usize, from: usize, 
 }
 
 // Writes the records of the items from a spot on, and their decoded texts; answers how many records and bytes those are.
-fn write(source: &[u8], spot: Spot, recs: &mut [u32], text: &mut [u8]) -> Needed
+pub fn write(source: &[u8], spot: Spot, recs: &mut [u32], text: &mut [u8]) -> Needed
     requires { ⌜ length (now source) ≤ limit ⌝ }
     requires { ⌜ recordWords * length (allItems (now source) spot) ≤ length (now recs) ⌝ }
     requires { ⌜ length (texts (allItems (now source) spot)) ≤ length (now text) ⌝ }

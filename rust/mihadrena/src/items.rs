@@ -202,7 +202,12 @@ impl<'a> Items<'a> {
     ) -> Result<Self, Refusal> {
         let source = source.as_ref();
         let given = read(source, options, records, text)?;
-        Ok(Self { source, records: records[..given.records].iter(), text: &text[..given.text] })
+        Ok(Self::of(source, &records[..given.records], &text[..given.text]))
+    }
+
+    /// The items of records that the library wrote of a source and a text memory.
+    pub(crate) fn of(source: &'a [u8], records: &'a [Record], text: &'a [u8]) -> Self {
+        Self { source, records: records.iter(), text }
     }
 
     /// The records of the items that are left.

@@ -2,10 +2,11 @@
 //!
 //! The functions behind this crate are proved (crates/ of the repository): every call ends, touches only the memory that it is lent, and
 //! answers what the definitions say. This crate makes a safe interface of them: [`Items`] reads a whole text, [`Reader`] one item of it a
-//! call, [`PieceReader`] a text that comes in pieces, [`number`] and [`number_by`] take a number apart, [`coordinate`] makes a float of a
-//! decimal, [`nest`] makes nested lists of items, [`LineIndex`] and [`LinePieces`] tell line and column, [`Names`] numbers names for two
-//! parties, and [`write_items`] and [`read_items`] store records as item files. It allocates nothing and depends on nothing but the archive that `.ci/archive` writes; `build.rs` looks for it in the
-//! repository's target/staticlib, or in the folder that the environment variable `MIHADRENA_ARCHIVE` names.
+//! call, [`Fields`] many short texts in one call, [`PieceReader`] a text that comes in pieces, [`number`] and [`number_by`] take a number
+//! apart, [`coordinate`] makes a float of a decimal, [`nest`] makes nested lists of items, [`LineIndex`] and [`LinePieces`] tell line and
+//! column, [`Names`] numbers names for two parties, and [`write_items`] and [`read_items`] store records as item files. It allocates
+//! nothing and depends on nothing but the archive that `.ci/archive` writes; `build.rs` looks for it in the repository's target/staticlib,
+//! or in the folder that the environment variable `MIHADRENA_ARCHIVE` names.
 //!
 //! ```
 //! use mihadrena::{number, Int, Items, Kind, Number, Options, Real, Record};
@@ -33,6 +34,7 @@ compile_error!("the archive is for x86-64");
 
 mod coordinate;
 mod error;
+mod fields;
 mod files;
 mod items;
 mod kind;
@@ -48,6 +50,7 @@ mod reader;
 
 pub use coordinate::{coordinate, record_coordinate, NoCoordinate};
 pub use error::{Error, HexError, Refusal};
+pub use fields::{Fields, NoFields};
 pub use files::{read_items, write_items, FileRefusal};
 pub use items::{needed, Item, Items, Mode, Needed, Options};
 pub use kind::{Kind, Paren, ParenMod};

@@ -139,6 +139,26 @@ pub const REPORT: u32 = 1;
 /// How many values `mihadrena_read` writes.
 pub const READ_VALUES: usize = 2;
 
+/// How many words a row has.
+pub const ROW_WORDS: usize = 4;
+
+/// What a part of a source gave to `mihadrena_read_fields`.
+#[repr(C)]
+#[derive(Clone, Copy, Debug, Default, PartialEq, Eq, Hash)]
+pub struct Row {
+    /// The part's first record; its records go on to the next row's.
+    pub first_record: u32,
+    /// Its first text byte; its text memory goes on to the next row's.
+    pub first_byte: u32,
+    /// `SERVED`, or `NOT_UTF8`: then it has no records and no text.
+    pub mark: u32,
+    /// Of `NOT_UTF8`, the start of the first bad sequence, from the part's start; else 0.
+    pub place: u32,
+}
+
+/// How many values `mihadrena_read_fields` writes.
+pub const FIELDS_VALUES: usize = 2;
+
 // What a piece or end call answers beside refusals.
 pub const ITEM: u32 = 10;
 pub const MORE: u32 = 11;
@@ -301,6 +321,7 @@ pub const PLANNERS_FIRST: u32 = 0;
 pub const CONTRACTORS_FIRST: u32 = 512;
 
 const _: () = assert!(size_of::<Record>() == RECORD_WORDS * size_of::<u32>());
+const _: () = assert!(size_of::<Row>() == ROW_WORDS * size_of::<u32>());
 const _: () = assert!(size_of::<State>() == STATE_SIZE && align_of::<State>() == STATE_ALIGN);
 const _: () = assert!(size_of::<Told>() == PIECE_VALUES * size_of::<u64>());
 const _: () = assert!(size_of::<Parts>() == NUMBER_WORDS * size_of::<u64>());
@@ -312,6 +333,22 @@ extern "C" {
         source_length: usize,
         mode: u32,
         skip_comments: bool,
+        records: *mut u32,
+        records_length: usize,
+        text: *mut u8,
+        text_length: usize,
+        values: *mut u64,
+        values_length: usize,
+    ) -> u32;
+    pub fn mihadrena_read_fields(
+        source: *const u8,
+        source_length: usize,
+        ends: *const u32,
+        ends_length: usize,
+        mode: u32,
+        skip_comments: bool,
+        rows: *mut u32,
+        rows_length: usize,
         records: *mut u32,
         records_length: usize,
         text: *mut u8,

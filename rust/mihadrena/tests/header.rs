@@ -191,6 +191,7 @@ fn raw_fields(name: &str) -> Vec<String> {
 fn every_struct_is_the_headers() {
     let structs = [
         ("record", "Record"),
+        ("row", "Row"),
         ("state", "State"),
         ("told", "Told"),
         ("figure", "Figure"),
@@ -202,6 +203,7 @@ fn every_struct_is_the_headers() {
         assert_eq!(header_fields(c), raw_fields(rust), "{rust}");
     }
     assert_eq!(size_of::<raw::Record>(), 4 * raw::RECORD_WORDS);
+    assert_eq!(size_of::<raw::Row>(), 4 * raw::ROW_WORDS);
     assert_eq!(size_of::<raw::State>(), raw::STATE_BYTES + 8 * raw::STATE_WORDS);
     assert_eq!((size_of::<raw::State>(), align_of::<raw::State>()), (raw::STATE_SIZE, raw::STATE_ALIGN));
     assert_eq!(size_of::<raw::Told>(), 8 * raw::PIECE_VALUES);

@@ -1,7 +1,7 @@
 //! Each refusal of a call in Rust tells the number that C is told.
 use mihadrena::{
-    coordinate, nest, raw, read_items, record_coordinate, write_items, FileRefusal, Items, LineIndex, LineRefusal,
-    Names, NoCoordinate, NoName, NotNested, Options, Party, Record, Refusal,
+    coordinate, nest, raw, read_items, record_coordinate, write_items, Fields, FileRefusal, Items, LineIndex,
+    LineRefusal, Names, NoCoordinate, NoFields, NoName, NotNested, Options, Party, Record, Refusal,
 };
 
 /// How `nest` refuses a text, with room for so many nodes.
@@ -43,6 +43,22 @@ fn coordinates() {
         assert_eq!(answer, Err(refusal));
         assert_eq!(refusal.number(), number);
     }
+}
+
+#[test]
+fn fields() {
+    let few = NoFields::TooFew { rows: 2, records: 2, text: 0 };
+    for (ends, rows, records, refusal, number) in [
+        ([2, 1], 2, 2, NoFields::BadEnds, raw::BAD_ENDS),
+        ([1, 3], 0, 0, NoFields::BadEnds, raw::BAD_ENDS),
+        ([1, 2], 2, 1, few, raw::TOO_FEW),
+        ([1, 2], 1, 2, few, raw::TOO_FEW),
+    ] {
+        let (mut rows, mut records) = (vec![raw::Row::default(); rows], vec![Record::default(); records]);
+        let refused = Fields::new("ab", &ends, Options::default(), &mut rows, &mut records, &mut []).err();
+        assert_eq!((refused, refusal.number()), (Some(refusal), number), "{ends:?}");
+    }
+    assert_eq!(NoFields::TooLong.number(), raw::TOO_LONG);
 }
 
 #[test]

@@ -1,0 +1,4 @@
+pub mod Fields
+pub mod Answers
+pub mod Examples
+pub mod Each
