@@ -276,6 +276,9 @@ pub const DEEPEST: usize = 64;
 /// How many values `mihadrena_nest` writes.
 pub const NEST_VALUES: usize = 1;
 
+/// How many values `mihadrena_write` writes.
+pub const WRITE_VALUES: usize = 1;
+
 // The readers of `mihadrena_number_by`.
 pub const BOUGHT: u32 = 0;
 pub const STANDARD: u32 = 1;
@@ -389,6 +392,18 @@ extern "C" {
         records_length: usize,
         nodes: *mut u32,
         nodes_length: usize,
+        values: *mut u64,
+        values_length: usize,
+    ) -> u32;
+    pub fn mihadrena_write(
+        records: *const u32,
+        records_length: usize,
+        source: *const u8,
+        source_length: usize,
+        text: *const u8,
+        text_length: usize,
+        out: *mut u8,
+        out_length: usize,
         values: *mut u64,
         values_length: usize,
     ) -> u32;
