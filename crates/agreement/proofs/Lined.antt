@@ -54,7 +54,7 @@ named (backslash {v = v} s) h = bytes-some (code "\\") v
 named (hex d {x = x} {v = v} n s) h = bytes-some x v
 
 -- the closing line is the last byte
-last-line : (l : List ℕ) → lastIs (code "|") (code "|" ∷ l ++ codes "|") ≡ true
+pub last-line : (l : List ℕ) → lastIs (code "|") (code "|" ∷ l ++ codes "|") ≡ true
 last-line l =
     let e : length (code "|" ∷ l) ≡ length (code "|" ∷ l ++ codes "|") - 1 = rw (length-append l (codes "|")) (omega arith) in
     rw (getD-at (code "|" ∷ l) (code "|") [] 0 (length (code "|" ∷ l ++ codes "|") - 1) e)

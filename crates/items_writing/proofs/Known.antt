@@ -394,7 +394,7 @@ module _ (v : List ℕ) (c : ℕ) (i : SoFar) (is : i .bytes ≡ bytesOf v) wher
   goes-on report ph.HereBody h = if-all (Goes v c) (hereEnds (i .bytes)) h (starts-on (codes "#<<") c h)
   goes-on report ph.InWord h = goes-word v c (inWord c)
   goes-on report ph.WordEscape h = tt
-  goes-on report ph.InRun h = goes-run v c (inRun report c) h
+  goes-on report ph.InRun h = goes-run v c (inRun report (i .bytes) c) h
   goes-on report ph.InHash h = rw is (goes-hash v c (inHash c) h)
   goes-on report ph.HashEscape h = two-on c h
   goes-on report ph.HashTick h = rw is (two-then v c h)

@@ -24,6 +24,7 @@ pub mod Decided
 pub mod Calls
 pub mod Turns
 pub mod Bares
+pub mod PlusLines
 pub mod Paired
 pub mod Rights
 pub mod Piecing

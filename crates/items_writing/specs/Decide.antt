@@ -12,8 +12,7 @@ use Rattle.chars.specs.Blank.{isBlank}
 use Rattle.chars.specs.Encode.{bytesOf}
 use Rattle.numbers.specs.declared.Parsed.{Parsed}
 use Rattle.numbers.specs.declared.Parsed.the-variants as parsed
-use Rattle.numbers.specs.Grammar.{parseNumber}
-use Rattle.numbers.specs.AfterPlus.{numeric}
+use Rattle.numbers.specs.Grammar.{parseNumber, numeric}
 use Rattle.items.specs.declared.Outcome.{Outcome}
 use Rattle.items.specs.declared.Outcome.the-variants.{Token, Str, HereStr, Word, Run, Lined, Keyword, Character, Error, ErrorAt}
 use Rattle.items.specs.declared.Phase.{Phase}
@@ -75,8 +74,9 @@ decide first last (c ∷ t) =
     else if first && begins (codes "#!") (c ∷ t) then false
     else standsAs (standFrom last (onFirst (firstOf c)) (eat (soFar [] 0) c) t) (bytesOf (c ∷ t))
 
--- ---- a plus and a text t that follows it: `+foo`. The machine that stands after the plus is in a number run, and what it does there does not
--- rest on the plus
+-- ---- a plus and a text t that follows it: `+foo`. The machine stands after the plus in a number run. Where the run meets a vertical
+-- line, and is no number with the plus, what follows must be an identifier in vertical lines: `+|a b|`. Else what the machine does after
+-- the plus does not rest on the plus
 
 unfoldable pub isPairOf : Outcome → List ℕ → Bool
 isPairOf (Token k d) t = false
@@ -93,3 +93,19 @@ isPairOf (ErrorAt n d a b) t = false
 abbrev pub pairsAs : Stand → List ℕ → Bool
 pairsAs (Ends o) t = isPairOf o t
 pairsAs Apart t = false
+
+unfoldable pub isLined : Outcome → Bool
+isLined (Token k d) = false
+isLined Str = false
+isLined HereStr = false
+isLined Word = false
+isLined Run = false
+isLined Lined = true
+isLined Keyword = false
+isLined Character = false
+isLined (Error n d) = false
+isLined (ErrorAt n d a b) = false
+
+abbrev pub linesAs : Stand → Bool
+linesAs (Ends o) = isLined o
+linesAs Apart = false

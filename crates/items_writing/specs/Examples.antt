@@ -121,6 +121,10 @@ table =
     ∷ gives "|.| . |...| ..." "|.| . |...| ..."
     ∷ gives "|a b| |a| |+a| |+|" "|a b| a |+a| +"
     ∷ gives "12|Birch|" "12 Birch"
+    -- a plus before a vertical line is a pair too, unless it is a number; a pair that is not closed is two identifiers
+    ∷ gives "+|a| +|a b|" "+|a| +|a b|"
+    ∷ gives "+5|a| +e|a| +x|a|" "+5 a +e|a| +x|a|"
+    ∷ gives "+|a" "+ |\\|a|"
     ∷ gives "é |é λ|λ" "é |é λ| λ"
     -- a first line is not written back, and a word that would be one stands in lines
     ∷ gives "#!x\n#!y #!z" "|#!y| #!z"
@@ -148,6 +152,7 @@ table =
     -- a pair whose second name was edited: one word where it still reads back as the pair
     ∷ writes (over "+x" "foo" (one kind.Identifier 0 2 1 0 1 ++ one kind.Identifier 0 2 2 0 3)) "+foo" (name "+" ∷ name "foo" ∷ [])
     ∷ writes (over "+x" "1" (one kind.Identifier 0 2 1 0 1 ++ one kind.Identifier 0 2 2 0 1)) "+ |1|" (name "+" ∷ name "1" ∷ [])
+    ∷ writes (over "+x" "|a|" (one kind.Identifier 0 2 1 0 1 ++ one kind.Identifier 0 2 2 0 3)) "+|a|" (name "+" ∷ name "|a|" ∷ [])
     -- 48: a kind that is none, an extent or a text that is cut or not there, no text where the kind has one
     ∷ refuses (edited (one 32 0 2 0 0 0)) refusal.alien 0
     ∷ refuses (edited (one 100 0 2 0 0 0)) refusal.alien 0
@@ -166,6 +171,7 @@ table =
     -- 47: a comment, an error
     ∷ refuses (lentAs ";a" 9) refusal.unwritten 0
     ∷ refuses (lentAs "(##" 9) refusal.unwritten 1
+    ∷ refuses (lentAs "-|a|" 9) refusal.unwritten 0
     -- 20, before 22; 22 with the bytes needed
     ∷ refuses (lentOf 5 true (spelled "ab cde") 0) refusal.tooLong 5
     ∷ refuses (lentAs "ab cd" 4) refusal.tooFew 5

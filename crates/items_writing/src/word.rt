@@ -6,14 +6,17 @@ use chars::is_blank;
 use items::Next;
 use items::Outcome;
 use items::Phase;
+use items::Quotes;
 use items::kinds::IDENTIFIER;
 use numbers::Parsed;
 use numbers::parse_number;
 use numbers::plus_number;
+use steps::ascii_run;
 use steps::finish;
 use steps::first_phase;
 use steps::step;
 use texts::begins_with;
+use texts::starts_at;
 use words::word_kind;
 ghost use mathlib.Core.Path.{_≡_};
 ghost use Prim.Native.Nat.{_+_, _<_, _≤_};
@@ -22,16 +25,18 @@ ghost use Rattle.chars.specs.Utf8.{chars, firstBad};
 ghost use Rattle.chars.specs.declared.Utf8.the-variants.{Good};
 ghost use Rattle.items.specs.Readers.{soFar};
 ghost use Rattle.items.specs.Machine.{depthOf};
-ghost use mathlib.Core.Bool.{_&&_};
+ghost use mathlib.Core.Bool.{false, _&&_};
 ghost use Rattle.laws.specs.Quoted.{code, codes};
 ghost use Rattle.laws.specs.Texts.{begins};
 ghost use mathlib.Core.List.{_∷_};
 ghost use Rattle.items_writing.specs.Written.{bare, splits};
-ghost use Rattle.items_writing.specs.Decide.{closeOf, standFrom, nameWord, isName, isPairOf};
+ghost use Rattle.items_writing.specs.Decide.{closeOf, standFrom, nameWord, isName, isPairOf, isLined, linesAs};
 
 const SPACE: u32 = 0x20;
 
 const PLUS: u8 = b'+';
+
+const VERTICAL: u8 = b'|';
 
 // A word that was read to its end in a phase: at the end of the text, or before a space.
 fn close(t: &[u8], phase: Phase, last: bool) -> Stand
@@ -166,12 +171,40 @@ fn is_pair_of(what: Outcome, t: &[u8]) -> bool
     }
 }
 
-// Whether a plus and t, before a blank, read back as a pair: +foo
+// Whether what a text turned out to be is an identifier in vertical lines.
+fn is_lined(what: Outcome) -> bool
+    ensures { λ r. ⌜ r ≡ isLined what ⌝ }
+{
+    match what {
+        Outcome::Lined => true,
+        _ => false,
+    }
+}
+
+// Whether a text that begins with a vertical line is one identifier in vertical lines before a blank.
+fn reads_lined(t: &[u8]) -> bool
+    requires { ⌜ 1 ≤ length (now t) ⌝ }
+    ensures { λ r. ⌜ r ≡ linesAs (standFrom false (Phase.Quoted Quotes.Lines) (soFar (take 1 (now (t .entry))) 1) (chars (drop 1 (now (t .entry))))) ⌝ }
+{
+    match stand_on(t, 1, Phase::Quoted(Quotes::Lines), false) {
+        Stand::Ends(what) => is_lined(what),
+        Stand::Apart => false,
+    }
+}
+
+// Whether a plus and t, before a blank, read back as a pair: +foo, +|a b|
 pub fn reads_pair(t: &[u8]) -> bool
     requires { ⌜ firstBad (now t) ≡ Good ⌝ }
     ensures { λ r. ⌜ r ≡ splits (code "+" ∷ now (t .entry)) ⌝ }
 {
-    match stand_on(t, 0, Phase::InRun, false) {
+    let k = ascii_run(t, 0, Phase::InRun);
+    if starts_at(t, k, VERTICAL) {
+        if plus_number(&t[..k]) {
+            return false;
+        }
+        return reads_lined(&t[k..]);
+    }
+    match stand_on(t, k, Phase::InRun, false) {
         Stand::Ends(what) => is_pair_of(what, t),
         Stand::Apart => false,
     }

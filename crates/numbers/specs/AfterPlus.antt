@@ -1,17 +1,9 @@
--- Whether a text is read as a number, or would be but for a zero denominator: what a word that begins with `+` must not be, so that it is
--- two identifiers (02 (viii)).
+-- Whether there is a real, or there are parts: what `plus_number` asks of what stands after a plus (02 (viii)), as a means of proof.
 use mathlib.Core.Bool.{Bool, true, false}
 use Rattle.numbers.specs.declared.MaybeReal.{MaybeReal}
 use Rattle.numbers.specs.declared.MaybeReal.the-variants.{AReal, NoReal}
 use Rattle.numbers.specs.declared.MaybeParts.{MaybeParts}
 use Rattle.numbers.specs.declared.MaybeParts.the-variants.{SomeParts, NoParts}
-use Rattle.numbers.specs.declared.Parsed.{Parsed}
-use Rattle.numbers.specs.declared.Parsed.the-variants.{Is, NoNumber, ZeroDenominator}
-
-abbrev pub numeric : Parsed → Bool
-numeric (Is p) = true
-numeric NoNumber = false
-numeric ZeroDenominator = true
 
 abbrev pub isReal : MaybeReal → Bool
 isReal (AReal r) = true

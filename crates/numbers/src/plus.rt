@@ -12,9 +12,9 @@ ghost use mathlib.Core.List.{_∷_};
 ghost use Prim.Native.Nat.{suc, _≤_, _<_};
 ghost use lib.ListN.{length};
 ghost use Rattle.laws.specs.Quoted.{code};
-ghost use Rattle.numbers.specs.Grammar.{aloneOf, pairOf, parseNumber};
+ghost use Rattle.numbers.specs.Grammar.{aloneOf, pairOf, parseNumber, numeric};
 ghost use Rattle.numbers.specs.Reals.{real};
-ghost use Rattle.numbers.specs.AfterPlus.{numeric, isReal, isParts};
+ghost use Rattle.numbers.specs.AfterPlus.{isReal, isParts};
 
 // Whether there is a real.
 fn is_real(r: MaybeReal) -> bool
