@@ -1,12 +1,12 @@
-//! `judge [--seed N] [--count N] [--limit N] [--family NAME] [--file FILE].. [--huge] [PART..]` compares the proved functions with the Rust, part by
-//! part, and prints a line for each comparison. The last line says how many passed; a difference that is not listed makes the
+//! `judge [--seed N] [--count N] [--limit N] [--family NAME] [--file FILE].. [--huge] [PART..]` compares the proved functions with the Rust,
+//! part by part, and prints a line for each comparison. The last line says how many passed; a difference that is not listed makes the
 //! exit status non-zero.
 //!
 //! --seed     where the random texts start (0)
 //! --count    how many texts of a random family are compared (1,000,000); a family that lists is compared whole
 //! --limit    no more texts than this of any family: for a quick look
 //! --family   no other family than this
-//! --file     this file is written back too, in the part `writing`
+//! --file     of the part `writing`: this file in the place of families; may be said more than once
 //! --huge     texts of 4 GiB too: A3, refusal 20 and the longest text
 //!
 //! `judge --scale [--share N] [--jobs N]` compares at scale, in processes of its own: see scale.rs.
@@ -43,7 +43,15 @@ struct Options {
 
 impl Options {
     fn new() -> Self {
-        Options { seed: 0, count: 1_000_000, limit: u64::MAX, family: None, files: Vec::new(), huge: false, names: Vec::new() }
+        Options {
+            seed: 0,
+            count: 1_000_000,
+            limit: u64::MAX,
+            family: None,
+            files: Vec::new(),
+            huge: false,
+            names: Vec::new(),
+        }
     }
 
     /// Those of some families that are wanted.
@@ -131,7 +139,10 @@ fn judge(options: &Options) -> bool {
 
 fn usage() -> ExitCode {
     let names: Vec<&str> = PARTS.iter().map(|part| part.0).collect();
-    eprintln!("usage: judge [--seed N] [--count N] [--limit N] [--family NAME] [--file FILE].. [--huge] [{}]", names.join("|"));
+    eprintln!(
+        "usage: judge [--seed N] [--count N] [--limit N] [--family NAME] [--file FILE].. [--huge] [{}]",
+        names.join("|")
+    );
     eprintln!("       judge --scale [--share N] [--jobs N]");
     ExitCode::FAILURE
 }

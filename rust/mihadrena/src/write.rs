@@ -126,7 +126,7 @@ pub fn write<'a, S: AsRef<[u8]> + ?Sized>(
     };
     let value = values[0] as usize;
     match answer {
-        raw::SERVED => Ok(str::from_utf8(&out[..value]).expect("the library writes UTF-8")),
+        raw::SERVED => Ok(str::from_utf8(&out[..value]).unwrap_or_else(|_| unreachable!("the library writes UTF-8"))),
         _ => Err(NotWritten::of(answer, value)),
     }
 }

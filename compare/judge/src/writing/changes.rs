@@ -8,8 +8,9 @@ use std::str;
 
 /// What new texts are made of: characters that change what stands around them, words, numbers.
 const PARTS: &[&str] = &[
-    "a", "é", "木", " ", "\n", "\t", "\u{A0}", "\u{85}", "\\", "\"", "|", "#", "!", "#!", ";", "#;", "#|", "(", ")", "{", "'", ",", "@",
-    "+", "-", ".", "/", "0", "1", "e", "i", "x", ":", "<", "#<<", "#\\", "if", "λ", "...", "+inf.0", "\0",
+    "a", "é", "木", " ", "\n", "\t", "\u{A0}", "\u{85}", "\\", "\"", "|", "#", "!", "#!", ";", "#;", "#|", "(", ")",
+    "{", "'", ",", "@", "+", "-", ".", "/", "0", "1", "e", "i", "x", ":", "<", "#<<", "#\\", "if", "λ", "...",
+    "+inf.0", "\0",
 ];
 
 /// The new texts of some names and strings: they must be read back, each where its old one stood.
@@ -47,7 +48,8 @@ fn placed(memory: &mut Vec<u8>, text: &[u8]) -> [u32; 3] {
 }
 
 /// Words at the edges of what a record may have.
-const WORDS_TRIED: &[u32] = &[0, 1, 2, 3, 24, COMMENT, 27, 28, 30, 31, 32, 99, 100, 101, 112, 113, 114, u32::MAX - 1, u32::MAX];
+const WORDS_TRIED: &[u32] =
+    &[0, 1, 2, 3, 24, COMMENT, 27, 28, 30, 31, 32, 99, 100, 101, 112, 113, 114, u32::MAX - 1, u32::MAX];
 
 /// One to three words of records changed, words left over behind the last record, a text memory cut short: the answer and every byte.
 pub fn damaged(tally: &mut Tally, random: &mut Random, text: &[u8]) {

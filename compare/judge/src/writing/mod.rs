@@ -18,37 +18,49 @@ use std::{fs, str};
 
 const REPORT: u32 = 1;
 
+const SIDES: [&str; 2] = ["judged", "proved"];
+
 /// So many texts of a family at most: each takes some ten readings.
 const MOST: u64 = 1_600_000;
 
 pub fn judge(options: &Options) -> Count {
     let mut count = Count::default();
+    if !options.files.is_empty() {
+        count.add(files(options));
+        return count;
+    }
     let names: Vec<&str> = gen::FAMILIES.iter().map(|family| family.name).filter(|&name| name != "bytes").collect();
     for name in options.wanted(&names) {
-        let mut tally = Tally::between(["judged", "proved"], format!("writing {name}"));
-        options.each(name, MOST, &mut |text| round_trip(&mut tally, text));
+        let mut tally = Tally::between(SIDES, format!("writing {name}"));
+        options.each(name, MOST, &mut |text| {
+            round_trip(&mut tally, text);
+        });
         count.add(tally.close());
     }
     for name in options.wanted(&["plans", "damaged"]) {
         let mut random = Random::new(options.seed);
-        let mut edited = Tally::between(["judged", "proved"], format!("writing {name}, edited"));
+        let mut edited = Tally::between(SIDES, format!("writing {name}, edited"));
         options.each(name, MOST, &mut |text| changes::edited(&mut edited, &mut random, text));
         count.add(edited.close());
-        let mut damaged = Tally::between(["judged", "proved"], format!("writing {name}, records damaged"));
+        let mut damaged = Tally::between(SIDES, format!("writing {name}, records damaged"));
         options.each(name, MOST, &mut |text| changes::damaged(&mut damaged, &mut random, text));
         count.add(damaged.close());
     }
-    if !options.files.is_empty() {
-        let mut tally = Tally::between(["judged", "proved"], "writing files");
-        for file in &options.files {
-            match fs::read(file) {
-                Ok(text) => round_trip(&mut tally, &text),
-                Err(error) => println!("{}: {error}", file.display()),
-            }
-        }
-        count.add(tally.close());
-    }
     count
+}
+
+/// Files, in the place of families. One with an error is refused, and counted apart.
+fn files(options: &Options) -> Count {
+    let mut tally = Tally::between(SIDES, "writing files");
+    let mut refused = 0;
+    for file in &options.files {
+        match fs::read(file) {
+            Ok(text) => refused += u64::from(!round_trip(&mut tally, &text)),
+            Err(error) => println!("{}: {error}", file.display()),
+        }
+    }
+    println!("{} files, {refused} of them not written: no UTF-8, or an error in them", options.files.len());
+    tally.close()
 }
 
 /// What is read of a text: its records, and the text memory that they name.
@@ -64,14 +76,17 @@ fn read(text: &str) -> Read {
     Read { records: reading.items.iter().flat_map(|item| item.record).collect(), memory: reading.memory }
 }
 
-fn round_trip(tally: &mut Tally, text: &[u8]) {
-    let Ok(source) = str::from_utf8(text) else { return };
+/// Reads a text, writes it and holds the result against the judges; whether it was written.
+fn round_trip(tally: &mut Tally, text: &[u8]) -> bool {
+    let Ok(source) = str::from_utf8(text) else { return false };
     tally.text();
     let read = read(source);
     let lent = Lent { records: &read.records, source: text, text: &read.memory };
-    if let Some(written) = same_call(tally, lent, || shown(text)) {
-        reads_back(tally, &written, &shapes(source, true), || shown(text));
+    let written = same_call(tally, lent, || shown(text));
+    if let Some(written) = &written {
+        reads_back(tally, written, &shapes(source, true), || shown(text));
     }
+    written.is_some()
 }
 
 /// What the call answers, with just enough memory and with a byte less, against the model; the text that it wrote.

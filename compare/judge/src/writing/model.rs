@@ -28,7 +28,8 @@ pub type Refused = (u32, u64);
 impl<'a> Lent<'a> {
     /// The text, or the refusal before any memory is asked for.
     pub fn written(self) -> Result<Vec<u8>, Refused> {
-        let records: Vec<Record> = self.records.chunks_exact(WORDS).map(|words| words.try_into().expect("a record")).collect();
+        let records: Vec<Record> =
+            self.records.chunks_exact(WORDS).map(|words| words.try_into().expect("a record")).collect();
         for (at, &record) in records.iter().enumerate() {
             if !self.is_whole(record) {
                 return Err((ALIEN, at as u64));
@@ -85,7 +86,7 @@ impl<'a> Lent<'a> {
         }
         let word = [self.text_of(plus), self.text_of(name)].concat();
         let end = word.len() as u32;
-        read_back(&[&word, b" "].concat()) == [(IDENTIFIER, 0, end, 0, 1), (IDENTIFIER, 0, end, 1, end)]
+        read_back(&[&word[..], b" "].concat()) == [(IDENTIFIER, 0, end, 0, 1), (IDENTIFIER, 0, end, 1, end)]
     }
 
     /// "an identifier in vertical lines whenever it wouldn't read back bare at that place, strings in quotes [..] Any other item is its own
