@@ -9,6 +9,7 @@ pub mod Follows
 pub mod Bare
 pub mod Quotes
 pub mod Places
+pub mod Settling
 pub mod Sound
 pub mod Table
 pub mod Stops

@@ -19,7 +19,7 @@ use Rattle.items_writing.specs.Written.{Entry, gap, bare, splits, identi
 use Rattle.items_writing.specs.Records.{countOf, wordsAt, rest, recordsIn, isRight, entryOf, entriesOf}
 use Rattle.items_writing.specs.Pieces.{bodyOf, formFor, shown, lone, piece, AllRight, entryAt, onward, TurnSaid}
 use Rattle.items_writing.proofs.Rights.{rest-cons, rest-end, right-at}
-use Rattle.items_writing.proofs.Sound.{written-joined, written-apart}
+use Rattle.items_writing.proofs.Settling.{written-joined, written-apart}
 
 -- ---- an item's word
 

@@ -51,23 +51,23 @@ reading-blank c cs {ss} b r pre (suc turns) last h =
 -- ---- an item
 
 -- an item's text lies in its extent
-read-inside : {c k d : ℕ} {t cs : List ℕ} {w : Spelling} (r : ReadAs true (c ∷ t) cs k d w) (at : ℕ) → Inside at (at + byteCount (c ∷ t)) (r .text at)
+pub read-inside : {c k d : ℕ} {t cs : List ℕ} {w : Spelling} (r : ReadAs true (c ∷ t) cs k d w) (at : ℕ) → Inside at (at + byteCount (c ∷ t)) (r .text at)
 read-inside {c} {k} {d} {t} {cs} r at =
     let n : ℕ = at + byteCount (c ∷ t ++ cs) in
     let l = from-laws (λ (x : ℕ). Unit {0}) (λ x h. tt) true n 1 unset at (c ∷ t ++ cs) (omega arith, omega arith) (le-refl n)
     (every-any (λ (x : ℕ). Unit {0}) (λ x. tt) (c ∷ t ++ cs)) .sorted .placed in
     (rw (r .one 0 at unset) at l) .0 .text
 
-spells-in : (pre raw post : List ℕ) (x : Text) → Inside (length pre) (length pre + length raw) x → spells (pre ++ (raw ++ post)) x ≡ spelling (length pre) raw x
+pub spells-in : (pre raw post : List ℕ) (x : Text) → Inside (length pre) (length pre + length raw) x → spells (pre ++ (raw ++ post)) x ≡ spelling (length pre) raw x
 spells-in pre raw post none h = refl
 spells-in pre raw post (source a b) h = ap bytes (part-in pre raw post a b (h .0) (h .1 .0) (h .1 .1))
 spells-in pre raw post (decoded bs) h = refl
 
 -- the text put together otherwise
-regrouped : (pre t cs : List ℕ) → pre ++ bytesOf (t ++ cs) ≡ pre ++ (bytesOf t ++ bytesOf cs)
+pub regrouped : (pre t cs : List ℕ) → pre ++ bytesOf (t ++ cs) ≡ pre ++ (bytesOf t ++ bytesOf cs)
 regrouped pre t cs = rw (bytes-append t cs)
 
-further : (pre t : List ℕ) → length (pre ++ bytesOf t) ≡ length pre + byteCount t
+pub further : (pre t : List ℕ) → length (pre ++ bytesOf t) ≡ length pre + byteCount t
 further pre t = length-append pre (bytesOf t) ∙ rw (length-bytes t)
 
 -- what is read after some characters

@@ -331,6 +331,15 @@ reads-back {es} {ss} s =
     let c : chars (bytesOf b) ≡ b = chars-encoded b (w .scalars) in
     (rw e (encoded-good b (w .scalars)), rw (e, c, from-start b (w .no-line refl)) (w .reads [] (length b) unset (le-refl (length b))))
 
+-- and is written again as it is
+writes-back : {es : List Entry} {ss : List Shape} → Sounds es ss → written true (entries (written true es) (reads (written true es))) ≡ written true es
+writes-back {es} {ss} s =
+    let w : Writes true (written true es) ss = writes s true in
+    let b : List ℕ = w .body in
+    let e : written true es ≡ bytesOf b = w .bytes-are in
+    let c : chars (bytesOf b) ≡ b = chars-encoded b (w .scalars) in
+    rw e (rw (c, from-start b (w .no-line refl)) (w .settles [] (length b) (le-refl (length b))))
+
 nothing-written : (firstBad (written true []) ≡ Good) × (shapes (written true []) (reads (written true [])) ≡ [])
 unfolding written firstBad sequences chars items
 nothing-written = (refl, refl)

@@ -24,6 +24,7 @@ use Rattle.items_writing.specs.Shapes.{Shape, shape, numberOf}
 use Rattle.items_writing.proofs.Lines.{other-start}
 use Rattle.items_writing.proofs.Reading.{Reading, reading-none, reading-blank, reading-one, reading-two, nameShape}
 use Rattle.items_writing.proofs.Follows.{Follows, nothing, space}
+use Rattle.items_writing.proofs.Settling.{written-joined, written-apart, Settles, Rests, ended, goes, rests-follow, ReadFrom, word-settles, pair-settles}
 use Rattle.items_writing.proofs.Quotes.{scalars-append, quoted-bytes, between-scalars, string-back, lined-back}
 use Rattle.items_writing.proofs.Places.{Stands, bare-stands, splits-reads, plus-spelled, plus-scalars, line-follows}
 
@@ -39,13 +40,14 @@ pub data Sound (last : Bool) (e : Entry) : Shape → Type 0 where
 
 -- ---- a word
 
--- the characters of a word that was written, and how they are read
+-- the characters of a word that was written, how they are read, and that they are written again as they are
 pub record Wrote (first last : Bool) (bs : List ℕ) (ws : List Shape) : Type 0 where
   pub word : List ℕ
   pub scalars : Scalars word
   pub bytes-are : bs ≡ bytesOf word
   pub reads : {cs : List ℕ} {ss : List Shape} → Follows last cs → Reading cs ss → Reading (word ++ cs) (ws ++ ss)
   pub no-line : first ≡ true → {cs : List ℕ} → Follows last cs → begins (codes "#!") (word ++ cs) ≡ false
+  pub settles : {cs : List ℕ} → Rests last cs → Settles first (word ++ cs)
 
 name-number : (raw : List ℕ) → numberOf kind.Identifier raw ≡ NoNumber
 unfolding numberOf
@@ -55,7 +57,29 @@ string-number : (raw : List ℕ) → numberOf kind.StringLiteral raw ≡ NoNumbe
 unfolding numberOf
 string-number raw = refl
 
+-- the word of an entry that was read from one
+name-again : (first last : Bool) (b : List ℕ) {raw : List ℕ} (e : Entry) → ReadFrom kind.Identifier raw (bytes b) e → wordOf first last e ≡ identifier first last b
+unfolding wordOf
+name-again first last b e r = rw (r .kind-is, r .text-is b refl)
+
+string-again : (first last : Bool) (b : List ℕ) {raw : List ℕ} (e : Entry) → ReadFrom kind.StringLiteral raw (bytes b) e → wordOf first last e ≡ quoted Double b
+unfolding wordOf
+string-again first last b e r = rw (r .kind-is, r .text-is b refl)
+
+extent-again : (first last : Bool) {k : ℕ} {raw : List ℕ} {w : Spelling} (e : Entry) → eqb k kind.Identifier ≡ false → eqb k kind.StringLiteral ≡ false → ReadFrom k raw w e
+    → wordOf first last e ≡ raw
+unfolding wordOf
+extent-again first last e i s r = rw (r .kind-is) (rw (i, s) (r .raw-is))
+
 module _ (first last : Bool) (v : List ℕ) (h : Scalars v) where
+  name-bare : bare first last (bytesOf v) ≡ true → identifier first last (bytesOf v) ≡ bytesOf v
+  unfolding identifier
+  name-bare w = rw w
+
+  name-lined : bare first last (bytesOf v) ≡ false → identifier first last (bytesOf v) ≡ quoted Lines (bytesOf v)
+  unfolding identifier
+  name-lined w = rw w
+
   bare-wrote : bare first last (bytesOf v) ≡ true → Wrote first last (bytesOf v) (nameShape (bytesOf v) ∷ [])
   bare-wrote w =
       let x : Stands first last v = bare-stands first last v h w in
@@ -65,20 +89,22 @@ module _ (first last : Bool) (v : List ℕ) (h : Scalars v) where
         bytes-are = refl;
         reads = λ {cs} {ss} f r. rw (x .is) (subst (λ n. Reading (x .head ∷ x .tail ++ cs) (shape kind.Identifier 0 (bytes (bytesOf (x .head ∷ x .tail))) n ∷ ss)) (name-number _) (reading-one (x .reads f) r));
         no-line = λ e {cs} f. rw (x .is) (x .no-line e f);
+        settles = λ {cs} r. rw (x .is) (word-settles first (x .reads (rests-follow r)) (λ e q. name-again first last (bytesOf (x .head ∷ x .tail)) e q ∙ rw (x .is) at (name-bare w)) r);
       }
 
-  lined-wrote : Wrote first last (quoted Lines (bytesOf v)) (nameShape (bytesOf v) ∷ [])
-  lined-wrote = record {
+  lined-wrote : bare first last (bytesOf v) ≡ false → Wrote first last (quoted Lines (bytesOf v)) (nameShape (bytesOf v) ∷ [])
+  lined-wrote w = record {
     word = between Lines (escape Lines v);
     scalars = between-scalars Lines v h;
     bytes-are = quoted-bytes Lines v;
     reads = λ {cs} {ss} f r. subst (λ n. Reading (between Lines (escape Lines v) ++ cs) (shape kind.Identifier 0 (bytes (bytesOf v)) n ∷ ss)) (name-number _) (reading-one (lined-back v cs) r);
     no-line = λ e {cs} f. other-start (code "|") _ refl;
+    settles = λ {cs} r. word-settles first (lined-back v cs) (λ e q. name-again first last (bytesOf v) e q ∙ (name-lined w ∙ quoted-bytes Lines v)) r;
   }
 
   name-wrote : Wrote first last (identifier first last (bytesOf v)) (nameShape (bytesOf v) ∷ [])
   unfolding identifier
-  name-wrote = by-bool (bare first last (bytesOf v)) (λ w. rw w (bare-wrote w)) (λ w. rw w lined-wrote)
+  name-wrote = by-bool (bare first last (bytesOf v)) (λ w. rw w (bare-wrote w)) (λ w. rw w (lined-wrote w))
 
   string-wrote : Wrote first last (quoted Double (bytesOf v)) (shape kind.StringLiteral 0 (bytes (bytesOf v)) NoNumber ∷ [])
   string-wrote = record {
@@ -87,6 +113,7 @@ module _ (first last : Bool) (v : List ℕ) (h : Scalars v) where
     bytes-are = quoted-bytes Double v;
     reads = λ {cs} {ss} f r. subst (λ n. Reading (between Double (escape Double v) ++ cs) (shape kind.StringLiteral 0 (bytes (bytesOf v)) n ∷ ss)) (string-number _) (reading-one (string-back v cs) r);
     no-line = λ e {cs} f. other-start (code "\"") _ refl;
+    settles = λ {cs} r. word-settles first (string-back v cs) (λ e q. string-again first last (bytesOf v) e q ∙ quoted-bytes Double v) r;
   }
 
 pub word-wrote : (first last : Bool) {e : Entry} {s : Shape} → Sound last e s → Wrote first last (wordOf first last e) (s ∷ [])
@@ -99,6 +126,7 @@ word-wrote first last {e} (extent c t d w i s r h l f) = rw (i, s) (record {
   bytes-are = r;
   reads = λ {cs} {ss} g q. rw r (reading-one (f cs g) q);
   no-line = λ x {cs} g. line-follows c t last l g;
+  settles = λ {cs} g. word-settles first (f cs (rests-follow g)) (λ a q. extent-again first last a i s q) g;
 })
 
 -- ---- a list of entries
@@ -114,6 +142,7 @@ pub record Writes (first : Bool) (bs : List ℕ) (ss : List Shape) : Type 0 wher
   pub bytes-are : bs ≡ gap first ++ bytesOf body
   pub reads : Reading body ss
   pub no-line : first ≡ true → begins (codes "#!") body ≡ false
+  pub settles : Settles first body
 
 -- an entry that is an identifier
 record Name (e : Entry) (s : Shape) : Type 0 where
@@ -135,6 +164,7 @@ ends-with first {bs} {ws} w = record {
   bytes-are = ap (λ (l : List ℕ). gap first ++ l) (w .bytes-are);
   reads = subst (λ (l : List ℕ). Reading l (ws ++ [])) (append-nil (w .word)) (w .reads nothing reading-none);
   no-line = λ e. subst (λ (l : List ℕ). begins (codes "#!") l ≡ false) (append-nil (w .word)) (w .no-line e nothing);
+  settles = subst (Settles first) (append-nil (w .word)) (w .settles ended);
 }
 
 space-scalars : (cs : List ℕ) → Scalars cs → Scalars (code " " ∷ cs)
@@ -156,6 +186,7 @@ goes-on first {bs} {rest} {ws} {ss} w r = record {
   bytes-are = rw (w .bytes-are, r .bytes-are, bytes-append (w .word) (code " " ∷ r .body), space-bytes (r .body), append-assoc (gap first) (bytesOf (w .word)) (code " " ∷ bytesOf (r .body)));
   reads = w .reads (space (r .body)) (reading-blank (code " ") (r .body) space-blank (r .reads));
   no-line = λ e. w .no-line e (space (r .body));
+  settles = w .settles (goes (r .body) (r .settles));
 }
 
 -- a pair that is written as one word
@@ -181,6 +212,7 @@ plus-wrote first last x y v {s} {r} t u h q a b =
       bytes-are = rw (t, u) (sym (plus-spelled v));
       reads = λ {cs} {ss} g k. rw (a, b, t, u) (reading-two (splits-reads v h p last g) k);
       no-line = λ i {cs} g. other-start (code "+") _ refl;
+      settles = λ {cs} k. pair-settles first (splits-reads v h p last (rests-follow k)) p k;
     }
 
 pair-wrote : (e f : Entry) → joined e f ≡ true → (first last : Bool) {x y : Bool} {s r : Shape} → Sound x e s → Sound y f r → Wrote first last (e .text ++ f .text) (s ∷ r ∷ [])
@@ -189,15 +221,6 @@ pair-wrote e f q first last {s = s} {r = r} a b =
     let n : Name f r = sound-name b (k .1 .0) in
     let m : Name e s = sound-name a (k .0) in
     plus-wrote first last (e .text) (f .text) (n .text) (k .1 .1 .0) (n .is) (n .scalars) (k .1 .1 .1) (m .shape-is) (n .shape-is)
-
-module _ (first : Bool) (e f : Entry) (es : List Entry) where
-  pub written-joined : joined e f ≡ true → written first (e ∷ f ∷ es) ≡ gap first ++ (e .text ++ f .text) ++ written false es
-  unfolding written
-  written-joined q = rw q
-
-  pub written-apart : joined e f ≡ false → written first (e ∷ f ∷ es) ≡ gap first ++ wordOf first false e ++ written false (f ∷ es)
-  unfolding written
-  written-apart q = rw q
 
 -- two entries, and what follows the second
 two-last : (first : Bool) {e f : Entry} {s r : Shape} → Sound false e s → Sound true f r → Writes false (written false (f ∷ [])) (r ∷ [])
