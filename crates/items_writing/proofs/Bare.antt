@@ -34,9 +34,16 @@ use Rattle.agreement.specs.Reading.{bytes, item, ReadAs}
 use Rattle.agreement.proofs.Bytes.{spells-whole}
 use Rattle.agreement.proofs.Reading.{whole, read-one}
 use Rattle.items_writing.specs.Written.{gap, isPart, named, isWord, isPair}
-use Rattle.items_writing.proofs.Reading.{ReadTwo}
 use Rattle.items_writing.proofs.Moved.{Placeless}
 use Rattle.items_writing.proofs.Follows.{Follows, read-followed, read-anyhow, read-bytes, good-placeless, good-keeps}
+
+-- a plus and t, where cs follows, are read as two identifiers of one extent: `+`, and t
+pub record ReadTwo (t cs : List ℕ) : Type 0 where
+  pub two : (turns at : ℕ) (last : Place)
+      → itemsFrom true (suc turns) last at (code "+" ∷ t ++ cs)
+      ≡ item kind.Identifier 0 at (at + byteCount (code "+" ∷ t)) (source at (at + 1))
+      ∷ item kind.Identifier 0 at (at + byteCount (code "+" ∷ t)) (source (at + 1) (at + byteCount (code "+" ∷ t)))
+      ∷ itemsFrom true turns last (at + byteCount (code "+" ∷ t)) cs
 
 part-is : (a b : ℕ) (x : Text) → isPart a b x ≡ true → x ≡ source a b
 part-is a b none e = no-yes e

@@ -26,7 +26,7 @@ use Rattle.items_writing.specs.declared.Stand.the-variants.{Ends, Apart}
 use Rattle.items_writing.specs.Written.{bare}
 use Rattle.items_writing.specs.Decide.{standFrom, standsAs, isName, decide}
 use Rattle.agreement.proofs.Bytes.{bytes-ascii}
-use Rattle.items_writing.proofs.Between.{first-is}
+use Rattle.items_writing.proofs.Lines.{first-is}
 use Rattle.items_writing.proofs.Table.{line-chars}
 use Rattle.items_writing.proofs.Decided.{bare-decided}
 

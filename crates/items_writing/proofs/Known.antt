@@ -1,7 +1,7 @@
 -- What an outcome tells of the characters of its item: how a string, a here-string and an identifier in vertical lines begin, and that
 -- no other item but a word begins with `#!`. What each phase has of that stands in `Holds`; a line for each class of a character in each
 -- phase then shows that a step keeps it.
-use Prim.Native.Nat.{ℕ, _+_, _-_}
+use Prim.Native.Nat.{ℕ, _-_}
 use mathlib.Core.Path.{_≡_, refl, sym, subst, _∙_}
 use mathlib.Core.Bool.{Bool, true, false}
 use mathlib.Core.List.{List, [], _∷_, _++_, append-assoc}

@@ -19,7 +19,17 @@ use Rattle.items_writing.specs.Written.{Entry, gap, bare, splits, identi
 use Rattle.items_writing.specs.Records.{countOf, wordsAt, rest, recordsIn, isRight, entryOf, entriesOf}
 use Rattle.items_writing.specs.Pieces.{bodyOf, formFor, shown, lone, piece, AllRight, entryAt, onward, TurnSaid}
 use Rattle.items_writing.proofs.Rights.{rest-cons, rest-end, right-at}
-use Rattle.items_writing.proofs.Settling.{written-joined, written-apart}
+
+-- ---- two entries in a row
+
+module _ (first : Bool) (e f : Entry) (es : List Entry) where
+  pub written-joined : joined e f ≡ true → written first (e ∷ f ∷ es) ≡ gap first ++ (e .text ++ f .text) ++ written false es
+  unfolding written
+  written-joined q = rw q
+
+  pub written-apart : joined e f ≡ false → written first (e ∷ f ∷ es) ≡ gap first ++ wordOf first false e ++ written false (f ∷ es)
+  unfolding written
+  written-apart q = rw q
 
 -- ---- an item's word
 

@@ -22,10 +22,12 @@ use Rattle.items.proofs.Splits.{length-bytes}
 use Rattle.coverage.proofs.Bytes.{bytes-append}
 use Rattle.items_writing.specs.Written.{gap, isWord, isPair, bare, splits}
 use Rattle.items_writing.proofs.Lines.{other-start, other-next, lone-start}
-use Rattle.items_writing.proofs.Bare.{later, word-starts, word-reads, pair-reads}
-use Rattle.items_writing.proofs.Reading.{ReadTwo}
+use Rattle.items_writing.proofs.Bare.{ReadTwo, later, word-starts, word-reads, pair-reads}
 use Rattle.items_writing.proofs.Follows.{Follows, nothing, space}
-use Rattle.items_writing.proofs.Quotes.{scalars-append}
+
+pub scalars-append : (t u : List ℕ) → Scalars t → Scalars u → Scalars (t ++ u)
+scalars-append [] u h g = g
+scalars-append (c ∷ t) u h g = (h .0, scalars-append t u (h .1) g)
 
 -- ---- a first line that starts with `#!`
 

@@ -1,11 +1,11 @@
 -- Vertical lines after a plus, `+a|b c|`: of what stands before the first line the machine looks at nothing but, at their end, the first
 -- byte. So they close after a plus, as a word, exactly where they close with nothing before them, as an identifier in vertical lines.
 use Prim.Native.Nat.{ℕ, suc, _+_, _<_}
-use mathlib.Core.Path.{_≡_, refl, sym, ap, _∙_}
-use mathlib.Core.Bool.{Bool, true, false}
+use mathlib.Core.Path.{_≡_, refl, ap, _∙_}
+use mathlib.Core.Bool.{false}
 use mathlib.Core.List.{List, [], _∷_, _++_, append-assoc}
 use lib.ListN.{length, drop, length-append}
-use lib.Dec.{eqb, leb, ltb}
+use lib.Dec.{eqb, leb}
 use native.Mathlib.Omega.{arith}
 use borrow.Author.Tests.{eqb-true, lt-ltb, lt-leb}
 use Rattle.laws.specs.Quoted.{code, codes}
@@ -15,10 +15,8 @@ use Rattle.digits.specs.Hex.{hexValue}
 use Rattle.items.specs.declared.Quotes.the-variants.{Lines}
 use Rattle.items.specs.declared.Outcome.the-variants as outcome
 use Rattle.items.specs.declared.Phase.the-variants as ph
-use Rattle.items.specs.declared.CharValue.{CharValue}
-use Rattle.items.specs.declared.CharValue.the-variants.{Scalar, Wrong, WrongAt}
 use Rattle.items.specs.Classes.{inQuotes, ends, afterBackslash, inHex, stopsHex, inTrim}
-use Rattle.items.specs.Readers.{SoFar, eat, lastIs, linedOf, scalarOf}
+use Rattle.items.specs.Readers.{SoFar, eat, linedOf, scalarOf}
 use Rattle.items.proofs.Cases.{by-quotes, by-backslash, by-hex, by-trim, by-value}
 use Rattle.agreement.proofs.Lined.{last-line}
 use Rattle.items_writing.specs.declared.Stand.{Stand}

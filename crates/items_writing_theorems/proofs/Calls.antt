@@ -20,17 +20,17 @@ use Rattle.items.proofs.Meanings.{Inside}
 use Rattle.items.proofs.Order.{Placed, items-placed}
 use Rattle.items.proofs.Skipped.{kept-every}
 use Rattle.items.proofs.Splits.{length-bytes}
 use Rattle.items_writing.specs.Written.{part, textBytes, entry, entries, written}
 use Rattle.items_writing.specs.Shapes.{clean}
 use Rattle.items_writing.specs.declared.Words.{Words}
 use Rattle.items_writing.specs.declared.Judged.the-variants.{Fine}
 use Rattle.items_writing.specs.Records.{countOf, wordsAt, recordsFrom, recordsIn, isWhole, isKind, textRight, isRight, isLeft, judge, textOf, entryOf, entriesOf}
 use Rattle.items_writing.specs.Call.{deliver, writeWithin, writeOf}
 use Rattle.refusal.specs.Refusals as refusal
-use Rattle.items_writing.proofs.Parts.{part-all}
-use Rattle.items_writing.proofs.Characters.{Texty}
-use Rattle.items_writing.proofs.Extents.{Right, TextRight}
-use Rattle.items_writing.proofs.Round.{AllSounds, text-sounds, clean-head}
+use Rattle.items_writing_theorems.proofs.Parts.{part-all}
+use Rattle.items_writing_theorems.proofs.Characters.{Texty}
+use Rattle.items_writing_theorems.proofs.Extents.{Right, TextRight}
+use Rattle.items_writing_theorems.proofs.TextSounds.{AllSounds, text-sounds, clean-head}
 
 -- ---- a record's words
 

@@ -1,5 +1,5 @@
 -- Strings in quotes and identifiers in vertical lines, with the two escapes: they read back as their text.
-use Prim.Native.Nat.{ℕ, _+_, _≤_}
+use Prim.Native.Nat.{ℕ, _≤_}
 use mathlib.Core.Path.{_≡_, refl, sym, ap, _∙_}
 use mathlib.Core.Bool.{true, false}
 use mathlib.Core.List.{List, [], _∷_, _++_}
@@ -22,11 +22,8 @@ use Rattle.agreement.proofs.Between.{between, between-bytes}
 use Rattle.agreement.proofs.Quoted.{Quoted, empty, character, escape as escape-one}
 use Rattle.agreement.proofs.String.{quoted-string}
 use Rattle.agreement.proofs.Lined.{quoted-lined, NamedSo}
+use Rattle.items_writing.proofs.Places.{scalars-append}
 use Rattle.items_writing.specs.Written.{escape, quoted}
-
-pub scalars-append : (t u : List ℕ) → Scalars t → Scalars u → Scalars (t ++ u)
-scalars-append [] u h g = g
-scalars-append (c ∷ t) u h g = (h .0, scalars-append t u (h .1) g)
 
 module _ (k : Quotes) where
   -- a character that is no backslash and does not close

@@ -27,19 +27,20 @@ use Rattle.items.proofs.Fine.{Between, Fine}
 use Rattle.agreement.specs.Reading.{bytes}
 use Rattle.items.proofs.Splits.{length-bytes}
 use Rattle.agreement.proofs.Bytes.{bytes-ascii}
 use Rattle.items_writing.specs.Written.{part, textBytes, entry}
 use Rattle.items_writing.specs.Shapes.{spells, numberOf, shapeOf}
 use Rattle.items_writing.specs.Records.{hasText}
-use Rattle.items_writing.proofs.Parts.{part-in, part-all}
-use Rattle.items_writing.proofs.Reading.{first-part, second-part}
+use Rattle.items_writing_theorems.proofs.Parts.{part-in, part-all}
+use Rattle.items_writing_theorems.proofs.Reading.{first-part, second-part}
+use Rattle.items_writing.proofs.Lines.{first-is}
 use Rattle.items_writing.proofs.Known.{Known}
 use Rattle.items_writing.proofs.Bare.{kindIn}
-use Rattle.items_writing.proofs.Characters.{Texty, quoted-texty}
-use Rattle.items_writing.proofs.Between.{first-is, between-texty}
-use Rattle.items_writing.proofs.Here.{here-body, not-shorter}
-use Rattle.items_writing.proofs.Sound.{Sound, name, string}
-use Rattle.items_writing.proofs.Reread.{Other}
+use Rattle.items_writing_theorems.proofs.Characters.{Texty, quoted-texty}
+use Rattle.items_writing_theorems.proofs.Between.{between-texty}
+use Rattle.items_writing_theorems.proofs.Here.{here-body, not-shorter}
+use Rattle.items_writing_theorems.proofs.Sound.{Sound, name, string}
+use Rattle.items_writing_theorems.proofs.Reread.{Other}
 use Rattle.items_writing.proofs.Table.{word-no-string}
 
 -- ---- an identifier, and a string
 

@@ -20,9 +20,10 @@ use Rattle.items.proofs.Order.{from-laws}
 use Rattle.agreement.specs.Reading.{Spelling, bytes, spelling, item, ReadAs}
 use Rattle.items.proofs.Splits.{length-bytes}
 use Rattle.coverage.proofs.Bytes.{bytes-append}
 use Rattle.items_writing.specs.Written.{part}
 use Rattle.items_writing.specs.Shapes.{Shape, shape, spells, numberOf, shapeOf, shapes}
-use Rattle.items_writing.proofs.Parts.{part-in, part-all}
+use Rattle.items_writing.proofs.Bare.{ReadTwo}
+use Rattle.items_writing_theorems.proofs.Parts.{part-in, part-all}
 
 -- the characters cs, wherever they stand, are read as items of these shapes
 abbrev pub Reading : List ℕ → List Shape → Type 0
@@ -95,14 +96,6 @@ reading-one {c} {k} {d} {t} {cs} {w} {ss} r q pre (suc turns) last h =
     (cc (shape-in pre (c ∷ t) (bytesOf cs) k d (r .text (length pre)) (read-inside r (length pre)) (r .spells (length pre)), onward pre (c ∷ t) cs q turns last n))
 
 -- ---- a pair
-
--- a plus and t, where cs follows, are read as two identifiers of one extent: `+`, and t
-pub record ReadTwo (t cs : List ℕ) : Type 0 where
-  pub two : (turns at : ℕ) (last : Place)
-      → itemsFrom true (suc turns) last at (code "+" ∷ t ++ cs)
-      ≡ item kind.Identifier 0 at (at + byteCount (code "+" ∷ t)) (source at (at + 1))
-      ∷ item kind.Identifier 0 at (at + byteCount (code "+" ∷ t)) (source (at + 1) (at + byteCount (code "+" ∷ t)))
-      ∷ itemsFrom true turns last (at + byteCount (code "+" ∷ t)) cs
 
 module _ (pre t post : List ℕ) where
   abbrev whole-text : List ℕ

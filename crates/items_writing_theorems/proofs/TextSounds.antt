@@ -1,4 +1,4 @@
--- The round trip: what is written for the items of a text, none of them an error or a comment, reads back as they do.
+-- The items of a text, none of them an error or a comment, may be written back (`Sounds`): an extent at a time.
 use Prim.Native.Nat.{ℕ, zero, suc, _+_, _<_}
 use mathlib.Core.Path.{_≡_, refl, sym, ap, subst, _∙_}
 use mathlib.Core.Bool.{Bool, true, false, not, _&&_}
@@ -9,14 +9,11 @@ use lib.Dec.{eqb, ltb}
 use native.Mathlib.Omega.{arith}
 use native.Mathlib.Nat.{le-refl}
 use borrow.Author.Tests.{ltb-true, eqb-true}
-use Rattle.laws.specs.Quoted.{code, codes}
-use Rattle.laws.specs.Texts.{begins}
+use Rattle.laws.specs.Quoted.{code}
 use Rattle.laws.proofs.Choice.{by-bool, and-true, no-yes, and-no}
 use Rattle.chars.specs.Blank.{isBlank}
 use Rattle.chars.specs.Encode.{utf8, width, bytesOf}
-use Rattle.chars.specs.Utf8.{chars, firstBad, sequences}
-use Rattle.chars.specs.declared.Utf8.the-variants.{Good}
-use Rattle.chars.proofs.Good.{Scalars, chars-encoded, encoded-good, good-bytes, good-scalars}
+use Rattle.chars.proofs.Good.{Scalars}
 use Rattle.chars.proofs.Width.{width-utf8}
 use Rattle.numbers.specs.declared.Parsed.{Parsed}
 use Rattle.numbers.specs.declared.Parsed.the-variants as parsed
@@ -27,20 +24,20 @@ use Rattle.items.specs.declared.CharValue.{CharValue}
 use Rattle.items.specs.declared.CharValue.the-variants.{Scalar, Wrong, WrongAt}
 use Rattle.items.specs.Readers.{Read, SoFar, firstIs, readItem}
 use Rattle.items.specs.Meaning.{source, Meaning, means, meaningOf, wordKind, wordMeans, runMeans, characterOf, charInside, characterMeans}
-use Rattle.items.specs.Items.{Item, Place, unset, rangeAfter, itemOf, itemsOf, extentItems, itemsFrom, itemsAt, pastLine, afterPound, items, kept, byteCount, depthAfter}
+use Rattle.items.specs.Items.{Item, Place, unset, rangeAfter, itemOf, itemsOf, extentItems, itemsFrom, itemsAt, pastLine, afterPound, items, kept, byteCount}
 use Rattle.items.specs.Kinds as kind
 use Rattle.items.proofs.Every.{Every, every-any}
 use Rattle.items.proofs.Outcomes.{read-fine}
 use Rattle.items.proofs.Splits.{length-bytes}
 use Rattle.coverage.proofs.Bytes.{bytes-append}
-use Rattle.items_writing.specs.Written.{Entry, entries, written, reads}
-use Rattle.items_writing.specs.Shapes.{Shape, shapes, depths, clean}
+use Rattle.items_writing.specs.Written.{entries}
+use Rattle.items_writing.specs.Shapes.{shapes, clean}
 use Rattle.items_writing.proofs.Trace.{Traced, traced}
 use Rattle.items_writing.proofs.Bare.{kindIn}
-use Rattle.items_writing.proofs.Sound.{Sounds, more, Writes, writes, one as one-sound}
-use Rattle.items_writing.proofs.Extents.{AllSound, Right, extent-sounds}
-use Rattle.items_writing.proofs.Others.{other-sound}
-use Rattle.items_writing.proofs.Reread.{reread}
+use Rattle.items_writing_theorems.proofs.Sound.{Sounds, more, one as one-sound}
+use Rattle.items_writing_theorems.proofs.Extents.{AllSound, Right, extent-sounds}
+use Rattle.items_writing_theorems.proofs.Others.{other-sound}
+use Rattle.items_writing_theorems.proofs.Reread.{reread}
 
 -- ---- an extent has one item, or the two of a word that begins with a plus
 
@@ -306,88 +303,3 @@ module _ (skip : Bool) where
       subst (λ (y : ℕ). Scalars (y ∷ x ∷ cs) → clean (kept skip (items true (y ∷ x ∷ cs))) ≡ true → AllSounds (bytesOf (y ∷ x ∷ cs)) (kept skip (items true (y ∷ x ∷ cs))))
       (sym q) (pound-sounds x cs) h w)
       (λ e. rw (e, items) (at-sounds (c ∷ x ∷ cs) h (rw (e, items) at w)))
-
--- ---- the theorem
-
--- a text that begins with no `#!` is read from its start on
-pub from-start : (cs : List ℕ) → begins (codes "#!") cs ≡ false → items true cs ≡ itemsAt true 0 cs
-unfolding items afterPound begins itemsFrom
-from-start [] h = refl
-from-start (c ∷ []) h = by-bool (eqb c (code "#"))
-    (λ e. rw (e, items) (rw (eqb-true c (code "#") e)))
-    (λ e. rw (e, items))
-from-start (c ∷ x ∷ cs) h = by-bool (eqb c (code "#"))
-    (λ e. by-bool (eqb x (code "!"))
-    (λ f. no-yes (sym (rw (eqb-true c (code "#") e, eqb-true x (code "!") f) at h)))
-    (λ f. rw (e, items) (rw (f, afterPound) (rw (eqb-true c (code "#") e)))))
-    (λ e. rw (e, items))
-
--- what was written reads back
-reads-back : {es : List Entry} {ss : List Shape} → Sounds es ss → (firstBad (written true es) ≡ Good) × (shapes (written true es) (reads (written true es)) ≡ ss)
-reads-back {es} {ss} s =
-    let w : Writes true (written true es) ss = writes s true in
-    let b : List ℕ = w .body in
-    let e : written true es ≡ bytesOf b = w .bytes-are in
-    let c : chars (bytesOf b) ≡ b = chars-encoded b (w .scalars) in
-    (rw e (encoded-good b (w .scalars)), rw (e, c, from-start b (w .no-line refl)) (w .reads [] (length b) unset (le-refl (length b))))
-
--- and is written again as it is
-writes-back : {es : List Entry} {ss : List Shape} → Sounds es ss → written true (entries (written true es) (reads (written true es))) ≡ written true es
-writes-back {es} {ss} s =
-    let w : Writes true (written true es) ss = writes s true in
-    let b : List ℕ = w .body in
-    let e : written true es ≡ bytesOf b = w .bytes-are in
-    let c : chars (bytesOf b) ≡ b = chars-encoded b (w .scalars) in
-    rw e (rw (c, from-start b (w .no-line refl)) (w .settles [] (length b) (le-refl (length b))))
-
-nothing-written : (firstBad (written true []) ≡ Good) × (shapes (written true []) (reads (written true [])) ≡ [])
-unfolding written firstBad sequences chars items
-nothing-written = (refl, refl)
-
-listed : (s : List ℕ) (is : List Item) → AllSounds s is → (firstBad (written true (entries s is)) ≡ Good) × (shapes (written true (entries s is)) (reads (written true (entries s is))) ≡ shapes s is)
-listed s [] h = nothing-written
-listed s (i ∷ is) h = reads-back (h .0)
-
--- For the items of any text, comments left out or not, none of them an error or a comment: what is written for them is UTF-8, and read in
--- report mode it has items of the same kinds, details, texts and number parts
-pub round-trip : (cs : List ℕ) (skip : Bool) → Scalars cs → clean (kept skip (items true cs)) ≡ true
-    → (firstBad (written true (entries (bytesOf cs) (kept skip (items true cs)))) ≡ Good)
-    × (shapes (written true (entries (bytesOf cs) (kept skip (items true cs)))) (reads (written true (entries (bytesOf cs) (kept skip (items true cs)))))
-    ≡ shapes (bytesOf cs) (kept skip (items true cs)))
-round-trip cs skip h w = listed (bytesOf cs) (kept skip (items true cs)) (text-sounds skip cs h w)
-
--- the same of a source that is UTF-8
-pub round-trip-bytes : (s : List ℕ) (skip : Bool) → firstBad s ≡ Good → clean (kept skip (reads s)) ≡ true
-    → (firstBad (written true (entries s (kept skip (reads s)))) ≡ Good)
-    × (shapes (written true (entries s (kept skip (reads s)))) (reads (written true (entries s (kept skip (reads s))))) ≡ shapes s (kept skip (reads s)))
-round-trip-bytes s skip g w =
-    let e : bytesOf (chars s) ≡ s = good-bytes s g in
-    subst (λ (x : List ℕ). (firstBad (written true (entries x (kept skip (reads s)))) ≡ Good)
-    × (shapes (written true (entries x (kept skip (reads s)))) (reads (written true (entries x (kept skip (reads s))))) ≡ shapes x (kept skip (reads s)))) e
-    (round-trip (chars s) skip (good-scalars s g) w)
-
--- ---- depths: what has the same shapes has the same depths
-
-abbrev firstKind : List Shape → ℕ
-firstKind [] = 0
-firstKind (s ∷ ss) = s .kind
-
-abbrev others : List Shape → List Shape
-others [] = []
-others (s ∷ ss) = ss
-
-same-depths : (s t : List ℕ) (d : ℕ) (is js : List Item) → shapes s is ≡ shapes t js → depths d is ≡ depths d js
-unfolding depths
-same-depths s t d [] [] h = refl
-same-depths s t d [] (j ∷ js) h = let z : _≡_ {A = ℕ} 0 1 = cc in absurd (omega arith)
-same-depths s t d (i ∷ is) [] h = let z : _≡_ {A = ℕ} 0 1 = cc in absurd (omega arith)
-same-depths s t d (i ∷ is) (j ∷ js) h =
-    let e : i .kind ≡ j .kind = ap firstKind h in
-    rw e (ap (λ (l : List ℕ). d ∷ l) (same-depths s t (depthAfter (j .kind) d) is js (ap others h)))
-
--- and so all ten words of each record but its places tell the same
-pub round-trip-depths : (s : List ℕ) (skip : Bool) → firstBad s ≡ Good → clean (kept skip (reads s)) ≡ true
-    → depths 0 (reads (written true (entries s (kept skip (reads s))))) ≡ depths 0 (kept skip (reads s))
-round-trip-depths s skip g w =
-    same-depths (written true (entries s (kept skip (reads s)))) s 0 (reads (written true (entries s (kept skip (reads s))))) (kept skip (reads s))
-    (round-trip-bytes s skip g w .1)

@@ -1,5 +1,5 @@
 -- What is written for entries that may be written back: a text that reads as their shapes. By kind of entry first, then for a list of them.
-use Prim.Native.Nat.{ℕ, _+_}
+use Prim.Native.Nat.{ℕ}
 use mathlib.Core.Path.{_≡_, refl, sym, ap, subst, _∙_}
 use mathlib.Core.Bool.{Bool, true, false}
 use mathlib.Core.List.{List, [], _∷_, _++_, append-assoc, append-nil}
@@ -19,14 +19,15 @@ use Rattle.items.specs.Kinds as kind
 use Rattle.agreement.specs.Reading.{Spelling, bytes, ReadAs}
 use Rattle.coverage.proofs.Bytes.{bytes-append}
 use Rattle.agreement.proofs.Between.{between}
 use Rattle.items_writing.specs.Written.{Entry, escape, quoted, gap, bare, splits, identifier, wordOf, twins, joined, written}
 use Rattle.items_writing.specs.Shapes.{Shape, shape, numberOf}
 use Rattle.items_writing.proofs.Lines.{other-start}
-use Rattle.items_writing.proofs.Reading.{Reading, reading-none, reading-blank, reading-one, reading-two, nameShape}
+use Rattle.items_writing_theorems.proofs.Reading.{Reading, reading-none, reading-blank, reading-one, reading-two, nameShape}
 use Rattle.items_writing.proofs.Follows.{Follows, nothing, space}
-use Rattle.items_writing.proofs.Settling.{written-joined, written-apart, Settles, Rests, ended, goes, rests-follow, ReadFrom, word-settles, pair-settles}
-use Rattle.items_writing.proofs.Quotes.{scalars-append, quoted-bytes, between-scalars, string-back, lined-back}
-use Rattle.items_writing.proofs.Places.{Stands, bare-stands, splits-reads, plus-spelled, plus-scalars, line-follows}
+use Rattle.items_writing.proofs.Piecing.{written-joined, written-apart}
+use Rattle.items_writing_theorems.proofs.Settling.{Settles, Rests, ended, goes, rests-follow, ReadFrom, word-settles, pair-settles}
+use Rattle.items_writing_theorems.proofs.Quotes.{quoted-bytes, between-scalars, string-back, lined-back}
+use Rattle.items_writing.proofs.Places.{scalars-append, Stands, bare-stands, splits-reads, plus-spelled, plus-scalars, line-follows}
 
 -- An entry that may be written back, and the shape of its item: an identifier or a string whose text is characters; or an extent of
 -- characters that is read as such an item where it will stand, and is no first line. `last` says that nothing follows it

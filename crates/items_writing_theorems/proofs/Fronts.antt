@@ -11,7 +11,7 @@ use Rattle.laws.proofs.Choice.{if-is, if-all}
 use Rattle.chars.specs.Encode.{isScalar, utf8, bytesOf}
 use Rattle.chars.proofs.Good.{Scalars}
 use Rattle.agreement.specs.Repeated.{Many, done, more}
-use Rattle.items_writing.proofs.Characters.{Texty, texty-none, texty-more}
+use Rattle.items_writing_theorems.proofs.Characters.{Texty, texty-none, texty-more}
 
 -- a character's first byte, and each further one
 abbrev Lead : ℕ → Type 0

@@ -18,8 +18,8 @@ use Rattle.items.specs.Readers.{unreturned, lineOf, afterLine, hereInside, ends
 use Rattle.agreement.specs.Repeated.{Many, done, more}
 use Rattle.agreement.proofs.Bytes.{High, Beyond, all-high}
 use Rattle.agreement.proofs.Classes.{beyond-differs}
-use Rattle.items_writing.proofs.Characters.{Texty, texty-none, texty-more, texty-ascii, split, nothing-bytes}
-use Rattle.items_writing.proofs.Fronts.{whole-front}
+use Rattle.items_writing_theorems.proofs.Characters.{Texty, texty-none, texty-more, texty-ascii, split, nothing-bytes}
+use Rattle.items_writing_theorems.proofs.Fronts.{whole-front}
 
 -- ---- a line, byte by byte
 

@@ -2,12 +2,12 @@
 use Prim.Native.Nat.{ℕ, _+_}
 use mathlib.Core.Path.{_≡_, refl, sym, ap, subst, _∙_}
 use mathlib.Core.Bool.{Bool, true, false}
-use mathlib.Core.List.{List, [], _∷_, _++_}
+use mathlib.Core.List.{List, _∷_, _++_}
 use lib.ListN.{length}
 use lib.Dec.{eqb, leb}
 use native.Mathlib.Omega.{arith}
-use Rattle.laws.proofs.Choice.{no-yes, and-no}
-use Rattle.laws.specs.Quoted.{code, codes}
+use Rattle.laws.proofs.Choice.{no-yes}
+use Rattle.laws.specs.Quoted.{codes}
 use Rattle.laws.specs.Texts.{begins}
 use Rattle.chars.specs.Encode.{bytesOf}
 use Rattle.chars.proofs.Good.{Scalars}
@@ -23,26 +23,21 @@ use Rattle.items.specs.Items.{Item, Place, itemOf, itemsOf, byteCount}
 use Rattle.items.specs.Kinds as kind
 use Rattle.agreement.specs.Reading.{Spelling, bytes, ReadAs}
 use Rattle.items.proofs.Splits.{length-bytes}
 use Rattle.items_writing.specs.Written.{part, entry, gap}
 use Rattle.items_writing.specs.Shapes.{shape, spells, numberOf}
-use Rattle.items_writing.proofs.Parts.{part-all}
+use Rattle.items_writing_theorems.proofs.Parts.{part-all}
+use Rattle.items_writing.proofs.Lines.{line-gap}
 use Rattle.items_writing.proofs.Known.{Known, calm-on, calm-line}
 use Rattle.items_writing.proofs.Follows.{Follows}
 use Rattle.items_writing.proofs.Bare.{kindIn}
 use Rattle.items_writing.specs.Records.{hasText}
 use Rattle.items_writing.proofs.Table.{word-no-line, word-no-string, word-no-keyword, word-kind}
-use Rattle.items_writing.proofs.Stops.{word-is}
-use Rattle.items_writing.proofs.Sound.{Sound, extent}
-use Rattle.items_writing.proofs.Extents.{AllSound, Right, TextRight}
-use Rattle.items_writing.proofs.Reread.{Other, detailIn, textFor, spellingFor, other-plainly, other-anywhere}
+use Rattle.items_writing_theorems.proofs.Stops.{word-is}
+use Rattle.items_writing_theorems.proofs.Sound.{Sound, extent}
+use Rattle.items_writing_theorems.proofs.Extents.{AllSound, Right, TextRight}
+use Rattle.items_writing_theorems.proofs.Reread.{Other, detailIn, textFor, spellingFor, other-plainly, other-anywhere}
 
 -- ---- it begins no first line
-
-pub line-gap : (c : ℕ) (t : List ℕ) (last : Bool) → begins (codes "#!") (c ∷ t) ≡ false → begins (codes "#!") (c ∷ t ++ gap last) ≡ false
-unfolding begins
-line-gap c [] true h = h
-line-gap c [] false h = and-no (eqb (code "#") c)
-line-gap c (x ∷ t) last h = h
 
 other-line : (o : Outcome) (c : ℕ) (t : List ℕ) (last : Bool) → Known (c ∷ t) o → Other o (bytesOf (c ∷ t)) → begins (codes "#!") (c ∷ t ++ gap last) ≡ false
 other-line (Token k d) c t last known h = calm-line (calm-on (gap last) (known .1))

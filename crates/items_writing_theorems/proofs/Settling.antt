@@ -12,32 +12,24 @@ use Rattle.laws.specs.Quoted.{code}
 use Rattle.laws.specs.Texts.{same}
 use Rattle.laws.proofs.Choice.{and-no}
 use Rattle.chars.specs.Blank.{isBlank}
-use Rattle.chars.specs.Encode.{utf8, width, bytesOf, spelled}
+use Rattle.chars.specs.Encode.{utf8, width, bytesOf}
 use Rattle.items.specs.Kinds as kind
 use Rattle.items.specs.Meaning.{Text, none, source, decoded}
 use Rattle.items.specs.Items.{Item, unset, itemsFrom, byteCount}
 use Rattle.items.proofs.Every.{Every}
 use Rattle.items.proofs.Splits.{length-bytes}
-use Rattle.agreement.specs.Reading.{Spelling, nothing, bytes, item, ReadAs}
+use Rattle.agreement.specs.Reading.{Spelling, bytes, item, ReadAs}
 use Rattle.coverage.proofs.Bytes.{bytes-append}
 use Rattle.agreement.proofs.Bytes.{bytes-some, bytes-ascii}
-use Rattle.items_writing.specs.Written.{Entry, part, textBytes, entry, entries, gap, splits, wordOf, twins, joined, written}
+use Rattle.items_writing.specs.Written.{Entry, textBytes, entry, entries, gap, splits, wordOf, twins, joined, written}
 use Rattle.items_writing.specs.Shapes.{spells}
-use Rattle.items_writing.proofs.Parts.{part-all}
-use Rattle.items_writing.proofs.Bare.{later}
+use Rattle.items_writing_theorems.proofs.Parts.{part-all}
+use Rattle.items_writing.proofs.Bare.{ReadTwo, later}
+use Rattle.items_writing.proofs.Piecing.{written-joined, written-apart}
 use Rattle.items_writing.proofs.Follows.{Follows, nothing as nothing-follows, space}
-use Rattle.items_writing.proofs.Reading.{ReadTwo, read-inside, spells-in, regrouped, further, first-part, second-part}
+use Rattle.items_writing_theorems.proofs.Reading.{read-inside, spells-in, regrouped, further, first-part, second-part}
 
 -- ---- two entries in a row
-
-module _ (first : Bool) (e f : Entry) (es : List Entry) where
-  pub written-joined : joined e f ≡ true → written first (e ∷ f ∷ es) ≡ gap first ++ (e .text ++ f .text) ++ written false es
-  unfolding written
-  written-joined q = rw q
-
-  pub written-apart : joined e f ≡ false → written first (e ∷ f ∷ es) ≡ gap first ++ wordOf first false e ++ written false (f ∷ es)
-  unfolding written
-  written-apart q = rw q
 
 -- those that start at different places are no pair
 not-joined : (e f : Entry) → e .start < f .start → joined e f ≡ false

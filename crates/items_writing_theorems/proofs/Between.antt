@@ -1,27 +1,19 @@
 -- The text between an item's quotes is whole characters, with its escapes decoded and as it stands.
-use Prim.Native.Nat.{ℕ, suc, _+_, _-_, _≤_}
+use Prim.Native.Nat.{ℕ, suc, _-_, _≤_}
 use mathlib.Core.Path.{_≡_, sym, subst, _∙_}
 use mathlib.Core.Bool.{true}
 use mathlib.Core.List.{List, [], _∷_, _++_}
 use lib.ListN.{length, getD, take, drop, take-append-drop, drop-of-length-le}
 use lib.Seq.{drop-cons}
-use lib.Dec.{eqb, ltb}
+use lib.Dec.{ltb}
 use native.Mathlib.Omega.{arith}
 use borrow.Author.Tests.{eqb-true}
-use Rattle.laws.proofs.Choice.{by-bool, no-yes}
 use Rattle.chars.specs.Encode.{bytesOf}
 use Rattle.chars.proofs.Good.{Scalars}
-use Rattle.items.specs.Readers.{firstIs}
 use Rattle.items.proofs.Fine.{Between}
-use Rattle.agreement.proofs.Bytes.{bytes-ascii, first-differs}
-use Rattle.items_writing.proofs.Characters.{Texty, nothing-bytes}
-use Rattle.items_writing.proofs.Fronts.{whole-front}
-
--- a text whose first byte is an ASCII character starts with it
-pub first-is : (b c : ℕ) (t : List ℕ) → ltb b 0x80 ≡ true → firstIs b (bytesOf (c ∷ t)) ≡ true → c ≡ b
-first-is b c t l h = by-bool (eqb c b)
-    (λ e. eqb-true c b e)
-    (λ e. no-yes (sym (first-differs b c t l e) ∙ h))
+use Rattle.agreement.proofs.Bytes.{bytes-ascii}
+use Rattle.items_writing_theorems.proofs.Characters.{Texty, nothing-bytes}
+use Rattle.items_writing_theorems.proofs.Fronts.{whole-front}
 
 -- the last byte of some
 last-split : (l : List ℕ) (b : ℕ) → 1 ≤ length l → getD l (length l - 1) 0 ≡ b → l ≡ take (length l - 1) l ++ (b ∷ [])

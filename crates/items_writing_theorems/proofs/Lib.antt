@@ -1,0 +1,16 @@
+pub mod Round
+pub mod Calls
+pub mod TextSounds
+pub mod Sound
+pub mod Settling
+pub mod Reading
+pub mod Quotes
+pub mod Parts
+pub mod Characters
+pub mod Fronts
+pub mod Here
+pub mod Between
+pub mod Stops
+pub mod Reread
+pub mod Extents
+pub mod Others
