@@ -1,18 +1,21 @@
 -- One turn of the loop over a word.
-use Prim.Native.Nat.{ℕ, _+_, _-_, _≤_, _<_}
+use Prim.Native.Nat.{ℕ, zero, suc, _+_, _-_, _≤_, _<_}
 use mathlib.Core.Path.{_≡_, refl, sym, ap, _∙_}
 use mathlib.Core.Bool.{Bool, true, false, not, _&&_}
 use mathlib.Core.List.{List, [], _++_}
-use lib.ListN.{length, getD, take, drop}
+use lib.ListN.{length, getD, take, drop, length-drop}
 use lib.Dec.{eqb, ltb}
-use borrow.Author.Tests.{eq-eqb, ne-eqb, le-ltb, lt-ltb}
+use borrow.Author.Tests.{eq-eqb, ne-eqb, le-ltb, lt-ltb, ltb-true}
 use lib.Seq.{take-add, take-all, length-take-le}
 use native.Mathlib.Omega.{arith}
 use Rattle.laws.specs.Quoted.{code}
+use Rattle.laws.specs.Texts.{span}
+use Rattle.laws.proofs.Choice.{by-bool}
 use Rattle.laws.proofs.Places.{past}
+use Rattle.laws.proofs.Runs.{span-le, span-hit, span-stop}
 use Rattle.chars.specs.Encode.{utf8}
 use Rattle.chars.specs.Utf8.{sequences, chars}
-use Rattle.chars.proofs.Chars.{CharAt}
+use Rattle.chars.proofs.Chars.{CharAt, char-at}
 use Rattle.chars.proofs.Width.{wide}
 use Rattle.items.specs.declared.Outcome.{Outcome}
 use Rattle.items.specs.declared.Phase.{Phase}
@@ -27,6 +30,8 @@ use Rattle.items.specs.Meaning.{wordKind}
 use Rattle.items.specs.Kinds as kind
 use Rattle.items.specs.Machine.{stepOf, finishOf, depthOf}
 use Rattle.items.proofs.Deep.{deep-eat}
+use Rattle.steps.specs.Runs.{keeps}
+use Rattle.steps.proofs.Kept.{kept-ascii, kept-stays, ascii-found}
 use Rattle.items_writing.specs.declared.Stand.{Stand}
 use Rattle.items_writing.specs.declared.Stand.the-variants.{Ends, Apart}
 use Rattle.items_writing.specs.Decide.{closeOf, standFrom, nameWord, isName}
@@ -64,6 +69,22 @@ module _ (t : List ℕ) (last : Bool) where
 
     pub go-deep : (q : Phase) → depthOf p ≤ at → stepOf true p (soFar (take at t) at) c ≡ Eat q → depthOf q ≤ next
     go-deep q h e = omega (arith, deep-eat true p (soFar (take at t) at) c q e, k .on, wide c)
+
+  -- a run of characters that leave the word in its phase
+  runs : (p : Phase) (n at : ℕ) → n ≤ span (keeps p) (drop at t) → onward p at ≡ onward p (at + n)
+  runs p zero at h = let e : at + 0 ≡ at = omega arith in rw e
+  runs p (suc n) at h =
+      let inside : at < length t = omega (arith, span-le (keeps p) (drop at t), length-drop at t) in
+      by-bool (keeps p (getD t at 0))
+      (λ e. let on = span-hit (keeps p) t at inside e in
+      let j : at + suc n ≡ at + 1 + n = omega arith in
+      let k = char-at t at (getD t at 0) (at + 1) (ascii-found t at inside (ltb-true (getD t at 0) 0x80 (kept-ascii p (getD t at 0) e))) (omega arith) in
+      rw j (go-eat p at (getD t at 0) (at + 1) k p (kept-stays true p _ (getD t at 0) e) ∙ runs p n (at + 1) (omega (arith, on))))
+      (λ e. absurd (omega (arith, span-stop (keeps p) t at inside e)))
+
+  pub go-run : (p : Phase) (at r : ℕ) → at ≤ length t → r ≡ at + span (keeps p) (drop at t) → (at ≤ r) × (r ≤ length t) × (onward p at ≡ onward p r)
+  go-run p at r h e =
+      (omega arith, omega (arith, span-le (keeps p) (drop at t), length-drop at t), rw e (runs p (span (keeps p) (drop at t)) at (omega arith)))
 
   pub go-last : (p : Phase) (at : ℕ) → chars (drop at t) ≡ [] → onward p at ≡ closeOf last p (soFar (take at t) at)
   unfolding standFrom

@@ -52,7 +52,7 @@ fn close(t: &[u8], phase: Phase, last: bool) -> Stand
     }
 }
 
-// A word that stands in a phase at a place, to its end.
+// A word that stands in a phase at a place, to its end: a run at a time, and a step after each.
 fn stand_on(t: &[u8], from: usize, first: Phase, last: bool) -> Stand
     requires { ⌜ (from ≤ length (now t)) × (depthOf first ≤ from) ⌝ }
     ensures { λ r. ⌜ r ≡ standFrom last first (soFar (take from (now (t .entry))) from) (chars (drop from (now (t .entry)))) ⌝ }
@@ -60,6 +60,7 @@ fn stand_on(t: &[u8], from: usize, first: Phase, last: bool) -> Stand
     let mut phase = first;
     let mut at = from;
     while at < t.len() {
+        at = ascii_run(t, at, phase);
         match decode_at(t, at) {
             Decoded::Char { code, next } => match step(true, phase, &t[..at], at, code) {
                 Next::Eat(then) => {
