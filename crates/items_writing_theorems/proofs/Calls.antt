@@ -10,27 +10,30 @@ use lib.Dec.{eqb, leb, ltb}
 use native.Mathlib.Omega.{arith}
 use borrow.Author.Tests.{le-leb, le-ltb, ltb-true, not-true}
 use Rattle.laws.proofs.Choice.{by-bool, and-true, no-yes}
-use Rattle.chars.specs.Encode.{bytesOf}
-use Rattle.chars.proofs.Good.{Scalars, encoded-good}
+use Rattle.chars.specs.Utf8.{chars, firstBad}
+use Rattle.chars.specs.declared.Utf8.the-variants.{Good}
+use Rattle.chars.proofs.Good.{encoded-good, good-bytes}
 use Rattle.items.specs.Meaning.{Text, none, source, decoded}
-use Rattle.items.specs.Items.{Item, items, kept, byteCount, recordWords, textWords, depthAfter, memoryOf, records, texts}
+use Rattle.items.specs.Items.{Item, kept, recordOf, byteCount, recordWords, textWords, depthAfter, memoryOf, records, texts}
 use Rattle.items.specs.Kinds as kind
 use Rattle.items.proofs.Every.{Every}
 use Rattle.items.proofs.Meanings.{Inside}
 use Rattle.items.proofs.Order.{Placed, items-placed}
 use Rattle.items.proofs.Skipped.{kept-every}
 use Rattle.items.proofs.Splits.{length-bytes}
-use Rattle.items_writing.specs.Written.{part, textBytes, entry, entries, written}
+use Rattle.items_writing.specs.Written.{part, textBytes, entry, entries, reads}
 use Rattle.items_writing.specs.Shapes.{clean}
 use Rattle.items_writing.specs.declared.Words.{Words}
 use Rattle.items_writing.specs.declared.Judged.the-variants.{Fine}
 use Rattle.items_writing.specs.Records.{countOf, wordsAt, recordsFrom, recordsIn, isWhole, isKind, textRight, isRight, isLeft, judge, textOf, entryOf, entriesOf}
 use Rattle.items_writing.specs.Call.{deliver, writeWithin, writeOf}
 use Rattle.refusal.specs.Refusals as refusal
+use Rattle.items_writing_theorems.specs.Results.{result}
 use Rattle.items_writing_theorems.proofs.Parts.{part-all}
 use Rattle.items_writing_theorems.proofs.Characters.{Texty}
 use Rattle.items_writing_theorems.proofs.Extents.{Right, TextRight}
-use Rattle.items_writing_theorems.proofs.TextSounds.{AllSounds, text-sounds, clean-head}
+use Rattle.items_writing_theorems.proofs.TextSounds.{AllSounds, clean-head}
+use Rattle.items_writing_theorems.proofs.Round.{source-sounds}
 
 -- ---- a record's words
 
@@ -77,15 +80,19 @@ one-record free k d s e a b n (decoded bs) ws = records-there ((k ∷ d ∷ s �
 abbrev deeper : ℕ → Item → ℕ
 deeper depth i = depthAfter (i .kind) depth
 
-more-records : (free depth : ℕ) (i : Item) (is : List Item)
-    → recordsIn (records free depth (i ∷ is)) ≡ wordsFor free i ∷ recordsIn (records (free + length (memoryOf (i .text))) (deeper depth i) is)
-unfolding records
-more-records free depth i is =
-    one-record free (i .kind) (i .detail) (i .start) (i .end) (i .place .from) (i .place .to) depth (i .text) (records (free + length (memoryOf (i .text))) (deeper depth i) is)
+-- fewer words past the records than one record has
+module _ (past : List ℕ) (few : length past < recordWords) where
+  more-records : (free depth : ℕ) (i : Item) (is : List Item)
+      → recordsIn (records free depth (i ∷ is) ++ past) ≡ wordsFor free i ∷ recordsIn (records (free + length (memoryOf (i .text))) (deeper depth i) is ++ past)
+  unfolding records
+  more-records free depth i is =
+      let ws : List ℕ = records (free + length (memoryOf (i .text))) (deeper depth i) is in
+      ap recordsIn (append-assoc (recordOf free depth i) ws past)
+      ∙ one-record free (i .kind) (i .detail) (i .start) (i .end) (i .place .from) (i .place .to) depth (i .text) (ws ++ past)
 
-no-records : (free depth : ℕ) → recordsIn (records free depth []) ≡ []
-unfolding records recordsFrom
-no-records free depth = refl
+  no-records : (free depth : ℕ) → recordsIn (records free depth [] ++ past) ≡ []
+  unfolding records recordsFrom
+  no-records free depth = let e : countOf past - 0 ≡ 0 = omega (arith, few) in rw e
 
 -- ---- the text memory, and one item's part of it
 
@@ -121,16 +128,17 @@ entry-same s front back i is = rw (memory-is front back i is) (entry-is s front 
 
 -- ---- the entries
 
-entries-same : (s front back : List ℕ) (depth : ℕ) (is : List Item) → entriesOf s (front ++ (texts is ++ back)) (recordsIn (records (length front) depth is)) ≡ entries s is
+entries-same : (past : List ℕ) → length past < recordWords → (s front back : List ℕ) (depth : ℕ) (is : List Item)
+    → entriesOf s (front ++ (texts is ++ back)) (recordsIn (records (length front) depth is ++ past)) ≡ entries s is
 unfolding records texts
-entries-same s front back depth [] = ap (entriesOf s (front ++ (texts [] ++ back))) (no-records (length front) depth)
-entries-same s front back depth (i ∷ is) =
+entries-same past few s front back depth [] = ap (entriesOf s (front ++ (texts [] ++ back))) (no-records past few (length front) depth)
+entries-same past few s front back depth (i ∷ is) =
     let mem : List ℕ = front ++ (texts (i ∷ is) ++ back) in
-    let rest : entriesOf s mem (recordsIn (records (length front + length (memoryOf (i .text))) (deeper depth i) is)) ≡ entries s is
-    = subst (λ (n : ℕ). entriesOf s mem (recordsIn (records n (deeper depth i) is)) ≡ entries s is) (further s front back i is)
-    (subst (λ (m : List ℕ). entriesOf s m (recordsIn (records (length (front ++ memoryOf (i .text))) (deeper depth i) is)) ≡ entries s is) (sym (passed s front back i is))
-    (entries-same s (front ++ memoryOf (i .text)) back (deeper depth i) is)) in
-    ap (entriesOf s mem) (more-records (length front) depth i is) ∙ cc (entry-same s front back i is)
+    let rest : entriesOf s mem (recordsIn (records (length front + length (memoryOf (i .text))) (deeper depth i) is ++ past)) ≡ entries s is
+    = subst (λ (n : ℕ). entriesOf s mem (recordsIn (records n (deeper depth i) is ++ past)) ≡ entries s is) (further s front back i is)
+    (subst (λ (m : List ℕ). entriesOf s m (recordsIn (records (length (front ++ memoryOf (i .text))) (deeper depth i) is ++ past)) ≡ entries s is) (sym (passed s front back i is))
+    (entries-same past few s (front ++ memoryOf (i .text)) back (deeper depth i) is)) in
+    ap (entriesOf s mem) (more-records past few (length front) depth i is) ∙ cc (entry-same s front back i is)
 
 -- ---- no record is refused
 
@@ -173,17 +181,17 @@ kind-is free k a e none = refl
 kind-is free k a e (source x y) = refl
 kind-is free k a e (decoded bs) = refl
 
-judged-fine : (s front back : List ℕ) (n depth : ℕ) (is : List Item) → Every (Placed (length s)) is → Every (Right s) is → clean is ≡ true
-    → judge s (front ++ (texts is ++ back)) n (recordsIn (records (length front) depth is)) ≡ Fine
+judged-fine : (past : List ℕ) → length past < recordWords → (s front back : List ℕ) (n depth : ℕ) (is : List Item) → Every (Placed (length s)) is → Every (Right s) is → clean is ≡ true
+    → judge s (front ++ (texts is ++ back)) n (recordsIn (records (length front) depth is ++ past)) ≡ Fine
 unfolding judge records texts
-judged-fine s front back n depth [] p r h = ap (judge s (front ++ (texts [] ++ back)) n) (no-records (length front) depth)
-judged-fine s front back n depth (i ∷ is) p r h =
+judged-fine past few s front back n depth [] p r h = ap (judge s (front ++ (texts [] ++ back)) n) (no-records past few (length front) depth)
+judged-fine past few s front back n depth (i ∷ is) p r h =
     let mem : List ℕ = front ++ (texts (i ∷ is) ++ back) in
-    let rest : judge s mem (n + 1) (recordsIn (records (length front + length (memoryOf (i .text))) (deeper depth i) is)) ≡ Fine
-    = subst (λ (m : ℕ). judge s mem (n + 1) (recordsIn (records m (deeper depth i) is)) ≡ Fine) (further s front back i is)
-    (subst (λ (m : List ℕ). judge s m (n + 1) (recordsIn (records (length (front ++ memoryOf (i .text))) (deeper depth i) is)) ≡ Fine) (sym (passed s front back i is))
-    (judged-fine s (front ++ memoryOf (i .text)) back (n + 1) (deeper depth i) is (p .1) (r .1) (clean-head i is h .1))) in
-    ap (judge s mem n) (more-records (length front) depth i is) ∙ (rw (right-is s front back i is (p .0) (r .0), ap isLeft (kind-is (length front) (i .kind) (i .start) (i .end) (i .text)) ∙ clean-kind i is h) rest)
+    let rest : judge s mem (n + 1) (recordsIn (records (length front + length (memoryOf (i .text))) (deeper depth i) is ++ past)) ≡ Fine
+    = subst (λ (m : ℕ). judge s mem (n + 1) (recordsIn (records m (deeper depth i) is ++ past)) ≡ Fine) (further s front back i is)
+    (subst (λ (m : List ℕ). judge s m (n + 1) (recordsIn (records (length (front ++ memoryOf (i .text))) (deeper depth i) is ++ past)) ≡ Fine) (sym (passed s front back i is))
+    (judged-fine past few s (front ++ memoryOf (i .text)) back (n + 1) (deeper depth i) is (p .1) (r .1) (clean-head i is h .1))) in
+    ap (judge s mem n) (more-records past few (length front) depth i is) ∙ (rw (right-is s front back i is (p .0) (r .0), ap isLeft (kind-is (length front) (i .kind) (i .start) (i .end) (i .text)) ∙ clean-kind i is h) rest)
 
 -- ---- the call
 
@@ -191,13 +199,12 @@ listed-right : (s : List ℕ) (is : List Item) → AllSounds s is → Every (Rig
 listed-right s [] h = tt
 listed-right s (i ∷ is) h = h .1
 
--- `back` is what lies in the text memory past the texts
-pub written-back : (cs : List ℕ) (skip : Bool) (back out : List ℕ) → Scalars cs → clean (kept skip (items true cs)) ≡ true
-    → writeOf (records 0 0 (kept skip (items true cs))) (bytesOf cs) (texts (kept skip (items true cs)) ++ back) out
-    ≡ deliver refusal.limit (written true (entries (bytesOf cs) (kept skip (items true cs)))) out
+-- `past` is what the caller hands on past the records, less than one more, and `back` what lies in the text memory past the texts
+pub written-back : (s : List ℕ) (skip : Bool) (past back out : List ℕ) → firstBad s ≡ Good → clean (kept skip (reads s)) ≡ true → length past < recordWords
+    → writeOf (records 0 0 (kept skip (reads s)) ++ past) s (texts (kept skip (reads s)) ++ back) out ≡ deliver refusal.limit (result s (kept skip (reads s))) out
 unfolding writeWithin
-written-back cs skip back out h w =
-    let is : List Item = kept skip (items true cs) in
-    let s : List ℕ = bytesOf cs in
-    let p : Every (Placed (length s)) is = subst (λ (n : ℕ). Every (Placed n) is) (sym (length-bytes cs)) (kept-every (Placed (byteCount cs)) skip (items true cs) (items-placed true cs)) in
-    rw (judged-fine s [] back 0 0 is p (listed-right s is (text-sounds skip cs h w)) w, entries-same s [] back 0 is)
+written-back s skip past back out g w few =
+    let is : List Item = kept skip (reads s) in
+    let n : byteCount (chars s) ≡ length s = sym (length-bytes (chars s)) ∙ ap length (good-bytes s g) in
+    let p : Every (Placed (length s)) is = subst (λ (m : ℕ). Every (Placed m) is) n (kept-every (Placed (byteCount (chars s))) skip (reads s) (items-placed true (chars s))) in
+    rw (judged-fine past few s [] back 0 0 is p (listed-right s is (source-sounds s skip g w)) w, entries-same past few s [] back 0 is)

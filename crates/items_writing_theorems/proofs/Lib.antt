@@ -1,5 +1,6 @@
 pub mod Round
 pub mod Calls
+pub mod Trips
 pub mod TextSounds
 pub mod Sound
 pub mod Settling

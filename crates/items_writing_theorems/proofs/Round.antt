@@ -1,8 +1,12 @@
 -- The round trip: what is written for the items of a text, none of them an error or a comment, reads back as they do, and is written
 -- again as it is.
 use Prim.Native.Nat.{ℕ}
-use mathlib.Core.Path.{_≡_, refl, ap, subst}
-use mathlib.Core.Bool.{Bool, true}
+use mathlib.Core.Path.{_≡_, refl, ap, subst, _∙_}
+use lib.Dec.{eqb, ltb}
+use borrow.Author.Tests.{not-true}
+use Rattle.laws.proofs.Choice.{by-bool, and-true, and-no, no-yes}
+use Rattle.items.specs.Kinds as kind
+use mathlib.Core.Bool.{Bool, true, not, _&&_}
 use mathlib.Core.List.{List, [], _∷_}
 use lib.ListN.{length}
 use native.Mathlib.Omega.{arith}
@@ -15,6 +19,7 @@ use Rattle.items.specs.Items.{Item, unset, items, kept, depthAfter}
 use Rattle.items_writing.specs.Written.{Entry, entries, written, reads}
 use Rattle.items_writing.specs.Shapes.{Shape, shapes, depths, clean}
 use Rattle.items_writing.proofs.Lines.{from-start}
+use Rattle.items_writing_theorems.specs.Results.{result}
 use Rattle.items_writing_theorems.proofs.Sound.{Sounds, Writes, writes}
 use Rattle.items_writing_theorems.proofs.TextSounds.{AllSounds, text-sounds}
 
@@ -44,10 +49,6 @@ nothing-again : written true (entries (written true []) (reads (written true [])
 unfolding written sequences chars items
 nothing-again = refl
 
--- the text that is written for the items of s
-abbrev pub result : List ℕ → List Item → List ℕ
-result s is = written true (entries s is)
-
 listed : (s : List ℕ) (is : List Item) → AllSounds s is → (firstBad (result s is) ≡ Good) × (shapes (result s is) (reads (result s is)) ≡ shapes s is)
 listed s [] h = nothing-written
 listed s (i ∷ is) h = reads-back (h .0)
@@ -64,7 +65,7 @@ pub round-trip : (cs : List ℕ) (skip : Bool) → Scalars cs → clean (kept sk
 round-trip cs skip h w = listed (bytesOf cs) (kept skip (items true cs)) (text-sounds skip cs h w)
 
 -- the items of a source that is UTF-8
-source-sounds : (s : List ℕ) (skip : Bool) → firstBad s ≡ Good → clean (kept skip (reads s)) ≡ true → AllSounds s (kept skip (reads s))
+pub source-sounds : (s : List ℕ) (skip : Bool) → firstBad s ≡ Good → clean (kept skip (reads s)) ≡ true → AllSounds s (kept skip (reads s))
 source-sounds s skip g w = subst (λ (x : List ℕ). AllSounds x (kept skip (reads s))) (good-bytes s g) (text-sounds skip (chars s) (good-scalars s g) w)
 
 -- the same of a source that is UTF-8
@@ -77,7 +78,7 @@ pub settled : (s : List ℕ) (skip : Bool) → firstBad s ≡ Good → clean (ke
     → result (result s (kept skip (reads s))) (reads (result s (kept skip (reads s)))) ≡ result s (kept skip (reads s))
 settled s skip g w = listed-again s (kept skip (reads s)) (source-sounds s skip g w)
 
--- ---- depths: what has the same shapes has the same depths
+-- ---- what has the same shapes has the same depths, and is clean alike
 
 abbrev firstKind : List Shape → ℕ
 firstKind [] = 0
@@ -95,6 +96,27 @@ same-depths s t d (i ∷ is) [] h = let z : _≡_ {A = ℕ} 0 1 = cc in absurd (
 same-depths s t d (i ∷ is) (j ∷ js) h =
     let e : i .kind ≡ j .kind = ap firstKind h in
     rw e (ap (λ (l : List ℕ). d ∷ l) (same-depths s t (depthAfter (j .kind) d) is js (ap others h)))
+
+-- nor has it an error or a comment
+same-clean : (s t : List ℕ) (is js : List Item) → shapes s is ≡ shapes t js → clean is ≡ clean js
+unfolding clean
+same-clean s t [] [] h = refl
+same-clean s t [] (j ∷ js) h = let z : _≡_ {A = ℕ} 0 1 = cc in absurd (omega arith)
+same-clean s t (i ∷ is) [] h = let z : _≡_ {A = ℕ} 0 1 = cc in absurd (omega arith)
+same-clean s t (i ∷ is) (j ∷ js) h =
+    let e : i .kind ≡ j .kind = ap firstKind h in
+    rw (e, same-clean s t is js (ap others h))
+
+pub round-trip-clean : (s : List ℕ) (skip : Bool) → firstBad s ≡ Good → clean (kept skip (reads s)) ≡ true → clean (reads (result s (kept skip (reads s)))) ≡ true
+round-trip-clean s skip g w = same-clean (result s (kept skip (reads s))) s (reads (result s (kept skip (reads s)))) (kept skip (reads s)) (round-trip-bytes s skip g w .1) ∙ w
+
+-- so that leaving comments out changes nothing
+pub clean-kept : (skip : Bool) (is : List Item) → clean is ≡ true → kept skip is ≡ is
+unfolding clean kept
+clean-kept skip [] h = refl
+clean-kept skip (i ∷ is) h = by-bool (ltb (i .kind) kind.firstError && not (eqb (i .kind) kind.Comment))
+    (λ e. let k = not-true (eqb (i .kind) kind.Comment) (and-true (ltb (i .kind) kind.firstError) _ e .1) in rw (k, and-no skip) (ap (λ (l : List Item). i ∷ l) (clean-kept skip is (rw e at h))))
+    (λ e. no-yes (rw e at h))
 
 -- and so all ten words of each record but its places tell the same
 pub round-trip-depths : (s : List ℕ) (skip : Bool) → firstBad s ≡ Good → clean (kept skip (reads s)) ≡ true
