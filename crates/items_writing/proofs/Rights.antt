@@ -1,14 +1,14 @@
 -- What is known of records that are not refused, and how the records from a place on go.
 use Prim.Native.Nat.{ℕ, zero, suc, _+_, _-_, _≤_, _<_}
 use mathlib.Core.Path.{_≡_, refl}
-use mathlib.Core.Bool.{true, false}
+use mathlib.Core.Bool.{true, false, _&&_}
 use mathlib.Core.List.{List, [], _∷_}
 use lib.ListN.{length, drop, length-drop}
 use lib.Seq.{length-take-le}
 use lib.Dec.{eqb, leb}
 use native.Mathlib.Omega.{arith}
 use borrow.Author.Tests.{leb-true, le-leb, lt-leb, eq-eqb, ne-eqb, eqb-true, eqb-false, le-ltb, lt-ltb}
-use Rattle.laws.proofs.Choice.{by-bool, no-yes}
+use Rattle.laws.proofs.Choice.{by-bool, and-true, no-yes}
 use Rattle.chars.specs.Utf8.{firstBad, sequences}
 use Rattle.chars.specs.declared.Utf8.{Utf8}
 use Rattle.chars.specs.declared.Utf8.the-variants.{Good, Bad}
@@ -18,7 +18,7 @@ use Rattle.items_writing.specs.declared.Judged.{Judged}
 use Rattle.items_writing.specs.declared.Judged.the-variants.{Fine, Alien, Unwritten}
 use Rattle.items_writing.specs.Written.{part}
 use Rattle.items_writing.specs.Records.{countOf, wordsAt, recordsFrom, rest, recordsIn, isGood, isWhole, isKind, textRight, isRight, isLeft, judge, textOf, entryOf}
-use Rattle.items_writing.specs.Pieces.{bodyOf, AllRight}
+use Rattle.items_writing.specs.Pieces.{isExtent, bodyOf, AllRight}
 
 -- ---- a part that is whole characters
 
@@ -56,6 +56,14 @@ module _ (s : List ℕ) (a b : ℕ) where
     pub whole-bad : (p : ℕ) → u ≡ Bad p → false ≡ isWhole s a b
     unfolding isWhole
     whole-bad p f = rw (le-leb a b h, le-leb b (length s) g, ← e, f)
+
+-- a text that is all of an extent is whole with it
+pub extent-right : (source text : List ℕ) (r : Words) → isExtent r ≡ true → isWhole source (r .start) (r .«end») ≡ true → textRight source text r ≡ true
+unfolding textRight
+extent-right source text r h w =
+    let a = and-true (eqb (r .origin) 1) (eqb (r .first) (r .start) && eqb (r .past) (r .«end»)) h in
+    let b = and-true (eqb (r .first) (r .start)) (eqb (r .past) (r .«end»)) (a .1) in
+    rw (a .0, eqb-true (r .first) (r .start) (b .0), eqb-true (r .past) (r .«end») (b .1)) w
 
 pub part-length : (s : List ℕ) (a b : ℕ) → a ≤ b → b ≤ length s → length (part a b s) ≡ b - a
 part-length s a b h g = length-take-le (b - a) (drop a s) (omega (arith, length-drop a s))

@@ -24,8 +24,11 @@ use Rattle.numbers.specs.declared.Parts.{Parts}
 use Rattle.numbers.specs.declared.Parsed.{Parsed}
 use Rattle.numbers.specs.declared.Parsed.the-variants as parsed
 use Rattle.numbers.specs.Grammar.{parseNumber}
-use Rattle.items.specs.declared.Outcome.the-variants.{Run}
-use Rattle.items.specs.Readers.{soFar, firstIs}
+use Rattle.items.specs.declared.Outcome.the-variants.{Word, Run}
+use Rattle.items.specs.declared.Phase.the-variants as ph
+use Rattle.items.specs.Classes.{inWord, breaksWord, inRun, staysRun, endsRun}
+use Rattle.chars.specs.Blank.{isBlank}
+use Rattle.items.specs.Readers.{SoFar, soFar, firstIs}
 use Rattle.items.specs.Meaning.{wordKind}
 use Rattle.items.specs.Kinds as kind
 use Rattle.items.specs.Machine.{stepOf, finishOf, depthOf}
@@ -46,6 +49,17 @@ close-eat last p q raw n e f = rw (e, f)
 
 pub close-stop : (last : Bool) (p : Phase) (raw : List ℕ) (n : ℕ) (o : Outcome) → last ≡ false → stepOf true p (soFar raw n) (code " ") ≡ Stop o → Ends o ≡ closeOf last p (soFar raw n)
 close-stop last p raw n o e f = rw (e, f)
+
+-- a word, and a run, end in both ways alike
+pub word-closes : (last : Bool) (p : Phase) (i : SoFar) → p ≡ ph.InWord → Ends Word ≡ closeOf last p i
+unfolding inWord breaksWord isBlank
+word-closes true p i e = rw e
+word-closes false p i e = rw e
+
+pub run-closes : (last : Bool) (p : Phase) (i : SoFar) → p ≡ ph.InRun → Ends Run ≡ closeOf last p i
+unfolding inRun staysRun endsRun isBlank
+run-closes true p i e = rw e
+run-closes false p i e = rw e
 
 -- ---- the word from a place on
 

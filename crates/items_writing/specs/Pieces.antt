@@ -1,7 +1,7 @@
 -- How the code writes: a piece for each turn, of one item or of a pair. A means of proof: no public contract cites it.
 use Prim.Native.Nat.{ℕ, _+_, _≤_, _<_}
 use mathlib.Core.Path.{_≡_}
-use mathlib.Core.Bool.{Bool, true, false, not, _||_}
+use mathlib.Core.Bool.{Bool, true, false, not, _&&_, _||_}
 use mathlib.Core.List.{List, [], _∷_, _++_}
 use lib.ListN.{length}
 use lib.Dec.{eqb}
@@ -16,6 +16,10 @@ use Rattle.items_writing.specs.declared.Form.the-variants.{AsIs, Within}
 use Rattle.items_writing.specs.declared.Turn.{Turn}
 use Rattle.items_writing.specs.Written.{Entry, quoted, bare, written}
 use Rattle.items_writing.specs.Records.{countOf, wordsAt, rest, isRight, entryOf, entriesOf}
+
+-- whether a record's text is all of its extent
+abbrev pub isExtent : Words → Bool
+isExtent r = eqb (r .origin) 1 && (eqb (r .first) (r .start) && eqb (r .past) (r .«end»))
 
 -- the bytes that an item's word is made of
 abbrev pub bodyOf : Entry → List ℕ

@@ -9,7 +9,7 @@ ghost use mathlib.Core.Bool.{true};
 ghost use Prim.Native.Nat.{_<_};
 ghost use Rattle.items_writing.specs.Written.{part};
 ghost use Rattle.items_writing.specs.Records.{countOf, wordsAt, recordsIn, isWhole, isKind, hasText, textRight, isRight, isLeft, judge, textOf, entryOf};
-ghost use Rattle.items_writing.specs.Pieces.{bodyOf};
+ghost use Rattle.items_writing.specs.Pieces.{bodyOf, isExtent};
 
 // How many words a record has.
 pub const WORDS: usize = 10;
@@ -100,11 +100,27 @@ fn text_right(source: &[u8], text: &[u8], w: Words) -> bool
     false
 }
 
+// Whether the text is all of the extent, as that of a plain name is.
+fn is_extent(w: Words) -> bool
+    ensures { λ r. ⌜ r ≡ isExtent w ⌝ }
+{
+    if w.origin != IN_SOURCE {
+        return false;
+    }
+    if w.first != w.start {
+        return false;
+    }
+    w.past == w.end
+}
+
 fn is_right(source: &[u8], text: &[u8], w: Words) -> bool
     ensures { λ r. ⌜ r ≡ isRight (now (source .entry)) (now (text .entry)) w ⌝ }
 {
     if is_kind(w.kind) {
         if is_whole(source, w.start, w.end) {
+            if is_extent(w) {
+                return true;
+            }
             return text_right(source, text, w);
         }
         return false;

@@ -38,8 +38,8 @@ const PLUS: u8 = b'+';
 
 const VERTICAL: u8 = b'|';
 
-// A word that was read to its end in a phase: at the end of the text, or before a space.
-fn close(t: &[u8], phase: Phase, last: bool) -> Stand
+// A word that was read to its end in a phase: at the end of the text, or before a space, which is one step more.
+fn close_step(t: &[u8], phase: Phase, last: bool) -> Stand
     requires { ⌜ depthOf phase ≤ length (now t) ⌝ }
     ensures { λ r. ⌜ r ≡ closeOf last phase (soFar (now (t .entry)) (length (now (t .entry)))) ⌝ }
 {
@@ -49,6 +49,18 @@ fn close(t: &[u8], phase: Phase, last: bool) -> Stand
     match step(true, phase, t, t.len(), SPACE) {
         Next::Eat(then) => Stand::Apart,
         Next::Stop(what) => Stand::Ends(what),
+    }
+}
+
+// The same. Most words are a word or a run to their end, which either ends.
+fn close(t: &[u8], phase: Phase, last: bool) -> Stand
+    requires { ⌜ depthOf phase ≤ length (now t) ⌝ }
+    ensures { λ r. ⌜ r ≡ closeOf last phase (soFar (now (t .entry)) (length (now (t .entry)))) ⌝ }
+{
+    match phase {
+        Phase::InWord => Stand::Ends(Outcome::Word),
+        Phase::InRun => Stand::Ends(Outcome::Run),
+        _ => close_step(t, phase, last),
     }
 }
 

@@ -1,43 +1,30 @@
--- The end of the text is `finish`; a space is one step more.
-use mathlib.Core.Path.{sym, _∙_}
-use native.Mathlib.Omega.{arith}
-use native.Mathlib.Nat.{le-refl}
-use Rattle.laws.specs.Quoted.{code}
-use Rattle.chars.proofs.Width.{width-le}
-use Rattle.items_writing.proofs.Turns.{close-last, close-eat, close-stop}
+-- A word and a run end in themselves, at the end of the text and before a space; the rest is `close_step`.
+use lib.ListN.{length}
+use denote.Ref.{now}
+use Rattle.items.specs.Readers.{soFar}
 use borrow.Author.Needs.{needs}
+use Rattle.items_writing.proofs.Turns.{word-closes, run-closes}
 use Rattle.items_writing.proofs.word.close.Statement.{statement}
 use Rattle.items_writing.proofs.word.close.Tie as tie
 
-finish-requires : tie.Need-finish-requires
-finish-requires c κs = search needs
+enum-told : tie.Need-enum-told
+enum-told c = search needs
+
+enum-told-2 : tie.Need-enum-told-2
+enum-told-2 c = search needs
+
+close-step-requires : tie.Need-close-step-requires
+close-step-requires c κs = search needs
 
 returns : tie.Need-returns
-returns c = close-last _ _ _ _ (c .before .if1 .taken) (c .finish .ensures)
-
-step-requires : tie.Need-step-requires
-step-requires c κs = (le-refl _, c .before .before .pre, omega (arith, width-le (code " ")))
-
-enum-known-then : tie.Need-enum-known-then
-enum-known-then c = search needs
-
-enum-known-what : tie.Need-enum-known-what
-enum-known-what c = search needs
+returns c = let f = c .before .before .before .args in word-closes (f .last) (f .phase) (soFar (now (f .t)) (length (now (f .t)))) (c .enum-told .given .1)
 
 returns-2 : tie.Need-returns-2
-returns-2 c = close-eat _ _ _ _ _ (c .before .before .before .before .if1 .left) (sym (c .before .before .before .step .ensures) ∙ c .before .then .given .1)
+returns-2 c = let f = c .before .before .before .args in run-closes (f .last) (f .phase) (soFar (now (f .t)) (length (now (f .t)))) (c .enum-told2 .given .1)
 
 returns-3 : tie.Need-returns-3
-returns-3 c = close-stop _ _ _ _ _ (c .before .before .before .before .if1 .left) (sym (c .before .before .before .step .ensures) ∙ c .before .what .given .1)
+returns-3 c = search needs
 
 pub close-spec : {M : Type 1} → statement M
 close-spec =
-    tie.close
-    (tie.spec
-    finish-requires
-    returns
-    step-requires
-    enum-known-then
-    enum-known-what
-    returns-2
-    returns-3)
+    tie.close (tie.spec enum-told enum-told-2 close-step-requires returns returns-2 returns-3)
