@@ -1,4 +1,5 @@
 pub mod Round
+pub mod Edited
 pub mod Calls
 pub mod Trips
 pub mod TextSounds

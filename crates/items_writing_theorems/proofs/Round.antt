@@ -24,7 +24,7 @@ use Rattle.items_writing_theorems.proofs.Sound.{Sounds, Writes, writes}
 use Rattle.items_writing_theorems.proofs.TextSounds.{AllSounds, text-sounds}
 
 -- what was written reads back
-reads-back : {es : List Entry} {ss : List Shape} → Sounds es ss → (firstBad (written true es) ≡ Good) × (shapes (written true es) (reads (written true es)) ≡ ss)
+pub reads-back : {es : List Entry} {ss : List Shape} → Sounds es ss → (firstBad (written true es) ≡ Good) × (shapes (written true es) (reads (written true es)) ≡ ss)
 reads-back {es} {ss} s =
     let w : Writes true (written true es) ss = writes s true in
     let b : List ℕ = w .body in
@@ -33,7 +33,7 @@ reads-back {es} {ss} s =
     (rw e (encoded-good b (w .scalars)), rw (e, c, from-start b (w .no-line refl)) (w .reads [] (length b) unset (le-refl (length b))))
 
 -- and is written again as it is
-writes-back : {es : List Entry} {ss : List Shape} → Sounds es ss → written true (entries (written true es) (reads (written true es))) ≡ written true es
+pub writes-back : {es : List Entry} {ss : List Shape} → Sounds es ss → written true (entries (written true es) (reads (written true es))) ≡ written true es
 writes-back {es} {ss} s =
     let w : Writes true (written true es) ss = writes s true in
     let b : List ℕ = w .body in
@@ -41,11 +41,11 @@ writes-back {es} {ss} s =
     let c : chars (bytesOf b) ≡ b = chars-encoded b (w .scalars) in
     rw e (rw (c, from-start b (w .no-line refl)) (w .settles [] (length b) (le-refl (length b))))
 
-nothing-written : (firstBad (written true []) ≡ Good) × (shapes (written true []) (reads (written true [])) ≡ [])
+pub nothing-written : (firstBad (written true []) ≡ Good) × (shapes (written true []) (reads (written true [])) ≡ [])
 unfolding written firstBad sequences chars items
 nothing-written = (refl, refl)
 
-nothing-again : written true (entries (written true []) (reads (written true []))) ≡ written true []
+pub nothing-again : written true (entries (written true []) (reads (written true []))) ≡ written true []
 unfolding written sequences chars items
 nothing-again = refl
 
