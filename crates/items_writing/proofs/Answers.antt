@@ -14,7 +14,7 @@ use Rattle.items_writing.specs.declared.Judged.the-variants.{Fine, Alien
 use Rattle.items_writing.specs.Records.{recordsIn, judge}
 use Rattle.items_writing.specs.Call.{served, refused, call, deliver, writeWithin, writeOf}
 use Rattle.items_writing.specs.Pieces.{AllRight, onward, Measured}
-use Rattle.items_writing.proofs.Rights.{all-right}
+use Rattle.items_writing.proofs.RightRecords.{all-right}
 
 module _ (records source text out : List ℕ) {j : Judged} (q : j ≡ judge source text 0 (recordsIn records)) where
   pub answer-alien : (p : ℕ) → j ≡ Alien p → call (refused refusal.alien p) out ≡ writeOf records source text out

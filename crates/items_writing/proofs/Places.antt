@@ -21,8 +21,8 @@ use Rattle.agreement.specs.Reading.{bytes, ReadAs}
 use Rattle.items.proofs.Splits.{length-bytes}
 use Rattle.coverage.proofs.Bytes.{bytes-append}
 use Rattle.items_writing.specs.Written.{gap, isWord, isPair, bare, splits}
-use Rattle.items_writing.proofs.Lines.{other-start, other-next, lone-start}
-use Rattle.items_writing.proofs.Bare.{ReadTwo, later, word-starts, word-reads, pair-reads}
+use Rattle.items_writing.proofs.FirstLine.{other-start, other-next, lone-start}
+use Rattle.items_writing.proofs.ReadsBack.{ReadTwo, later, word-starts, word-reads, pair-reads}
 use Rattle.items_writing.proofs.Follows.{Follows, nothing, space}
 
 pub scalars-append : (t u : List ℕ) → Scalars t → Scalars u → Scalars (t ++ u)
@@ -36,7 +36,9 @@ unfolding pastLine
 past-later at [] = tt
 past-later at (c ∷ cs) = by-bool (eqb c (code "\n"))
     (λ e. rw (e, pastLine) (later (length (c ∷ cs)) at (c ∷ cs)))
-    (λ e. rw (e, pastLine) (every-then (λ (i : Item). at + width c ≤ i .start) (λ (i : Item). at ≤ i .start) (λ i h. omega arith) (pastLine true (at + width c) cs) (past-later (at + width c) cs)))
+    (λ e. rw (e, pastLine)
+    (every-then (λ (i : Item). at + width c ≤ i .start) (λ (i : Item). at ≤ i .start) (λ i h. omega arith) (pastLine true (at + width c) cs)
+    (past-later (at + width c) cs)))
 
 -- a word that is first in the text is read from its start on
 pub record First (c : ℕ) (cs : List ℕ) : Type 0 where

@@ -17,7 +17,8 @@ use Rattle.items.proofs.Cases.{by-next}
 use Rattle.items.proofs.Same.{item-same}
 use Rattle.coverage.proofs.Bytes.{bytes-append}
 use Rattle.agreement.proofs.Reading.{eats, whole, eats-whole}
-use Rattle.items_writing.proofs.Known.{Known, Holds, Goes, goes-on, finish-known, first-holds}
+use Rattle.items_writing.proofs.OutcomeTells.{Known, Holds, Goes}
+use Rattle.items_writing.proofs.OutcomeSteps.{goes-on, finish-known, first-holds}
 
 -- what ended an item j in the phase q: the end of the text, or the first character of the rest
 abbrev pub Ended : Bool → Phase → SoFar → List ℕ → Outcome → Type 0
@@ -55,7 +56,17 @@ trace report p i (c ∷ cs) = by-next (stepOf report p i c)
       told = λ v f h. subst (λ (x : List ℕ). Known x (scanOf report q (eat i c) cs .what)) (append-assoc v (c ∷ []) (l .ate))
           (l .told (v ++ (c ∷ [])) (told-on i c v f) (let g : Goes v c (stepOf report p i c) = goes-on v c i f report p h in rw e at g));
     }))
-    (λ o e. rw (e, scanOf) (record { ate = []; phase = p; splits = refl; item = refl; on = λ v. refl; ended = e; told = λ v f h. rw (append-nil v) (let g : Goes v c (stepOf report p i c) = goes-on v c i f report p h in rw e at g) }))
+    (λ o e. rw (e, scanOf)
+    (record {
+      ate = [];
+      phase = p;
+      splits = refl;
+      item = refl;
+      on = λ v. refl;
+      ended = e;
+      told = λ v f h. rw (append-nil v)
+          (let g : Goes v c (stepOf report p i c) = goes-on v c i f report p h in rw e at g);
+    }))
 
 -- the same of an item that starts at a place with c
 pub record Traced (report : Bool) (at c : ℕ) (cs : List ℕ) (r : Read) : Type 0 where

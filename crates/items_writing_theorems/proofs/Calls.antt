@@ -191,7 +191,8 @@ judged-fine past few s front back n depth (i ∷ is) p r h =
     = subst (λ (m : ℕ). judge s mem (n + 1) (recordsIn (records m (deeper depth i) is ++ past)) ≡ Fine) (further s front back i is)
     (subst (λ (m : List ℕ). judge s m (n + 1) (recordsIn (records (length (front ++ memoryOf (i .text))) (deeper depth i) is ++ past)) ≡ Fine) (sym (passed s front back i is))
     (judged-fine past few s (front ++ memoryOf (i .text)) back (n + 1) (deeper depth i) is (p .1) (r .1) (clean-head i is h .1))) in
-    ap (judge s mem n) (more-records past few (length front) depth i is) ∙ (rw (right-is s front back i is (p .0) (r .0), ap isLeft (kind-is (length front) (i .kind) (i .start) (i .end) (i .text)) ∙ clean-kind i is h) rest)
+    ap (judge s mem n) (more-records past few (length front) depth i is) ∙
+    (rw (right-is s front back i is (p .0) (r .0), ap isLeft (kind-is (length front) (i .kind) (i .start) (i .end) (i .text)) ∙ clean-kind i is h) rest)
 
 -- ---- the call
 

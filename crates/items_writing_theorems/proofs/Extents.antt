@@ -32,15 +32,15 @@ use Rattle.items_writing.specs.Shapes.{spells, numberOf, shapeOf}
 use Rattle.items_writing.specs.Records.{hasText}
 use Rattle.items_writing_theorems.proofs.Parts.{part-in, part-all}
 use Rattle.items_writing_theorems.proofs.Reading.{first-part, second-part}
-use Rattle.items_writing.proofs.Lines.{first-is}
-use Rattle.items_writing.proofs.Known.{Known}
-use Rattle.items_writing.proofs.Bare.{kindIn}
+use Rattle.items_writing.proofs.FirstLine.{first-is}
+use Rattle.items_writing.proofs.OutcomeTells.{Known}
+use Rattle.items_writing.proofs.ReadsBack.{kindIn}
 use Rattle.items_writing_theorems.proofs.Characters.{Texty, quoted-texty}
 use Rattle.items_writing_theorems.proofs.Between.{between-texty}
 use Rattle.items_writing_theorems.proofs.Here.{here-body, not-shorter}
 use Rattle.items_writing_theorems.proofs.Sound.{Sound, name, string}
 use Rattle.items_writing_theorems.proofs.Reread.{Other}
-use Rattle.items_writing.proofs.Table.{word-no-string}
+use Rattle.items_writing.proofs.WordTable.{word-no-string}
 
 -- ---- an identifier, and a string
 

@@ -26,12 +26,12 @@ use Rattle.items.proofs.Splits.{length-bytes}
 use Rattle.items_writing.specs.Written.{part, entry, gap}
 use Rattle.items_writing.specs.Shapes.{shape, spells, numberOf}
 use Rattle.items_writing_theorems.proofs.Parts.{part-all}
-use Rattle.items_writing.proofs.Lines.{line-gap}
-use Rattle.items_writing.proofs.Known.{Known, calm-on, calm-line}
+use Rattle.items_writing.proofs.FirstLine.{line-gap}
+use Rattle.items_writing.proofs.OutcomeTells.{Known, calm-on, calm-line}
 use Rattle.items_writing.proofs.Follows.{Follows}
-use Rattle.items_writing.proofs.Bare.{kindIn}
+use Rattle.items_writing.proofs.ReadsBack.{kindIn}
 use Rattle.items_writing.specs.Records.{hasText}
-use Rattle.items_writing.proofs.Table.{word-no-line, word-no-string, word-no-keyword, word-kind}
+use Rattle.items_writing.proofs.WordTable.{word-no-line, word-no-string, word-no-keyword, word-kind}
 use Rattle.items_writing_theorems.proofs.Stops.{word-is}
 use Rattle.items_writing_theorems.proofs.Sound.{Sound, extent}
 use Rattle.items_writing_theorems.proofs.Extents.{AllSound, Right, TextRight}
@@ -123,7 +123,8 @@ module _ (pre : List ℕ) (c : ℕ) (t post : List ℕ) where
   -- with what is known of its outcome, and how it is read again
   pub other-sound : (p : Place) (o : Outcome) (last : Bool) → Scalars (c ∷ t) → Known (c ∷ t) o → Other o (bytesOf (c ∷ t))
       → ((us : List ℕ) → Follows last us
-      → ReadAs true (c ∷ t) us (kindIn (meaningOf true o place (place + count) (bytesOf (c ∷ t)))) (detailIn (meaningOf true o place (place + count) (bytesOf (c ∷ t)))) (spellingFor o (bytesOf (c ∷ t))))
+      → ReadAs true (c ∷ t) us (kindIn (meaningOf true o place (place + count) (bytesOf (c ∷ t))))
+      (detailIn (meaningOf true o place (place + count) (bytesOf (c ∷ t)))) (spellingFor o (bytesOf (c ∷ t))))
       → AllSound last text (itemsOf true p place (place + count) (meaningOf true o place (place + count) (bytesOf (c ∷ t))))
   other-sound p o last s known h f =
       let e : ℕ = place + count in

@@ -22,7 +22,7 @@ use Rattle.items.proofs.Splits.{length-bytes}
 use Rattle.coverage.proofs.Bytes.{bytes-append}
 use Rattle.items_writing.specs.Written.{part}
 use Rattle.items_writing.specs.Shapes.{Shape, shape, spells, numberOf, shapeOf, shapes}
-use Rattle.items_writing.proofs.Bare.{ReadTwo}
+use Rattle.items_writing.proofs.ReadsBack.{ReadTwo}
 use Rattle.items_writing_theorems.proofs.Parts.{part-in, part-all}
 
 -- the characters cs, wherever they stand, are read as items of these shapes

@@ -27,7 +27,7 @@ use Rattle.agreement.proofs.Reading.{whole, read-one}
 use Rattle.items_writing.proofs.Moved.{Placeless, read-moved}
 use Rattle.items_writing.proofs.Trace.{Ended, Traced, traced, stops-here}
 use Rattle.items_writing.proofs.Follows.{Follows, space, space-on, good-placeless, good-keeps, nothing as ends}
-use Rattle.items_writing.proofs.Bare.{kindIn}
+use Rattle.items_writing.proofs.ReadsBack.{kindIn}
 use Rattle.items_writing_theorems.proofs.Stops.{Plainly, AtSpace, at-space, word-is}
 
 abbrev pub detailIn : List Meaning → ℕ

@@ -18,7 +18,7 @@ use Rattle.chars.proofs.Good.{Scalars, chars-encoded, encoded-good, good-bytes,
 use Rattle.items.specs.Items.{Item, unset, items, kept, depthAfter}
 use Rattle.items_writing.specs.Written.{Entry, entries, written, reads}
 use Rattle.items_writing.specs.Shapes.{Shape, shapes, depths, clean}
-use Rattle.items_writing.proofs.Lines.{from-start}
+use Rattle.items_writing.proofs.FirstLine.{from-start}
 use Rattle.items_writing_theorems.specs.Results.{result}
 use Rattle.items_writing_theorems.proofs.Sound.{Sounds, Writes, writes}
 use Rattle.items_writing_theorems.proofs.TextSounds.{AllSounds, text-sounds}

@@ -24,8 +24,8 @@ use Rattle.agreement.proofs.Bytes.{bytes-some, bytes-ascii}
 use Rattle.items_writing.specs.Written.{Entry, textBytes, entry, entries, gap, splits, wordOf, twins, joined, written}
 use Rattle.items_writing.specs.Shapes.{spells}
 use Rattle.items_writing_theorems.proofs.Parts.{part-all}
-use Rattle.items_writing.proofs.Bare.{ReadTwo, later}
-use Rattle.items_writing.proofs.Piecing.{written-joined, written-apart}
+use Rattle.items_writing.proofs.ReadsBack.{ReadTwo, later}
+use Rattle.items_writing.proofs.PieceByPiece.{written-joined, written-apart}
 use Rattle.items_writing.proofs.Follows.{Follows, nothing as nothing-follows, space}
 use Rattle.items_writing_theorems.proofs.Reading.{read-inside, spells-in, regrouped, further, first-part, second-part}
 
@@ -80,7 +80,8 @@ module _ (pre : List ℕ) (turns : ℕ) (u : List ℕ) where
   space-bytes = refl
 
   -- are written again, and start later
-  after-space : Settles false u → length u ≤ turns → written false (entries (pre ++ bytesOf (code " " ∷ u)) (itemsFrom true (suc turns) unset (length pre) (code " " ∷ u))) ≡ bytesOf (code " " ∷ u)
+  after-space : Settles false u → length u ≤ turns → written false
+      (entries (pre ++ bytesOf (code " " ∷ u)) (itemsFrom true (suc turns) unset (length pre) (code " " ∷ u))) ≡ bytesOf (code " " ∷ u)
   after-space s h = rw (past-space, ← space-passed, space-bytes) (s (pre ++ (code " " ∷ [])) turns h)
 
   start-later : Every (λ (i : Item). length pre + 1 ≤ i .start) (itemsFrom true (suc turns) unset (length pre) (code " " ∷ u))
@@ -144,7 +145,9 @@ module _ {c k d : ℕ} {t cs : List ℕ} {w : Spelling} (r : ReadAs true (c ∷ 
       record {
         kind-is = refl;
         raw-is = rw l (part-all pre (bytesOf word) (bytesOf cs));
-        text-is = λ b e. text-spelled all (r .text (length pre)) b (spells-in pre (bytesOf word) (bytesOf cs) (r .text (length pre)) (rw l at (read-inside r (length pre))) ∙ (r .spells (length pre) ∙ e));
+        text-is =
+            λ b e. text-spelled all (r .text (length pre)) b
+            (spells-in pre (bytesOf word) (bytesOf cs) (r .text (length pre)) (rw l at (read-inside r (length pre))) ∙ (r .spells (length pre) ∙ e));
       }
 
 pub word-settles : (first : Bool) {last : Bool} {c k d : ℕ} {t cs : List ℕ} {w : Spelling} → ReadAs true (c ∷ t) cs k d w
@@ -160,7 +163,8 @@ word-settles first {last} {c} {k} {d} {t} {cs} {w} r f s pre (suc turns) h =
     = rw (f e (read-from r pre), bytes-append (c ∷ t) cs) (append-assoc (gap first) (bytesOf (c ∷ t)) (bytesOf cs)) in
     rw (regrouped pre (c ∷ t) cs, r .one turns (length pre) unset)
     (subst (λ (m : ℕ). written first (e ∷ entries (all r pre) (itemsFrom true turns unset m cs)) ≡ gap first ++ bytesOf (c ∷ t ++ cs)) (further pre (c ∷ t))
-    (subst (λ (l : List ℕ). written first (e ∷ entries l (itemsFrom true turns unset (length front) cs)) ≡ gap first ++ bytesOf (c ∷ t ++ cs)) (append-assoc pre (bytesOf (c ∷ t)) (bytesOf cs)) (x ∙ y)))
+    (subst (λ (l : List ℕ). written first (e ∷ entries l (itemsFrom true turns unset (length front) cs)) ≡ gap first ++ bytesOf (c ∷ t ++ cs))
+    (append-assoc pre (bytesOf (c ∷ t)) (bytesOf cs)) (x ∙ y)))
 
 -- ---- a pair
 

@@ -21,10 +21,10 @@ use Rattle.coverage.proofs.Bytes.{bytes-append}
 use Rattle.agreement.proofs.Between.{between}
 use Rattle.items_writing.specs.Written.{Entry, escape, quoted, gap, bare, splits, identifier, wordOf, twins, joined, written}
 use Rattle.items_writing.specs.Shapes.{Shape, shape, numberOf}
-use Rattle.items_writing.proofs.Lines.{other-start}
+use Rattle.items_writing.proofs.FirstLine.{other-start}
 use Rattle.items_writing_theorems.proofs.Reading.{Reading, reading-none, reading-blank, reading-one, reading-two, nameShape}
 use Rattle.items_writing.proofs.Follows.{Follows, nothing, space}
-use Rattle.items_writing.proofs.Piecing.{written-joined, written-apart}
+use Rattle.items_writing.proofs.PieceByPiece.{written-joined, written-apart}
 use Rattle.items_writing_theorems.proofs.Settling.{Settles, Rests, ended, goes, rests-follow, ReadFrom, word-settles, pair-settles}
 use Rattle.items_writing_theorems.proofs.Quotes.{quoted-bytes, between-scalars, string-back, lined-back}
 use Rattle.items_writing.proofs.Places.{scalars-append, Stands, bare-stands, splits-reads, plus-spelled, plus-scalars, line-follows}
@@ -88,7 +88,10 @@ module _ (first last : Bool) (v : List ℕ) (h : Scalars v) where
         word = v;
         scalars = h;
         bytes-are = refl;
-        reads = λ {cs} {ss} f r. rw (x .is) (subst (λ n. Reading (x .head ∷ x .tail ++ cs) (shape kind.Identifier 0 (bytes (bytesOf (x .head ∷ x .tail))) n ∷ ss)) (name-number _) (reading-one (x .reads f) r));
+        reads =
+            λ {cs} {ss} f r. rw (x .is)
+            (subst (λ n. Reading (x .head ∷ x .tail ++ cs) (shape kind.Identifier 0 (bytes (bytesOf (x .head ∷ x .tail))) n ∷ ss)) (name-number _)
+            (reading-one (x .reads f) r));
         no-line = λ e {cs} f. rw (x .is) (x .no-line e f);
         settles = λ {cs} r. rw (x .is) (word-settles first (x .reads (rests-follow r)) (λ e q. name-again first last (bytesOf (x .head ∷ x .tail)) e q ∙ rw (x .is) at (name-bare w)) r);
       }
@@ -112,7 +115,9 @@ module _ (first last : Bool) (v : List ℕ) (h : Scalars v) where
     word = between Double (escape Double v);
     scalars = between-scalars Double v h;
     bytes-are = quoted-bytes Double v;
-    reads = λ {cs} {ss} f r. subst (λ n. Reading (between Double (escape Double v) ++ cs) (shape kind.StringLiteral 0 (bytes (bytesOf v)) n ∷ ss)) (string-number _) (reading-one (string-back v cs) r);
+    reads =
+        λ {cs} {ss} f r. subst (λ n. Reading (between Double (escape Double v) ++ cs) (shape kind.StringLiteral 0 (bytes (bytesOf v)) n ∷ ss)) (string-number _)
+        (reading-one (string-back v cs) r);
     no-line = λ e {cs} f. other-start (code "\"") _ refl;
     settles = λ {cs} r. word-settles first (string-back v cs) (λ e q. string-again first last (bytesOf v) e q ∙ quoted-bytes Double v) r;
   }
@@ -228,7 +233,8 @@ two-last : (first : Bool) {e f : Entry} {s r : Shape} → Sound false e s → So
     → Writes first (written first (e ∷ f ∷ [])) (s ∷ r ∷ [])
 unfolding written
 two-last first {e} {f} {s} {r} a b w = by-bool (joined e f)
-    (λ q. subst (λ (l : List ℕ). Writes first l (s ∷ r ∷ [])) (sym (written-joined first e f [] q ∙ append-nil (gap first ++ (e .text ++ f .text)))) (ends-with first (pair-wrote e f q first true a b)))
+    (λ q. subst (λ (l : List ℕ). Writes first l (s ∷ r ∷ [])) (sym (written-joined first e f [] q ∙ append-nil (gap first ++ (e .text ++ f .text))))
+    (ends-with first (pair-wrote e f q first true a b)))
     (λ q. subst (λ (l : List ℕ). Writes first l (s ∷ r ∷ [])) (sym (written-apart first e f [] q)) (goes-on first (word-wrote first false a) w))
 
 two-more : (first : Bool) {e f : Entry} (es : List Entry) {s r : Shape} {rs : List Shape} → Sound false e s → Sound false f r

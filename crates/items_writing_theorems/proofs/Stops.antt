@@ -25,9 +25,9 @@ use Rattle.items.specs.Machine.{stepOf, onEscape, onTrimBefore, onWord, enterWo
 use Rattle.items.specs.Readers.{SoFar, firstIs, hashKind}
 use Rattle.items.specs.Meaning.{meaningOf, wordKind, wordMeans, runMeans}
 use Rattle.items.specs.Kinds as kind
-use Rattle.items_writing.proofs.Bare.{kindIn}
+use Rattle.items_writing.proofs.ReadsBack.{kindIn}
 use Rattle.items_writing.proofs.Phases.{eats-on, stop-is, nest-eats, bar-eats, sharp-eats, quoted-eats, trim-eats, hex-eats, brace-eats, delim-eats, line-eats, then-space, enter-space}
-use Rattle.items_writing.proofs.Table.{word-number}
+use Rattle.items_writing.proofs.WordTable.{word-number}
 
 -- the item of an outcome is no error and no identifier
 abbrev pub Plainly : Outcome → List ℕ → Type 0

@@ -33,7 +33,7 @@ use Rattle.coverage.proofs.Bytes.{bytes-append}
 use Rattle.items_writing.specs.Written.{entries}
 use Rattle.items_writing.specs.Shapes.{shapes, clean}
 use Rattle.items_writing.proofs.Trace.{Traced, traced}
-use Rattle.items_writing.proofs.Bare.{kindIn}
+use Rattle.items_writing.proofs.ReadsBack.{kindIn}
 use Rattle.items_writing_theorems.proofs.Sound.{Sounds, more, one as one-sound}
 use Rattle.items_writing_theorems.proofs.Extents.{AllSound, Right, extent-sounds}
 use Rattle.items_writing_theorems.proofs.Others.{other-sound}

@@ -23,7 +23,8 @@ use Rattle.numbers.specs.declared.MaybeReal.the-variants.{AReal, NoReal}
 use Rattle.numbers.specs.declared.MaybeParts.{MaybeParts}
 use Rattle.numbers.specs.declared.MaybeParts.the-variants.{SomeParts, NoParts}
 use Rattle.numbers.specs.Reals.{exponentMarker, exponent, suffix, pointOf, dotted, undotted, decimal, infnan, integralOf, rationalOf, denominator, exact, orElse, ureal, real}
-use Rattle.numbers.specs.Grammar.{justOf, complexOf, polarOf, endsI, init, imaginary, aloneOf, pairOf, toSign, startsE, cut, rectangular, complex, zeroParts, judged, prefix, parseNumber, numeric}
+use Rattle.numbers.specs.Grammar.{justOf, complexOf, polarOf, endsI, init, imaginary, aloneOf, pairOf, toSign, startsE, cut, rectangular, complex}
+use Rattle.numbers.specs.Grammar.{zeroParts, judged, prefix, parseNumber, numeric}
 use Rattle.numbers.proofs.Cuts.{init-is}
 use Rattle.numbers.specs.AfterPlus.{isReal, isParts}
 

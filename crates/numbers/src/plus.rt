@@ -68,6 +68,7 @@ fn plus_alone(t: &[u8]) -> bool
     plus_real(t)
 }
 
+// Whether a plus and t are a number, or error 8: +5, +1/0
 pub fn plus_number(t: &[u8]) -> bool
     ensures { λ r. ⌜ r ≡ numeric (parseNumber (code "+" ∷ now (t .entry))) ⌝ }
 {

@@ -8,7 +8,7 @@ use Rattle.refusal.specs.Refusals as refusal
 use Rattle.items_writing.specs.declared.Words.{Words}
 use Rattle.items_writing.specs.Records.{countOf}
 use Rattle.items_writing.specs.Pieces.{onward}
-use Rattle.items_writing.proofs.Going.{turn-right, turn-short, turn-fits, turn-size, none-left, measured-past, measured-all}
+use Rattle.items_writing.proofs.RecordLoops.{turn-right, turn-short, turn-fits, turn-size, none-left, measured-past, measured-all}
 use Rattle.items_writing.proofs.measure.Statement.{statement}
 use Rattle.items_writing.proofs.measure.Tie as tie
 
@@ -50,10 +50,16 @@ add-n : tie.Need-add-n Inv-loop μ-loop
 add-n c =
     omega (
       arith,
-      turn-fits (c .before .before .before .turn-at .ensures) (c .before .before .words-at .ensures) (c .before .body-of .ensures) refusal.limit (omega
-          (arith, ap (λ (u : Words). u .past) (c .before .before .words-at .ensures), c .before .before .before .before .before .before .before .before .shared-slice-known .given (c .before .before .before .turn-at .result .last * 10 + 8)))
-          (omega
-          (arith, ap (λ (u : Words). u .«end») (c .before .before .words-at .ensures), c .before .before .before .before .before .before .before .before .shared-slice-known .given (c .before .before .before .turn-at .result .last * 10 + 3)))
+      turn-fits (c .before .before .before .turn-at .ensures) (c .before .before .words-at .ensures) (c .before .body-of .ensures) refusal.limit (omega (
+        arith,
+        ap (λ (u : Words). u .past) (c .before .before .words-at .ensures),
+        c .before .before .before .before .before .before .before .before .shared-slice-known .given (c .before .before .before .turn-at .result .last * 10 + 8),
+      ))
+          (omega (
+            arith,
+            ap (λ (u : Words). u .«end») (c .before .before .words-at .ensures),
+            c .before .before .before .before .before .before .before .before .shared-slice-known .given (c .before .before .before .turn-at .result .last * 10 + 3),
+          ))
           (c .piece-length .ensures),
     )
 
@@ -62,8 +68,11 @@ returns c =
     let entry = c .before .before .before .before .before .before .before .before .before .before in
     measured-past (length
     (onward (entry .args .records .now) (entry .args .source .now) (entry .args .text .now) false (c .before .before .before .before .turn-at .result .last + 1))) (c .if1 .taken)
-    (omega
-    (arith, turn-size (c .before .before .before .before .turn-at .ensures) (c .before .before .before .words-at .ensures) (c .before .before .body-of .ensures), c .before .piece-length .ensures))
+    (omega (
+      arith,
+      turn-size (c .before .before .before .before .turn-at .ensures) (c .before .before .before .words-at .ensures) (c .before .before .body-of .ensures),
+      c .before .piece-length .ensures,
+    ))
 
 add-p : tie.Need-add-p Inv-loop μ-loop
 add-p c = omega (arith, c .before .before .before .before .turn-at .ensures .inside)
@@ -75,8 +84,11 @@ loop-again : tie.Need-loop-again Inv-loop μ-loop
 loop-again c = (
   omega (arith, c .before .before .before .before .turn-at .ensures .inside),
   omega arith,
-  omega
-      (arith, turn-size (c .before .before .before .before .turn-at .ensures) (c .before .before .before .words-at .ensures) (c .before .before .body-of .ensures), c .before .piece-length .ensures),
+  omega (
+    arith,
+    turn-size (c .before .before .before .before .turn-at .ensures) (c .before .before .before .words-at .ensures) (c .before .before .body-of .ensures),
+    c .before .piece-length .ensures,
+  ),
 )
 
 returns-2 : tie.Need-returns-2 Inv-loop μ-loop

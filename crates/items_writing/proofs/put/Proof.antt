@@ -4,7 +4,7 @@ use Prim.Native.Nat.{_-_}
 use mathlib.Core.Bool.{true}
 use Rattle.items_writing.specs.Records.{countOf}
 use Rattle.items_writing.specs.Pieces.{onward}
-use Rattle.items_writing.proofs.Going.{Put, put-start, put-length, put-end, put-room, put-part, put-on, turn-right}
+use Rattle.items_writing.proofs.RecordLoops.{Put, put-start, put-length, put-end, put-room, put-part, put-on, turn-right}
 use Rattle.items_writing.proofs.put.Statement.{statement}
 use Rattle.items_writing.proofs.put.Tie as tie
 

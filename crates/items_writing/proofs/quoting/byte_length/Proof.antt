@@ -1,7 +1,7 @@
 -- Two bytes with a backslash, else one.
 use mathlib.Core.Path.{sym, ap, _∙_}
 use lib.ListN.{length}
-use Rattle.items_writing.proofs.Laid.{two-bytes, one-byte}
+use Rattle.items_writing.proofs.QuotedBytes.{two-bytes, one-byte}
 use borrow.Author.Needs.{needs}
 use Rattle.items_writing.proofs.quoting.byte_length.Statement.{statement}
 use Rattle.items_writing.proofs.quoting.byte_length.Tie as tie

@@ -5,7 +5,7 @@ use Prim.Native.Nat.{_-_, _*_, _≤_}
 use mathlib.Core.Path.{_≡_, ap, _∙_}
 use mathlib.Core.List.{[]}
 use lib.ListN.{length, getD}
-use Rattle.items_writing.proofs.Laid.{few-bytes, front, front-size, front-all, laid-start}
+use Rattle.items_writing.proofs.QuotedBytes.{few-bytes, front, front-size, front-all, laid-start}
 use Rattle.items_writing.proofs.quoting.escaped_length.Statement.{statement}
 use Rattle.items_writing.proofs.quoting.escaped_length.Tie as tie
 

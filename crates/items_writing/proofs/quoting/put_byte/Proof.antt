@@ -2,7 +2,7 @@
 use native.Mathlib.Omega.{arith}
 use mathlib.Core.Path.{refl, sym, ap, _∙_}
 use lib.ListN.{length, length-set}
-use Rattle.items_writing.proofs.Laid.{few-bytes, two-bytes, one-byte, put-one, put-two}
+use Rattle.items_writing.proofs.QuotedBytes.{few-bytes, two-bytes, one-byte, put-one, put-two}
 use borrow.Author.Needs.{needs}
 use Rattle.items_writing.proofs.quoting.put_byte.Statement.{statement}
 use Rattle.items_writing.proofs.quoting.put_byte.Tie as tie

@@ -3,7 +3,7 @@ use native.Mathlib.Omega.{arith}
 use Prim.Native.Nat.{_-_}
 use lib.ListN.{length}
 use Rattle.laws.proofs.Lent.{length-part}
-use Rattle.items_writing.proofs.Laid.{Laid, laid-start, laid-length, laid-room, laid-on, laid-end, laid-size}
+use Rattle.items_writing.proofs.QuotedBytes.{Laid, laid-start, laid-length, laid-room, laid-on, laid-end, laid-size}
 use Rattle.items_writing.proofs.quoting.put_escaped.Statement.{statement}
 use Rattle.items_writing.proofs.quoting.put_escaped.Tie as tie
 

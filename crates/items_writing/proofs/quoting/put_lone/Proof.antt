@@ -1,7 +1,7 @@
 -- One store or none.
 use native.Mathlib.Omega.{arith}
 use mathlib.Core.Path.{refl}
-use Rattle.items_writing.proofs.Laid.{put-one}
+use Rattle.items_writing.proofs.QuotedBytes.{put-one}
 use borrow.Author.Needs.{needs}
 use Rattle.items_writing.proofs.quoting.put_lone.Statement.{statement}
 use Rattle.items_writing.proofs.quoting.put_lone.Tie as tie

@@ -4,7 +4,7 @@ use mathlib.Core.Path.{_≡_, refl}
 use lib.ListN.{length, take, length-set}
 use native.Mathlib.Omega.{arith}
 use Rattle.laws.specs.Lent.{written}
-use Rattle.items_writing.proofs.Laid.{copied-on, copied-all}
+use Rattle.items_writing.proofs.QuotedBytes.{copied-on, copied-all}
 use Rattle.items_writing.proofs.quoting.put_plain.Statement.{statement}
 use Rattle.items_writing.proofs.quoting.put_plain.Tie as tie
 
@@ -31,8 +31,12 @@ loop-less c = omega arith
 
 loop-again : tie.Need-loop-again Inv-loop μ-loop
 loop-again c =
-    let entry = c .before .before .before in
-    (omega arith, simp length-set (omega arith), copied-on (entry .args .t .now) (entry .args .out .now) (c .before .before .loop .i) (c .before .before .loop .inv .2) (omega arith) (omega arith))
+    let entry = c .before .before .before in (
+      omega arith,
+      simp length-set (omega arith),
+      copied-on (entry .args .t .now) (entry .args .out .now) (c .before .before .loop .i)
+          (c .before .before .loop .inv .2) (omega arith) (omega arith),
+    )
 
 same-length : tie.Need-same-length Inv-loop μ-loop
 same-length c = omega arith

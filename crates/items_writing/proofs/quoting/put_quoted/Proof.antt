@@ -2,7 +2,7 @@
 use native.Mathlib.Omega.{arith}
 use mathlib.Core.List.{[], _∷_}
 use Rattle.items_writing.specs.Pieces.{escapedBy}
-use Rattle.items_writing.proofs.Laid.{first-room, first-part, second-room, second-part, third-is, third-size}
+use Rattle.items_writing.proofs.QuotedBytes.{first-room, first-part, second-room, second-part, third-is, third-size}
 use borrow.Author.Needs.{needs}
 use Rattle.items_writing.proofs.quoting.put_quoted.Statement.{statement}
 use Rattle.items_writing.proofs.quoting.put_quoted.Tie as tie

@@ -2,7 +2,7 @@
 use mathlib.Core.Path.{ap}
 use lib.ListN.{length}
 use native.Mathlib.Omega.{arith}
-use Rattle.items_writing.proofs.Laid.{quoted-by}
+use Rattle.items_writing.proofs.QuotedBytes.{quoted-by}
 use borrow.Author.Needs.{needs}
 use Rattle.items_writing.proofs.quoting.put_shown.Statement.{statement}
 use Rattle.items_writing.proofs.quoting.put_shown.Tie as tie

@@ -2,7 +2,7 @@
 use native.Mathlib.Omega.{arith}
 use mathlib.Core.Path.{ap}
 use lib.ListN.{length}
-use Rattle.items_writing.proofs.Laid.{quoted-size, quoted-by}
+use Rattle.items_writing.proofs.QuotedBytes.{quoted-size, quoted-by}
 use borrow.Author.Needs.{needs}
 use Rattle.items_writing.proofs.quoting.shown_length.Statement.{statement}
 use Rattle.items_writing.proofs.quoting.shown_length.Tie as tie

@@ -1,6 +1,6 @@
 -- By the kind.
 use borrow.Author.Tests.{eq-eqb, ne-eqb}
-use Rattle.items_writing.proofs.Rights.{right-is}
+use Rattle.items_writing.proofs.RightRecords.{right-is}
 use borrow.Author.Needs.{needs}
 use Rattle.items_writing.proofs.records.body_of.Statement.{statement}
 use Rattle.items_writing.proofs.records.body_of.Tie as tie

@@ -1,5 +1,5 @@
 -- The three ranges of kinds.
-use Rattle.items_writing.proofs.Rights.{kind-low, kind-between, kind-error}
+use Rattle.items_writing.proofs.RightRecords.{kind-low, kind-between, kind-error}
 use Rattle.items_writing.proofs.records.is_kind.Statement.{statement}
 use Rattle.items_writing.proofs.records.is_kind.Tie as tie
 

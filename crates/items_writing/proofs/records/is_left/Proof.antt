@@ -1,5 +1,5 @@
 -- An error or a comment.
-use Rattle.items_writing.proofs.Rights.{left-error, left-comment}
+use Rattle.items_writing.proofs.RightRecords.{left-error, left-comment}
 use Rattle.items_writing.proofs.records.is_left.Statement.{statement}
 use Rattle.items_writing.proofs.records.is_left.Tie as tie
 

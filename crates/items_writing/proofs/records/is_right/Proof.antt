@@ -1,7 +1,7 @@
 -- The three tests of the definition in their order; a text that is all of its extent is whole with it (law `extent-right`).
 use mathlib.Core.Path.{sym, _∙_}
 use Rattle.items_writing.specs.Records.{isRight}
-use Rattle.items_writing.proofs.Rights.{extent-right}
+use Rattle.items_writing.proofs.RightRecords.{extent-right}
 use borrow.Author.Needs.{needs}
 use Rattle.items_writing.proofs.records.is_right.Statement.{statement}
 use Rattle.items_writing.proofs.records.is_right.Tie as tie

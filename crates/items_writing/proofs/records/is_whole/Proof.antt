@@ -1,6 +1,6 @@
 -- The places first, then the characters.
 use native.Mathlib.Omega.{arith}
-use Rattle.items_writing.proofs.Rights.{whole-back, whole-past, whole-good, whole-bad}
+use Rattle.items_writing.proofs.RightRecords.{whole-back, whole-past, whole-good, whole-bad}
 use borrow.Author.Needs.{needs}
 use Rattle.items_writing.proofs.records.is_whole.Statement.{statement}
 use Rattle.items_writing.proofs.records.is_whole.Tie as tie

@@ -6,7 +6,7 @@ use native.Mathlib.Omega.{arith}
 use borrow.Author.Needs.{needs}
 use Rattle.items_writing.specs.declared.Words.{Words}
 use Rattle.items_writing.specs.Records.{countOf, isRight, isLeft}
-use Rattle.items_writing.proofs.Rights.{judged, judged-alien, judged-left, judged-on, judged-end}
+use Rattle.items_writing.proofs.RightRecords.{judged, judged-alien, judged-left, judged-on, judged-end}
 use Rattle.items_writing.proofs.records.judge.Statement.{statement}
 use Rattle.items_writing.proofs.records.judge.Tie as tie
 

@@ -1,6 +1,6 @@
 -- A part that is whole characters is there.
 use native.Mathlib.Omega.{arith}
-use Rattle.items_writing.proofs.Rights.{whole-is}
+use Rattle.items_writing.proofs.RightRecords.{whole-is}
 use borrow.Author.Needs.{needs}
 use Rattle.items_writing.proofs.records.part.Statement.{statement}
 use Rattle.items_writing.proofs.records.part.Tie as tie

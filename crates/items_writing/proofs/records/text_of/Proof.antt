@@ -1,7 +1,7 @@
 -- Each text source is a case of the definition.
 use borrow.Author.Tests.{eq-eqb, ne-eqb}
 use Rattle.items_writing.specs.Records.{textOf}
-use Rattle.items_writing.proofs.Rights.{right-is, text-in-source, text-in-memory}
+use Rattle.items_writing.proofs.RightRecords.{right-is, text-in-source, text-in-memory}
 use borrow.Author.Needs.{needs}
 use Rattle.items_writing.proofs.records.text_of.Statement.{statement}
 use Rattle.items_writing.proofs.records.text_of.Tie as tie

@@ -3,8 +3,8 @@ use mathlib.Core.Path.{ap, _∙_}
 use borrow.Author.Tests.{not-true, not-false}
 use Rattle.chars.specs.Utf8.{firstBad}
 use Rattle.items_writing.specs.Records.{entryOf}
-use Rattle.items_writing.proofs.Rights.{right-is, text-good}
-use Rattle.items_writing.proofs.Piecing.{apart-first, apart-second, apart-start, apart-end, apart-text, joined-so}
+use Rattle.items_writing.proofs.RightRecords.{right-is, text-good}
+use Rattle.items_writing.proofs.PieceByPiece.{apart-first, apart-second, apart-start, apart-end, apart-text, joined-so}
 use borrow.Author.Needs.{needs}
 use Rattle.items_writing.proofs.turning.joins.Statement.{statement}
 use Rattle.items_writing.proofs.turning.joins.Tie as tie

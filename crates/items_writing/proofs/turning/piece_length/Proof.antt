@@ -5,7 +5,7 @@ use mathlib.Core.List.{_++_}
 use lib.ListN.{length-append}
 use Rattle.laws.specs.Quoted.{code}
 use Rattle.items_writing.specs.Pieces.{lone, shown, piece}
-use Rattle.items_writing.proofs.Laid.{lone-few, shown-few}
+use Rattle.items_writing.proofs.QuotedBytes.{lone-few, shown-few}
 use borrow.Author.Needs.{needs}
 use Rattle.items_writing.proofs.turning.piece_length.Statement.{statement}
 use Rattle.items_writing.proofs.turning.piece_length.Tie as tie

@@ -3,7 +3,7 @@ use native.Mathlib.Omega.{arith}
 use mathlib.Core.Bool.{not}
 use Rattle.laws.specs.Quoted.{code}
 use Rattle.items_writing.specs.Pieces.{lone, shown, piece}
-use Rattle.items_writing.proofs.Laid.{sizes, first-room, first-part, second-room, second-part, third-is, third-length, third-size}
+use Rattle.items_writing.proofs.QuotedBytes.{sizes, first-room, first-part, second-room, second-part, third-is, third-length, third-size}
 use borrow.Author.Needs.{needs}
 use Rattle.items_writing.proofs.turning.put_piece.Statement.{statement}
 use Rattle.items_writing.proofs.turning.put_piece.Tie as tie
@@ -12,8 +12,11 @@ put-lone-requires : tie.Need-put-lone-requires
 unfolding piece
 put-lone-requires c κs =
     let entry = c .before .before .before in
-    omega
-    (arith, sizes (lone (not (entry .args .first)) (code " ")) (lone (entry .args .turn .pair) (code "+")) (shown (entry .args .turn .form) (entry .args .t .now)) (entry .args .out .now) (entry .pre))
+    omega (
+      arith,
+      sizes (lone (not (entry .args .first)) (code " ")) (lone (entry .args .turn .pair) (code "+")) (shown (entry .args .turn .form) (entry .args .t .now))
+          (entry .args .out .now) (entry .pre),
+    )
 
 sub-put-lone : tie.Need-sub-put-lone
 unfolding piece

@@ -3,8 +3,8 @@ use native.Mathlib.Omega.{arith}
 use mathlib.Core.Path.{ap, _∙_}
 use Rattle.chars.specs.Utf8.{firstBad}
 use Rattle.items_writing.specs.Records.{isRight}
-use Rattle.items_writing.proofs.Rights.{right-at, body-good}
-use Rattle.items_writing.proofs.Piecing.{here-right, said-pair, said-more, said-last}
+use Rattle.items_writing.proofs.RightRecords.{right-at, body-good}
+use Rattle.items_writing.proofs.PieceByPiece.{here-right, said-pair, said-more, said-last}
 use borrow.Author.Needs.{needs}
 use Rattle.items_writing.proofs.turning.turn_at.Statement.{statement}
 use Rattle.items_writing.proofs.turning.turn_at.Tie as tie

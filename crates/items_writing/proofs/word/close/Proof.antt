@@ -3,7 +3,7 @@ use lib.ListN.{length}
 use denote.Ref.{now}
 use Rattle.items.specs.Readers.{soFar}
 use borrow.Author.Needs.{needs}
-use Rattle.items_writing.proofs.Turns.{word-closes, run-closes}
+use Rattle.items_writing.proofs.WordTurns.{word-closes, run-closes}
 use Rattle.items_writing.proofs.word.close.Statement.{statement}
 use Rattle.items_writing.proofs.word.close.Tie as tie
 

@@ -4,7 +4,7 @@ use native.Mathlib.Omega.{arith}
 use native.Mathlib.Nat.{le-refl}
 use Rattle.laws.specs.Quoted.{code}
 use Rattle.chars.proofs.Width.{width-le}
-use Rattle.items_writing.proofs.Turns.{close-last, close-eat, close-stop}
+use Rattle.items_writing.proofs.WordTurns.{close-last, close-eat, close-stop}
 use borrow.Author.Needs.{needs}
 use Rattle.items_writing.proofs.word.close_step.Statement.{statement}
 use Rattle.items_writing.proofs.word.close_step.Tie as tie

@@ -1,6 +1,6 @@
 -- A case for each outcome.
 use Rattle.items_writing.specs.Decide.{isName}
-use Rattle.items_writing.proofs.Turns.{name-number, name-none, name-zero}
+use Rattle.items_writing.proofs.WordTurns.{name-number, name-none, name-zero}
 use borrow.Author.Needs.{needs}
 use Rattle.items_writing.proofs.word.is_name.Statement.{statement}
 use Rattle.items_writing.proofs.word.is_name.Tie as tie

@@ -1,6 +1,6 @@
 -- A word of the table, a word of one byte, any other by its first byte.
 use native.Mathlib.Omega.{arith}
-use Rattle.items_writing.proofs.Turns.{name-kind, name-short, name-long}
+use Rattle.items_writing.proofs.WordTurns.{name-kind, name-short, name-long}
 use borrow.Author.Needs.{needs}
 use Rattle.items_writing.proofs.word.name_word.Statement.{statement}
 use Rattle.items_writing.proofs.word.name_word.Tie as tie

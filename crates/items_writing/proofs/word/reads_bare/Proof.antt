@@ -4,7 +4,7 @@ use native.Mathlib.Omega.{arith}
 use denote.Ref.{now}
 use Rattle.chars.proofs.Chars.{char-at}
 use Rattle.steps.proofs.Turn.{none-bad, none-cut, none-end}
-use Rattle.items_writing.proofs.Bares.{bare-blank, bare-line, bare-ends, bare-apart, bare-none, first-flat}
+use Rattle.items_writing.proofs.WordBranches.{bare-blank, bare-line, bare-ends, bare-apart, bare-none, first-flat}
 use borrow.Author.Needs.{needs}
 use Rattle.items_writing.proofs.word.reads_bare.Statement.{statement}
 use Rattle.items_writing.proofs.word.reads_bare.Tie as tie

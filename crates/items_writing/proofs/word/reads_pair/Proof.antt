@@ -7,7 +7,7 @@ use lib.ListN.{length, take, drop, length-drop}
 use lib.Seq.{length-take-le, take-all}
 use native.Mathlib.Omega.{arith}
 use borrow.Author.Needs.{needs}
-use Rattle.items_writing.proofs.Paired.{run-inside, line-there, pair-number, pair-lined, pair-ends, pair-apart}
+use Rattle.items_writing.proofs.PairDecided.{run-inside, line-there, pair-number, pair-lined, pair-ends, pair-apart}
 use Rattle.items_writing.proofs.word.reads_pair.Statement.{statement}
 use Rattle.items_writing.proofs.word.reads_pair.Tie as tie
 
@@ -28,13 +28,18 @@ plus-number-requires c κs = search needs
 returns : tie.Need-returns
 returns c =
     let entry = c .before .before .before .before .before .before .before in
-    pair-number (entry .args .t .now) (entry .pre) _ (c .before .before .before .before .before .ascii-run .ensures) (sym (c .before .before .before .if1 .taken) ∙ c .before .before .before .before .starts-at .ensures) (sym (c .if2 .taken) ∙ c .before .plus-number .ensures)
+    pair-number (entry .args .t .now) (entry .pre) _ (c .before .before .before .before .before .ascii-run .ensures)
+    (sym (c .before .before .before .if1 .taken) ∙ c .before .before .before .before .starts-at .ensures) (sym (c .if2 .taken) ∙ c .before .plus-number .ensures)
 
 sub-reads-lined : tie.Need-sub-reads-lined
-sub-reads-lined c = let entry = c .before .before .before .before .before .before .before in run-inside (entry .args .t .now) (entry .pre) _ (c .before .before .before .before .before .ascii-run .ensures)
+sub-reads-lined c =
+    let entry = c .before .before .before .before .before .before .before in run-inside (entry .args .t .now) (entry .pre) _
+    (c .before .before .before .before .before .ascii-run .ensures)
 
 part-reads-lined-start : tie.Need-part-reads-lined-start
-part-reads-lined-start c = let entry = c .before .before .before .before .before .before .before in run-inside (entry .args .t .now) (entry .pre) _ (c .before .before .before .before .before .ascii-run .ensures)
+part-reads-lined-start c =
+    let entry = c .before .before .before .before .before .before .before in run-inside (entry .args .t .now) (entry .pre) _
+    (c .before .before .before .before .before .ascii-run .ensures)
 
 part-reads-lined-end : tie.Need-part-reads-lined-end
 part-reads-lined-end c = search needs
@@ -48,13 +53,15 @@ reads-lined-requires c κs =
     let entry = c .before .before .before .before .before .before .before .before in
     let k = c .before .before .before .before .before .before .ascii-run .result in
     subst (λ (l : List ℕ). 1 ≤ length l) (sym (from-k (entry .args .t .now) k))
-    (line-there (entry .args .t .now) (entry .pre) k (c .before .before .before .before .before .before .ascii-run .ensures) (sym (c .before .before .before .before .if1 .taken) ∙ c .before .before .before .before .before .starts-at .ensures))
+    (line-there (entry .args .t .now) (entry .pre) k (c .before .before .before .before .before .before .ascii-run .ensures)
+    (sym (c .before .before .before .before .if1 .taken) ∙ c .before .before .before .before .before .starts-at .ensures))
 
 returns-2 : tie.Need-returns-2
 returns-2 c =
     let entry = c .before .before .before .before .before .before .before .before .before in
     let k = c .before .before .before .before .before .before .before .ascii-run .result in
-    pair-lined (entry .args .t .now) (entry .pre) k (c .before .before .before .before .before .before .before .ascii-run .ensures) (sym (c .before .before .before .before .before .if1 .taken) ∙ c .before .before .before .before .before .before .starts-at .ensures)
+    pair-lined (entry .args .t .now) (entry .pre) k (c .before .before .before .before .before .before .before .ascii-run .ensures)
+    (sym (c .before .before .before .before .before .if1 .taken) ∙ c .before .before .before .before .before .before .starts-at .ensures)
     (sym (c .before .before .if2 .left) ∙ c .before .before .before .plus-number .ensures) (from-k (entry .args .t .now) k) (c .reads-lined .ensures)
 
 stand-on-requires : tie.Need-stand-on-requires
@@ -72,13 +79,17 @@ enum-told c = search needs
 returns-3 : tie.Need-returns-3
 returns-3 c =
     let entry = c .before .before .before .before .before .before .before .before .before in
-    pair-ends (entry .args .t .now) (entry .pre) _ (c .before .before .before .before .before .before .before .ascii-run .ensures) (c .before .before .before .before .stand-on .ensures) (sym (c .before .before .before .before .before .if1 .left) ∙ c .before .before .before .before .before .before .starts-at .ensures) (c .before .before .what .given .1)
+    pair-ends (entry .args .t .now) (entry .pre) _ (c .before .before .before .before .before .before .before .ascii-run .ensures)
+    (c .before .before .before .before .stand-on .ensures)
+    (sym (c .before .before .before .before .before .if1 .left) ∙ c .before .before .before .before .before .before .starts-at .ensures)
+    (c .before .before .what .given .1)
     (c .is-pair-of .ensures)
 
 returns-4 : tie.Need-returns-4
 returns-4 c =
     let entry = c .before .before .before .before .before .before .before in
-    pair-apart (entry .args .t .now) (entry .pre) _ (c .before .before .before .before .before .ascii-run .ensures) (c .before .before .stand-on .ensures) (sym (c .before .before .before .if1 .left) ∙ c .before .before .before .before .starts-at .ensures) (c .enum-told .given .1)
+    pair-apart (entry .args .t .now) (entry .pre) _ (c .before .before .before .before .before .ascii-run .ensures) (c .before .before .stand-on .ensures)
+    (sym (c .before .before .before .if1 .left) ∙ c .before .before .before .before .starts-at .ensures) (c .enum-told .given .1)
 
 pub reads-pair-spec : {M : Type 1} → statement M
 reads-pair-spec =

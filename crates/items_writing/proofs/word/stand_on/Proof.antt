@@ -10,7 +10,7 @@ use Rattle.chars.proofs.Chars.{char-at}
 use Rattle.chars.proofs.Width.{wide}
 use Rattle.items.specs.Machine.{depthOf}
 use Rattle.steps.proofs.Turn.{none-bad, none-cut, none-end}
-use Rattle.items_writing.proofs.Turns.{onward, go-eat, go-stop, go-deep, go-run, go-out, go-closed, front-length}
+use Rattle.items_writing.proofs.WordTurns.{onward, go-eat, go-stop, go-deep, go-run, go-out, go-closed, front-length}
 use Rattle.items_writing.proofs.word.stand_on.Statement.{statement}
 use Rattle.items_writing.proofs.word.stand_on.Tie as tie
 

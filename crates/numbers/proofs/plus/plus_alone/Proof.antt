@@ -1,3 +1,4 @@
+-- With an `i` at the end, what stands before it is the imaginary part, and nothing is one (`+i`); without one, the real.
 use native.Mathlib.Omega.{arith}
 use lib.Seq.{length-take-le}
 use mathlib.Core.Path.{refl, sym, _∙_}
@@ -23,7 +24,9 @@ plus-real-requires : tie.Need-plus-real-requires
 plus-real-requires c κs = search needs
 
 returns-2 : tie.Need-returns-2
-returns-2 c = alone-more _ (sym (c .before .before .before .if1 .taken) ∙ c .before .before .before .before .ends-i .ensures) refl (c .before .before .if2 .left) (c .plus-real .ensures)
+returns-2 c =
+    alone-more _ (sym (c .before .before .before .if1 .taken) ∙ c .before .before .before .before .ends-i .ensures) refl (c .before .before .if2 .left)
+    (c .plus-real .ensures)
 
 plus-real-requires-2 : tie.Need-plus-real-requires-2
 plus-real-requires-2 c κs = search needs

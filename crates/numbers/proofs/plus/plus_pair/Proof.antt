@@ -1,3 +1,4 @@
+-- Both parts must be there; whether the second is a real does not rest on its place (law `imaginary-moved`).
 use borrow.Author.Needs.{needs}
 use native.Mathlib.Omega.{arith}
 use lib.Seq.{length-take-le}
@@ -28,10 +29,15 @@ is-real-requires : tie.Need-is-real-requires
 is-real-requires c κs = search needs
 
 returns : tie.Need-returns
-returns c = pair-second _ _ (sym (c .before .before .before .before .before .before .if1 .taken) ∙ c .before .before .before .before .before .before .before .ends-i .ensures) (c .before .before .before .before .plus-real .ensures) (c .before .before .before .if2 .taken) (c .before .before .before .before .before .before .before .before .before .pre) (c .before .imaginary-at .ensures) (c .is-real .ensures)
+returns c =
+    pair-second _ _ (sym (c .before .before .before .before .before .before .if1 .taken) ∙
+    c .before .before .before .before .before .before .before .ends-i .ensures) (c .before .before .before .before .plus-real .ensures)
+    (c .before .before .before .if2 .taken) (c .before .before .before .before .before .before .before .before .before .pre) (c .before .imaginary-at .ensures)
+    (c .is-real .ensures)
 
 returns-2 : tie.Need-returns-2
-returns-2 c = pair-first _ _ (sym (c .before .before .before .if1 .taken) ∙ c .before .before .before .before .ends-i .ensures) (c .before .plus-real .ensures) (c .if2 .left)
+returns-2 c =
+    pair-first _ _ (sym (c .before .before .before .if1 .taken) ∙ c .before .before .before .before .ends-i .ensures) (c .before .plus-real .ensures) (c .if2 .left)
 
 returns-3 : tie.Need-returns-3
 returns-3 c = pair-none _ _ (sym (c .if1 .left) ∙ c .before .ends-i .ensures)

@@ -1,3 +1,4 @@
+-- The two words after a sign, or a real without one (law `ureal-moved`: whether there is one does not rest on its place).
 use mathlib.Core.Path.{sym, _∙_}
 use Rattle.numbers.proofs.AfterPlus.{real-infinite, real-nan, real-unsigned}
 use borrow.Author.Needs.{needs}
@@ -20,7 +21,9 @@ equal-from-requires-2 : tie.Need-equal-from-requires-2
 equal-from-requires-2 c κs = search needs
 
 returns-2 : tie.Need-returns-2
-returns-2 c = real-nan _ (sym (c .before .before .before .if1 .left) ∙ c .before .before .before .before .equal-from .ensures) (sym (c .if2 .taken) ∙ c .before .equal-from2 .ensures)
+returns-2 c =
+    real-nan _ (sym (c .before .before .before .if1 .left) ∙ c .before .before .before .before .equal-from .ensures)
+    (sym (c .if2 .taken) ∙ c .before .equal-from2 .ensures)
 
 ureal-at-requires : tie.Need-ureal-at-requires
 ureal-at-requires c κs = search needs
@@ -29,7 +32,9 @@ is-real-requires : tie.Need-is-real-requires
 is-real-requires c κs = search needs
 
 returns-3 : tie.Need-returns-3
-returns-3 c = real-unsigned _ (sym (c .before .before .before .before .before .if1 .left) ∙ c .before .before .before .before .before .before .equal-from .ensures) (sym (c .before .before .if2 .left) ∙ c .before .before .before .equal-from2 .ensures) (c .before .ureal-at .ensures) (c .is-real .ensures)
+returns-3 c =
+    real-unsigned _ (sym (c .before .before .before .before .before .if1 .left) ∙ c .before .before .before .before .before .before .equal-from .ensures)
+    (sym (c .before .before .if2 .left) ∙ c .before .before .before .equal-from2 .ensures) (c .before .ureal-at .ensures) (c .is-real .ensures)
 
 pub plus-real-spec : {M : Type 1} → statement M
 plus-real-spec =

@@ -224,7 +224,12 @@ module _ (c : ℕ) (t : List ℕ) (last : Bool) (a turns : ℕ) where
   word-nonblank : isWord a word-end (itemsFrom true (suc turns) unset a (c ∷ t ++ gap last)) ≡ true → isBlank c ≡ false
   unfolding itemsFrom
   word-nonblank w = by-bool (isBlank c)
-      (λ b. absurd (omega (arith, wide c, word-starts (a + width c) a word-end (itemsFrom true turns unset (a + width c) (t ++ gap last)) (later turns (a + width c) (t ++ gap last)) (rw (b, itemsFrom) at w))))
+      (λ b. absurd (omega (
+        arith,
+        wide c,
+        word-starts (a + width c) a word-end (itemsFrom true turns unset (a + width c) (t ++ gap last))
+            (later turns (a + width c) (t ++ gap last)) (rw (b, itemsFrom) at w),
+      )))
       (λ b. b)
 
   -- what one extent was read, and what it means
@@ -286,7 +291,8 @@ module _ (t : List ℕ) (turns : ℕ) where
       let ms : List Meaning = meaningOf true (r .what) 0 (r .item .at) (r .item .bytes) in
       let f : OneOrTwo (extentItems true unset 0 (r .what) (r .item)) = few-items true unset 0 (r .what) (r .item) in
       let l : length (itemsOf true p 0 (r .item .at) ms) ≡ length ms = items-length true 0 (r .item .at) p ms in
-      let x = two-words p (r .item .at) pair-end ms (itemsFrom true turns p (r .item .at) (r .rest)) (omega (arith, f .0)) (read-forward true 0 (code "+") (t ++ gap false)) (after-later turns 0 (code "+") (t ++ gap false)) w in
+      let x = two-words p (r .item .at) pair-end ms (itemsFrom true turns p (r .item .at) (r .rest)) (omega (arith, f .0))
+      (read-forward true 0 (code "+") (t ++ gap false)) (after-later turns 0 (code "+") (t ++ gap false)) w in
       record { ends = x .0; meant = x .1 }
 
   -- before a space, and also at the end

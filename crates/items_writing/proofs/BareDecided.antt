@@ -40,9 +40,9 @@ use Rattle.items_writing.specs.declared.Stand.{Stand}
 use Rattle.items_writing.specs.declared.Stand.the-variants.{Ends, Apart}
 use Rattle.items_writing.specs.Written.{gap, isPart, isWord, bare}
 use Rattle.items_writing.specs.Decide.{closeOf, standFrom, nameWord, nameRun, isName, standsAs, decide}
-use Rattle.items_writing.proofs.Bare.{later, word-starts}
+use Rattle.items_writing.proofs.ReadsBack.{later, word-starts}
 use Rattle.items_writing.proofs.Places.{first-items, bare-empty, tested}
-use Rattle.items_writing.proofs.Lines.{line-gap, from-start}
+use Rattle.items_writing.proofs.FirstLine.{line-gap, from-start}
 use Rattle.items_writing.proofs.Moved.{bald, flat, next, steps-alike, finish-flat}
 
 -- ---- what an extent's items say

@@ -18,7 +18,7 @@ use Rattle.items_writing.specs.declared.Words.{Words}
 use Rattle.items_writing.specs.Written.{Entry, gap, bare, splits, identifier, wordOf, twins, joined, written}
 use Rattle.items_writing.specs.Records.{countOf, wordsAt, rest, recordsIn, isRight, entryOf, entriesOf}
 use Rattle.items_writing.specs.Pieces.{bodyOf, formFor, shown, lone, piece, AllRight, entryAt, onward, TurnSaid}
-use Rattle.items_writing.proofs.Rights.{rest-cons, rest-end, right-at}
+use Rattle.items_writing.proofs.RightRecords.{rest-cons, rest-end, right-at}
 
 -- ---- two entries in a row
 
@@ -160,7 +160,8 @@ module _ (records source text : List ℕ) (first : Bool) (p : ℕ) (h : p < coun
     form-is = x ∙ (ap (formFor (w .kind) first last) y ∙ ap (λ (u : Words). formFor (u .kind) first last (bodyOf (entryOf source text u))) e)
 
     said : onward records source text first p
-        ≡ piece first false (formFor (wordsAt records p .kind) first last (bodyOf (entryAt records source text p))) (bodyOf (entryAt records source text p)) ++ onward records source text false (p + 1)
+        ≡ piece first false (formFor (wordsAt records p .kind) first last (bodyOf (entryAt records source text p))) (bodyOf (entryAt records source text p)) ++
+        onward records source text false (p + 1)
         → TurnSaid records source text first p (record { last = p; pair = false; form = f })
     said g = record {
       from = omega arith;

@@ -26,9 +26,9 @@ use Rattle.items_writing.specs.declared.Stand.the-variants.{Ends, Apart}
 use Rattle.items_writing.specs.Written.{bare}
 use Rattle.items_writing.specs.Decide.{standFrom, standsAs, isName, decide}
 use Rattle.agreement.proofs.Bytes.{bytes-ascii}
-use Rattle.items_writing.proofs.Lines.{first-is}
-use Rattle.items_writing.proofs.Table.{line-chars}
-use Rattle.items_writing.proofs.Decided.{bare-decided}
+use Rattle.items_writing.proofs.FirstLine.{first-is}
+use Rattle.items_writing.proofs.WordTable.{line-chars}
+use Rattle.items_writing.proofs.BareDecided.{bare-decided}
 
 -- `#!` is seen in the bytes and in the characters alike
 begins-first : (x : ℕ) (p l : List ℕ) → begins (x ∷ p) l ≡ true → (firstIs x l ≡ true) × (begins p (drop 1 l) ≡ true)
@@ -100,7 +100,9 @@ module _ (s : List ℕ) (good : firstBad s ≡ Good) (first last : Bool) where
     -- what the loop said, and the answer that goes with it
     pub bare-ends : {p : Phase} {w : Stand} {o : Outcome} {r : Bool} → isBlank c ≡ false → (first && begins (codes "#!") s) ≡ false
         → p ≡ onFirst (firstOf c) → w ≡ standFrom last p (soFar (take next s) next) (chars (drop next s)) → w ≡ Ends o → r ≡ isName o s → r ≡ bare first last s
-    bare-ends {p} {w} {o} {r} b f q e g h = bare-stands b f (h ∙ (ap (λ (x : Stand). standsAs x s) (sym g ∙ (e ∙ ap (λ (x : Phase). standFrom last x (soFar (take next s) next) (chars (drop next s))) q))))
+    bare-ends {p} {w} {o} {r} b f q e g h =
+        bare-stands b f (h ∙ (ap (λ (x : Stand). standsAs x s)
+        (sym g ∙ (e ∙ ap (λ (x : Phase). standFrom last x (soFar (take next s) next) (chars (drop next s))) q))))
 
     pub bare-apart : {p : Phase} {w : Stand} → isBlank c ≡ false → (first && begins (codes "#!") s) ≡ false
         → p ≡ onFirst (firstOf c) → w ≡ standFrom last p (soFar (take next s) next) (chars (drop next s)) → w ≡ Apart → false ≡ bare first last s

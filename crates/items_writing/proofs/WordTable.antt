@@ -18,7 +18,7 @@ use Rattle.numbers.specs.declared.Parsed.the-variants.{NoNumber}
 use Rattle.items.specs.Meaning.{Row, lookup, words, wordKind}
 use Rattle.items.specs.Kinds as kind
 use Rattle.items.proofs.Every.{Every}
-use Rattle.items_writing.proofs.Lines.{other-start, other-next, lone-start}
+use Rattle.items_writing.proofs.FirstLine.{other-start, other-next, lone-start}
 
 -- what holds of every row's text holds of a text that has a row
 lookup-row : (P : List ℕ → Type 0) (rows : List Row) (raw : List ℕ) (n : ℕ) → Every (λ (r : Row). P (r .text)) rows → eqb (lookup rows raw n) n ≡ false → P raw
@@ -29,7 +29,9 @@ lookup-row P (r ∷ rs) raw n h e = by-bool (same raw (r .text))
     (λ f. lookup-row P rs raw n (h .1) (rw f at e))
 
 rows-numbers : Every (λ (r : Row). parseNumber (r .text) ≡ NoNumber) words
-unfolding words span starts begins same utf8 bytesOf within digitOf sign uinteger value fit signed wholeOf integer exponentMarker exponent suffix pointOf dotted undotted decimal infnan integralOf rationalOf denominator exact orElse ureal real justOf complexOf polarOf endsI imaginary aloneOf pairOf toSign startsE rectangular complex zeroInt zeroReal zeroParts judged radixMark prefix parseNumber
+unfolding words span starts begins same utf8 bytesOf within digitOf sign uinteger value fit signed wholeOf integer exponentMarker exponent suffix pointOf dotted
+    undotted decimal infnan integralOf rationalOf denominator exact orElse ureal real justOf complexOf polarOf endsI imaginary aloneOf pairOf toSign startsE rectangular
+    complex zeroInt zeroReal zeroParts judged radixMark prefix parseNumber
 rows-numbers = (refl, (refl, (refl, (refl, (refl, (refl, (refl, (refl, (refl, (refl, (refl, (refl, (refl, (refl, (refl, (refl, (refl, (refl, (refl, tt)))))))))))))))))))
 
 rows-lines : Every (λ (r : Row). begins (codes "#!") (r .text) ≡ false) words
@@ -70,12 +72,18 @@ lookup-number P (r ∷ rs) raw n h e = if-all P (same raw (r .text)) (h .0) (loo
 
 pub word-no-string : (raw : List ℕ) → eqb (wordKind raw) kind.StringLiteral ≡ false
 unfolding wordKind words
-word-no-string raw = lookup-number (λ (n : ℕ). eqb n kind.StringLiteral ≡ false) words raw kind.Identifier (refl, (refl, (refl, (refl, (refl, (refl, (refl, (refl, (refl, (refl, (refl, (refl, (refl, (refl, (refl, (refl, (refl, (refl, (refl, tt))))))))))))))))))) refl
+word-no-string raw =
+    lookup-number (λ (n : ℕ). eqb n kind.StringLiteral ≡ false) words raw kind.Identifier
+    (refl, (refl, (refl, (refl, (refl, (refl, (refl, (refl, (refl, (refl, (refl, (refl, (refl, (refl, (refl, (refl, (refl, (refl, (refl, tt))))))))))))))))))) refl
 
 pub word-no-keyword : (raw : List ℕ) → eqb (wordKind raw) kind.Keyword ≡ false
 unfolding wordKind words
-word-no-keyword raw = lookup-number (λ (n : ℕ). eqb n kind.Keyword ≡ false) words raw kind.Identifier (refl, (refl, (refl, (refl, (refl, (refl, (refl, (refl, (refl, (refl, (refl, (refl, (refl, (refl, (refl, (refl, (refl, (refl, (refl, tt))))))))))))))))))) refl
+word-no-keyword raw =
+    lookup-number (λ (n : ℕ). eqb n kind.Keyword ≡ false) words raw kind.Identifier
+    (refl, (refl, (refl, (refl, (refl, (refl, (refl, (refl, (refl, (refl, (refl, (refl, (refl, (refl, (refl, (refl, (refl, (refl, (refl, tt))))))))))))))))))) refl
 
 pub word-kind : (raw : List ℕ) → leb (wordKind raw) kind.Dot ≡ true
 unfolding wordKind words
-word-kind raw = lookup-number (λ (n : ℕ). leb n kind.Dot ≡ true) words raw kind.Identifier (refl, (refl, (refl, (refl, (refl, (refl, (refl, (refl, (refl, (refl, (refl, (refl, (refl, (refl, (refl, (refl, (refl, (refl, (refl, tt))))))))))))))))))) refl
+word-kind raw =
+    lookup-number (λ (n : ℕ). leb n kind.Dot ≡ true) words raw kind.Identifier
+    (refl, (refl, (refl, (refl, (refl, (refl, (refl, (refl, (refl, (refl, (refl, (refl, (refl, (refl, (refl, (refl, (refl, (refl, (refl, tt))))))))))))))))))) refl

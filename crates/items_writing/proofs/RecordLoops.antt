@@ -15,9 +15,9 @@ use Rattle.items_writing.specs.declared.Turn.{Turn}
 use Rattle.items_writing.specs.declared.Form.{Form}
 use Rattle.items_writing.specs.Records.{countOf, wordsAt, isRight, entryOf}
 use Rattle.items_writing.specs.Pieces.{bodyOf, lone, shown, piece, entryAt, onward, TurnSaid, Measured}
-use Rattle.items_writing.proofs.Rights.{body-short}
-use Rattle.items_writing.proofs.Laid.{lone-few, shown-few}
-use Rattle.items_writing.proofs.Piecing.{at-end}
+use Rattle.items_writing.proofs.RightRecords.{body-short}
+use Rattle.items_writing.proofs.QuotedBytes.{lone-few, shown-few}
+use Rattle.items_writing.proofs.PieceByPiece.{at-end}
 
 pub piece-few : (first pair : Bool) (f : Form) (t : List ℕ) → length (piece first pair f t) ≤ 2 * length t + 4
 unfolding piece

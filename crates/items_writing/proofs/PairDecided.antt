@@ -47,7 +47,7 @@ use Rattle.items_writing.specs.declared.Stand.the-variants.{Ends, Apart}
 use Rattle.items_writing.specs.Written.{gap, isPart, named, isPair, splits}
 use Rattle.items_writing.specs.Decide.{standFrom, isPairOf, pairsAs, linesAs}
 use Rattle.items_writing.proofs.Places.{tested, plus-spelled, plus-scalars}
-use Rattle.items_writing.proofs.Decided.{Scanned, scanned, after-gap}
+use Rattle.items_writing.proofs.BareDecided.{Scanned, scanned, after-gap}
 use Rattle.items_writing.proofs.PlusLines.{in-lines}
 
 -- ---- after a plus, the machine does not look at what was read
@@ -172,7 +172,8 @@ module _ (v : List ℕ) where
       let z : e ≡ byteCount (code "+" ∷ v) = omega arith in
       let l : byteCount (code "+" ∷ v) ≡ length (code "+" ∷ bytesOf v) = sym (length-bytes (code "+" ∷ v)) ∙ ap length spelled in
       let p : Place = rangeAfter true unset 0 o (whole 0 (code "+" ∷ v)) in
-      rw q (rw (after-gap false turns p e, append-nil (itemsOf true p 0 e (meaningOf true o 0 e (bytesOf (code "+" ∷ v))))) (ends-is p o (byteCount (code "+" ∷ v)) e (bytesOf (code "+" ∷ v)) l z spelled))
+      rw q (rw (after-gap false turns p e, append-nil (itemsOf true p 0 e (meaningOf true o 0 e (bytesOf (code "+" ∷ v)))))
+      (ends-is p o (byteCount (code "+" ∷ v)) e (bytesOf (code "+" ∷ v)) l z spelled))
   by-stand turns Apart q =
       let z : 0 + byteCount (code "+" ∷ v) ≡ byteCount (code "+" ∷ v) = omega arith in
       let p : Place = rangeAfter true unset 0 (r .what) (r .item) in
@@ -212,7 +213,8 @@ module _ (b : ℕ) (s : List ℕ) (e : ofRun b ≡ true) where
   unfolding standFrom
   goes-on i = rw first-char (rw (kept-stays true ph.InRun i b e, standFrom) (rw (first-byte i)))
 
-run-on : (s : List ℕ) (i : SoFar) → standFrom false ph.InRun i (chars s) ≡ standFrom false ph.InRun (soFar (i .bytes ++ take (span ofRun s) s) (i .at + span ofRun s)) (chars (drop (span ofRun s) s))
+run-on : (s : List ℕ) (i : SoFar) → standFrom false ph.InRun i (chars s) ≡ standFrom false ph.InRun
+    (soFar (i .bytes ++ take (span ofRun s) s) (i .at + span ofRun s)) (chars (drop (span ofRun s) s))
 unfolding span
 run-on [] i = let z : i .at + 0 ≡ i .at = omega arith in rw (append-nil (i .bytes), z)
 run-on (b ∷ s) i = by-bool (ofRun b)
@@ -300,5 +302,6 @@ module _ (s : List ℕ) (good : firstBad s ≡ Good) (k : ℕ) (ends : k ≡ 0 +
     pair-lined h e g =
         let one : take 1 rest ≡ code "|" ∷ [] = ap (take 1) rest-is in
         let some : 0 < length s = omega (arith, line-there, length-drop k s) in
-        rw e at g ∙ sym (past-plus ∙ rw line-char (rw (← h, standFrom) (in-lines (take k s) s some (soFar (code "+" ∷ take k s ++ codes "|") (1 + k + 1)) (soFar (take 1 rest) 1) (chars (drop 1 rest))
+        rw e at g ∙ sym (past-plus ∙ rw line-char
+        (rw (← h, standFrom) (in-lines (take k s) s some (soFar (code "+" ∷ take k s ++ codes "|") (1 + k + 1)) (soFar (take 1 rest) 1) (chars (drop 1 rest))
         (record { inside = []; alone = one; after = refl }))))
