@@ -88,6 +88,7 @@ const JOBS: &[Job] = &[
     listed("writing", "comments"),
     listed("writing", "brackets"),
     listed("writing", "numbers"),
+    listed("writing", "bytes"),
     listed("writing", "long"),
     drawn("writing", "reals", 500_000),
     drawn("writing", "nests", 250_000),

@@ -20,19 +20,16 @@ const REPORT: u32 = 1;
 
 const SIDES: [&str; 2] = ["judged", "proved"];
 
-/// So many texts of a family at most: each takes some ten readings.
-const MOST: u64 = 1_600_000;
-
 pub fn judge(options: &Options) -> Count {
     let mut count = Count::default();
     if !options.files.is_empty() {
         count.add(files(options));
         return count;
     }
-    let names: Vec<&str> = gen::FAMILIES.iter().map(|family| family.name).filter(|&name| name != "bytes").collect();
+    let names: Vec<&str> = gen::FAMILIES.iter().map(|family| family.name).collect();
     for name in options.wanted(&names) {
         let mut tally = Tally::between(SIDES, format!("writing {name}"));
-        options.each(name, MOST, &mut |text| {
+        options.each(name, lexer::most(name), &mut |text| {
             round_trip(&mut tally, text);
         });
         count.add(tally.close());
@@ -40,10 +37,10 @@ pub fn judge(options: &Options) -> Count {
     for name in options.wanted(&["plans", "damaged"]) {
         let mut random = Random::new(options.seed);
         let mut edited = Tally::between(SIDES, format!("writing {name}, edited"));
-        options.each(name, MOST, &mut |text| changes::edited(&mut edited, &mut random, text));
+        options.each(name, u64::MAX, &mut |text| changes::edited(&mut edited, &mut random, text));
         count.add(edited.close());
         let mut damaged = Tally::between(SIDES, format!("writing {name}, records damaged"));
-        options.each(name, MOST, &mut |text| changes::damaged(&mut damaged, &mut random, text));
+        options.each(name, u64::MAX, &mut |text| changes::damaged(&mut damaged, &mut random, text));
         count.add(damaged.close());
     }
     count
