@@ -29,7 +29,8 @@ use Rattle.items.specs.Machine.{stepOf, finishOf, onFirst, onNest, onBar, onSha
 use Rattle.items.specs.Machine.{onWord, enterWord, onRun, hashThen, hashLast, onHash, onAfterHash, onDelim}
 use Rattle.items.specs.Readers.{SoFar, eat, scalarOf, failing, hashKind, hereEnds}
 use Rattle.items.proofs.Cases.{by-kind}
-use Rattle.items_writing.proofs.OutcomeTells.{Calm, other, next, calm-on, Starts, Known, InQuoted, Two, Holds, Goes, starts-on, quoted-on, two-on, two-calm, decided, lone-open, known-closed, known-unclosed, known-cut}
+use Rattle.items_writing.proofs.OutcomeTells.{Calm, other, next, calm-on, Starts, Known, InQuoted, Two, Holds}
+use Rattle.items_writing.proofs.OutcomeTells.{Goes, starts-on, quoted-on, two-on, two-calm, decided, lone-open, known-closed, known-unclosed, known-cut}
 
 -- ---- a step
 

@@ -14,7 +14,7 @@ use Rattle.chars.specs.Encode.{utf8, bytesOf, spelled}
 use Rattle.items.specs.Kinds as kind
 use Rattle.items_writing.specs.declared.Form.{Form}
 use Rattle.items_writing.specs.declared.Form.the-variants.{AsIs}
-use Rattle.items_writing.specs.declared.Words.{Words}
+use Rattle.items_writing.specs.declared.WriteWords.{WriteWords}
 use Rattle.items_writing.specs.Written.{Entry, gap, bare, splits, identifier, wordOf, twins, joined, written}
 use Rattle.items_writing.specs.Records.{countOf, wordsAt, rest, recordsIn, isRight, entryOf, entriesOf}
 use Rattle.items_writing.specs.Pieces.{bodyOf, formFor, shown, lone, piece, AllRight, entryAt, onward, TurnSaid}
@@ -151,13 +151,13 @@ module _ (e f : Entry) where
 
 -- ---- a turn
 
-module _ (records source text : List ℕ) (first : Bool) (p : ℕ) (h : p < countOf records) (all : AllRight source text (recordsIn records)) {w : Words} (e : w ≡ wordsAt records p) where
+module _ (records source text : List ℕ) (first : Bool) (p : ℕ) (h : p < countOf records) (all : AllRight source text (recordsIn records)) {w : WriteWords} (e : w ≡ wordsAt records p) where
   pub here-right : isRight source text w ≡ true
   here-right = ap (isRight source text) e ∙ right-at records source text p all h
 
   module _ (last : Bool) {b : List ℕ} {f : Form} (y : b ≡ bodyOf (entryOf source text w)) (x : f ≡ formFor (w .kind) first last b) where
     form-is : f ≡ formFor (wordsAt records p .kind) first last (bodyOf (entryAt records source text p))
-    form-is = x ∙ (ap (formFor (w .kind) first last) y ∙ ap (λ (u : Words). formFor (u .kind) first last (bodyOf (entryOf source text u))) e)
+    form-is = x ∙ (ap (formFor (w .kind) first last) y ∙ ap (λ (u : WriteWords). formFor (u .kind) first last (bodyOf (entryOf source text u))) e)
 
     said : onward records source text first p
         ≡ piece first false (formFor (wordsAt records p .kind) first last (bodyOf (entryAt records source text p))) (bodyOf (entryAt records source text p)) ++
@@ -174,9 +174,9 @@ module _ (records source text : List ℕ) (first : Bool) (p : ℕ) (h : p < coun
       → TurnSaid records source text first p (record { last = p; pair = false; form = f })
   said-last g y x = said true y x (at-last records source text first p h g)
 
-  module _ (g : p + 1 < countOf records) {v : Words} (d : v ≡ wordsAt records (p + 1)) {j : Bool} (q : j ≡ joined (entryOf source text w) (entryOf source text v)) where
+  module _ (g : p + 1 < countOf records) {v : WriteWords} (d : v ≡ wordsAt records (p + 1)) {j : Bool} (q : j ≡ joined (entryOf source text w) (entryOf source text v)) where
     asked : j ≡ joined (entryAt records source text p) (entryAt records source text (p + 1))
-    asked = q ∙ (ap (λ (u : Words). joined (entryOf source text u) (entryOf source text v)) e ∙ ap (λ (u : Words). joined (entryAt records source text p) (entryOf source text u)) d)
+    asked = q ∙ (ap (λ (u : WriteWords). joined (entryOf source text u) (entryOf source text v)) e ∙ ap (λ (u : WriteWords). joined (entryAt records source text p) (entryOf source text u)) d)
 
     pub said-more : j ≡ false → {b : List ℕ} {f : Form} → b ≡ bodyOf (entryOf source text w) → f ≡ formFor (w .kind) first false b
         → TurnSaid records source text first p (record { last = p; pair = false; form = f })

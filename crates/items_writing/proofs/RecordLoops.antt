@@ -10,8 +10,8 @@ use Rattle.laws.specs.Quoted.{code}
 use Rattle.laws.specs.Lent as lent
 use Rattle.laws.proofs.Lent.{length-written, length-part, part-written}
 use Rattle.refusal.specs.Refusals as refusal
-use Rattle.items_writing.specs.declared.Words.{Words}
-use Rattle.items_writing.specs.declared.Turn.{Turn}
+use Rattle.items_writing.specs.declared.WriteWords.{WriteWords}
+use Rattle.items_writing.specs.declared.WriteTurn.{WriteTurn}
 use Rattle.items_writing.specs.declared.Form.{Form}
 use Rattle.items_writing.specs.Records.{countOf, wordsAt, isRight, entryOf}
 use Rattle.items_writing.specs.Pieces.{bodyOf, lone, shown, piece, entryAt, onward, TurnSaid, Measured}
@@ -31,13 +31,13 @@ piece-few first pair f t =
       shown-few f t,
     )
 
-module _ {records source text : List ℕ} {first : Bool} {p : ℕ} {t : Turn} (said : TurnSaid records source text first p t) {w : Words} (e : w ≡ wordsAt records (t .last)) where
+module _ {records source text : List ℕ} {first : Bool} {p : ℕ} {t : WriteTurn} (said : TurnSaid records source text first p t) {w : WriteWords} (e : w ≡ wordsAt records (t .last)) where
   pub turn-right : isRight source text w ≡ true
   turn-right = ap (isRight source text) e ∙ said .body-right
 
   module _ {b : List ℕ} (y : b ≡ bodyOf (entryOf source text w)) where
     body-is : b ≡ bodyOf (entryAt records source text (t .last))
-    body-is = y ∙ ap (λ (u : Words). bodyOf (entryOf source text u)) e
+    body-is = y ∙ ap (λ (u : WriteWords). bodyOf (entryOf source text u)) e
 
     pub turn-short : (m : ℕ) → w .past ≤ m → w .«end» ≤ m → length b ≤ m
     turn-short m l g = omega (arith, ap length y, body-short source text w turn-right m l g)
@@ -85,7 +85,7 @@ module _ (records source text : List ℕ) where
         let e : all ≡ l .done = l .splits ∙ (ap (λ (x : List ℕ). l .done ++ x) (at-end records source text first p h) ∙ append-nil (l .done)) in
         l .memory ∙ ap (λ (x : List ℕ). lent.written x old) (sym e)
 
-    module _ {t : Turn} (said : TurnSaid records source text first p t) {w : Words} (e : w ≡ wordsAt records (t .last)) {b : List ℕ} (y : b ≡ bodyOf (entryOf source text w)) where
+    module _ {t : WriteTurn} (said : TurnSaid records source text first p t) {w : WriteWords} (e : w ≡ wordsAt records (t .last)) {b : List ℕ} (y : b ≡ bodyOf (entryOf source text w)) where
       abbrev next : List ℕ
       next = piece first (t .pair) (t .form) b
 

@@ -13,7 +13,7 @@ use Rattle.chars.specs.Utf8.{firstBad, sequences}
 use Rattle.chars.specs.declared.Utf8.{Utf8}
 use Rattle.chars.specs.declared.Utf8.the-variants.{Good, Bad}
 use Rattle.items.specs.Kinds as kind
-use Rattle.items_writing.specs.declared.Words.{Words}
+use Rattle.items_writing.specs.declared.WriteWords.{WriteWords}
 use Rattle.items_writing.specs.declared.Judged.{Judged}
 use Rattle.items_writing.specs.declared.Judged.the-variants.{Fine, Alien, Unwritten}
 use Rattle.items_writing.specs.Written.{part}
@@ -58,7 +58,7 @@ module _ (s : List ℕ) (a b : ℕ) where
     whole-bad p f = rw (le-leb a b h, le-leb b (length s) g, ← e, f)
 
 -- a text that is all of an extent is whole with it
-pub extent-right : (source text : List ℕ) (r : Words) → isExtent r ≡ true → isWhole source (r .start) (r .«end») ≡ true → textRight source text r ≡ true
+pub extent-right : (source text : List ℕ) (r : WriteWords) → isExtent r ≡ true → isWhole source (r .start) (r .«end») ≡ true → textRight source text r ≡ true
 unfolding textRight
 extent-right source text r h w =
     let a = and-true (eqb (r .origin) 1) (eqb (r .first) (r .start) && eqb (r .past) (r .«end»)) h in
@@ -93,7 +93,7 @@ module _ (k : ℕ) where
 
 -- ---- a record
 
-module _ (source text : List ℕ) (r : Words) where
+module _ (source text : List ℕ) (r : WriteWords) where
   pub record Right : Type 0 where
     pub kind-right : isKind (r .kind) ≡ true
     pub extent-right : isWhole source (r .start) (r .«end») ≡ true
@@ -188,7 +188,7 @@ module _ (records source text : List ℕ) where
   judged-end p h = rw (rest-end records p h)
 
   -- records that are fine are right
-  fine-right : (n : ℕ) (rs : List Words) → judge source text n rs ≡ Fine → AllRight source text rs
+  fine-right : (n : ℕ) (rs : List WriteWords) → judge source text n rs ≡ Fine → AllRight source text rs
   unfolding judge
   fine-right n [] h = tt
   fine-right n (r ∷ rs) h = by-bool (isRight source text r)

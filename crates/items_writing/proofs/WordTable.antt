@@ -12,7 +12,8 @@ use Rattle.laws.proofs.Choice.{by-bool, if-all, no-yes}
 use Rattle.laws.proofs.Compared.{same-is}
 use Rattle.chars.specs.Encode.{utf8, bytesOf}
 use Rattle.digits.specs.Digits.{digitOf, sign, uinteger, value, fit, signed, wholeOf, integer}
-use Rattle.numbers.specs.Grammar.{justOf, complexOf, polarOf, endsI, imaginary, aloneOf, pairOf, toSign, startsE, rectangular, complex, zeroInt, zeroReal, zeroParts, judged, radixMark, prefix, parseNumber}
+use Rattle.numbers.specs.Grammar.{justOf, complexOf, polarOf, endsI, imaginary, aloneOf, pairOf, toSign, startsE}
+use Rattle.numbers.specs.Grammar.{rectangular, complex, zeroInt, zeroReal, zeroParts, judged, radixMark, prefix, parseNumber}
 use Rattle.numbers.specs.Reals.{exponentMarker, exponent, suffix, pointOf, dotted, undotted, decimal, infnan, integralOf, rationalOf, denominator, exact, orElse, ureal, real}
 use Rattle.numbers.specs.declared.Parsed.the-variants.{NoNumber}
 use Rattle.items.specs.Meaning.{Row, lookup, words, wordKind}

@@ -8,7 +8,7 @@ use lib.Dec.{ltb}
 use Rattle.laws.specs.Choice.{if_then_else_}
 use Rattle.laws.specs.Lent as lent
 use Rattle.refusal.specs.Refusals as refusal
-use Rattle.items_writing.specs.declared.Words.{Words}
+use Rattle.items_writing.specs.declared.WriteWords.{WriteWords}
 use Rattle.items_writing.specs.declared.Judged.{Judged}
 use Rattle.items_writing.specs.declared.Judged.the-variants.{Fine, Alien, Unwritten}
 use Rattle.items_writing.specs.declared.WriteAnswer.{WriteAnswer}
@@ -43,7 +43,7 @@ ifFine (Unwritten p) c out = call (refused refusal.unwritten p) out
 -- with a limit of one's own
 unfoldable pub writeWithin : ℕ → List ℕ → List ℕ → List ℕ → List ℕ → Call
 writeWithin most words source text out =
-    let rs : List Words = recordsIn words in
+    let rs : List WriteWords = recordsIn words in
     ifFine (judge source text 0 rs) (deliver most (written true (entriesOf source text rs)) out) out
 
 abbrev pub writeOf : List ℕ → List ℕ → List ℕ → List ℕ → Call

@@ -10,15 +10,15 @@ use Rattle.laws.specs.Quoted.{code}
 use Rattle.refusal.specs.Refusals as refusal
 use Rattle.items.specs.declared.Quotes.the-variants.{Double, Lines}
 use Rattle.items.specs.Kinds as kind
-use Rattle.items_writing.specs.declared.Words.{Words}
+use Rattle.items_writing.specs.declared.WriteWords.{WriteWords}
 use Rattle.items_writing.specs.declared.Form.{Form}
 use Rattle.items_writing.specs.declared.Form.the-variants.{AsIs, Within}
-use Rattle.items_writing.specs.declared.Turn.{Turn}
+use Rattle.items_writing.specs.declared.WriteTurn.{WriteTurn}
 use Rattle.items_writing.specs.Written.{Entry, quoted, bare, written}
 use Rattle.items_writing.specs.Records.{countOf, wordsAt, rest, isRight, entryOf, entriesOf}
 
 -- whether a record's text is all of its extent
-abbrev pub isExtent : Words → Bool
+abbrev pub isExtent : WriteWords → Bool
 isExtent r = eqb (r .origin) 1 && (eqb (r .first) (r .start) && eqb (r .past) (r .«end»))
 
 -- the bytes that an item's word is made of
@@ -61,7 +61,7 @@ quotedBy mark t = (mark ∷ escapedBy mark t) ++ (mark ∷ [])
 -- ---- by places of records
 
 -- none is refused 48
-abbrev pub AllRight : List ℕ → List ℕ → List Words → Type 0
+abbrev pub AllRight : List ℕ → List ℕ → List WriteWords → Type 0
 AllRight source text [] = Unit {0}
 AllRight source text (r ∷ rs) = (isRight source text r ≡ true) × AllRight source text rs
 
@@ -73,7 +73,7 @@ abbrev pub onward : List ℕ → List ℕ → List ℕ → Bool → ℕ → List
 onward records source text first p = written first (entriesOf source text (rest records p))
 
 -- a turn from p on: its last record, and its piece, after which the rest is written
-pub record TurnSaid (records source text : List ℕ) (first : Bool) (p : ℕ) (t : Turn) : Type 0 where
+pub record TurnSaid (records source text : List ℕ) (first : Bool) (p : ℕ) (t : WriteTurn) : Type 0 where
   pub from : p ≤ t .last
   pub inside : t .last < countOf records
   pub body-right : isRight source text (wordsAt records (t .last)) ≡ true

@@ -1,5 +1,10 @@
-// Writing a plan back (request viii): from records with their texts and source a Scheme text that reads back as the same items. specs/
-// has the definition, Written, Records and Call, with examples; proofs/ shows the round trip (Round, Calls).
+// Writing a plan back: from records with their texts and source a Scheme text, one space between two items, that reads back as the same
+// items in report mode. 02 (viii) says how; specs/Written has the text, specs/Records which records are refused, specs/Call the call, all
+// with examples. Crate items_writing_theorems shows the round trip.
+//
+// No memory is needed but the result's: the records are gone over three times, to judge them, to measure the result and to put it. What is
+// written next is a turn: one item, or a pair such as `+foo` in one word. Whether a name reads back bare the machine of the lexer says
+// (crate steps), over the name and one step more.
 use items::Outcome;
 use items::Quotes;
 use refusal::LIMIT;
@@ -18,7 +23,7 @@ mod turning;
 mod word;
 
 // What the call looks at in a record.
-pub struct Words {
+pub struct WriteWords {
     pub kind: u32,
     // the extent
     pub start: u32,
@@ -69,7 +74,7 @@ pub enum Form {
 }
 
 // What is written next.
-pub struct Turn {
+pub struct WriteTurn {
     // the last record that it takes
     pub last: usize,
     // whether the one before is the plus of a pair

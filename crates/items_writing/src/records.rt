@@ -1,6 +1,6 @@
 // What is lent: the words of records, and the parts of the source and of the text memory that they name.
 use crate::Judged;
-use crate::Words;
+use crate::WriteWords;
 use chars::Utf8;
 use chars::first_bad;
 use items::kinds;
@@ -25,12 +25,12 @@ const IN_MEMORY: u32 = 2;
 const LAST_ERROR: u32 = kinds::FIRST_ERROR + kinds::LAST_ERROR;
 
 // The record at a place.
-pub fn words_at(records: &[u32], p: usize) -> Words
+pub fn words_at(records: &[u32], p: usize) -> WriteWords
     requires { ⌜ p < countOf (now records) ⌝ }
     ensures { λ r. ⌜ r ≡ wordsAt (now (records .entry)) p ⌝ }
 {
     let at = p * WORDS;
-    Words {
+    WriteWords {
         kind: records[at],
         start: records[at + 2],
         end: records[at + 3],
@@ -82,7 +82,7 @@ fn has_text(k: u32) -> bool
     k == kinds::STRING_LITERAL
 }
 
-fn text_right(source: &[u8], text: &[u8], w: Words) -> bool
+fn text_right(source: &[u8], text: &[u8], w: WriteWords) -> bool
     ensures { λ r. ⌜ r ≡ textRight (now (source .entry)) (now (text .entry)) w ⌝ }
 {
     if w.origin == IN_SOURCE {
@@ -101,7 +101,7 @@ fn text_right(source: &[u8], text: &[u8], w: Words) -> bool
 }
 
 // Whether the text is all of the extent, as that of a plain name is.
-fn is_extent(w: Words) -> bool
+fn is_extent(w: WriteWords) -> bool
     ensures { λ r. ⌜ r ≡ isExtent w ⌝ }
 {
     if w.origin != IN_SOURCE {
@@ -113,7 +113,7 @@ fn is_extent(w: Words) -> bool
     w.past == w.end
 }
 
-fn is_right(source: &[u8], text: &[u8], w: Words) -> bool
+fn is_right(source: &[u8], text: &[u8], w: WriteWords) -> bool
     ensures { λ r. ⌜ r ≡ isRight (now (source .entry)) (now (text .entry)) w ⌝ }
 {
     if is_kind(w.kind) {
@@ -167,7 +167,7 @@ fn part(s: &[u8], a: u32, b: u32) -> &[u8]
 }
 
 // The text of a record that is not refused.
-pub fn text_of<'a>(source: &'a [u8], text: &'a [u8], w: Words) -> &'a [u8]
+pub fn text_of<'a>(source: &'a [u8], text: &'a [u8], w: WriteWords) -> &'a [u8]
     requires { ⌜ isRight (now source) (now text) w ≡ true ⌝ }
     ensures { λ r. ⌜ now r ≡ textOf (now (source .entry)) (now (text .entry)) w ⌝ }
 {
@@ -181,7 +181,7 @@ pub fn text_of<'a>(source: &'a [u8], text: &'a [u8], w: Words) -> &'a [u8]
 }
 
 // The bytes that its word is made of.
-pub fn body_of<'a>(source: &'a [u8], text: &'a [u8], w: Words) -> &'a [u8]
+pub fn body_of<'a>(source: &'a [u8], text: &'a [u8], w: WriteWords) -> &'a [u8]
     requires { ⌜ isRight (now source) (now text) w ≡ true ⌝ }
     ensures { λ r. ⌜ now r ≡ bodyOf (entryOf (now (source .entry)) (now (text .entry)) w) ⌝ }
 {

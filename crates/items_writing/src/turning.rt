@@ -1,8 +1,8 @@
 // A turn: the next item, or the next two where they are a pair that is written as one word. What it writes is a piece: a space unless it is
 // the first, the plus of a pair, and a text in its form.
 use crate::Form;
-use crate::Turn;
-use crate::Words;
+use crate::WriteTurn;
+use crate::WriteWords;
 use crate::quoting::lone_length;
 use crate::quoting::put_lone;
 use crate::quoting::put_shown;
@@ -49,7 +49,7 @@ fn form_for(k: u32, t: &[u8], first: bool, last: bool) -> Form
 }
 
 // Whether two items in a row are written as one word.
-fn joins<'a>(source: &'a [u8], text: &'a [u8], e: Words, f: Words) -> bool
+fn joins<'a>(source: &'a [u8], text: &'a [u8], e: WriteWords, f: WriteWords) -> bool
     requires { ⌜ (isRight (now source) (now text) e ≡ true) × (isRight (now source) (now text) f ≡ true) ⌝ }
     ensures { λ r. ⌜ r ≡ joined (entryOf (now (source .entry)) (now (text .entry)) e) (entryOf (now (source .entry)) (now (text .entry)) f) ⌝ }
 {
@@ -72,7 +72,13 @@ fn joins<'a>(source: &'a [u8], text: &'a [u8], e: Words, f: Words) -> bool
 }
 
 // The turn at a place of records that are not refused.
-pub fn turn_at<'a>(records: &[u32], source: &'a [u8], text: &'a [u8], p: usize, first: bool) -> Turn
+pub fn turn_at<'a>(
+    records: &[u32],
+    source: &'a [u8],
+    text: &'a [u8],
+    p: usize,
+    first: bool,
+) -> WriteTurn
     requires { ⌜ (p < countOf (now records)) × AllRight (now source) (now text) (recordsIn (now records)) ⌝ }
     ensures { λ r. ⌜ TurnSaid (now (records .entry)) (now (source .entry)) (now (text .entry)) first p r ⌝ }
 {
@@ -81,19 +87,19 @@ pub fn turn_at<'a>(records: &[u32], source: &'a [u8], text: &'a [u8], p: usize, 
     let next = p + 1;
     if next < count {
         if joins(source, text, e, words_at(records, next)) {
-            return Turn {
+            return WriteTurn {
                 last: next,
                 pair: true,
                 form: Form::AsIs,
             };
         }
-        return Turn {
+        return WriteTurn {
             last: p,
             pair: false,
             form: form_for(e.kind, body_of(source, text, e), first, false),
         };
     }
-    Turn {
+    WriteTurn {
         last: p,
         pair: false,
         form: form_for(e.kind, body_of(source, text, e), first, true),
@@ -101,7 +107,7 @@ pub fn turn_at<'a>(records: &[u32], source: &'a [u8], text: &'a [u8], p: usize, 
 }
 
 // How many bytes a piece has.
-pub fn piece_length(t: &[u8], turn: Turn, first: bool) -> usize
+pub fn piece_length(t: &[u8], turn: WriteTurn, first: bool) -> usize
     requires { ⌜ length (now t) ≤ refusal.limit ⌝ }
     ensures { λ r. ⌜ r ≡ length (piece first (turn .pair) (turn .form) (now (t .entry))) ⌝ }
 {
@@ -110,7 +116,7 @@ pub fn piece_length(t: &[u8], turn: Turn, first: bool) -> usize
 }
 
 // A piece, from the memory's start on.
-pub fn put_piece(t: &[u8], turn: Turn, first: bool, out: &mut [u8]) -> usize
+pub fn put_piece(t: &[u8], turn: WriteTurn, first: bool, out: &mut [u8]) -> usize
     requires { ⌜ length (piece first (turn .pair) (turn .form) (now t)) ≤ length (now out) ⌝ }
     ensures { λ r. ⌜ (r ≡ length (piece first (turn .pair) (turn .form) (now (t .entry)))) × (now (out .exit) ≡ written (piece first (turn .pair) (turn .form) (now (t .entry))) (now (out .entry))) ⌝ }
 {

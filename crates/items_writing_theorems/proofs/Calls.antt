@@ -23,7 +23,7 @@ use Rattle.items.proofs.Skipped.{kept-every}
 use Rattle.items.proofs.Splits.{length-bytes}
 use Rattle.items_writing.specs.Written.{part, textBytes, entry, entries, reads}
 use Rattle.items_writing.specs.Shapes.{clean}
-use Rattle.items_writing.specs.declared.Words.{Words}
+use Rattle.items_writing.specs.declared.WriteWords.{WriteWords}
 use Rattle.items_writing.specs.declared.Judged.the-variants.{Fine}
 use Rattle.items_writing.specs.Records.{countOf, wordsAt, recordsFrom, recordsIn, isWhole, isKind, textRight, isRight, isLeft, judge, textOf, entryOf, entriesOf}
 use Rattle.items_writing.specs.Call.{deliver, writeWithin, writeOf}
@@ -37,12 +37,12 @@ use Rattle.items_writing_theorems.proofs.Round.{source-sounds}
 
 -- ---- a record's words
 
-abbrev words : ℕ → ℕ → ℕ → ℕ → Text → Words
+abbrev words : ℕ → ℕ → ℕ → ℕ → Text → WriteWords
 words free k s e none = record { kind = k; start = s; «end» = e; origin = 0; first = 0; past = 0 }
 words free k s e (source a b) = record { kind = k; start = s; «end» = e; origin = 1; first = a; past = b }
 words free k s e (decoded bs) = record { kind = k; start = s; «end» = e; origin = 2; first = free; past = free + length bs }
 
-abbrev wordsFor : ℕ → Item → Words
+abbrev wordsFor : ℕ → Item → WriteWords
 wordsFor free i = words free (i .kind) (i .start) (i .end) (i .text)
 
 -- the records after a first one
@@ -69,7 +69,7 @@ module _ (b ws : List ℕ) (ten : length b ≡ recordWords) where
   unfolding recordsFrom
   records-there =
       let e : countOf (b ++ ws) - 0 ≡ suc (countOf ws - 0) = omega (arith, length-append b ws) in
-      rw e (ap (λ (l : List Words). wordsAt (b ++ ws) 0 ∷ l) (from-there (countOf ws - 0) 0))
+      rw e (ap (λ (l : List WriteWords). wordsAt (b ++ ws) 0 ∷ l) (from-there (countOf ws - 0) 0))
 
 one-record : (free k d s e a b n : ℕ) (x : Text) (ws : List ℕ) → recordsIn (((k ∷ d ∷ s ∷ e ∷ a ∷ b ∷ textWords free x) ++ (n ∷ [])) ++ ws) ≡ words free k s e x ∷ recordsIn ws
 one-record free k d s e a b n none ws = records-there ((k ∷ d ∷ s ∷ e ∷ a ∷ b ∷ textWords free none) ++ (n ∷ [])) ws refl

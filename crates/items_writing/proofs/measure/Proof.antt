@@ -5,7 +5,7 @@ use mathlib.Core.Path.{_≡_, ap}
 use mathlib.Core.Bool.{false}
 use lib.ListN.{length}
 use Rattle.refusal.specs.Refusals as refusal
-use Rattle.items_writing.specs.declared.Words.{Words}
+use Rattle.items_writing.specs.declared.WriteWords.{WriteWords}
 use Rattle.items_writing.specs.Records.{countOf}
 use Rattle.items_writing.specs.Pieces.{onward}
 use Rattle.items_writing.proofs.RecordLoops.{turn-right, turn-short, turn-fits, turn-size, none-left, measured-past, measured-all}
@@ -35,13 +35,13 @@ piece-length-requires : tie.Need-piece-length-requires Inv-loop μ-loop
 piece-length-requires c κs =
     turn-short (c .before .before .turn-at .ensures) (c .before .words-at .ensures) (c .body-of .ensures) refusal.limit (omega (
       arith,
-      ap (λ (u : Words). u .past)
+      ap (λ (u : WriteWords). u .past)
           (c .before .words-at .ensures),
       c .before .before .before .before .before .before .before .shared-slice-known .given
           (c .before .before .turn-at .result .last * 10 + 8),
     )) (omega (
       arith,
-      ap (λ (u : Words). u .«end») (c .before .words-at .ensures),
+      ap (λ (u : WriteWords). u .«end») (c .before .words-at .ensures),
       c .before .before .before .before .before .before .before .shared-slice-known .given
           (c .before .before .turn-at .result .last * 10 + 3),
     ))
@@ -52,12 +52,12 @@ add-n c =
       arith,
       turn-fits (c .before .before .before .turn-at .ensures) (c .before .before .words-at .ensures) (c .before .body-of .ensures) refusal.limit (omega (
         arith,
-        ap (λ (u : Words). u .past) (c .before .before .words-at .ensures),
+        ap (λ (u : WriteWords). u .past) (c .before .before .words-at .ensures),
         c .before .before .before .before .before .before .before .before .shared-slice-known .given (c .before .before .before .turn-at .result .last * 10 + 8),
       ))
           (omega (
             arith,
-            ap (λ (u : Words). u .«end») (c .before .before .words-at .ensures),
+            ap (λ (u : WriteWords). u .«end») (c .before .before .words-at .ensures),
             c .before .before .before .before .before .before .before .before .shared-slice-known .given (c .before .before .before .turn-at .result .last * 10 + 3),
           ))
           (c .piece-length .ensures),

@@ -4,7 +4,7 @@ use Prim.Native.Nat.{_-_, _≤_}
 use mathlib.Core.Path.{_≡_, refl, sym, ap, _∙_}
 use native.Mathlib.Omega.{arith}
 use borrow.Author.Needs.{needs}
-use Rattle.items_writing.specs.declared.Words.{Words}
+use Rattle.items_writing.specs.declared.WriteWords.{WriteWords}
 use Rattle.items_writing.specs.Records.{countOf, isRight, isLeft}
 use Rattle.items_writing.proofs.RightRecords.{judged, judged-alien, judged-left, judged-on, judged-end}
 use Rattle.items_writing.proofs.records.judge.Statement.{statement}
@@ -43,7 +43,7 @@ returns-2 c =
     let r = entry .args .records .now in let s = entry .args .source .now in let t = entry .args .text .now in sym (turn .inv .1 ∙ judged-left r s t (turn .p) (omega
     arith) (sym (not-false (c .before .before .before .is-right .result) (c .before .before .if1 .left)) ∙
     (c .before .before .before .is-right .ensures ∙ ap (isRight s t) (c .before .before .before .before .words-at .ensures))) (sym (c .if2 .taken) ∙
-    (c .before .is-left .ensures ∙ ap (λ (w : Words). isLeft (w .kind)) (c .before .before .before .before .words-at .ensures))))
+    (c .before .is-left .ensures ∙ ap (λ (w : WriteWords). isLeft (w .kind)) (c .before .before .before .before .words-at .ensures))))
 
 add-p : tie.Need-add-p Inv-loop μ-loop
 add-p c = omega arith
@@ -60,7 +60,7 @@ loop-again c =
       turn .inv .1 ∙ judged-on r s t (turn .p)
           (omega arith) (sym (not-false (c .before .before .before .is-right .result) (c .before .before .if1 .left)) ∙
           (c .before .before .before .is-right .ensures ∙ ap (isRight s t) (c .before .before .before .before .words-at .ensures))) (sym (c .if2 .left) ∙
-          (c .before .is-left .ensures ∙ ap (λ (w : Words). isLeft (w .kind)) (c .before .before .before .before .words-at .ensures))),
+          (c .before .is-left .ensures ∙ ap (λ (w : WriteWords). isLeft (w .kind)) (c .before .before .before .before .words-at .ensures))),
     )
 
 returns-3 : tie.Need-returns-3 Inv-loop μ-loop

@@ -1,12 +1,13 @@
 -- The run after the plus is passed; where a vertical line follows it, the number with the plus and what stands in the lines decide (laws
 -- `pair-number`, `pair-lined`), else the machine over the rest (`pair-ends`, `pair-apart`).
-use mathlib.Core.Path.{_≡_, sym, subst, _∙_}
+use mathlib.Core.Path.{sym, subst, _∙_}
 use mathlib.Core.List.{List}
-use Prim.Native.Nat.{ℕ, _≤_, _-_}
-use lib.ListN.{length, take, drop, length-drop}
-use lib.Seq.{length-take-le, take-all}
+use Prim.Native.Nat.{ℕ, _≤_}
+use lib.ListN.{length}
+use lib.Seq.{length-take-le}
 use native.Mathlib.Omega.{arith}
 use borrow.Author.Needs.{needs}
+use Rattle.laws.proofs.Lent.{part-rest}
 use Rattle.items_writing.proofs.PairDecided.{run-inside, line-there, pair-number, pair-lined, pair-ends, pair-apart}
 use Rattle.items_writing.proofs.word.reads_pair.Statement.{statement}
 use Rattle.items_writing.proofs.word.reads_pair.Tie as tie
@@ -33,26 +34,22 @@ returns c =
 
 sub-reads-lined : tie.Need-sub-reads-lined
 sub-reads-lined c =
-    let entry = c .before .before .before .before .before .before .before in run-inside (entry .args .t .now) (entry .pre) _
-    (c .before .before .before .before .before .ascii-run .ensures)
+    let entry = c .before .before .before .before .before .before .before in
+    run-inside (entry .args .t .now) (entry .pre) _ (c .before .before .before .before .before .ascii-run .ensures)
 
 part-reads-lined-start : tie.Need-part-reads-lined-start
 part-reads-lined-start c =
-    let entry = c .before .before .before .before .before .before .before in run-inside (entry .args .t .now) (entry .pre) _
-    (c .before .before .before .before .before .ascii-run .ensures)
+    let entry = c .before .before .before .before .before .before .before in
+    run-inside (entry .args .t .now) (entry .pre) _ (c .before .before .before .before .before .ascii-run .ensures)
 
 part-reads-lined-end : tie.Need-part-reads-lined-end
 part-reads-lined-end c = search needs
-
--- the part from k on is the rest
-from-k : (t : List ℕ) (k : ℕ) → take (length t - k) (drop k t) ≡ drop k t
-from-k t k = take-all (length t - k) (drop k t) (omega (arith, length-drop k t))
 
 reads-lined-requires : tie.Need-reads-lined-requires
 reads-lined-requires c κs =
     let entry = c .before .before .before .before .before .before .before .before in
     let k = c .before .before .before .before .before .before .ascii-run .result in
-    subst (λ (l : List ℕ). 1 ≤ length l) (sym (from-k (entry .args .t .now) k))
+    subst (λ (l : List ℕ). 1 ≤ length l) (sym (part-rest (entry .args .t .now) k))
     (line-there (entry .args .t .now) (entry .pre) k (c .before .before .before .before .before .before .ascii-run .ensures)
     (sym (c .before .before .before .before .if1 .taken) ∙ c .before .before .before .before .before .starts-at .ensures))
 
@@ -62,7 +59,7 @@ returns-2 c =
     let k = c .before .before .before .before .before .before .before .ascii-run .result in
     pair-lined (entry .args .t .now) (entry .pre) k (c .before .before .before .before .before .before .before .ascii-run .ensures)
     (sym (c .before .before .before .before .before .if1 .taken) ∙ c .before .before .before .before .before .before .starts-at .ensures)
-    (sym (c .before .before .if2 .left) ∙ c .before .before .before .plus-number .ensures) (from-k (entry .args .t .now) k) (c .reads-lined .ensures)
+    (sym (c .before .before .if2 .left) ∙ c .before .before .before .plus-number .ensures) (part-rest (entry .args .t .now) k) (c .reads-lined .ensures)
 
 stand-on-requires : tie.Need-stand-on-requires
 stand-on-requires c κs = let entry = c .before .before .before .before in (run-inside (entry .args .t .now) (entry .pre) _ (c .before .before .ascii-run .ensures), omega arith)
