@@ -2,7 +2,7 @@
 //!
 //! First the plan is written back whole, without its comments. Then only what changed is written, each item by itself, and put between the
 //! parts of the old plan, so that every comment and blank stays: the lines that differ are printed, the old one and the new one.
-use mihadrena::{raw, write, Items, Kind, Mode, NotWritten, Options, Record, Refusal};
+use mihadrena::{raw, write, Items, Mode, NotWritten, Options, Record, Refusal};
 
 const PLAN: &str = include_str!("../../../examples/office.scm");
 
@@ -138,15 +138,4 @@ fn a_word_that_runs_on() {
     let whole = new.written(&new.records).expect("a text");
     assert_eq!(whole, r"( species |a\\| )");
     assert!(Plan::read(&whole).expect("a text").has_the_items_of(&new));
-}
-
-/// The items as `Items` gives them, once more.
-#[test]
-fn the_new_names_are_read() {
-    let mut plan = Plan::read(PLAN).expect("a plan");
-    plan.rename_species();
-    let whole = plan.written(&plan.records).expect("a text");
-    let (mut records, mut text) = (vec![Record::default(); whole.len()], vec![0; whole.len()]);
-    let items = Items::new(&whole, Options::default(), &mut records, &mut text).expect("a text");
-    assert_eq!(items.filter(|item| item.what == Ok(Kind::Identifier(NEW_NAME))).count(), 2);
 }
