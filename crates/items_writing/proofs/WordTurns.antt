@@ -2,12 +2,14 @@
 use Prim.Native.Nat.{ℕ, zero, suc, _+_, _-_, _≤_, _<_}
 use mathlib.Core.Path.{_≡_, refl, sym, ap, _∙_}
 use mathlib.Core.Bool.{Bool, true, false, not, _&&_}
-use mathlib.Core.List.{List, [], _++_}
+use mathlib.Core.List.{List, [], _∷_, _++_}
 use lib.ListN.{length, getD, take, drop, length-drop}
 use lib.Dec.{eqb, ltb}
 use borrow.Author.Tests.{eq-eqb, ne-eqb, le-ltb, lt-ltb, ltb-true}
 use lib.Seq.{take-add, take-all, length-take-le}
 use native.Mathlib.Omega.{arith}
+use denote.Enum.Declared.{tagOf}
+use types.Run.{OneOf, miss}
 use Rattle.laws.specs.Quoted.{code}
 use Rattle.laws.specs.Texts.{span}
 use Rattle.laws.proofs.Choice.{by-bool}
@@ -24,7 +26,7 @@ use Rattle.numbers.specs.declared.Parts.{Parts}
 use Rattle.numbers.specs.declared.Parsed.{Parsed}
 use Rattle.numbers.specs.declared.Parsed.the-variants as parsed
 use Rattle.numbers.specs.Grammar.{parseNumber}
-use Rattle.items.specs.declared.Outcome.the-variants.{Word, Run}
+use Rattle.items.specs.declared.Outcome.the-variants.{Token, Str, HereStr, Word, Run, Lined, Keyword, Character, Error, ErrorAt}
 use Rattle.items.specs.declared.Phase.the-variants as ph
 use Rattle.items.specs.Classes.{inWord, breaksWord, inRun, staysRun, endsRun}
 use Rattle.chars.specs.Blank.{isBlank}
@@ -33,11 +35,12 @@ use Rattle.items.specs.Meaning.{wordKind}
 use Rattle.items.specs.Kinds as kind
 use Rattle.items.specs.Machine.{stepOf, finishOf, depthOf}
 use Rattle.items.proofs.Deep.{deep-eat}
+use Rattle.items.proofs.Outcome.{the-type}
 use Rattle.steps.specs.Runs.{keeps}
 use Rattle.steps.proofs.Kept.{kept-ascii, kept-stays, ascii-found}
 use Rattle.items_writing.specs.declared.Stand.{Stand}
 use Rattle.items_writing.specs.declared.Stand.the-variants.{Ends, Apart}
-use Rattle.items_writing.specs.Decide.{closeOf, standFrom, nameWord, isName}
+use Rattle.items_writing.specs.Decide.{closeOf, standFrom, nameWord, isName, isPairOf}
 
 -- ---- the end of the word
 
@@ -158,3 +161,20 @@ name-none raw e f g = rw (← e, f) g
 pub name-zero : (raw : List ℕ) {p : Parsed} → p ≡ parseNumber raw → p ≡ parsed.ZeroDenominator → false ≡ isName Run raw
 unfolding isName
 name-zero raw e f = rw (← e, f)
+
+-- What is neither a word nor a run is no name, nor a pair. The tags of these outcomes
+abbrev pub others : List ℕ
+others = 0 ∷ 1 ∷ 2 ∷ 5 ∷ 6 ∷ 7 ∷ 8 ∷ 9 ∷ []
+
+pub other-none : (o : Outcome) → OneOf others (tagOf the-type o) → (raw : List ℕ) → (false ≡ isName o raw) × (false ≡ isPairOf o raw)
+unfolding isName isPairOf
+other-none (Token k d) h raw = (refl, refl)
+other-none Str h raw = (refl, refl)
+other-none HereStr h raw = (refl, refl)
+other-none Word h raw = absurd (miss others 3 tt h)
+other-none Run h raw = absurd (miss others 4 tt h)
+other-none Lined h raw = (refl, refl)
+other-none Keyword h raw = (refl, refl)
+other-none Character h raw = (refl, refl)
+other-none (Error n d) h raw = (refl, refl)
+other-none (ErrorAt n d a b) h raw = (refl, refl)

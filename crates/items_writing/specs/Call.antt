@@ -1,4 +1,4 @@
--- The call, all of it: what it answers and what the lent memory holds afterwards. Request (viii), "Refusals": "at the first record
+-- The call, all of it: what it answers and what the lent memory holds afterwards. 02 (viii), "Refusals": "at the first record
 -- concerned, 48 .., else 47 ..; then 20 if the result would pass that limit; 22 last, with the bytes needed; nothing written".
 use Prim.Native.Nat.{ℕ}
 use mathlib.Core.Bool.{true}

@@ -1,4 +1,4 @@
--- What is lent: records, of which the call looks at six words, the source and the text memory. Request (viii), "Refusals": which records
+-- What is lent: records, of which the call looks at six words, the source and the text memory. 02 (viii), "Refusals": which records
 -- are refused.
 use Prim.Native.Nat.{ℕ, zero, suc, _+_, _-_, _*_, _/_}
 use mathlib.Core.Bool.{Bool, true, false, _&&_, _||_}

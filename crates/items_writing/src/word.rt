@@ -115,20 +115,13 @@ fn is_name(what: Outcome, raw: &[u8]) -> bool
     ensures { λ r. ⌜ r ≡ isName what (now (raw .entry)) ⌝ }
 {
     match what {
-        Outcome::Token(_kind, _detail) => false,
-        Outcome::Str => false,
-        Outcome::HereStr => false,
         Outcome::Word => name_word(raw),
         Outcome::Run => match parse_number(raw) {
             Parsed::Is(_parts) => false,
             Parsed::NoNumber => name_word(raw),
             Parsed::ZeroDenominator => false,
         },
-        Outcome::Lined => false,
-        Outcome::Keyword => false,
-        Outcome::Character => false,
-        Outcome::Error(_error, _detail) => false,
-        Outcome::ErrorAt(_error, _detail, _from, _to) => false,
+        _ => false,
     }
 }
 
@@ -171,16 +164,9 @@ fn is_pair_of(what: Outcome, t: &[u8]) -> bool
     ensures { λ r. ⌜ r ≡ isPairOf what (now (t .entry)) ⌝ }
 {
     match what {
-        Outcome::Token(_kind, _detail) => false,
-        Outcome::Str => false,
-        Outcome::HereStr => false,
         Outcome::Word => 0 < t.len(),
         Outcome::Run => { if 0 < t.len() { !plus_number(t) } else { false } }
-        Outcome::Lined => false,
-        Outcome::Keyword => false,
-        Outcome::Character => false,
-        Outcome::Error(_error, _detail) => false,
-        Outcome::ErrorAt(_error, _detail, _from, _to) => false,
+        _ => false,
     }
 }
 
