@@ -128,7 +128,7 @@ MIHADRENA_ASSERT(sizeof(mihadrena_record) == 4 * MIHADRENA_RECORD_WORDS, "a reco
  * the bytes taken there. */
 #define MIHADRENA_TOO_LONG 20      /* the text exceeds MIHADRENA_LONGEST bytes: MIHADRENA_LONGEST */
 #define MIHADRENA_NOT_UTF8 21      /* bytes aren't UTF-8: the start of the first bad sequence */
-#define MIHADRENA_TOO_FEW 22       /* records or text memory are too few: items and text bytes needed */
+#define MIHADRENA_TOO_FEW 22       /* records or text memory are too few: items and text bytes needed; of mihadrena_write the bytes needed */
 #define MIHADRENA_LONG_ITEM 23     /* in pieces, an item exceeds MIHADRENA_STATE_BYTES bytes: its start */
 #define MIHADRENA_LITTLE_TEXT 24   /* in pieces, there are under MIHADRENA_PIECE_TEXT bytes of text memory: 0 */
 #define MIHADRENA_NO_MODE 25       /* the mode is neither of the two: the mode */
@@ -169,11 +169,12 @@ MIHADRENA_ASSERT(sizeof(mihadrena_record) == 4 * MIHADRENA_RECORD_WORDS, "a reco
 #define MIHADRENA_ERROR_ITEM 45    /* an error: ## */
 #define MIHADRENA_FEW_NODES 46     /* the nodes do not fit */
 
-/* Of writing a plan back. */
+/* Of mihadrena_write. */
 #define MIHADRENA_UNWRITTEN 47 /* an error or comment item: its record */
 
-/* What is lent is not what it should be: of mihadrena_nest a kind or a detail that no record has, of the line calls an index that isn't the
- * text's, which comes with 0. */
+/* What is lent is not what it should be: of mihadrena_nest a kind or a detail that no record has, of mihadrena_write a kind that no record
+ * has, or an extent or a text that isn't whole characters of what is lent, with the record; of the line calls an index that isn't the text's,
+ * which comes with 0. */
 #define MIHADRENA_ALIEN 48
 
 /* The longest text, in bytes. */
@@ -749,6 +750,52 @@ uint32_t mihadrena_items_write(const uint32_t *records, size_t records_length, u
  */
 uint32_t mihadrena_items_read(const uint8_t *file, size_t file_length, uint32_t *records, size_t records_length, uint64_t *values,
                               size_t values_length);
+
+/* -- Writing a plan back --------------------------------------------------------------------------------------------------- */
+
+/* How many values mihadrena_write writes. */
+#define MIHADRENA_WRITE_VALUES 1
+
+/* Writes the text of records to `out`, from the front on: the items in their order, one space between two. `source` and `text` are what
+ * the records' extents and texts lie in: what mihadrena_read was lent and wrote, or what a program made of it since.
+ *
+ * An identifier is written bare where it reads back as the same identifier at its place, else in vertical lines; a string in quotes. In
+ * both a backslash stands before a backslash and before the closing mark, and nothing else is escaped. Two identifiers in a row with one
+ * extent, the first `+`, are written as one word where that word reads back as the two, as in +foo. Any other item is the bytes of its
+ * extent. So a name or a string is changed by another text in `text`, and a number by an extent that has the new one: put it behind the
+ * source. docs/WRITING.md and examples/c/write.c show both.
+ *
+ * Records with no error and no comment, of a text read in MIHADRENA_REPORT: the result, read in MIHADRENA_REPORT, has the same kinds,
+ * details, texts, depths and number parts, also where identifiers and strings were given other texts; and written again it is the same.
+ *
+ * MIHADRENA_SERVED: values[0] is how many bytes were written; the memory behind them stays as it was. Refused, no byte of `out` changes and
+ * values[0] is what the refusal comes with. With no room for a value none is written. First, at the first record that is refused, the
+ * record's number, counted from 0, with:
+ *   MIHADRENA_ALIEN exactly if the kind is neither one of MIHADRENA_OPEN_PAREN to MIHADRENA_DOT nor an error's; or the extent ends before
+ *     it starts, passes the source or isn't whole characters; or the text source is none of the three; or it is MIHADRENA_NO_TEXT, and the
+ *     kind MIHADRENA_IDENTIFIER, MIHADRENA_KEYWORD or MIHADRENA_STRING_LITERAL; or the text ends before it starts, passes the source or
+ *     the text memory or isn't whole characters. An empty part is. The detail, the place and the depth are not looked at;
+ *   else MIHADRENA_UNWRITTEN exactly if it is an error or a MIHADRENA_COMMENT.
+ * Then MIHADRENA_TOO_LONG if the result exceeds MIHADRENA_LONGEST bytes. Last MIHADRENA_TOO_FEW if it does not fit `out`, with the bytes it
+ * has: to be told these, lend no memory.
+ *
+ * Comments: read with `skip_comments` to write a plan without them. To keep them and every blank, write one changed record alone and put
+ * its word between what stands before and behind the old item's extent in the source; examples/c/write.c does, and reads the result to see
+ * that no word runs into its neighbour.
+ *
+ *     // records of (a 1), from mihadrena_read; the name becomes one with a blank
+ *     records[1].text_source = MIHADRENA_IN_MEMORY;
+ *     records[1].text_start = 0;
+ *     records[1].text_end = 3;
+ *     uint8_t out[16];
+ *     uint64_t values[MIHADRENA_WRITE_VALUES];
+ *     uint32_t answer = mihadrena_write((const uint32_t *)records, 4 * MIHADRENA_RECORD_WORDS, source, 5, (const uint8_t *)"b c", 3,
+ *                                       out, sizeof out, values, MIHADRENA_WRITE_VALUES);
+ *     // answer == MIHADRENA_SERVED, values[0] == 11, and out starts with ( |b c| 1 )
+ */
+uint32_t mihadrena_write(const uint32_t *records, size_t records_length, const uint8_t *source, size_t source_length,
+                         const uint8_t *text, size_t text_length, uint8_t *out, size_t out_length, uint64_t *values,
+                         size_t values_length);
 
 /* -- One name table for planner and contractor ----------------------------------------------------------------------------- */
 

@@ -230,6 +230,35 @@ static void reader(void)
     expect(answer == MIHADRENA_OUT_OF_BOUNDS && values[0] == 0 && values[1] == 0, "mihadrena_reader_next, no position");
 }
 
+/* A name that is another now is written in vertical lines; each refusal comes with its record or with the bytes needed. */
+static void write_back(void)
+{
+    const uint8_t source[] = "(a 1)", text[] = "b c";
+    mihadrena_record records[4];
+    uint8_t none[1], out[16];
+    uint64_t values[MIHADRENA_READ_VALUES];
+    const size_t words = 4 * MIHADRENA_RECORD_WORDS;
+    uint32_t answer = mihadrena_read(source, sizeof source - 1, MIHADRENA_REPORT, true, (uint32_t *)records, words, none, 0, values,
+                                     MIHADRENA_READ_VALUES);
+    expect(answer == MIHADRENA_SERVED && values[0] == 4, "mihadrena_read, to be written");
+    records[1].text_source = MIHADRENA_IN_MEMORY;
+    records[1].text_start = 0;
+    records[1].text_end = 3;
+    answer = mihadrena_write((const uint32_t *)records, words, source, sizeof source - 1, text, sizeof text - 1, out, sizeof out, values,
+                             MIHADRENA_WRITE_VALUES);
+    expect(answer == MIHADRENA_SERVED && values[0] == 11 && memcmp(out, "( |b c| 1 )", 11) == 0, "mihadrena_write");
+    answer = mihadrena_write((const uint32_t *)records, words, source, sizeof source - 1, text, sizeof text - 1, out, 10, values,
+                             MIHADRENA_WRITE_VALUES);
+    expect(answer == MIHADRENA_TOO_FEW && values[0] == 11, "mihadrena_write, too few");
+    answer = mihadrena_write((const uint32_t *)records, words, source, sizeof source - 1, text, 2, out, sizeof out, values,
+                             MIHADRENA_WRITE_VALUES);
+    expect(answer == MIHADRENA_ALIEN && values[0] == 1, "mihadrena_write, no such text");
+    records[2].kind = MIHADRENA_COMMENT;
+    answer = mihadrena_write((const uint32_t *)records, words, source, sizeof source - 1, text, sizeof text - 1, out, sizeof out, values,
+                             MIHADRENA_WRITE_VALUES);
+    expect(answer == MIHADRENA_UNWRITTEN && values[0] == 2, "mihadrena_write, a comment");
+}
+
 int main(void)
 {
     read_and_text();
@@ -241,6 +270,7 @@ int main(void)
     number();
     characters();
     nest();
+    write_back();
     puts("the header's calls: ok");
     return EXIT_SUCCESS;
 }

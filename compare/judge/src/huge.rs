@@ -21,6 +21,7 @@ const OLD: u32 = 0xAAAA_AAAA;
 pub fn judge(options: &Options) -> Count {
     let mut count = Count::default();
     count.add(comments());
+    count.add(written());
     if options.huge {
         let mut text = vec![b' '; TOO_MANY];
         count.add(refused(&mut text));
@@ -31,6 +32,28 @@ pub fn judge(options: &Options) -> Count {
         count.add(pieces());
     }
     count
+}
+
+/// Records that name one long extent again and again: a result of just the limit is 22 with its bytes, a byte more is 20. No text of that
+/// length is made.
+fn written() -> Count {
+    const TOO_LONG: u32 = 20;
+    const TOO_FEW: u32 = 22;
+    const TIMES: usize = 256;
+    const NUMBER: u32 = 29;
+    let extent = (LONGEST - (TIMES - 1)) / TIMES;
+    let source = vec![b'1'; extent + 1];
+    let call = |last: usize| {
+        let mut records = bare(NUMBER, 0, 0, extent).repeat(TIMES);
+        records.splice((TIMES - 1) * RECORD_WORDS.., bare(NUMBER, 0, 0, last));
+        let (mut out, mut values) = ([7; 16], [0]);
+        (proved::writing::write(&records, &source, &[], &mut out, &mut values), values[0], out)
+    };
+    let mut tally = Tally::between(SIDES, "huge written back");
+    tally.text();
+    tally.same((TOO_FEW, LONGEST as u64, [7; 16]), call(extent), || "the limit".to_string());
+    tally.same((TOO_LONG, LONGEST as u64, [7; 16]), call(extent + 1), || "a byte more".to_string());
+    tally.close()
 }
 
 /// What the whole-text call answers: its number, both values and the first records.

@@ -19,7 +19,7 @@ const FAMILIES: &[&str] = &[
 
 /// How many texts of a family are read at most. Of the numbers those of up to 5 characters: the number call itself is compared on all
 /// of them, and the Rust keeps every name that it reads.
-fn most(family: &str) -> u64 {
+pub fn most(family: &str) -> u64 {
     match family {
         "numbers" => 1 + 17 + 17u64.pow(2) + 17u64.pow(3) + 17u64.pow(4) + 17u64.pow(5),
         _ => u64::MAX,

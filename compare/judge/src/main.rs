@@ -1,11 +1,12 @@
-//! `judge [--seed N] [--count N] [--limit N] [--family NAME] [--huge] [PART..]` compares the proved functions with the Rust, part by
-//! part, and prints a line for each comparison. The last line says how many passed; a difference that is not listed makes the
+//! `judge [--seed N] [--count N] [--limit N] [--family NAME] [--file FILE].. [--huge] [PART..]` compares the proved functions with the Rust,
+//! part by part, and prints a line for each comparison. The last line says how many passed; a difference that is not listed makes the
 //! exit status non-zero.
 //!
 //! --seed     where the random texts start (0)
 //! --count    how many texts of a random family are compared (1,000,000); a family that lists is compared whole
 //! --limit    no more texts than this of any family: for a quick look
 //! --family   no other family than this
+//! --file     of the part `writing`: this file in the place of families; may be said more than once
 //! --huge     texts of 4 GiB too: A3, refusal 20 and the longest text
 //!
 //! `judge --scale [--share N] [--jobs N]` compares at scale, in processes of its own: see scale.rs.
@@ -21,7 +22,9 @@ mod pieces;
 mod report;
 mod scale;
 mod tally;
+mod writing;
 
+use std::path::PathBuf;
 use std::process::ExitCode;
 use std::{env, panic, thread};
 
@@ -34,13 +37,22 @@ struct Options {
     count: u64,
     limit: u64,
     family: Option<String>,
+    files: Vec<PathBuf>,
     huge: bool,
     names: Vec<String>,
 }
 
 impl Options {
     fn new() -> Self {
-        Options { seed: 0, count: 1_000_000, limit: u64::MAX, family: None, huge: false, names: Vec::new() }
+        Options {
+            seed: 0,
+            count: 1_000_000,
+            limit: u64::MAX,
+            family: None,
+            files: Vec::new(),
+            huge: false,
+            names: Vec::new(),
+        }
     }
 
     /// Those of some families that are wanted.
@@ -68,6 +80,7 @@ const PARTS: &[Part] = &[
     ("pieces", pieces::judge),
     ("edges", pieces::edges::judge),
     ("coverage", coverage::judge),
+    ("writing", writing::judge),
     ("differences", differences::judge),
     ("huge", huge::judge),
 ];
@@ -105,6 +118,7 @@ fn options(words: &[String]) -> Option<Options> {
             "--count" => options.count = words.next()?.parse().ok()?,
             "--limit" => options.limit = words.next()?.parse().ok()?,
             "--family" => options.family = Some(gen::family(words.next()?)?.name.to_string()),
+            "--file" => options.files.push(words.next()?.into()),
             "--huge" => options.huge = true,
             name if PARTS.iter().any(|part| part.0 == name) => options.names.push(word.clone()),
             _ => return None,
@@ -127,7 +141,10 @@ fn judge(options: &Options) -> bool {
 
 fn usage() -> ExitCode {
     let names: Vec<&str> = PARTS.iter().map(|part| part.0).collect();
-    eprintln!("usage: judge [--seed N] [--count N] [--limit N] [--family NAME] [--huge] [{}]", names.join("|"));
+    eprintln!(
+        "usage: judge [--seed N] [--count N] [--limit N] [--family NAME] [--file FILE].. [--huge] [{}]",
+        names.join("|")
+    );
     eprintln!("       judge --scale [--share N] [--jobs N]");
     ExitCode::FAILURE
 }

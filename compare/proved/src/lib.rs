@@ -3,6 +3,8 @@ pub mod lines;
 
 pub mod names;
 
+pub mod writing;
+
 extern "C" {
     fn mihadrena_good_bytes(text: *const u8, length: usize) -> usize;
     fn mihadrena_code_at(text: *const u8, length: usize, at: usize) -> u32;

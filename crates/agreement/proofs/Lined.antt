@@ -54,7 +54,7 @@ named (backslash {v = v} s) h = bytes-some (code "\\") v
 named (hex d {x = x} {v = v} n s) h = bytes-some x v
 
 -- the closing line is the last byte
-last-line : (l : List ℕ) → lastIs (code "|") (code "|" ∷ l ++ codes "|") ≡ true
+pub last-line : (l : List ℕ) → lastIs (code "|") (code "|" ∷ l ++ codes "|") ≡ true
 last-line l =
     let e : length (code "|" ∷ l) ≡ length (code "|" ∷ l ++ codes "|") - 1 = rw (length-append l (codes "|")) (omega arith) in
     rw (getD-at (code "|" ∷ l) (code "|") [] 0 (length (code "|" ∷ l ++ codes "|") - 1) e)
@@ -67,12 +67,16 @@ module _ (t : List ℕ) where
   lined-text : ℕ → Text
   lined-text at = linedText at (at + byteCount (between Lines t)) (bytesOf (between Lines t))
 
-  lined-spells : {v : List ℕ} → SymbolElements t v → (at : ℕ) → spelling at (bytesOf (between Lines t)) (lined-text at) ≡ bytes (bytesOf v)
+  -- a name with an escape is not empty
+  abbrev pub NamedSo : List ℕ → Type 0
+  NamedSo v = escaped (bytesOf (between Lines t)) ≡ true → ltb 0 (length (bytesOf v)) ≡ true
+
+  lined-spells : {v : List ℕ} → Quoted Lines t v → NamedSo v → (at : ℕ) → spelling at (bytesOf (between Lines t)) (lined-text at) ≡ bytes (bytesOf v)
   unfolding lined-text linedText
-  lined-spells {v} s at =
+  lined-spells {v} q n at =
       by-bool (escaped (bytesOf (between Lines t)))
-      (λ e. rw (between-unescaped Lines (elements s), e, named s e))
-      (λ e. rw e (spells-between Lines at t ∙ ap (λ l. bytes (bytesOf l)) (between-same Lines (elements s) e)))
+      (λ e. rw (between-unescaped Lines q, e, n e))
+      (λ e. rw e (spells-between Lines at t ∙ ap (λ l. bytes (bytesOf l)) (between-same Lines q e)))
 
   lined-read : (report : Bool) (cs : List ℕ) {v : List ℕ} → Quoted Lines t v
       → (at : ℕ) → readItem report at (code "|") ((t ++ codes "|") ++ cs) ≡ got outcome.Lined (whole at (between Lines t)) cs
@@ -84,11 +88,14 @@ module _ (t : List ℕ) where
       (quoted-on report Lines i cs q
       ∙ (ap (λ j. got (linedOf (j .bytes)) j cs) e ∙ ap (λ o. got o (whole at (between Lines t)) cs) (lined-outcome t)))
 
--- whatever follows it: it ends where its lines close
+  -- whatever follows it: it ends where its lines close
+  pub quoted-lined : (report : Bool) (cs : List ℕ) {v : List ℕ} → Quoted Lines t v → NamedSo v → ReadAs report (between Lines t) cs kind.Identifier 0 (bytes (bytesOf v))
+  unfolding isBlank lined-text
+  quoted-lined report cs q n = record {
+    text = lined-text;
+    one = read-one report (code "|") (t ++ codes "|") cs outcome.Lined kind.Identifier 0 lined-text refl refl (lined-read report cs q) (λ last at. refl) (λ at. refl);
+    spells = lined-spells q n;
+  }
+
 pub lined-identifier : (report : Bool) {text v : List ℕ} (cs : List ℕ) → Lined text v → ReadAs report text cs kind.Identifier 0 (bytes (bytesOf v))
-unfolding isBlank lined-text
-lined-identifier report cs (lined {t = t} s) = record {
-  text = lined-text t;
-  one = read-one report (code "|") (t ++ codes "|") cs outcome.Lined kind.Identifier 0 (lined-text t) refl refl (lined-read t report cs (elements s)) (λ last at. refl) (λ at. refl);
-  spells = lined-spells t s;
-}
+lined-identifier report cs (lined {t = t} s) = quoted-lined t report cs (elements s) (named s)

@@ -75,11 +75,14 @@ module _ (t : List ℕ) where
       let i : SoFar = eats (soFar [] at) (codes "\"") in
       rw (append-assoc t (codes "\"") cs, ← eats-whole at (between Double t), eats-append i t (codes "\"")) (quoted-on report Double i cs q)
 
--- whatever follows it: it ends where its quotes close
+  -- whatever follows it: it ends where its quotes close
+  pub quoted-string : (report : Bool) (cs : List ℕ) {v : List ℕ} → Quoted Double t v → ReadAs report (between Double t) cs kind.StringLiteral 0 (bytes (bytesOf v))
+  unfolding isBlank
+  quoted-string report cs q = record {
+    text = string-text;
+    one = read-one report (code "\"") (t ++ codes "\"") cs Str kind.StringLiteral 0 string-text refl refl (string-read report cs q) (λ last at. refl) (λ at. refl);
+    spells = string-spells q;
+  }
+
 pub string : (report : Bool) {text v : List ℕ} (cs : List ℕ) → StringText text v → ReadAs report text cs kind.StringLiteral 0 (bytes (bytesOf v))
-unfolding isBlank
-string report cs (quoted {t = t} s) = record {
-  text = string-text t;
-  one = read-one report (code "\"") (t ++ codes "\"") cs Str kind.StringLiteral 0 (string-text t) refl refl (string-read t report cs (elements s)) (λ last at. refl) (λ at. refl);
-  spells = string-spells t (elements s);
-}
+string report cs (quoted {t = t} s) = quoted-string t report cs (elements s)

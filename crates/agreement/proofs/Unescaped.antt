@@ -23,7 +23,7 @@ use Rattle.agreement.proofs.Hex.{is-scalar, scalar-of, scalar-digits, d
 use Rattle.agreement.proofs.Quoted.{quotes-escape, newline-plain, intraline-space, intraline-blank, solid-or-line, closing-solid, Quoted, empty, character, escape, hexadecimal, continued}
 
 module _ (k : Quotes) where
-  high-plain : (b : ℕ) → High b → inQuotes k b ≡ plain
+  pub high-plain : (b : ℕ) → High b → inQuotes k b ≡ plain
   unfolding inQuotes
   high-plain b h = elim k [
     | Double ↦ rw (beyond-differs b h (code "\"") refl, beyond-differs b h (code "\\") refl)
@@ -34,11 +34,11 @@ module _ (k : Quotes) where
   unfolding unescape
   plain-byte b r h = rw (h, unescape)
 
-  high-bytes : (r : List ℕ) {bs : List ℕ} → Many High bs → unescape k (bs ++ r) ≡ bs ++ unescape k r
+  pub high-bytes : (r : List ℕ) {bs : List ℕ} → Many High bs → unescape k (bs ++ r) ≡ bs ++ unescape k r
   high-bytes r done = refl
   high-bytes r (more {c = b} {t = bs} h m) = plain-byte b (bs ++ r) (high-plain b h) ∙ rw (high-bytes r m)
 
-  beyond-bytes : (r : List ℕ) {bs : List ℕ} → Beyond bs → unescape k (bs ++ r) ≡ bs ++ unescape k r
+  pub beyond-bytes : (r : List ℕ) {bs : List ℕ} → Beyond bs → unescape k (bs ++ r) ≡ bs ++ unescape k r
   beyond-bytes r (all-high h m) = high-bytes r (more h m)
 
   plain-bytes : (c : ℕ) (r : List ℕ) → inQuotes k c ≡ plain → unescape k (utf8 c ++ r) ≡ utf8 c ++ unescape k r

@@ -151,7 +151,7 @@ all-stay b (c ∷ s) k h =
     (λ e. yes-no (rw e at k))
     (λ e. more (loose-stays b c (all-head loose c s h) e) (all-stay _ s (rw e at k) (all-tail loose c s h)))
 
-stays-ascii : (c : ℕ) → staysRun c ≡ true → ltb c 0x80 ≡ true
+pub stays-ascii : (c : ℕ) → staysRun c ≡ true → ltb c 0x80 ≡ true
 unfolding staysRun
 stays-ascii c h = at-one-of (λ k. ltb k 0x80) true (codes "+-./@0123456789aAbBcCdDeEfFin") c refl h
 

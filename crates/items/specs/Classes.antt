@@ -7,9 +7,7 @@ use lib.Dec.{eqb}
 use Rattle.laws.specs.Choice.{if_then_else_}
 use Rattle.laws.specs.Quoted.{code, codes, oneOf}
 use Rattle.chars.specs.Blank.{isBlank}
-use Rattle.numbers.specs.Grammar.{parseNumber}
-use Rattle.numbers.specs.declared.Parsed.{Parsed}
-use Rattle.numbers.specs.declared.Parsed.the-variants as parsed
+use Rattle.numbers.specs.Grammar.{parseNumber, numeric}
 use Rattle.items.specs.declared.Quotes.{Quotes}
 use Rattle.items.specs.declared.Quotes.the-variants.{Double, Lines}
 use Rattle.items.specs.Kinds as kind
@@ -152,12 +150,6 @@ endsRun report c =
     if oneOf (codes "()[]") c then true
     else if oneOf (codes ";\"") c then report
     else isBlank c
-
--- whether a run is a number, or error 8
-abbrev pub numeric : Parsed → Bool
-numeric (parsed.Is p) = true
-numeric parsed.NoNumber = false
-numeric parsed.ZeroDenominator = true
 
 -- In report mode a vertical line ends a run too, the bytes `raw` so far, where these are a number (02 (iii), `12|Birch|`). Where they are
 -- none the run goes on as in plain mode: `-|a|`

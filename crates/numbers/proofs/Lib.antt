@@ -7,3 +7,4 @@ pub mod Inside
 pub mod Zero
 pub mod Plain
 pub mod PlainPlaces
+pub mod AfterPlus

@@ -146,3 +146,9 @@ parseNumber s =
     if eqb (prefix s) 0
     then judged (complex 10 0 s)
     else judged (complex (prefix s) 2 (drop 2 s))
+
+-- whether a text that is read so is a number, or error 8
+abbrev pub numeric : Parsed → Bool
+numeric (Is p) = true
+numeric NoNumber = false
+numeric ZeroDenominator = true

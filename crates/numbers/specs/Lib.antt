@@ -4,3 +4,4 @@ pub mod Plain
 pub mod Inside
 pub mod Call
 pub mod Examples
+pub mod AfterPlus

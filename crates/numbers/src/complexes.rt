@@ -47,7 +47,7 @@ pub fn polar(a: MaybeReal, b: MaybeReal) -> MaybeParts
 }
 
 // Whether the last byte is `i`, and stands at a place or past it.
-fn ends_i(t: &[u8], from: usize) -> bool
+pub(crate) fn ends_i(t: &[u8], from: usize) -> bool
     ensures { λ r. ⌜ r ≡ endsI (drop from (now (t .entry))) ⌝ }
 {
     if t.len() <= from {
@@ -58,7 +58,7 @@ fn ends_i(t: &[u8], from: usize) -> bool
 }
 
 // The imaginary part from a place on, its `i` taken off.
-fn imaginary_at(t: &[u8], from: usize, radix: u64) -> MaybeReal
+pub(crate) fn imaginary_at(t: &[u8], from: usize, radix: u64) -> MaybeReal
     requires { ⌜ (1 ≤ radix) × (radix ≤ 16) ⌝ }
     ensures { λ r. ⌜ r ≡ imaginary radix from (drop from (now (t .entry))) ⌝ }
 {

@@ -13,8 +13,10 @@ ghost use Rattle.numbers.specs.Plain.{fraction, ratio, plain};
 ghost use Rattle.numbers.specs.Call.{answered, given, number};
 
 mod complexes;
+mod plus;
 mod reals;
 
+pub use plus::plus_number;
 pub use reals::one_decimal;
 
 // What the second reader (crate standard) has in common with this one. Internal.

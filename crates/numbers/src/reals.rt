@@ -227,7 +227,7 @@ fn exact_at(t: &[u8], from: usize, radix: u64, neg: bool) -> MaybeReal
 }
 
 // The real from a place on, after its sign.
-fn ureal_at(t: &[u8], from: usize, radix: u64, neg: bool) -> MaybeReal
+pub(crate) fn ureal_at(t: &[u8], from: usize, radix: u64, neg: bool) -> MaybeReal
     requires { ⌜ (1 ≤ radix) × (radix ≤ 16) ⌝ }
     ensures { λ r. ⌜ r ≡ ureal radix neg from (drop from (now (t .entry))) ⌝ }
 {

@@ -12,7 +12,7 @@ use Rattle.laws.specs.Quoted.{code, codes, oneOf}
 use Rattle.laws.proofs.Choice.{by-bool}
 use Rattle.chars.specs.Blank.{isBlank}
 use Rattle.digits.specs.Hex.{hexValue}
-use Rattle.numbers.specs.Grammar.{parseNumber}
+use Rattle.numbers.specs.Grammar.{parseNumber, numeric}
 use Rattle.numbers.specs.declared.Parsed.{Parsed}
 use Rattle.numbers.specs.declared.Parsed.the-variants as parsed
 use Rattle.items.specs.declared.CharValue.{CharValue}
@@ -24,7 +24,7 @@ use Rattle.items.specs.declared.Outcome.the-variants.{Word, Run, ErrorAt}
 use Rattle.items.specs.declared.Phase.{Phase}
 use Rattle.items.specs.declared.Phase.the-variants as ph
 use Rattle.items.specs.declared.Quotes.{Quotes}
-use Rattle.items.specs.Classes.{firstOf, breaksWord, inWord, InHex, inHex, closes, stops, digit, InRun, stays, stopsRun, leaves, staysRun, endsRun, numeric, inRun}
+use Rattle.items.specs.Classes.{firstOf, breaksWord, inWord, InHex, inHex, closes, stops, digit, InRun, stays, stopsRun, leaves, staysRun, endsRun, inRun}
 use Rattle.items.specs.Machine.{closeHex, onBrace, onHex, enterWord, onRun, stepOf, onFirst, scanOf}
 use Rattle.items.specs.Readers.{SoFar, soFar, eat, got, scalarOf, readItem, Read}
 use Rattle.items.proofs.Same.{item-same}

@@ -14,7 +14,7 @@ use Rattle.chars.specs.Blank.{isBlank}
 use Rattle.chars.specs.Encode.{width}
 use Rattle.chars.specs.Utf8.{front, Front}
 use Rattle.chars.specs.Utf8 as Utf8
-use Rattle.numbers.specs.Grammar.{parseNumber}
+use Rattle.numbers.specs.Grammar.{parseNumber, numeric}
 use Rattle.numbers.specs.declared.Parsed.{Parsed}
 use Rattle.numbers.specs.declared.Parsed.the-variants as parsed
 use Rattle.items.specs.declared.Next.{Next}
@@ -22,7 +22,7 @@ use Rattle.items.specs.declared.Next.the-variants.{Eat, Stop}
 use Rattle.items.specs.declared.Outcome.{Outcome}
 use Rattle.items.specs.declared.Outcome.the-variants.{Token, Str, HereStr, Word, Run, Lined, Keyword, Character, Error, ErrorAt}
 use Rattle.items.specs.declared.Phase.{Phase}
-use Rattle.items.specs.Classes.{firstOf, numeric}
+use Rattle.items.specs.Classes.{firstOf}
 use Rattle.items.specs.Items.{Place, unset, rangeAfter, Item, itemsOf, extentItems, itemsFrom, pastLine, afterPound, items, byteCount}
 use Rattle.items.specs.Machine.{stepOf, onFirst, scanOf}
 use Rattle.items.specs.Meaning.{Meaning, runMeans, lookup, lower, charNames, unnamed, beforeDelimiter, nameless, onlyOne, spelledOut, characterOf, charInside, characterMeans, meaningOf}

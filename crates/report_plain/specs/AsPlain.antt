@@ -5,9 +5,8 @@ use mathlib.Core.Path.{_≡_}
 use mathlib.Core.Bool.{true}
 use mathlib.Core.List.{List, _∷_}
 use Rattle.laws.specs.Quoted.{codes, oneOf}
-use Rattle.numbers.specs.Grammar.{parseNumber}
+use Rattle.numbers.specs.Grammar.{parseNumber, numeric}
 use Rattle.numbers.specs.declared.Parsed.the-variants as parsed
-use Rattle.items.specs.Classes.{numeric}
 use Rattle.items.specs.Readers.{Read}
 use Rattle.items.specs.declared.Outcome.{Outcome}
 use Rattle.items.specs.declared.Outcome.the-variants.{Word, Run, ErrorAt}

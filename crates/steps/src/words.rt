@@ -9,8 +9,8 @@ use numbers::Parsed;
 use numbers::parse_number;
 ghost use mathlib.Core.Path.{_≡_};
 ghost use Rattle.laws.specs.Quoted.{codes, oneOf};
-ghost use Rattle.numbers.specs.Grammar.{parseNumber};
-ghost use Rattle.items.specs.Classes.{breaksWord, inWord, staysRun, endsRun, numeric, barsRun, inRun};
+ghost use Rattle.numbers.specs.Grammar.{parseNumber, numeric};
+ghost use Rattle.items.specs.Classes.{breaksWord, inWord, staysRun, endsRun, barsRun, inRun};
 ghost use Rattle.items.specs.Machine.{onWord, enterWord, onRun};
 
 // Whether a character ends a word.

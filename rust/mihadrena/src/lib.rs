@@ -3,10 +3,10 @@
 //! The functions behind this crate are proved (crates/ of the repository): every call ends, touches only the memory that it is lent, and
 //! answers what the definitions say. This crate makes a safe interface of them: [`Items`] reads a whole text, [`Reader`] one item of it a
 //! call, [`Fields`] many short texts in one call, [`PieceReader`] a text that comes in pieces, [`number`] and [`number_by`] take a number
-//! apart, [`coordinate`] makes a float of a decimal, [`nest`] makes nested lists of items, [`LineIndex`] and [`LinePieces`] tell line and
-//! column, [`Names`] numbers names for two parties, and [`write_items`] and [`read_items`] store records as item files. It allocates
-//! nothing and depends on nothing but the archive that `.ci/archive` writes; `build.rs` looks for it in the repository's target/staticlib,
-//! or in the folder that the environment variable `MIHADRENA_ARCHIVE` names.
+//! apart, [`coordinate`] makes a float of a decimal, [`nest`] makes nested lists of items, [`write()`] writes items back, [`LineIndex`] and
+//! [`LinePieces`] tell line and column, [`Names`] numbers names for two parties, and [`write_items`] and [`read_items`] store records as
+//! item files. It allocates nothing and depends on nothing but the archive that `.ci/archive` writes; `build.rs` looks for it in the
+//! repository's target/staticlib, or in the folder that the environment variable `MIHADRENA_ARCHIVE` names.
 //!
 //! ```
 //! use mihadrena::{number, Int, Items, Kind, Number, Options, Real, Record};
@@ -47,6 +47,7 @@ mod pieces;
 #[allow(missing_docs, clippy::unreadable_literal)]
 pub mod raw;
 mod reader;
+mod write;
 
 pub use coordinate::{coordinate, record_coordinate, NoCoordinate};
 pub use error::{Error, HexError, Refusal};
@@ -62,3 +63,4 @@ pub use number_by::{number_by, NumberReader};
 pub use pieces::PieceReader;
 pub use raw::Record;
 pub use reader::Reader;
+pub use write::{write, NotWritten};

@@ -302,6 +302,9 @@ pub const ITEM_FILE_BYTES: usize = 50;
 /// How many values `mihadrena_items_write` and `mihadrena_items_read` write.
 pub const ITEMS_VALUES: usize = 1;
 
+/// How many values `mihadrena_write` writes.
+pub const WRITE_VALUES: usize = 1;
+
 // The readers of `mihadrena_number_by`.
 pub const BOUGHT: u32 = 0;
 pub const STANDARD: u32 = 1;
@@ -432,6 +435,18 @@ extern "C" {
         records_length: usize,
         nodes: *mut u32,
         nodes_length: usize,
+        values: *mut u64,
+        values_length: usize,
+    ) -> u32;
+    pub fn mihadrena_write(
+        records: *const u32,
+        records_length: usize,
+        source: *const u8,
+        source_length: usize,
+        text: *const u8,
+        text_length: usize,
+        out: *mut u8,
+        out_length: usize,
         values: *mut u64,
         values_length: usize,
     ) -> u32;

@@ -1,7 +1,7 @@
 //! Each refusal of a call in Rust tells the number that C is told.
 use mihadrena::{
-    coordinate, nest, raw, read_items, record_coordinate, write_items, Fields, FileRefusal, Items, LineIndex,
-    LineRefusal, Names, NoCoordinate, NoFields, NoName, NotNested, Options, Party, Record, Refusal,
+    coordinate, nest, raw, read_items, record_coordinate, write, write_items, Fields, FileRefusal, Items, LineIndex,
+    LineRefusal, Names, NoCoordinate, NoFields, NoName, NotNested, NotWritten, Options, Party, Record, Refusal,
 };
 
 /// How `nest` refuses a text, with room for so many nodes.
@@ -30,6 +30,28 @@ fn nested_lists() {
     assert_eq!(not_nested("(a)", 1), Some(NotNested::FewNodes));
     assert_eq!(NotNested::FewNodes.number(), raw::FEW_NODES);
     assert_eq!(not_nested("(a)", 2), None);
+}
+
+#[test]
+fn writing() {
+    let bracket = Record { kind: raw::OPEN_PAREN, start: 0, end: 1, ..Record::default() };
+    for (record, room, refusal, number) in [
+        (Record { kind: raw::FIRST_ERROR, ..bracket }, 9, NotWritten::Alien(1), raw::ALIEN),
+        (Record { end: 2, ..bracket }, 9, NotWritten::Alien(1), raw::ALIEN),
+        (Record { kind: raw::IDENTIFIER, ..bracket }, 9, NotWritten::Alien(1), raw::ALIEN),
+        (Record { kind: raw::COMMENT, ..bracket }, 9, NotWritten::Unwritten(1), raw::UNWRITTEN),
+        (Record { kind: raw::INVALID_CHAR_DELIMITER, ..bracket }, 9, NotWritten::Unwritten(1), raw::UNWRITTEN),
+        (bracket, 2, NotWritten::NoRoom(3), raw::TOO_FEW),
+    ] {
+        let mut out = vec![b'7'; room];
+        assert_eq!(write(&[bracket, record], "(", &[], &mut out), Err(refusal), "{record:?}");
+        assert_eq!(refusal.number(), number, "{record:?}");
+        assert_eq!(out, vec![b'7'; room], "{record:?}");
+    }
+    let mut out = [b'7'; 4];
+    assert_eq!(write(&[bracket, bracket], "(", &[], &mut out), Ok("( ("));
+    assert_eq!(&out, b"( (7");
+    assert_eq!(NotWritten::TooLong.number(), raw::TOO_LONG);
 }
 
 #[test]

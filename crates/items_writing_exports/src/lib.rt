@@ -1,0 +1,69 @@
+// The call of the crate `items_writing` for programs in C and Rust: its answer as a number and one value.
+use items_writing::WriteAnswer;
+use refusal::ALIEN;
+use refusal::LIMIT_VALUE;
+use refusal::SERVED;
+use refusal::TOO_FEW;
+use refusal::TOO_LONG;
+use refusal::UNWRITTEN;
+ghost use mathlib.Core.Path.{_≡_};
+ghost use mathlib.Core.List.{[], _∷_};
+ghost use Rattle.chars.specs.Encode.{lay};
+ghost use Rattle.items_writing.specs.Call.{writeOf, answered};
+ghost use Rattle.items_writing_exports.specs.Write.{numberOf, valueOf, sees, seen};
+
+// How many values are written.
+const VALUES: usize = 1;
+
+// An answer: its number and its value.
+struct Told {
+    number: u32,
+    value: u64,
+}
+
+// An answer of a number and a value.
+fn tell(number: u32, value: u64) -> Told
+    ensures { λ r. ⌜ (r .number ≡ number) × (r .value ≡ value) ⌝ }
+{
+    Told { number, value }
+}
+
+// An answer by its number and its value.
+fn answer(a: WriteAnswer) -> Told
+    ensures { λ r. ⌜ (r .number ≡ numberOf (answered a)) × (r .value ≡ valueOf (answered a)) ⌝ }
+{
+    match a {
+        WriteAnswer::Written(bytes) => tell(SERVED, bytes as u64),
+        WriteAnswer::Alien(record) => tell(ALIEN, record as u64),
+        WriteAnswer::Unwritten(record) => tell(UNWRITTEN, record as u64),
+        WriteAnswer::TooLong => tell(TOO_LONG, LIMIT_VALUE),
+        WriteAnswer::NoRoom(bytes) => tell(TOO_FEW, bytes as u64),
+    }
+}
+
+// Writes the value, if there is room.
+fn put_value(values: &mut [u64], value: u64)
+    ensures { λ _. ⌜ now (values .exit) ≡ lay (value ∷ []) (now (values .entry)) ⌝ }
+{
+    if values.len() < VALUES {
+        return;
+    }
+    values[0] = value;
+}
+
+// Writes the text of records, from the front of `out` on; `text` is the text memory that they name. `values` gets how many bytes it has, or
+// what the refusal comes with; where there is no room for it, it is left as it was.
+#[no_mangle]
+pub extern "C" fn mihadrena_write<'a>(
+    records: &[u32],
+    source: &'a [u8],
+    text: &'a [u8],
+    out: &mut [u8],
+    values: &mut [u64],
+) -> u32
+    ensures { λ r. ⌜ sees r (now (values .exit)) (now (out .exit)) ≡ seen (writeOf (now (records .entry)) (now (source .entry)) (now (text .entry)) (now (out .entry))) (now (values .entry)) ⌝ }
+{
+    let w = answer(items_writing::write(records, source, text, out));
+    put_value(values, w.value);
+    w.number
+}

@@ -1,0 +1,4 @@
+pub mod Shapes
+pub mod Texts
+pub mod Write
+pub mod Told
