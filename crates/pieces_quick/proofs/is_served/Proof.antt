@@ -1,0 +1,22 @@
+use borrow.Author.Needs.{needs}
+use native.Mathlib.Omega.{arith}
+use denote.Ref.{now}
+use Prim.Native.Nat.{ℕ}
+use mathlib.Core.Path.{_≡_}
+use Rattle.pieces_quick.proofs.is_served.Statement.{statement}
+use Rattle.pieces_quick.proofs.is_served.Tie as tie
+
+returns : tie.Need-returns
+returns c = λ e. let z : _≡_ {A = ℕ} 0 1 = cc in absurd (omega arith)
+
+returns-2 : tie.Need-returns-2
+returns-2 c = λ e. let z : _≡_ {A = ℕ} 0 1 = cc in absurd (omega arith)
+
+is-ready-requires : tie.Need-is-ready-requires
+is-ready-requires c κs = search needs
+
+returns-3 : tie.Need-returns-3
+returns-3 c = λ e. (omega arith, omega arith, c .is-ready .ensures e)
+
+pub is-served-spec : {M : Type 1} → statement M
+is-served-spec = tie.close (tie.spec returns returns-2 is-ready-requires returns-3)
