@@ -1,7 +1,6 @@
 // The piece calls of the crate `lent`, over slices and numbers alone, which is all that C and Rust pass. A state is what a caller lends as
 // STATE_BYTES bytes and STATE_WORDS words (docs/STATE.md); what a call gives is a number, an item's record goes to lent words, and so do
 // what a refusal comes with and the count of bytes taken.
-use pieces_quick::piece_words;
 use lent::Told;
 use lent::Words;
 use lent::calls::end_words;
@@ -10,6 +9,7 @@ use meaning::records::WORDS;
 use meaning::records::put;
 use pieces::Got;
 use pieces::LONGEST;
+use pieces_quick::piece_words;
 use refusal::FINISHED;
 use refusal::ITEM;
 use refusal::MORE;

@@ -6,25 +6,23 @@ use lib.ListN.{length, getD, take, drop, length-drop, drop-of-length-le}
 use lib.Seq.{drop-cons}
 use native.Mathlib.Omega.{arith}
 use Rattle.laws.proofs.Lent.{part-rest}
-use Rattle.items.specs.Whole.{limit}
 use Rattle.pieces.specs.declared.State.{State}
 use Rattle.pieces.specs.declared.Got.the-variants as got
 use Rattle.pieces.specs.Expected.{longest}
-use Rattle.pieces.specs.Calls.{What, Reply, textAfter, feedOf}
+use Rattle.pieces.specs.Calls.{What, textAfter, feedOf}
 use Rattle.turns.specs.Inner.{Sound}
 use Rattle.lent.specs.declared.Words.{Words}
 use Rattle.lent.specs.declared.Told.{Told}
-use Rattle.lent.specs.Coding.{coded, stageOf, stageRow}
+use Rattle.lent.specs.Coding.{coded}
 use Rattle.lent.specs.Calls.{Said, lent, said, worded, pieceFor}
-use Rattle.pieces_quick.specs.declared.Spot.{Spot}
-use Rattle.pieces_quick.specs.declared.Offer.{Offer}
+use Rattle.pieces_spots.specs.declared.PieceSpot.{PieceSpot}
 use Rattle.pieces_quick.specs.declared.Offer.the-variants.{Given, Not}
-use Rattle.pieces_quick.specs.Spots.{rowAt, marksAt, stateAt, Fits, Goes, Onward}
+use Rattle.pieces_spots.specs.Spots.{marksAt, stateAt, Fits, Goes, Onward}
 use Rattle.pieces_quick.specs.Words.{Ready, base, spotOf, stood}
 use Rattle.pieces_quick.specs.Gives.{Held, Finished, Feeds, Reaches}
 use Rattle.pieces_quick.proofs.Worded.{stood-coded, spot-code, first-words, first-sound, call-feeds, later, feed-later, feed-most}
 
-module _ (w : Words) (left : ℕ) (R : Ready w left) (s : Spot) (buf text piece : List ℕ) (fits : Fits s buf piece) (sound : Sound (marksAt (base w) s) buf text) where
+module _ (w : Words) (left : ℕ) (R : Ready w left) (s : PieceSpot) (buf text piece : List ℕ) (fits : Fits s buf piece) (sound : Sound (marksAt (base w) s) buf text) where
   abbrev S : State
   S = stateAt (base w) s buf
 
@@ -90,7 +88,7 @@ module _ (w : Words) (left : ℕ) (R : Ready w left) (s : Spot) (buf text piece 
   }
 
 -- one spot after the other
-pub along : (piece : List ℕ) (s : Spot) (buf : List ℕ) (r : Spot) (now : List ℕ) (q : Spot) (then : List ℕ)
+pub along : (piece : List ℕ) (s : PieceSpot) (buf : List ℕ) (r : PieceSpot) (now : List ℕ) (q : PieceSpot) (then : List ℕ)
     → Onward s buf r now piece → Onward r now q then piece → Onward s buf q then piece
 along piece s buf r now q then f g m text h =
     let a = f m text h in
@@ -98,7 +96,7 @@ along piece s buf r now q then f g m text h =
 
 -- from the words that were lent to the last spot
 module _ (w : Words) (buf text piece : List ℕ) (full : length buf ≡ longest) (room : longest ≤ length text) (R : Ready w (length piece))
-    (s : Spot) (now : List ℕ) (on : Onward (spotOf w) buf s now piece) where
+    (s : PieceSpot) (now : List ℕ) (on : Onward (spotOf w) buf s now piece) where
   goes : Goes (base w) text piece (spotOf w) buf s now
   goes = on (base w) text (first-sound w (length piece) R buf text full room)
 
@@ -119,7 +117,7 @@ module _ (w : Words) (buf text piece : List ℕ) (full : length buf ≡ longest)
       )
 
 -- where nothing was given, all stands as before
-module _ (w : Words) (s : Spot) (c : ℕ) (buf now text then : List ℕ) (same : Finished w s c buf now text then Not) where
+module _ (w : Words) (s : PieceSpot) (c : ℕ) (buf now text then : List ℕ) (same : Finished w s c buf now text then Not) where
   pub still-fits : (piece : List ℕ) → Fits s buf piece → Fits s now piece
   still-fits piece f = subst (λ (l : List ℕ). Fits s l piece) (sym (same .0)) f
 

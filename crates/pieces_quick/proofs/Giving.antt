@@ -1,5 +1,5 @@
 -- The item that is given here is the one that its byte's turn gives, and the words after it are those of the state after that turn.
-use Prim.Native.Nat.{ℕ, _+_, _/_, _%_, _≤_, _<_}
+use Prim.Native.Nat.{ℕ, _+_, _/_, _%_, _<_}
 use mathlib.Core.Path.{_≡_, refl, sym, ap, _∙_}
 use mathlib.Core.Bool.{Bool, true, false, _&&_}
 use mathlib.Core.List.{List, [], _∷_}
@@ -13,14 +13,11 @@ use Rattle.laws.specs.Lent.{written}
 use Rattle.chars.specs.Blank.{isBlank}
 use Rattle.chars.proofs.Width.{utf8-one}
 use Rattle.items.specs.Kinds as kind
-use Rattle.items.specs.Whole.{limit, inReport}
+use Rattle.items.specs.Whole.{inReport}
 use Rattle.items.specs.Items.{Place, range, placeOf, standing, depthAfter}
-use Rattle.items.specs.Classes.{firstOf}
-use Rattle.items.specs.Machine.{onFirst}
 use Rattle.meaning.specs.declared.Means.{Means}
 use Rattle.meaning.specs.Meant.{sizedAll}
 use Rattle.items.specs.Meaning.{meaningOf}
-use Rattle.pieces.specs.declared.Stage.the-variants.{Idle, Busy}
 use Rattle.pieces.specs.declared.Stage.{Stage}
 use Rattle.pieces.specs.declared.State.{State}
 use Rattle.pieces.specs.declared.Got.{Got}
@@ -28,25 +25,24 @@ use Rattle.pieces.specs.declared.Got.the-variants as got
 use Rattle.items.specs.declared.Record.{Record}
 use Rattle.pieces.specs.Expected.{longest}
 use Rattle.pieces.specs.Calls.{item, What, Reply, reply, textAfter, marks, withDepth, lastOf, itemSoFar, laidAt, begin, deeper, report, feedOf}
-use Rattle.giving.specs.Answers.{stateOf, whatOf}
+use Rattle.giving.specs.Answers.{whatOf}
 use Rattle.giving.specs.Copied.{copiedBy, hasText, givenBy}
 use Rattle.giving.proofs.Gives.{no-text, given-without}
 use Rattle.meaning.specs.declared.Range.{Range}
 use Rattle.meaning.specs.Places.{rangeOf}
 use Rattle.meaning.specs.Records.{nineWith}
 use Rattle.giving.proofs.Laid.{laid-sets}
-use Rattle.turns.specs.Inner.{Sound}
+use Rattle.lent.specs.declared.State.{State as Lent}
 use Rattle.lent.specs.declared.Words.{Words}
 use Rattle.lent.specs.declared.Told.{Told}
-use Rattle.lent.specs.declared.State.{State as Lent}
 use Rattle.pieces.specs.Given.{Given}
-use Rattle.lent.specs.Coding.{row, stageOf, stageRow, coded}
+use Rattle.lent.specs.Coding.{stageOf, stageRow, coded}
 use Rattle.lent.specs.Calls.{Said, lent, lend, said, worded}
-use Rattle.pieces_quick.specs.declared.Spot.{Spot}
-use Rattle.pieces_quick.specs.Spots.{rowAt, marksAt, stateAt, Solid, Firsts, Ended}
+use Rattle.pieces_spots.specs.declared.PieceSpot.{PieceSpot}
+use Rattle.pieces_spots.specs.Spots.{stateAt, Solid}
 use Rattle.pieces_quick.specs.Words.{Ready, base, stood}
 use Rattle.pieces_quick.specs.Gives.{Held, Next, Finishes}
-use Rattle.pieces_quick.proofs.Turning.{width-ascii, Between, fed-ended}
+use Rattle.pieces_spots.proofs.Turning.{width-ascii, fed-ended}
 use Rattle.pieces_quick.proofs.Worded.{stood-coded}
 
 -- an item without text that is no error
@@ -69,8 +65,8 @@ said-are : {a b : ℕ} {x y : What} {p q : Lent} → a ≡ b → x ≡ y → p �
     → _≡_ {A = Said} (record { taken = a; what = x; state = p }) (record { taken = b; what = y; state = q })
 said-are e f g = cc
 
-module _ (w : Words) (left : ℕ) (R : Ready w left) (s : Spot) (buf : List ℕ) (full : length buf ≡ longest) (c k d : ℕ) (deep : d ≡ depthAfter k (w .depth)) where
-  abbrev idle : Spot
+module _ (w : Words) (left : ℕ) (R : Ready w left) (s : PieceSpot) (buf : List ℕ) (full : length buf ≡ longest) (c k d : ℕ) (deep : d ≡ depthAfter k (w .depth)) where
+  abbrev idle : PieceSpot
   idle = record { stage = 3; start = 0; which = 0; detail = 0; at = s .at + 1; len = 0; i = 0 }
 
   pub after-blank : c < 0x80 → isBlank c ≡ true → (r : Words) → r ≡ stood w idle d → Next w s c k buf r buf
@@ -79,7 +75,7 @@ module _ (w : Words) (left : ℕ) (R : Ready w left) (s : Spot) (buf : List ℕ)
       rw (blank, width-ascii c small, ← deep) (ap (λ (x : Words). lent x buf) (e ∙ sym (stood-coded w left R idle d refl)))
 
   module _ (f : ℕ) where
-    abbrev begun : Spot
+    abbrev begun : PieceSpot
     begun = record { stage = f % 64; start = s .at; which = f / 64 % 32; detail = f / 2048; at = s .at + 1; len = 1; i = 0 }
 
     pub after-solid : Solid c f → (r : Words) → r ≡ stood w begun d → Next w s c k buf r (set buf 0 c)
@@ -91,7 +87,7 @@ module _ (w : Words) (left : ℕ) (R : Ready w left) (s : Spot) (buf : List ℕ)
         (e ∙ sym (stood-coded w left R begun d (ap stageRow (told .stands (s .at)) ∙ told .rows (s .at)))
         ∙ ap (λ (g : Stage). coded (withDepth d (marks (base w) g (s .at + 1) 1 (range (w .from) (w .to))))) (told .stands (s .at))))
 
-module _ (w : Words) (s : Spot) (buf text : List ℕ) (H : Held w s buf text) (c f : ℕ) (m : Means) (F : Finishes s c f buf m) where
+module _ (w : Words) (s : PieceSpot) (buf text : List ℕ) (H : Held w s buf text) (c f : ℕ) (m : Means) (F : Finishes s c f buf m) where
   abbrev S : State
   S = stateAt (base w) s buf
 

@@ -1,12 +1,9 @@
 -- The rows that are known here.
 use Prim.Native.Nat.{ℕ, _+_, _≤_, _<_, _^_}
-use mathlib.Core.Path.{_≡_, refl}
-use mathlib.Core.Bool.{true}
-use lib.Dec.{eqb, leb}
+use mathlib.Core.Path.{_≡_}
 use native.Mathlib.Omega.{arith}
 use borrow.Author.Tests.{eq-eqb, le-leb}
-use Rattle.pieces.specs.declared.Marks.{Marks}
-use Rattle.lent.specs.Coding.{row, stageOf, stageRow}
+use Rattle.lent.specs.Coding.{stageOf}
 use Rattle.pieces_quick.specs.Words.{Known}
 
 module _ (stage start which detail at len : ℕ) where

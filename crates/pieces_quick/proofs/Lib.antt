@@ -1,8 +1,3 @@
-pub mod Turning
-pub mod Begins
-pub mod Runs
-pub mod Ends
-pub mod Moves
 pub mod Knows
 pub mod Worded
 pub mod Giving

@@ -1,15 +1,12 @@
 -- What words that are ready stand for, and that a call on the words of a spot feeds on from there.
 use Prim.Native.Nat.{ℕ, zero, suc, _+_, _^_, _≤_, _<_}
-use mathlib.Core.Path.{_≡_, refl, sym, ap, _∙_, subst}
-use mathlib.Core.Bool.{Bool, true, false, _&&_}
+use mathlib.Core.Path.{_≡_, refl, sym, ap, _∙_}
+use mathlib.Core.Bool.{true, false}
 use mathlib.Core.List.{List, [], _∷_}
-use lib.ListN.{length, drop}
-use lib.Dec.{eqb, leb, ltb}
-use native.Mathlib.Nat.{add-zero}
+use lib.ListN.{length}
+use lib.Dec.{eqb}
 use native.Mathlib.Omega.{arith}
 use borrow.Author.Tests.{eq-eqb, le-leb, lt-ltb, le-ltb}
-use Rattle.laws.proofs.Choice.{if-yes, if-no}
-use Rattle.items.specs.Items.{range}
 use Rattle.items.specs.Whole.{limit}
 use Rattle.pieces.specs.declared.Stage.{Stage}
 use Rattle.pieces.specs.declared.Stage.the-variants.{Opening, Pound, FirstLine, Idle, Busy, Waiting, Stopped}
@@ -17,19 +14,18 @@ use Rattle.pieces.specs.declared.Marks.{Marks}
 use Rattle.pieces.specs.declared.State.{State}
 use Rattle.pieces.specs.Expected.{longest}
 use Rattle.pieces.specs.Bounds.{inBounds}
-use Rattle.pieces.specs.Calls.{Turn, on, off, Reply, reply, withDepth, turnOf, after, feedOf, pieceStage, pieceOf}
+use Rattle.pieces.specs.Calls.{Turn, on, off, reply, withDepth, turnOf, after, feedOf, pieceStage, pieceOf}
 use Rattle.pieces.proofs.Kept.{both}
 use Rattle.laws.proofs.Choice.{no-yes}
 use Rattle.giving.specs.Answers.{stateOf}
 use Rattle.turns.specs.Inner.{readsOn, Sound}
-use Rattle.piecewise.specs.Answers.{pieceIn}
 use Rattle.lent.specs.declared.Words.{Words}
-use Rattle.lent.specs.Coding.{row, stageOf, stageRow, standing, coded, bit, narrow, isCode}
-use Rattle.lent.specs.Calls.{Said, lent, lend, worded, pieceFor}
+use Rattle.lent.specs.Coding.{stageOf, stageRow, coded, bit, narrow, isCode}
+use Rattle.lent.specs.Calls.{Said, lent, worded, pieceFor}
 use Rattle.lent.proofs.Back.{standing-coded, coded-is-code}
-use Rattle.pieces_quick.specs.declared.Spot.{Spot}
-use Rattle.pieces_quick.specs.Spots.{rowAt, marksAt, stateAt, Fits}
-use Rattle.pieces_quick.specs.Words.{Known, Ready, base, spotOf, stood}
+use Rattle.pieces_spots.specs.declared.PieceSpot.{PieceSpot}
+use Rattle.pieces_spots.specs.Spots.{rowAt, marksAt, Fits}
+use Rattle.pieces_quick.specs.Words.{Ready, base, spotOf, stood}
 
 -- ---- the words of a spot
 
@@ -39,7 +35,7 @@ bit-back (suc zero) h = refl
 bit-back (suc (suc n)) h = absurd (omega arith)
 
 module _ (w : Words) (left : ℕ) (R : Ready w left) where
-  pub stood-coded : (s : Spot) (d : ℕ) → stageRow (stageOf (rowAt s)) ≡ rowAt s → coded (withDepth d (marksAt (base w) s)) ≡ stood w s d
+  pub stood-coded : (s : PieceSpot) (d : ℕ) → stageRow (stageOf (rowAt s)) ≡ rowAt s → coded (withDepth d (marksAt (base w) s)) ≡ stood w s d
   unfolding coded
   stood-coded s d rows = rw (rows, bit-back (w .skip) (R .skip))
 
@@ -98,7 +94,7 @@ module _ (w : Words) (left : ℕ) (R : Ready w left) where
     }
 
   -- the marks of a spot are words
-  pub spot-code : (s : Spot) → stageRow (stageOf (rowAt s)) ≡ rowAt s → s .which < 2 ^ 32 → s .detail < 2 ^ 32 → isCode (coded (marksAt (base w) s)) ≡ true
+  pub spot-code : (s : PieceSpot) → stageRow (stageOf (rowAt s)) ≡ rowAt s → s .which < 2 ^ 32 → s .detail < 2 ^ 32 → isCode (coded (marksAt (base w) s)) ≡ true
   unfolding narrow coded
   spot-code s rows which detail =
       coded-is-code (marksAt (base w) s)

@@ -1,7 +1,7 @@
 -- The words that are known here, and the words of a spot.
 use Prim.Native.Nat.{ℕ, _+_, _^_, _≤_, _<_}
 use mathlib.Core.Path.{_≡_}
-use mathlib.Core.Bool.{Bool, true, false}
+use mathlib.Core.Bool.{true, false}
 use lib.Dec.{eqb}
 use Rattle.items.specs.Whole.{limit}
 use Rattle.pieces.specs.declared.Stage.the-variants.{Idle}
@@ -12,7 +12,7 @@ use Rattle.pieces.specs.Calls.{whole}
 use Rattle.turns.specs.Inner.{readsOn}
 use Rattle.lent.specs.declared.Words.{Words}
 use Rattle.lent.specs.Coding.{row, stageOf, stageRow}
-use Rattle.pieces_quick.specs.declared.Spot.{Spot}
+use Rattle.pieces_spots.specs.declared.PieceSpot.{PieceSpot}
 
 -- a row whose stage reads on, within its bounds at a place, with so many bytes held
 pub record Known (stage start which detail at len : ℕ) : Type 0 where
@@ -31,15 +31,6 @@ pub record Quiet (ended one two count need low high code : ℕ) : Type 0 where
   pub e5 : low ≡ 0
   pub e6 : high ≡ 0
   pub e7 : code ≡ 0
-
-pub record Bounded (mode skip from to at left len depth : ℕ) : Type 0 where
-  pub plain : mode < 2
-  pub bit : skip ≤ 1
-  pub first : from ≤ limit
-  pub last : to ≤ limit
-  pub far : at + left ≤ limit
-  pub small : len ≤ longest
-  pub deep : depth + len ≤ at
 
 pub record Ready (w : Words) (left : ℕ) : Type 0 where
   pub mode : w .mode < 2
@@ -75,10 +66,10 @@ base w =
       depth = w .depth;
     }
 
-abbrev pub spotOf : Words → Spot
+abbrev pub spotOf : Words → PieceSpot
 spotOf w = record { stage = w .stage; start = w .start; which = w .which; detail = w .detail; at = w .at; len = w .len; i = 0 }
 
-abbrev pub stood : Words → Spot → ℕ → Words
+abbrev pub stood : Words → PieceSpot → ℕ → Words
 stood w s depth =
     record {
       mode = w .mode;

@@ -1,16 +1,15 @@
+-- The tests say it.
 use borrow.Author.Needs.{needs}
 use native.Mathlib.Omega.{arith}
-use denote.Ref.{now}
-use Prim.Native.Nat.{ℕ}
-use mathlib.Core.Path.{_≡_}
+use Rattle.laws.proofs.Choice.{no-yes}
 use Rattle.pieces_quick.proofs.is_served.Statement.{statement}
 use Rattle.pieces_quick.proofs.is_served.Tie as tie
 
 returns : tie.Need-returns
-returns c = λ e. let z : _≡_ {A = ℕ} 0 1 = cc in absurd (omega arith)
+returns c = no-yes
 
 returns-2 : tie.Need-returns-2
-returns-2 c = λ e. let z : _≡_ {A = ℕ} 0 1 = cc in absurd (omega arith)
+returns-2 c = no-yes
 
 is-ready-requires : tie.Need-is-ready-requires
 is-ready-requires c κs = search needs

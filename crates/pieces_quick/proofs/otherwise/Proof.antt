@@ -1,5 +1,5 @@
+-- The words are the same, so what the plain call answers is the answer.
 use borrow.Author.Needs.{needs}
-use native.Mathlib.Omega.{arith}
 use denote.Ref.{now}
 use mathlib.Core.Path.{_≡_, subst}
 use lib.ListN.{length}

@@ -1,7 +1,6 @@
+-- Words that are served are read from spot to spot, others the plain way; both promise this.
 use borrow.Author.Needs.{needs}
-use native.Mathlib.Omega.{arith}
-use denote.Ref.{now}
-use borrow.Author.Tests.{not-true, not-false}
+use borrow.Author.Tests.{not-false}
 use Rattle.pieces_quick.proofs.piece_words.Statement.{statement}
 use Rattle.pieces_quick.proofs.piece_words.Tie as tie
 

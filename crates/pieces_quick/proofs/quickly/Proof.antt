@@ -1,5 +1,5 @@
+-- Each move feeds on as the spot before, so the answer from the last spot is that from the first (Answering: along).
 use borrow.Author.Needs.{needs}
-use native.Mathlib.Omega.{arith}
 use denote.Ref.{now}
 use Rattle.pieces_quick.proofs.Answering.{along, last-reached, answers}
 use Rattle.pieces_quick.proofs.quickly.Statement.{statement}

@@ -1,7 +1,8 @@
+-- At the end of the piece nothing is left to feed. Before it the item is given, or the plain call goes on (Answering).
 use borrow.Author.Needs.{needs}
 use native.Mathlib.Omega.{arith}
 use denote.Ref.{now}
-use mathlib.Core.Path.{_≡_, sym, subst}
+use mathlib.Core.Path.{subst}
 use lib.ListN.{getD}
 use Rattle.pieces_quick.specs.declared.Offer.{Offer}
 use Rattle.pieces_quick.specs.Gives.{Finished}

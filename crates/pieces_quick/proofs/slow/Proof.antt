@@ -1,3 +1,4 @@
+-- The plain call on the words of the spot feeds on from it (Answering: slow-feeds).
 use borrow.Author.Needs.{needs}
 use native.Mathlib.Omega.{arith}
 use denote.Ref.{now}
