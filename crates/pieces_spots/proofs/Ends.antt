@@ -37,6 +37,18 @@ pub close-square : Stops (code "]")
 unfolding inWord breaksWord inRun staysRun endsRun isBlank
 close-square = record { word = λ report i. refl; run = λ report i. refl }
 
+pub open-square : Stops (code "[")
+unfolding inWord breaksWord inRun staysRun endsRun isBlank
+open-square = record { word = λ report i. refl; run = λ report i. refl }
+
+pub return : Stops 0x0D
+unfolding inWord breaksWord inRun staysRun endsRun isBlank
+return = record { word = λ report i. refl; run = λ report i. refl }
+
+pub tab : Stops 0x09
+unfolding inWord breaksWord inRun staysRun endsRun isBlank
+tab = record { word = λ report i. refl; run = λ report i. refl }
+
 pub quote : StopsWord (code "\"")
 unfolding inWord breaksWord
 quote report i = refl

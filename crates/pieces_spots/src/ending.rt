@@ -25,6 +25,9 @@ fn is_stop(b: u8) -> bool
         b'\n' => true,
         b'(' => true,
         b']' => true,
+        b'[' => true,
+        b'\r' => true,
+        b'\t' => true,
         _ => false,
     }
 }

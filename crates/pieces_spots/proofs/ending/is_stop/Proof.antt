@@ -22,7 +22,16 @@ returns-5 : tie.Need-returns-5
 returns-5 c = λ e. subst Stops (sym (c .match .keys5)) ends.close-square
 
 returns-6 : tie.Need-returns-6
-returns-6 c = no-yes
+returns-6 c = λ e. subst Stops (sym (c .match .keys6)) ends.open-square
+
+returns-7 : tie.Need-returns-7
+returns-7 c = λ e. subst Stops (sym (c .match .keys7)) ends.return
+
+returns-8 : tie.Need-returns-8
+returns-8 c = λ e. subst Stops (sym (c .match .keys8)) ends.tab
+
+returns-9 : tie.Need-returns-9
+returns-9 c = no-yes
 
 pub is-stop-spec : {M : Type 1} → statement M
-is-stop-spec = tie.close (tie.spec returns returns-2 returns-3 returns-4 returns-5 returns-6)
+is-stop-spec = tie.close (tie.spec returns returns-2 returns-3 returns-4 returns-5 returns-6 returns-7 returns-8 returns-9)
