@@ -8,7 +8,7 @@ use pieces::Marks;
 use pieces::Start;
 
 pub mod calls;
-mod codes;
+pub mod codes;
 mod decoding;
 mod encoding;
 pub mod lending;

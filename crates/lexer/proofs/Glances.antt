@@ -24,7 +24,8 @@ use Rattle.meaning.specs.Records.{nineFor, TextFits}
 use Rattle.lexer.specs.Inner as inner
 use Rattle.lexer.specs.Inner.{bytesFor, freeAfter}
 use Rattle.lexer.specs.Reading.{moved, turn, turnAt, nextAt, startFrom, foundOf}
-use Rattle.lexer.specs.Glance.{Begins, Glanced, Undecoded}
+use Rattle.lexer.specs.Glance.{Begins, Glanced}
+use Rattle.telling.specs.Tells.{Undecoded}
 use Rattle.lexer.specs.declared.Spot.{Spot}
 use Rattle.lexer.specs.declared.Start.the-variants.{At}
 use Rattle.lexer.specs.declared.Found.{Found}

@@ -10,7 +10,6 @@ pub mod Gives
 pub mod Scans
 pub mod Nexts
 pub mod Glances
-pub mod WordKinds
 pub mod Tells
 pub mod Sharps
 pub mod Skims

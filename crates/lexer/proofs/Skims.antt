@@ -26,7 +26,8 @@ use Rattle.meaning.specs.declared.Means.{Means}
 use Rattle.meaning.specs.declared.Text.the-variants.{Nowhere, Source}
 use Rattle.meaning.specs.Places.{rangeOf}
 use Rattle.meaning.specs.Records.{nineFor}
-use Rattle.lexer.specs.Glance.{Begins, Alone, Glanced, SkimAt, SkimFrom}
+use Rattle.lexer.specs.Glance.{Begins, Glanced, SkimAt, SkimFrom}
+use Rattle.telling.specs.Tells.{Alone}
 use Rattle.lexer.specs.Writing.{Going}
 use Rattle.lexer.specs.Reading.{startFrom}
 use Rattle.lexer.specs.declared.Spot.{Spot}
@@ -35,7 +36,8 @@ use Rattle.lexer.specs.declared.Found.the-variants.{One}
 use Rattle.lexer.proofs.Glances.{next-told, toldPlace, bare-nine}
 use Rattle.lexer.proofs.Going.{going-on, it, it-moved}
 use Rattle.lexer.proofs.Quickly.{here}
-use Rattle.lexer.proofs.Tells.{and-false, spans, ends-here, line-told, string-tells, identifier-tells, word-tells, run-tells}
+use Rattle.telling.proofs.Tells.{string-tells, identifier-tells, word-tells, run-tells}
+use Rattle.lexer.proofs.Tells.{and-false, spans, ends-here, line-told}
 use Prim.Native.Nat.{ℕ, _+_, _-_, _≤_, _<_}
 use mathlib.Core.Path.{_≡_, refl, ap, _∙_, subst}
 use mathlib.Core.Bool.{Bool, false}

@@ -1,127 +1,40 @@
 -- What one look at a first byte, and one at where its run ends, tell of the item there.
 use Rattle.chars.specs.Utf8.{chars}
 use Rattle.chars.specs.Blank.{isBlank}
-use Rattle.chars.proofs.Blanks.{between-blanks}
 use Rattle.items.specs.Kinds as kind
-use Rattle.items.specs.Classes.{startsRun, firstOf}
+use Rattle.items.specs.Classes.{firstOf}
 use Rattle.items.specs.Machine.{onFirst}
-use Rattle.items.specs.Readers.{SoFar, soFar, comment, firstIs}
-use Rattle.items.specs.Meaning.{escaped, stringText, wordKind, wordMeans, runMeans}
-use Rattle.numbers.specs.Grammar.{parseNumber}
-use Rattle.numbers.specs.declared.Parts.{Parts}
-use Rattle.numbers.specs.declared.Parsed.the-variants as parsed
+use Rattle.items.specs.Readers.{SoFar, soFar, comment}
 use Rattle.items.specs.Items.{Place, rangeAfter}
 use Rattle.items.specs.Whole.{limit}
 use Rattle.items.specs.declared.Outcome.{Outcome}
-use Rattle.items.specs.declared.Outcome.the-variants.{Token, Str, Word, Run}
+use Rattle.items.specs.declared.Outcome.the-variants.{Token}
 use Rattle.items.specs.declared.Phase.{Phase}
 use Rattle.items.specs.declared.Phase.the-variants as ph
-use Rattle.laws.specs.Quoted.{code}
 use Rattle.steps.specs.Scan.{part, answer}
 use Rattle.steps.specs.Ended.{EndsAs}
 use Rattle.steps.specs.declared.Ending.the-variants as ending
 use Rattle.steps.proofs.Kept.{done-scan}
-use Rattle.steps.proofs.Characters.{in-run}
 use Rattle.meaning.specs.Meant.{means}
-use Rattle.meaning.specs.declared.Text.the-variants.{Nowhere, Source}
-use Rattle.lexer.specs.Glance.{Begins, Level, Tells, Glanced, GlanceAt, Told, GlanceFrom}
+use Rattle.meaning.specs.declared.Text.the-variants.{Nowhere}
+use Rattle.telling.specs.Tells.{Tells}
+use Rattle.lexer.specs.Glance.{Begins, Glanced, GlanceAt, Told, GlanceFrom}
 use Rattle.lexer.specs.Reading.{startFrom}
-use Rattle.lexer.specs.declared.Quick.{Quick}
-use Rattle.lexer.specs.declared.Quick.the-variants.{Item, Bracket, Other}
+use Rattle.telling.specs.declared.Quick.{Quick}
+use Rattle.telling.specs.declared.Quick.the-variants.{Item, Bracket, Other}
 use Rattle.lexer.proofs.Scans.{inside, scan-fits, end-inside}
 use Rattle.lexer.proofs.Glances.{begins}
-use Rattle.lexer.proofs.WordKinds.{kind-fine, kind-level, kind-kept}
 use Prim.Native.Nat.{ℕ, _+_, _-_, _≤_, _<_}
 use mathlib.Core.Path.{_≡_, refl, sym, ap, _∙_, subst}
 use mathlib.Core.Bool.{Bool, true, false, _&&_}
 use mathlib.Core.List.{List}
-use mathlib.Core.Logic.{_⊎_, inl, inr, ⊎-elim}
 use lib.Dec.{eqb}
 use lib.ListN.{length, getD, drop, length-take, length-drop}
 use native.Mathlib.Omega.{arith}
-use borrow.Author.Tests.{ne-eqb}
 
 pub and-false : (b x : Bool) → x ≡ false → (b && x) ≡ false
 and-false true x e = e
 and-false false x e = refl
-
--- ---- first bytes
-
--- a small letter begins a word
-module _ (c : ℕ) (low : code "a" ≤ c) (high : c ≤ code "z") where
-  other : (k : ℕ) → (k < code "a") ⊎ (code "z" < k) → eqb c k ≡ false
-  other k d = ne-eqb c k (λ f. ⊎-elim (λ x. omega arith) (λ x. omega arith) d)
-
-  pub letter-solid : isBlank c ≡ false
-  letter-solid = between-blanks c (omega arith) (omega arith) (λ f. omega arith) (λ f. omega arith) (λ f. omega arith) (λ f. omega arith)
-
-  no-run : startsRun c ≡ false
-  unfolding startsRun
-  no-run = rw (
-    other (code "+") (inl (omega arith)),
-    other (code "-") (inl (omega arith)),
-    other (code ".") (inl (omega arith)),
-    other (code "0") (inl (omega arith)),
-    other (code "1") (inl (omega arith)),
-    other (code "2") (inl (omega arith)),
-    other (code "3") (inl (omega arith)),
-    other (code "4") (inl (omega arith)),
-    other (code "5") (inl (omega arith)),
-    other (code "6") (inl (omega arith)),
-    other (code "7") (inl (omega arith)),
-    other (code "8") (inl (omega arith)),
-    other (code "9") (inl (omega arith)),
-  )
-
-  pub letter-first : onFirst (firstOf c) ≡ ph.InWord
-  unfolding firstOf
-  letter-first = rw (
-    other (code ";") (inl (omega arith)),
-    other (code "\"") (inl (omega arith)),
-    other (code ",") (inl (omega arith)),
-    other (code "#") (inl (omega arith)),
-    other (code "(") (inl (omega arith)),
-    other (code "[") (inl (omega arith)),
-    other (code "{") (inr (omega arith)),
-    other (code ")") (inl (omega arith)),
-    other (code "]") (inl (omega arith)),
-    other (code "}") (inr (omega arith)),
-    other (code "'") (inl (omega arith)),
-    other (code "`") (inl (omega arith)),
-    no-run,
-    other (code "|") (inr (omega arith)),
-    other (code "\\") (inl (omega arith)),
-  )
-
--- a digit begins a number run
-module _ (c : ℕ) (low : code "0" ≤ c) (high : c ≤ code "9") where
-  outside : (k : ℕ) → (k < code "0") ⊎ (code "9" < k) → eqb c k ≡ false
-  outside k d = ne-eqb c k (λ f. ⊎-elim (λ x. omega arith) (λ x. omega arith) d)
-
-  pub digit-solid : isBlank c ≡ false
-  digit-solid = between-blanks c (omega arith) (omega arith) (λ f. omega arith) (λ f. omega arith) (λ f. omega arith) (λ f. omega arith)
-
-  runs : startsRun c ≡ true
-  unfolding startsRun
-  runs = rw (outside (code "+") (inl (omega arith)), outside (code "-") (inl (omega arith)), outside (code ".") (inl (omega arith))) (in-run 10 0x30 c low (omega arith))
-
-  pub digit-first : onFirst (firstOf c) ≡ ph.InRun
-  unfolding firstOf
-  digit-first = rw (
-    outside (code ";") (inr (omega arith)),
-    outside (code "\"") (inl (omega arith)),
-    outside (code ",") (inl (omega arith)),
-    outside (code "#") (inl (omega arith)),
-    outside (code "(") (inl (omega arith)),
-    outside (code "[") (inr (omega arith)),
-    outside (code "{") (inr (omega arith)),
-    outside (code ")") (inl (omega arith)),
-    outside (code "]") (inr (omega arith)),
-    outside (code "}") (inr (omega arith)),
-    outside (code "'") (inl (omega arith)),
-    outside (code "`") (inr (omega arith)),
-    runs,
-  )
 
 -- ---- a character that is an item of its own
 
@@ -210,30 +123,3 @@ from-there s report skip from at w (Item m a e) t =
     (subst (λ (x : ℕ). Told s report skip from x e m) (sym (t .0)) (record { starts = w; fine = t .1; item = t .2 }), t .3)
 from-there s report skip from at w (Bracket m a e) t =
     subst (λ (x : ℕ). Told s report skip from x e m) (sym (t .0)) (record { starts = w; fine = t .1; item = t .2 })
-
--- ---- what the bytes of an extent tell
-
-module _ (at e : ℕ) (raw : List ℕ) (long : e ≡ at + length raw) where
-  pub string-tells : escaped raw ≡ false → Tells Str at raw (Item (means kind.StringLiteral 0 (Source (at + 1) (e - 1))) at e)
-  unfolding stringText
-  string-tells f = (refl, long, refl, omega arith, record { means = λ r. rw (long, f); undecoded = tt }, λ depth. refl)
-
-  pub run-tells : (p : Parts) → parseNumber raw ≡ parsed.Is p → Tells Run at raw (Item (means kind.Number 0 Nowhere) at e)
-  unfolding runMeans
-  run-tells p f = (refl, long, refl, omega arith, record { means = λ r. rw f; undecoded = tt }, λ depth. refl)
-
-  pub identifier-tells : firstIs (code "+") raw ≡ false → wordKind raw ≡ kind.Identifier
-      → Tells Word at raw (Item (means kind.Identifier 0 (Source at e)) at e)
-  unfolding wordMeans
-  identifier-tells f k = (refl, long, refl, omega arith, record { means = λ r. rw (long, k, f); undecoded = tt }, λ depth. refl)
-
-  pub word-tells : (k : ℕ) → wordKind raw ≡ k → eqb k kind.Identifier ≡ false → Tells Word at raw (Item (means k 0 Nowhere) at e)
-  unfolding wordMeans
-  word-tells k f i = (
-    refl,
-    long,
-    subst (λ (x : ℕ). eqb x kind.Comment ≡ false) f (kind-kept raw),
-    subst (λ (x : ℕ). x < kind.firstError) f (kind-fine raw),
-    record { means = λ r. rw (f, i); undecoded = tt },
-    subst Level f (kind-level raw),
-  )

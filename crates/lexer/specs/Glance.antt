@@ -11,8 +11,7 @@ use Rattle.items.specs.Kinds as kind
 use Rattle.items.specs.Classes.{firstOf, afterHash}
 use Rattle.items.specs.Machine.{onFirst, onAfterHash}
 use Rattle.items.specs.Readers.{SoFar, hashKind}
-use Rattle.items.specs.Meaning.{meaningOf}
-use Rattle.items.specs.Items.{Place, rangeAfter, depthAfter}
+use Rattle.items.specs.Items.{Place, rangeAfter}
 use Rattle.items.specs.declared.HashKind.the-variants.{Decided}
 use Rattle.items.specs.declared.Next.the-variants.{Eat}
 use Rattle.items.specs.declared.Outcome.{Outcome}
@@ -22,14 +21,12 @@ use Rattle.items.specs.declared.Phase.the-variants as ph
 use Rattle.steps.specs.Scan.{part, answer}
 use Rattle.steps.specs.declared.Ending.{Ending}
 use Rattle.steps.specs.declared.Ending.the-variants as ending
-use Rattle.meaning.specs.Meant.{sizedAll}
-use Rattle.meaning.specs.declared.Text.{Text}
-use Rattle.meaning.specs.declared.Text.the-variants.{Nowhere, Source, Decoded}
 use Rattle.meaning.specs.declared.Means.{Means}
 use Rattle.lexer.specs.Inner.{First}
 use Rattle.lexer.specs.Reading.{startFrom}
-use Rattle.lexer.specs.declared.Quick.{Quick}
-use Rattle.lexer.specs.declared.Quick.the-variants.{Item, Bracket, Other}
+use Rattle.telling.specs.Tells.{Alone, Level}
+use Rattle.telling.specs.declared.Quick.{Quick}
+use Rattle.telling.specs.declared.Quick.the-variants.{Item, Bracket, Other}
 
 -- an item starts at a place with one byte, which leaves it in a phase
 pub record Begins (s : List ℕ) (at : ℕ) (p : Phase) : Type 0 where
@@ -51,27 +48,6 @@ pub record Spells (s : List ℕ) (at v : ℕ) : Type 0 where
   pub small : letter < 0x80
   pub stays : (raw : List ℕ) → onAfterHash (afterHash letter) raw letter ≡ Eat ph.InHash
   pub boolean : hashKind (code "#" ∷ letter ∷ []) ≡ Decided (Token kind.BooleanLiteral v)
-
--- a text that is not in the text memory
-abbrev pub Undecoded : Text → Type 0
-Undecoded Nowhere = Unit
-Undecoded (Source a b) = Unit
-Undecoded (Decoded n) = ⊥
-
--- the one meaning of an extent, with no decoded text
-pub record Alone (what : Outcome) (at : ℕ) (raw : List ℕ) (m : Means) : Type 0 where
-  pub means : (report : Bool) → m ∷ [] ≡ sizedAll (meaningOf report what at (at + length raw) raw)
-  pub undecoded : Undecoded (m .text)
-
--- a kind that leaves the depth as it is: that of no bracket
-abbrev pub Level : ℕ → Type 0
-Level k = (depth : ℕ) → depthAfter k depth ≡ depth
-
--- what the outcome and the bytes of an extent that is no comment, no error and no bracket tell quickly
-abbrev pub Tells : Outcome → ℕ → List ℕ → Quick → Type 0
-Tells what at raw (Item m a e) = (a ≡ at) × (e ≡ at + length raw) × (eqb (m .kind) kind.Comment ≡ false) × (m .kind < kind.firstError) × Alone what at raw m × Level (m .kind)
-Tells what at raw (Bracket m a e) = ⊥
-Tells what at raw Other = Unit
 
 -- from the place a to the place e stands an item with the meaning m, which is not skipped
 pub record Glanced (s : List ℕ) (report skip : Bool) (a e : ℕ) (m : Means) : Type 0 where

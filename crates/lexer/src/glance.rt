@@ -1,34 +1,32 @@
 // Items that one look tells: a bracket, a quote mark, and a word, a number, a string or a comment that the next bytes show to be no more
 // than that. Any other is for `next_item`, which reads them all.
-use crate::Quick;
 use crate::reading::past_blanks;
 use escapes::has_escape;
 use items::kinds;
 use meaning::Means;
 use meaning::Text;
-use numbers::is_plain;
 use steps::Ending;
 use steps::line_ending;
 use steps::run_ending;
 use steps::string_ending;
 use steps::word_ending;
-use words::word_kind;
+use telling::Quick;
+use telling::bare;
+use telling::tell_run;
+use telling::tell_string;
+use telling::tell_word;
 ghost use mathlib.Core.Path.{_≡_};
 ghost use mathlib.Core.Bool.{Bool, true};
 ghost use Prim.Native.Nat.{_+_, _≤_, _<_};
 ghost use lib.ListN.{length};
 ghost use Rattle.items.specs.Classes.{inHash, stopsHash};
 ghost use Rattle.items.specs.Whole.{limit};
-ghost use Rattle.items.specs.declared.Outcome.the-variants.{Word, Run, Str};
 ghost use Rattle.items.specs.declared.Phase.the-variants.{InWord, InRun, InLine, Quoted};
 ghost use Rattle.items.specs.declared.Quotes.the-variants.{Double};
 ghost use Rattle.meaning.specs.Meant.{means};
 ghost use Rattle.meaning.specs.declared.Text.the-variants.{Nowhere};
-ghost use Rattle.lexer.specs.declared.Quick.the-variants.{Item, Bracket};
-ghost use Rattle.lexer.specs.Glance.{Begins, Sharp, Spells, Tells, GlanceAt, GlanceFrom, SkimAt, SkimFrom};
-
-// How many bytes a quote is.
-const QUOTE: usize = 1;
+ghost use Rattle.telling.specs.declared.Quick.the-variants.{Bracket};
+ghost use Rattle.lexer.specs.Glance.{Begins, Sharp, Spells, GlanceAt, GlanceFrom, SkimAt, SkimFrom};
 
 // How many bytes a boolean of one letter is.
 const BOOLEAN: usize = 2;
@@ -43,67 +41,6 @@ fn bracket(kind: u32, detail: u32, at: usize, end: usize) -> Quick
         text: Text::Nowhere,
     };
     Quick::Bracket(m, at, end)
-}
-
-// An item without text that is no bracket.
-fn bare(kind: u32, detail: u32, at: usize, end: usize) -> Quick
-    ensures { λ r. ⌜ r ≡ Item (means kind detail Nowhere) at end ⌝ }
-{
-    let m = Means {
-        kind: kind,
-        detail: detail,
-        text: Text::Nowhere,
-    };
-    Quick::Item(m, at, end)
-}
-
-// An item with text of the source.
-fn named(kind: u32, at: usize, end: usize, from: usize, to: usize) -> Quick
-    ensures { λ r. ⌜ r ≡ Item (means kind 0 (Text.Source from to)) at end ⌝ }
-{
-    let m = Means {
-        kind: kind,
-        detail: kinds::NO_DETAIL,
-        text: Text::Source(from, to),
-    };
-    Quick::Item(m, at, end)
-}
-
-// What a word's bytes tell. One that begins with a plus may be two.
-fn tell_word(at: usize, end: usize, raw: &[u8]) -> Quick
-    requires { ⌜ (0 < length (now raw)) × (end ≡ at + length (now raw)) ⌝ }
-    ensures { λ r. ⌜ Tells Word at (now (raw .entry)) r ⌝ }
-{
-    if raw[0] == b'+' {
-        return Quick::Other;
-    }
-    let kind = word_kind(raw);
-    if kind == kinds::IDENTIFIER {
-        return named(kinds::IDENTIFIER, at, end, at, end);
-    }
-    bare(kind, kinds::NO_DETAIL, at, end)
-}
-
-// What a number run's bytes tell.
-fn tell_run(at: usize, end: usize, raw: &[u8]) -> Quick
-    requires { ⌜ end ≡ at + length (now raw) ⌝ }
-    ensures { λ r. ⌜ Tells Run at (now (raw .entry)) r ⌝ }
-{
-    if is_plain(raw) {
-        return bare(kinds::NUMBER, kinds::NO_DETAIL, at, end);
-    }
-    Quick::Other
-}
-
-// What a string's bytes tell: its text lies in the source where it has no escape.
-fn tell_string(at: usize, end: usize, raw: &[u8]) -> Quick
-    requires { ⌜ (0 < length (now raw)) × (end ≡ at + length (now raw)) ⌝ }
-    ensures { λ r. ⌜ Tells Str at (now (raw .entry)) r ⌝ }
-{
-    if has_escape(raw) {
-        return Quick::Other;
-    }
-    named(kinds::STRING_LITERAL, at, end, at + QUOTE, end - QUOTE)
 }
 
 // A word that starts at a place.

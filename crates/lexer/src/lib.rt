@@ -4,7 +4,6 @@
 // defined in specs/ of this crate and in items/specs/Whole.
 use items::Nine;
 use items::Record;
-use meaning::Means;
 use meaning::Range;
 
 mod glance;
@@ -57,16 +56,6 @@ pub enum Found {
     // an item by itself, and the spot after it
     One(Nine, Spot),
     End,
-}
-
-// What one look tells.
-pub enum Quick {
-    // an item that is no bracket, by its meaning and its extent
-    Item(Means, usize, usize),
-    // a bracket, by the same
-    Bracket(Means, usize, usize),
-    // anything else
-    Other,
 }
 
 // How far writing got: the spot, the words that the records take, and how many brackets are open there.

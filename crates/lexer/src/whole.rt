@@ -2,7 +2,6 @@
 use crate::Found;
 use crate::Needed;
 use crate::OpenAnswer;
-use crate::Quick;
 use crate::ReadAnswer;
 use crate::Spot;
 use crate::Wrote;
@@ -25,6 +24,7 @@ use meaning::records::depth_after;
 use meaning::records::nine_of;
 use meaning::records::put;
 use steps::Ending;
+use telling::Quick;
 ghost use mathlib.Core.Path.{_≡_};
 ghost use Prim.Native.Nat.{_*_, _^_, _≤_, _<_};
 ghost use lib.ListN.{length};

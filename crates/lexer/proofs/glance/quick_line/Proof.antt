@@ -10,7 +10,7 @@ use Rattle.steps.specs.Ended.{EndsAs}
 use Rattle.steps.specs.declared.Ending.{Ending}
 use Rattle.steps.proofs.Ended.{line-ends}
 use Rattle.lexer.specs.Glance.{GlanceAt}
-use Rattle.lexer.specs.declared.Quick.{Quick}
+use Rattle.telling.specs.declared.Quick.{Quick}
 use Rattle.lexer.proofs.Tells.{begins-inside, ends-here, line-told}
 use Rattle.lexer.proofs.glance.quick_line.Statement.{statement}
 use Rattle.lexer.proofs.glance.quick_line.Tie as tie

@@ -13,8 +13,8 @@ use Rattle.lexer.specs.Reading.{sizeOf}
 use Rattle.lexer.specs.Writing.{Onward}
 use Rattle.lexer.specs.Glance.{GlanceFrom}
 use Rattle.lexer.specs.declared.Spot.{Spot}
-use Rattle.lexer.specs.declared.Quick.{Quick}
-use Rattle.lexer.specs.declared.Quick.the-variants.{Item, Bracket}
+use Rattle.telling.specs.declared.Quick.{Quick}
+use Rattle.telling.specs.declared.Quick.the-variants.{Item, Bracket}
 use Rattle.lexer.proofs.Quickly.{here, none-told, told-length, told-fits, told-room, told-smaller, told-on}
 use borrow.Author.Needs.{needs}
 use Rattle.lexer.proofs.whole.put_told.Statement.{statement}

@@ -4,11 +4,11 @@ use mathlib.Core.Path.{sym, _∙_, subst}
 use denote.Ref.{now}
 use Rattle.numbers.proofs.Plain.{plain-is}
 use Rattle.items.specs.declared.Outcome.the-variants.{Run}
-use Rattle.lexer.specs.Glance.{Tells}
-use Rattle.lexer.specs.declared.Quick.{Quick}
-use Rattle.lexer.proofs.Tells.{run-tells}
-use Rattle.lexer.proofs.glance.tell_run.Statement.{statement}
-use Rattle.lexer.proofs.glance.tell_run.Tie as tie
+use Rattle.telling.specs.Tells.{Tells}
+use Rattle.telling.specs.declared.Quick.{Quick}
+use Rattle.telling.proofs.Tells.{run-tells}
+use Rattle.telling.proofs.tell_run.Statement.{statement}
+use Rattle.telling.proofs.tell_run.Tie as tie
 
 is-plain-requires : tie.Need-is-plain-requires
 is-plain-requires c κs = search needs

@@ -3,7 +3,7 @@ use Rattle.items.specs.Kinds as kind
 use Rattle.items.specs.Meaning.{Row, lookup, words, wordKind}
 use Rattle.laws.specs.Texts.{same}
 use Rattle.laws.proofs.Choice.{by-bool, and-true}
-use Rattle.lexer.specs.Glance.{Level}
+use Rattle.telling.specs.Tells.{Level}
 use Prim.Native.Nat.{ℕ, _<_}
 use mathlib.Core.Path.{_≡_, refl}
 use mathlib.Core.Bool.{Bool, true, false, not, _&&_}

@@ -7,11 +7,11 @@ use lib.ListN.{getD}
 use Rattle.laws.specs.Quoted.{code}
 use Rattle.items.specs.Kinds as kind
 use Rattle.items.specs.declared.Outcome.the-variants.{Word}
-use Rattle.lexer.specs.Glance.{Tells}
-use Rattle.lexer.specs.declared.Quick.{Quick}
-use Rattle.lexer.proofs.Tells.{identifier-tells, word-tells}
-use Rattle.lexer.proofs.glance.tell_word.Statement.{statement}
-use Rattle.lexer.proofs.glance.tell_word.Tie as tie
+use Rattle.telling.specs.Tells.{Tells}
+use Rattle.telling.specs.declared.Quick.{Quick}
+use Rattle.telling.proofs.Tells.{identifier-tells, word-tells}
+use Rattle.telling.proofs.tell_word.Statement.{statement}
+use Rattle.telling.proofs.tell_word.Tie as tie
 
 shared-slice-read-if1 : tie.Need-shared-slice-read-if1
 shared-slice-read-if1 c = search needs

@@ -3,11 +3,11 @@ use borrow.Author.Needs.{needs}
 use mathlib.Core.Path.{sym, _∙_, subst}
 use denote.Ref.{now}
 use Rattle.items.specs.declared.Outcome.the-variants.{Str}
-use Rattle.lexer.specs.Glance.{Tells}
-use Rattle.lexer.specs.declared.Quick.{Quick}
-use Rattle.lexer.proofs.Tells.{string-tells}
-use Rattle.lexer.proofs.glance.tell_string.Statement.{statement}
-use Rattle.lexer.proofs.glance.tell_string.Tie as tie
+use Rattle.telling.specs.Tells.{Tells}
+use Rattle.telling.specs.declared.Quick.{Quick}
+use Rattle.telling.proofs.Tells.{string-tells}
+use Rattle.telling.proofs.tell_string.Statement.{statement}
+use Rattle.telling.proofs.tell_string.Tie as tie
 
 has-escape-requires : tie.Need-has-escape-requires
 has-escape-requires c κs = search needs

@@ -1,0 +1,128 @@
+-- What is answered from a spot on: all bytes taken, an item, or what the crate `lent` answers on the words of the spot.
+use Prim.Native.Nat.{ℕ, suc, _+_, _-_, _≤_, _<_, _^_}
+use mathlib.Core.Path.{_≡_, refl, sym, ap, _∙_, subst}
+use mathlib.Core.List.{List, [], _∷_}
+use lib.ListN.{length, getD, take, drop, length-drop, drop-of-length-le}
+use lib.Seq.{drop-cons}
+use native.Mathlib.Omega.{arith}
+use Rattle.laws.proofs.Lent.{part-rest}
+use Rattle.pieces.specs.declared.State.{State}
+use Rattle.pieces.specs.declared.Got.the-variants as got
+use Rattle.pieces.specs.Expected.{longest}
+use Rattle.pieces.specs.Calls.{What, textAfter, feedOf}
+use Rattle.turns.specs.Inner.{Sound}
+use Rattle.lent.specs.declared.Words.{Words}
+use Rattle.lent.specs.declared.Told.{Told}
+use Rattle.lent.specs.Coding.{coded}
+use Rattle.lent.specs.Calls.{Said, lent, said, worded, pieceFor}
+use Rattle.pieces_spots.specs.declared.PieceSpot.{PieceSpot}
+use Rattle.pieces_quick.specs.declared.Offer.the-variants.{Given, Not}
+use Rattle.pieces_spots.specs.Spots.{marksAt, stateAt, Fits, Goes, Onward}
+use Rattle.pieces_quick.specs.Words.{Ready, base, spotOf, stood}
+use Rattle.pieces_quick.specs.Gives.{Held, Finished, Feeds, Reaches}
+use Rattle.pieces_quick.proofs.Worded.{stood-coded, spot-code, first-words, first-sound, call-feeds, later, feed-later, feed-most}
+
+module _ (w : Words) (left : ℕ) (R : Ready w left) (s : PieceSpot) (buf text piece : List ℕ) (fits : Fits s buf piece) (sound : Sound (marksAt (base w) s) buf text) where
+  abbrev S : State
+  S = stateAt (base w) s buf
+
+  spot-words : (r : Words) → r ≡ stood w s (w .depth) → r ≡ coded (marksAt (base w) s)
+  spot-words r e = e ∙ sym (stood-coded w left R s (w .depth) (fits .rows))
+
+  -- the call of `lent` on the words of the spot and the rest of the piece
+  called : (r : Words) → r ≡ stood w s (w .depth)
+      → pieceFor (lent r buf) (take (length piece - s .i) (drop (s .i) piece)) (length text) ≡ worded (feedOf S (drop (s .i) piece) 0)
+  called r e =
+      ap (λ (x : Words). pieceFor (lent x buf) (take (length piece - s .i) (drop (s .i) piece)) (length text)) (spot-words r e)
+      ∙ ap (λ (l : List ℕ). pieceFor (lent (coded (marksAt (base w) s)) buf) l (length text)) (part-rest piece (s .i))
+      ∙ call-feeds (marksAt (base w) s) buf text sound refl (spot-code w left R s (fits .rows) (fits .which) (fits .detail)) (drop (s .i) piece)
+
+  module _ (r : Words) (e : r ≡ stood w s (w .depth)) (t : Told) (now then : List ℕ)
+      (says : said t now then ≡ pieceFor (lent r buf) (take (length piece - s .i) (drop (s .i) piece)) (length text))
+      (wrote : then ≡ textAfter (pieceFor (lent r buf) (take (length piece - s .i) (drop (s .i) piece)) (length text) .what) text) where
+    pub slow-taken : t .taken + s .i ≤ length piece
+    slow-taken =
+        let k : t .taken ≡ feedOf S (drop (s .i) piece) 0 .taken = ap (λ (x : Said). x .taken) (says ∙ called r e) in
+        omega (arith, k, feed-most (drop (s .i) piece) S 0, length-drop (s .i) piece, fits .inside)
+
+    pub slow-feeds : Feeds w s piece buf now text then (record { words = t .words; taken = t .taken + s .i; got = t .got })
+    slow-feeds =
+        let whole = says ∙ called r e in
+        let z : 0 + s .i ≡ s .i = omega arith in
+        let on = feed-later (drop (s .i) piece) S 0 (s .i) ∙ ap (λ (k : ℕ). worded (feedOf S (drop (s .i) piece) k)) z in (
+          ap (later (s .i)) whole ∙ on,
+          wrote ∙ ap (λ (x : Said). textAfter (x .what) text) (called r e) ∙ ap (λ (x : Said). textAfter (x .what) text) on,
+        )
+
+  -- all bytes were taken
+  pub more-feeds : length piece ≤ s .i → (r : Words) → r ≡ stood w s (w .depth) → Feeds w s piece buf buf text text (record { words = r; taken = s .i; got = got.More })
+  unfolding feedOf
+  more-feeds h r e =
+      let none : drop (s .i) piece ≡ [] = drop-of-length-le piece h in (
+        ap (λ (x : Words). said (record { words = x; taken = s .i; got = got.More }) buf text) (spot-words r e)
+            ∙ ap (λ (l : List ℕ). worded (feedOf S l (s .i))) (sym none),
+        ap (λ (l : List ℕ). textAfter (feedOf S l (s .i) .what) text) (sym none),
+      )
+
+  -- an item
+  pub item-feeds : s .i < length piece → (t : Told) (now then : List ℕ) → Finished w s (getD piece (s .i) 0) buf now text then (Given t)
+      → Feeds w s piece buf now text then t
+  item-feeds h t now then f =
+      let front : getD piece (s .i) 0 ∷ drop (suc (s .i)) piece ≡ drop (s .i) piece = sym (drop-cons piece (s .i) 0 h) in
+      let g = f (drop (suc (s .i)) piece) in (
+        g .0 ∙ ap (λ (l : List ℕ). worded (feedOf S l (s .i))) front,
+        g .1 ∙ ap (λ (l : List ℕ). textAfter (feedOf S l (s .i) .what) text) front,
+      )
+
+  -- what is asked before a byte
+  pub before-byte : s .i < length piece → s .i + 1 < 2 ^ 64 → Held w s buf text
+  before-byte h k = record {
+    left = left;
+    ready = R;
+    sound = sound;
+    far = omega (arith, fits .far);
+    small = fits .small;
+    which = fits .which;
+    detail = fits .detail;
+    taken = k;
+  }
+
+-- one spot after the other
+pub along : (piece : List ℕ) (s : PieceSpot) (buf : List ℕ) (r : PieceSpot) (now : List ℕ) (q : PieceSpot) (then : List ℕ)
+    → Onward s buf r now piece → Onward r now q then piece → Onward s buf q then piece
+along piece s buf r now q then f g m text h =
+    let a = f m text h in
+    let b = g m text (a .sound) in record { sound = b .sound; feeds = b .feeds ∙ a .feeds }
+
+-- from the words that were lent to the last spot
+module _ (w : Words) (buf text piece : List ℕ) (full : length buf ≡ longest) (room : longest ≤ length text) (R : Ready w (length piece))
+    (s : PieceSpot) (now : List ℕ) (on : Onward (spotOf w) buf s now piece) where
+  goes : Goes (base w) text piece (spotOf w) buf s now
+  goes = on (base w) text (first-sound w (length piece) R buf text full room)
+
+  pub last-reached : Reaches w s now text
+  last-reached = record { left = length piece; ready = R; sound = goes .sound }
+
+  pub answers : (t : Told) (end then : List ℕ) → Feeds w s piece now end text then t
+      → (said t end then ≡ pieceFor (lent w buf) piece (length text)) × (then ≡ textAfter (pieceFor (lent w buf) piece (length text) .what) text)
+  answers t end then f =
+      let start = first-sound w (length piece) R buf text full room in
+      let coded-so : coded (marksAt (base w) (spotOf w)) ≡ w = stood-coded w (length piece) R (spotOf w) (w .depth) (R .known .rows) ∙ first-words w (length piece) R in
+      let whole : worded (feedOf (stateAt (base w) s now) (drop (s .i) piece) (s .i)) ≡ pieceFor (lent w buf) piece (length text) =
+      ap worded (goes .feeds)
+      ∙ sym (call-feeds (marksAt (base w) (spotOf w)) buf text start refl (spot-code w (length piece) R (spotOf w) (R .known .rows) (R .known .narrow) (R .known .slim)) piece)
+      ∙ ap (λ (x : Words). pieceFor (lent x buf) piece (length text)) coded-so in (
+        f .0 ∙ whole,
+        f .1 ∙ ap (λ (x : Said). textAfter (x .what) text) whole,
+      )
+
+-- where nothing was given, all stands as before
+module _ (w : Words) (s : PieceSpot) (c : ℕ) (buf now text then : List ℕ) (same : Finished w s c buf now text then Not) where
+  pub still-fits : (piece : List ℕ) → Fits s buf piece → Fits s now piece
+  still-fits piece f = subst (λ (l : List ℕ). Fits s l piece) (sym (same .0)) f
+
+  pub still-held : Held w s buf text → Held w s now then
+  still-held h = subst (λ (l : List ℕ). Held w s l then) (sym (same .0)) (subst (λ (l : List ℕ). Held w s buf l) (sym (same .1)) h)
+
+  pub still-feeds : (piece end last : List ℕ) (t : Told) → Feeds w s piece now end then last t → Feeds w s piece buf end text last t
+  still-feeds piece end last t f = subst (λ (l : List ℕ). Feeds w s piece l end text last t) (same .0) (subst (λ (l : List ℕ). Feeds w s piece now end l last t) (same .1) f)

@@ -1,0 +1,4 @@
+pub mod Knows
+pub mod Worded
+pub mod Giving
+pub mod Answering

@@ -1,0 +1,74 @@
+-- Each part is asked for by a function of its own.
+use borrow.Author.Needs.{needs}
+use native.Mathlib.Omega.{arith}
+use borrow.Author.Tests.{not-false}
+use Rattle.laws.proofs.Choice.{no-yes}
+use Rattle.pieces_quick.proofs.ready.is_ready.Statement.{statement}
+use Rattle.pieces_quick.proofs.ready.is_ready.Tie as tie
+
+is-quiet-requires : tie.Need-is-quiet-requires
+is-quiet-requires c κs = search needs
+
+returns : tie.Need-returns
+returns c = no-yes
+
+returns-2 : tie.Need-returns-2
+returns-2 c = no-yes
+
+returns-3 : tie.Need-returns-3
+returns-3 c = no-yes
+
+is-within-requires : tie.Need-is-within-requires
+is-within-requires c κs = search needs
+
+returns-4 : tie.Need-returns-4
+returns-4 c = no-yes
+
+is-deep-requires : tie.Need-is-deep-requires
+is-deep-requires c κs = search needs
+
+returns-5 : tie.Need-returns-5
+returns-5 c = no-yes
+
+is-known-requires : tie.Need-is-known-requires
+is-known-requires c κs = search needs
+
+returns-6 : tie.Need-returns-6
+returns-6 c = λ e.
+    let deep = c .before .before .is-deep .ensures (not-false _ (c .before .if5 .left)) in
+    let within = c .before .before .before .before .is-within .ensures (not-false _ (c .before .before .before .if4 .left)) in
+    let modes = c .before .before .before .before .before .before .before .before .before in
+    let quiet = modes .before .is-quiet .ensures (not-false _ (modes .if1 .left)) in
+    record {
+      mode = omega arith;
+      skip = omega arith;
+      ended = quiet .e0;
+      one = quiet .e1;
+      two = quiet .e2;
+      count = quiet .e3;
+      need = quiet .e4;
+      low = quiet .e5;
+      high = quiet .e6;
+      code = quiet .e7;
+      from = within .0;
+      to = within .1;
+      far = within .2;
+      small = deep .0;
+      deep = deep .1;
+      known = c .is-known .ensures e;
+    }
+
+pub is-ready-spec : {M : Type 1} → statement M
+is-ready-spec =
+    tie.close
+    (tie.spec
+    is-quiet-requires
+    returns
+    returns-2
+    returns-3
+    is-within-requires
+    returns-4
+    is-deep-requires
+    returns-5
+    is-known-requires
+    returns-6)

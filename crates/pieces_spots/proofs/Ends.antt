@@ -1,0 +1,119 @@
+-- What ends an item, and what it is then, by the number of its stage.
+use Prim.Native.Nat.{ℕ, _≤_}
+use mathlib.Core.Path.{_≡_, refl, sym, subst}
+use mathlib.Core.List.{List}
+use native.Mathlib.Omega.{arith}
+use Rattle.laws.specs.Quoted.{code}
+use Rattle.chars.specs.Blank.{isBlank}
+use Rattle.items.specs.Classes.{inWord, breaksWord, inRun, staysRun, endsRun}
+use Rattle.items.specs.declared.Quotes.the-variants.{Double}
+use Rattle.items.specs.declared.Outcome.the-variants.{Token, Str, Word, Run}
+use Rattle.items.specs.declared.Phase.the-variants as ph
+use Rattle.meaning.specs.Meant.{means}
+use Rattle.meaning.specs.declared.Text.the-variants.{Nowhere}
+use Rattle.lent.specs.Coding.{stageOf}
+use Rattle.telling.specs.Tells.{Tells}
+use Rattle.telling.specs.declared.Quick.{Quick}
+use Rattle.telling.specs.declared.Quick.the-variants.{Item, Bracket, Other}
+use Rattle.pieces_spots.specs.Spots.{StopsWord, Stops, TellsAt}
+
+pub close-round : Stops (code ")")
+unfolding inWord breaksWord inRun staysRun endsRun isBlank
+close-round = record { word = λ report i. refl; run = λ report i. refl }
+
+pub space : Stops 0x20
+unfolding inWord breaksWord inRun staysRun endsRun isBlank
+space = record { word = λ report i. refl; run = λ report i. refl }
+
+pub newline : Stops 0x0A
+unfolding inWord breaksWord inRun staysRun endsRun isBlank
+newline = record { word = λ report i. refl; run = λ report i. refl }
+
+pub open-round : Stops (code "(")
+unfolding inWord breaksWord inRun staysRun endsRun isBlank
+open-round = record { word = λ report i. refl; run = λ report i. refl }
+
+pub close-square : Stops (code "]")
+unfolding inWord breaksWord inRun staysRun endsRun isBlank
+close-square = record { word = λ report i. refl; run = λ report i. refl }
+
+pub open-square : Stops (code "[")
+unfolding inWord breaksWord inRun staysRun endsRun isBlank
+open-square = record { word = λ report i. refl; run = λ report i. refl }
+
+pub return : Stops 0x0D
+unfolding inWord breaksWord inRun staysRun endsRun isBlank
+return = record { word = λ report i. refl; run = λ report i. refl }
+
+pub tab : Stops 0x09
+unfolding inWord breaksWord inRun staysRun endsRun isBlank
+tab = record { word = λ report i. refl; run = λ report i. refl }
+
+pub quote : StopsWord (code "\"")
+unfolding inWord breaksWord
+quote report i = refl
+
+pub semicolon : StopsWord (code ";")
+unfolding inWord breaksWord
+semicolon report i = refl
+
+module _ (stage which detail c at : ℕ) (raw : List ℕ) where
+  abbrev T : Quick → Type 0
+  T = TellsAt stage which detail c at raw
+
+  pub token-ends : (e : ℕ) → stage ≡ 31 → which ≤ 31 → T (Item (means which detail Nowhere) at e)
+  unfolding stageOf
+  token-ends e k h = record {
+    phase = ph.Done (Token which detail);
+    what = Token which detail;
+    stands = λ start. rw k;
+    stops = λ report i. refl;
+    quiet = λ report last i. refl;
+    means = λ report. refl;
+    fine = omega arith;
+  }
+
+  pub token-told : (e : ℕ) (q : Quick) → q ≡ Item (means which detail Nowhere) at e → stage ≡ 31 → which ≤ 31 → T q
+  token-told e q f k h = subst T (sym f) (token-ends e k h)
+
+  pub word-ends : stage ≡ 14 → StopsWord c → (q : Quick) → Tells Word at raw q → T q
+  unfolding stageOf
+  word-ends k s (Item m a e) t = record {
+    phase = ph.InWord;
+    what = Word;
+    stands = λ start. rw k;
+    stops = s;
+    quiet = λ report last i. refl;
+    means = t .4 .means;
+    fine = t .3;
+  }
+  word-ends k s (Bracket m a e) t = tt
+  word-ends k s Other t = tt
+
+  pub run-ends : stage ≡ 16 → Stops c → (q : Quick) → Tells Run at raw q → T q
+  unfolding stageOf
+  run-ends k s (Item m a e) t = record {
+    phase = ph.InRun;
+    what = Run;
+    stands = λ start. rw k;
+    stops = s .run;
+    quiet = λ report last i. refl;
+    means = t .4 .means;
+    fine = t .3;
+  }
+  run-ends k s (Bracket m a e) t = tt
+  run-ends k s Other t = tt
+
+  pub string-ends : stage ≡ 25 → which ≡ 0 → (q : Quick) → Tells Str at raw q → T q
+  unfolding stageOf
+  string-ends k w (Item m a e) t = record {
+    phase = ph.Closed Double;
+    what = Str;
+    stands = λ start. rw (k, w);
+    stops = λ report i. refl;
+    quiet = λ report last i. refl;
+    means = t .4 .means;
+    fine = t .3;
+  }
+  string-ends k w (Bracket m a e) t = tt
+  string-ends k w Other t = tt

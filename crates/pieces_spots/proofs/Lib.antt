@@ -1,0 +1,5 @@
+pub mod Turning
+pub mod Begins
+pub mod Runs
+pub mod Ends
+pub mod Moves

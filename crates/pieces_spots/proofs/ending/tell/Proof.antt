@@ -1,0 +1,88 @@
+-- A token that is whole and a string that is closed end before any byte; a word and a number run before those that end them (Ends).
+use borrow.Author.Needs.{needs}
+use native.Mathlib.Omega.{arith}
+use denote.Ref.{now}
+use Rattle.pieces_spots.proofs.Ends as ends
+use Rattle.pieces_spots.proofs.ending.tell.Statement.{statement}
+use Rattle.pieces_spots.proofs.ending.tell.Tie as tie
+
+returns : tie.Need-returns
+returns c = search needs
+
+cast-bare : tie.Need-cast-bare
+cast-bare c = search needs
+
+cast-bare-2 : tie.Need-cast-bare-2
+cast-bare-2 c = search needs
+
+bare-requires : tie.Need-bare-requires
+bare-requires c κs = search needs
+
+returns-2 : tie.Need-returns-2
+returns-2 c = ends.token-told _ _ _ _ _ _ _ _ (c .bare .ensures) (omega arith) (omega arith)
+
+returns-3 : tie.Need-returns-3
+returns-3 c = search needs
+
+tell-string-requires : tie.Need-tell-string-requires
+tell-string-requires c κs = search needs
+
+returns-4 : tie.Need-returns-4
+returns-4 c =
+    let a = c .before .before .before .before .before .args in
+    ends.string-ends (a .stage) (a .which) (a .detail) (a .b) (a .at) (now (a .raw)) (omega arith) (omega arith) (c .tell-string .result) (c .tell-string .ensures)
+
+ends-word-requires : tie.Need-ends-word-requires
+ends-word-requires c κs = search needs
+
+tell-word-requires : tie.Need-tell-word-requires
+tell-word-requires c κs = search needs
+
+returns-5 : tie.Need-returns-5
+returns-5 c =
+    let a = c .before .before .before .before .before .before .before .args in
+    ends.word-ends (a .stage) (a .which) (a .detail) (a .b) (a .at) (now (a .raw)) (omega arith)
+    (c .before .before .ends-word .ensures (c .before .if6 .taken)) (c .tell-word .result) (c .tell-word .ensures)
+
+returns-6 : tie.Need-returns-6
+returns-6 c = search needs
+
+is-stop-requires : tie.Need-is-stop-requires
+is-stop-requires c κs = search needs
+
+tell-run-requires : tie.Need-tell-run-requires
+tell-run-requires c κs = search needs
+
+returns-7 : tie.Need-returns-7
+returns-7 c =
+    let a = c .before .before .before .before .before .before .before .before .args in
+    ends.run-ends (a .stage) (a .which) (a .detail) (a .b) (a .at) (now (a .raw)) (omega arith)
+    (c .before .before .is-stop .ensures (c .before .if8 .taken)) (c .tell-run .result) (c .tell-run .ensures)
+
+returns-8 : tie.Need-returns-8
+returns-8 c = search needs
+
+returns-9 : tie.Need-returns-9
+returns-9 c = search needs
+
+pub tell-spec : {M : Type 1} → statement M
+tell-spec =
+    tie.close
+    (tie.spec
+    returns
+    cast-bare
+    cast-bare-2
+    bare-requires
+    returns-2
+    returns-3
+    tell-string-requires
+    returns-4
+    ends-word-requires
+    tell-word-requires
+    returns-5
+    returns-6
+    is-stop-requires
+    tell-run-requires
+    returns-7
+    returns-8
+    returns-9)

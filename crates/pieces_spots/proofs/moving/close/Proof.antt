@@ -1,0 +1,61 @@
+-- The turn of the byte leads the item to its next phase (Moves: closed-on).
+use borrow.Author.Needs.{needs}
+use native.Mathlib.Omega.{arith}
+use denote.Ref.{now}
+use Rattle.pieces_spots.proofs.Moves.{closed-fits, closed-on}
+use Rattle.pieces_spots.proofs.moving.close.Statement.{statement}
+use Rattle.pieces_spots.proofs.moving.close.Tie as tie
+
+returns : tie.Need-returns
+returns c = search needs
+
+returns-2 : tie.Need-returns-2
+returns-2 c = search needs
+
+shared-slice-read-b : tie.Need-shared-slice-read-b
+shared-slice-read-b c = search needs
+
+closes-requires : tie.Need-closes-requires
+closes-requires c κs = search needs
+
+returns-3 : tie.Need-returns-3
+returns-3 c = search needs
+
+slice-write-buf : tie.Need-slice-write-buf
+slice-write-buf c = search needs
+
+add-t17 : tie.Need-add-t17
+add-t17 c = search needs
+
+add-t8 : tie.Need-add-t8
+add-t8 c = search needs
+
+add-t18 : tie.Need-add-t18
+add-t18 c = search needs
+
+same-length : tie.Need-same-length
+same-length c = search needs
+
+returns-4 : tie.Need-returns-4
+returns-4 c =
+    let a = c .before .before .before .before .before .before .before .before in
+    let told = c .before .before .closes .ensures (omega arith) in (
+      closed-fits (a .args .s) (now (a .args .buf)) (now (a .args .piece)) (a .pre) (c .before .before .closes .result) (omega arith) (omega arith) told,
+      closed-on (a .args .s) (now (a .args .buf)) (now (a .args .piece)) (a .pre) (c .before .before .closes .result) (omega arith) (omega arith) told,
+    )
+
+pub close-spec : {M : Type 1} → statement M
+close-spec =
+    tie.close
+    (tie.spec
+    returns
+    returns-2
+    shared-slice-read-b
+    closes-requires
+    returns-3
+    slice-write-buf
+    add-t17
+    add-t8
+    add-t18
+    same-length
+    returns-4)

@@ -1,0 +1,75 @@
+// What an item is that ends before a byte.
+use crate::first_byte::KINDS;
+use lent::codes::CLOSED;
+use lent::codes::DONE_TOKEN;
+use lent::codes::IN_RUN;
+use lent::codes::IN_WORD;
+use telling::Quick;
+use telling::bare;
+use telling::tell_run;
+use telling::tell_string;
+use telling::tell_word;
+ghost use mathlib.Core.Path.{_≡_};
+ghost use mathlib.Core.Bool.{true};
+ghost use Prim.Native.Nat.{_+_, _^_, _<_};
+ghost use lib.ListN.{length};
+ghost use Rattle.pieces_spots.specs.Spots.{StopsWord, Stops, TellsAt};
+
+// Whether a byte ends a word and a number run, of those that often do.
+fn is_stop(b: u8) -> bool
+    ensures { λ r. ⌜ (r ≡ true → Stops b) ⌝ }
+{
+    match b {
+        b')' => true,
+        b' ' => true,
+        b'\n' => true,
+        b'(' => true,
+        b']' => true,
+        b'[' => true,
+        b'\r' => true,
+        b'\t' => true,
+        _ => false,
+    }
+}
+
+// Whether a byte ends a word, of those that often do.
+fn ends_word(b: u8) -> bool
+    ensures { λ r. ⌜ (r ≡ true → StopsWord b) ⌝ }
+{
+    match b {
+        b'"' => true,
+        b';' => true,
+        _ => is_stop(b),
+    }
+}
+
+// What an item is, by its stage, that ends before a byte of ASCII.
+pub fn tell(stage: u64, which: u64, detail: u64, b: u8, at: usize, end: usize, raw: &[u8]) -> Quick
+    requires { ⌜ (0 < length (now raw)) × (end ≡ at + length (now raw)) × (which < 2 ^ 32) × (detail < 2 ^ 32) ⌝ }
+    ensures { λ r. ⌜ TellsAt stage which detail b at (now (raw .entry)) r ⌝ }
+{
+    if stage == DONE_TOKEN {
+        if KINDS <= which {
+            return Quick::Other;
+        }
+        return bare(which as u32, detail as u32, at, end);
+    }
+    if stage == CLOSED {
+        if which != 0 {
+            return Quick::Other;
+        }
+        return tell_string(at, end, raw);
+    }
+    if stage == IN_WORD {
+        if ends_word(b) {
+            return tell_word(at, end, raw);
+        }
+        return Quick::Other;
+    }
+    if stage == IN_RUN {
+        if is_stop(b) {
+            return tell_run(at, end, raw);
+        }
+    }
+    Quick::Other
+}

@@ -1,0 +1,82 @@
+// What a byte makes of an item, as one number: the stage after it, and of a token that is whole KIND times its kind and DETAIL times its detail.
+use items::kinds;
+use lent::codes::AFTER_COMMA;
+use lent::codes::AFTER_HASH;
+use lent::codes::DONE_TOKEN;
+use lent::codes::IDLE;
+use lent::codes::IN_LINE;
+use lent::codes::IN_RUN;
+use lent::codes::IN_WORD;
+use lent::codes::QUOTED;
+ghost use Rattle.pieces_spots.specs.Spots.{Firsts};
+
+// What the kind is multiplied by, how many kinds fit, and what the detail is multiplied by.
+pub const KIND: u64 = 64;
+
+pub const KINDS: u64 = 32;
+
+pub const DETAIL: u64 = 2048;
+
+// ( ) [ ] { } '
+const OPEN_ROUND: u64 = DONE_TOKEN + KIND * kinds::OPEN_PAREN as u64 + DETAIL * kinds::ROUND as u64;
+
+const CLOSE_ROUND: u64 = DONE_TOKEN
+    + KIND * kinds::CLOSE_PAREN as u64
+    + DETAIL * kinds::ROUND as u64;
+
+const OPEN_SQUARE: u64 = DONE_TOKEN
+    + KIND * kinds::OPEN_PAREN as u64
+    + DETAIL * kinds::SQUARE as u64;
+
+const CLOSE_SQUARE: u64 = DONE_TOKEN
+    + KIND * kinds::CLOSE_PAREN as u64
+    + DETAIL * kinds::SQUARE as u64;
+
+const OPEN_CURLY: u64 = DONE_TOKEN + KIND * kinds::OPEN_PAREN as u64 + DETAIL * kinds::CURLY as u64;
+
+const CLOSE_CURLY: u64 = DONE_TOKEN
+    + KIND * kinds::CLOSE_PAREN as u64
+    + DETAIL * kinds::CURLY as u64;
+
+const TICK: u64 = DONE_TOKEN + KIND * kinds::QUOTE_TICK as u64;
+
+// in vertical lines: the kind of quotes stands where a token has its kind
+const IN_LINES: u64 = QUOTED + KIND;
+
+// a comment to the end of its line, past the newline
+pub const LINE_DONE: u64 = DONE_TOKEN + KIND * kinds::COMMENT as u64;
+
+// a byte that is not told here
+pub const NOT_TOLD: u64 = 0;
+
+// What a byte begins between items: IDLE for a blank, else as above; NOT_TOLD where the crate `lent` has to say it.
+pub fn first(b: u8) -> u64
+    ensures { λ r. ⌜ Firsts b r ⌝ }
+{
+    match b {
+        b' ' => IDLE,
+        b'\n' => IDLE,
+        b'\r' => IDLE,
+        b'\t' => IDLE,
+        b'a'..=b'z' => IN_WORD,
+        b'='..=b'Z' => IN_WORD,
+        b'*' => IN_WORD,
+        b'0'..=b'9' => IN_RUN,
+        b'-' => IN_RUN,
+        b'+' => IN_RUN,
+        b'.' => IN_RUN,
+        b'(' => OPEN_ROUND,
+        b')' => CLOSE_ROUND,
+        b'[' => OPEN_SQUARE,
+        b']' => CLOSE_SQUARE,
+        b'{' => OPEN_CURLY,
+        b'}' => CLOSE_CURLY,
+        b'"' => QUOTED,
+        b';' => IN_LINE,
+        b'\'' => TICK,
+        b',' => AFTER_COMMA,
+        b'|' => IN_LINES,
+        b'#' => AFTER_HASH,
+        _ => NOT_TOLD,
+    }
+}

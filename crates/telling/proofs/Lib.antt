@@ -1,0 +1,3 @@
+pub mod Firsts
+pub mod WordKinds
+pub mod Tells
