@@ -6,7 +6,8 @@
 //! apart, [`coordinate`] makes a float of a decimal, [`nest`] makes nested lists of items, [`write()`] writes items back, [`LineIndex`] and
 //! [`LinePieces`] tell line and column, [`Names`] numbers names for two parties, and [`write_items`] and [`read_items`] store records as
 //! item files. It allocates nothing and depends on nothing but the archive that `.ci/archive` writes; `build.rs` looks for it in the
-//! repository's target/staticlib, or in the folder that the environment variable `MIHADRENA_ARCHIVE` names.
+//! repository's target folder, or in the folder that the environment variable `MIHADRENA_ARCHIVE` names. There are archives for x86-64
+//! Linux and for Linux on Arm of 64 bits (`.ci/archive --target aarch64-linux-gnu`).
 //!
 //! ```
 //! use mihadrena::{number, Int, Items, Kind, Number, Options, Real, Record};
@@ -29,8 +30,10 @@
 #![warn(missing_docs, clippy::pedantic)]
 #![allow(clippy::cast_possible_truncation, clippy::cast_possible_wrap)]
 
-#[cfg(not(target_pointer_width = "64"))]
-compile_error!("the archive is for x86-64");
+#[cfg(not(all(target_os = "linux", any(target_arch = "x86_64", target_arch = "aarch64"))))]
+compile_error!(
+    "there are archives for x86-64 Linux and for Linux on Arm of 64 bits (aarch64), and for no other target"
+);
 
 mod coordinate;
 mod error;
