@@ -4,7 +4,10 @@
  * order of the text, and the decoded texts of those that have an escape. All memory is the caller's: the library allocates nothing, keeps
  * nothing between two calls, and writes only to the memory that a call is lent. Every call ends.
  *
- * Link with libmihadrena.a, which `.ci/archive` writes to target/staticlib. It needs `memcpy` and `memset` and nothing else.
+ * Link with libmihadrena.a: `.ci/archive` writes it to target/staticlib, for x86-64 Linux, `.ci/archive --target aarch64-linux-gnu` to
+ * target/aarch64-linux-gnu, for Linux on Arm of 64 bits. It needs `memcpy` and `memset` and nothing else.
+ *
+ * A new program reads in MIHADRENA_REPORT; MIHADRENA_PLAIN is there to read as Steel does.
  *
  * A pointer and the length after it are one slice. A pointer must not be NULL, not even where the length is 0, and memory that a call
  * writes to must overlap with no other memory that the same call is lent.
@@ -24,6 +27,11 @@ extern "C" {
 #define MIHADRENA_ASSERT(fact, text) _Static_assert(fact, text)
 #define MIHADRENA_ALIGN_OF(type) _Alignof(type)
 #endif
+
+/* The version, as CHANGELOG.md and the Rust crate have it. Records, states and the archive are of one version. */
+#define MIHADRENA_VERSION_MAJOR 0
+#define MIHADRENA_VERSION_MINOR 20
+#define MIHADRENA_VERSION_PATCH 0
 
 /* -- The record of an item ------------------------------------------------------------------------------------------------- */
 

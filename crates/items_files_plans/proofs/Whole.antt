@@ -2,23 +2,17 @@
 use mathlib.Core.Path.{_≡_, refl, sym, ap, _∙_, subst}
 use mathlib.Core.Bool.{Bool}
 use mathlib.Core.List.{List, [], _∷_, _++_}
-use Prim.Native.Nat.{ℕ, _+_, _*_, _/_, _^_, _≤_, _<_}
+use Prim.Native.Nat.{ℕ, _+_, _*_, _^_, _≤_, _<_}
 use native.Mathlib.Omega.{arith}
 use lib.ListN.{length, take, drop}
 use lib.Seq.{take-at}
-use lib.Dec.{leb, ltb}
-use borrow.Author.Tests.{ltb-false}
-use Rattle.laws.specs.Lent.{written}
-use Rattle.laws.proofs.Choice.{if-all, if-is}
 use Rattle.chars.specs.Utf8.{chars, firstBad}
-use Rattle.chars.specs.declared.Utf8.{Utf8}
-use Rattle.chars.specs.declared.Utf8.the-variants.{Good, Bad}
+use Rattle.chars.specs.declared.Utf8.the-variants.{Good}
 use Rattle.chars.proofs.Good.{good-bytes, good-scalars}
-use Rattle.refusal.specs.Refusals as refusal
 use Rattle.refusal.specs.Refusals.{goesBack}
-use Rattle.items.specs.Items.{Item, items, kept, records, recordOf, depthAfter, memoryOf, texts, byteCount, recordWords}
+use Rattle.items.specs.Items.{Item, items, kept, records, recordOf, depthAfter, memoryOf, byteCount, recordWords}
 use Rattle.items.specs.Meaning.{Text, none, source, decoded}
-use Rattle.items.specs.Whole.{Call, call, limit, isMode, inReport, itemsIn, deliver, ifGood}
+use Rattle.items.specs.Whole.{limit, inReport, itemsIn}
 use Rattle.items.specs.Whole as whole
 use Rattle.items.proofs.Every.{Every}
 use Rattle.items.proofs.Fit.{Fits, records-length, records-fit}
@@ -26,6 +20,7 @@ use Rattle.items.proofs.Meanings.{Inside}
 use Rattle.items.proofs.Order.{InOrder, Placed, items-placed, items-order}
 use Rattle.items.proofs.Skipped.{kept-every}
 use Rattle.items.proofs.Splits.{length-bytes}
+use Rattle.coverage.proofs.Calls.{Delivered, leaves}
 use Rattle.items_files.specs.Layout.{before}
 use Rattle.items_files.specs.Answers.{refused}
 use Rattle.items_files.specs.Write.{on, goes, writeOf}
@@ -78,38 +73,8 @@ source-writable s mode skip g h =
 
 module _ (s : List ℕ) (mode : ℕ) (skip : Bool) (recs text : List ℕ) (n m : ℕ) where
   -- what a call that served leaves
-  record Delivered (k : Call) : Type 0 where
-    good : firstBad s ≡ Good
-    short : length s ≤ limit
-    count : n ≡ length (itemsIn s mode skip)
-    wrote : k .records ≡ written (records 0 0 (itemsIn s mode skip)) recs
-
-  abbrev Leaves : Call → Type 0
-  Leaves k = k .answer ≡ whole.served n m → Delivered k
-
-  refused-not : (number a b : ℕ) → Leaves (call (whole.refused number a b) recs text)
-  refused-not number a b e = absurd (let z : _≡_ {A = ℕ} 0 1 = cc in omega arith)
-
-  delivered : firstBad s ≡ Good → length s ≤ limit → Leaves (deliver (itemsIn s mode skip) recs text)
-  unfolding deliver
-  delivered g l =
-      let is : List Item = itemsIn s mode skip in
-      if-all Leaves (leb (length is) (length recs / recordWords))
-      (if-all Leaves (leb (length (texts is)) (length text))
-      (λ e. record { good = g; short = l; count = cc; wrote = refl })
-      (refused-not refusal.tooFew (length is) (length (texts is))))
-      (refused-not refusal.tooFew (length is) (length (texts is)))
-
-  good-only : (u : Utf8) → firstBad s ≡ u → length s ≤ limit → Leaves (ifGood u (deliver (itemsIn s mode skip) recs text) recs text)
-  good-only Good g l = delivered g l
-  good-only (Bad p) g l = refused-not refusal.notUtf8 p 0
-
-  leaves : Leaves (whole.readOf s mode skip recs text)
-  unfolding whole.readOf
-  leaves =
-      if-all Leaves (isMode mode)
-      (if-is Leaves (ltb limit (length s)) (λ _. refused-not refusal.tooLong limit 0) (λ e. good-only (firstBad s) refl (ltb-false limit (length s) e)))
-      (refused-not refusal.noMode mode 0)
+  abbrev Left : Type 0
+  Left = Delivered s mode skip recs text n m (whole.readOf s mode skip recs text)
 
   module _ (e : whole.readOf s mode skip recs text .answer ≡ whole.served n m) where
     abbrev plan : List ℕ
@@ -117,14 +82,14 @@ module _ (s : List ℕ) (mode : ℕ) (skip : Bool) (recs text : List ℕ) (n m :
 
     plan-is : plan ≡ records 0 0 (itemsIn s mode skip)
     plan-is =
-        let l : Delivered (whole.readOf s mode skip recs text) = leaves e in
+        let l : Left = leaves s mode skip recs text n m e in
         let rs : List ℕ = records 0 0 (itemsIn s mode skip) in
         ap (take (recordWords * n)) (l .wrote)
         ∙ take-at rs (drop (length rs) recs) (recordWords * n) (records-length 0 0 (itemsIn s mode skip) ∙ ap (λ (k : ℕ). recordWords * k) (sym (l .count)))
 
     -- WHATEVER `read` SERVED, in either mode, comments kept or skipped, can be stored
     pub read-plans : Writable (wholePlan n (whole.readOf s mode skip recs text))
-    read-plans = let l : Delivered (whole.readOf s mode skip recs text) = leaves e in subst Writable (sym plan-is) (source-writable s mode skip (l .good) (l .short))
+    read-plans = let l : Left = leaves s mode skip recs text n m e in subst Writable (sym plan-is) (source-writable s mode skip (l .good) (l .short))
 
     -- and the writer never answers 32
     pub read-never-32 : (out : List ℕ) (k : ℕ) → writeOf (wholePlan n (whole.readOf s mode skip recs text)) out .answer ≡ refused goesBack k → ⊥

@@ -4,6 +4,11 @@
 //! A pointer and the length behind it are one slice: the pointer is not null, not even where the length is 0, and memory that a call
 //! writes to overlaps with no other memory of that call.
 
+// The version, as the header has it.
+pub const VERSION_MAJOR: u32 = 0;
+pub const VERSION_MINOR: u32 = 20;
+pub const VERSION_PATCH: u32 = 0;
+
 /// How many words a record has.
 pub const RECORD_WORDS: usize = 10;
 

@@ -5,6 +5,7 @@ use std::collections::BTreeMap;
 
 const HEADER: &str = include_str!("../../../include/mihadrena.h");
 const RAW: &str = include_str!("../src/raw.rs");
+const CHANGES: &str = include_str!("../../../CHANGELOG.md");
 const REFUSALS: &str = include_str!("../../../crates/refusal/src/lib.rt");
 const REFUSALS_DEFINED: &str = include_str!("../../../crates/refusal/specs/Refusals.antt");
 
@@ -49,6 +50,15 @@ fn raw_constants() -> BTreeMap<String, u64> {
             (name.to_string(), value(text))
         })
         .collect()
+}
+
+/// The header's version, which is that of `raw` too, is the crate's and the newest that CHANGELOG.md has.
+#[test]
+fn one_version() {
+    let version = format!("{}.{}.{}", raw::VERSION_MAJOR, raw::VERSION_MINOR, raw::VERSION_PATCH);
+    let newest = CHANGES.lines().find_map(|line| line.strip_prefix("## ")).and_then(|line| line.split_once(':'));
+    assert_eq!(newest.map(|(number, _)| number), Some(version.as_str()));
+    assert_eq!(env!("CARGO_PKG_VERSION"), version);
 }
 
 #[test]
