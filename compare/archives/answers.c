@@ -1,0 +1,181 @@
+/* Writes what the calls of an archive answer and leave in lent memory for each text of a stream (compare/gen's frames: four bytes of
+ * length, the lowest first, and the bytes), so that the answers of two archives can be held against each other, byte by byte. All lent
+ * memory is filled before a call and written out whole after it; of a state, which is long, a sum. */
+#include "mihadrena.h"
+#include <stdio.h>
+#include <stdlib.h>
+#include <string.h>
+
+/* The longest text that is read, and what memory is filled with. */
+enum { LONGEST = 1 << 16, FILL = 0xA5 };
+
+static uint8_t source[LONGEST];
+static size_t length;
+static mihadrena_record records[LONGEST];
+static uint8_t text[LONGEST];
+static uint8_t out[16 * LONGEST];
+static uint32_t words[4 * LONGEST];
+static uint64_t values[MIHADRENA_NUMBER_WORDS];
+
+static void tell(const void *from, size_t bytes)
+{
+    if (fwrite(from, 1, bytes, stdout) != bytes) {
+        perror("answers");
+        exit(1);
+    }
+}
+
+static void tell_answer(uint32_t answer)
+{
+    tell(&answer, sizeof answer);
+    tell(values, sizeof values);
+}
+
+static void fill(void *memory, size_t bytes)
+{
+    memset(memory, FILL, bytes);
+}
+
+/* FNV-1a, of what is too long to be written at each call. */
+static void tell_sum(const void *from, size_t bytes)
+{
+    uint64_t sum = 14695981039346656037u;
+    for (size_t i = 0; i < bytes; i++) {
+        sum = (sum ^ ((const uint8_t *)from)[i]) * 1099511628211u;
+    }
+    tell(&sum, sizeof sum);
+}
+
+/* What is made of the records of a text that was read: nested lists, a text, an item file and the records of that. */
+static void use_records(size_t items)
+{
+    const uint32_t *from = (const uint32_t *)records;
+    size_t from_length = items * MIHADRENA_RECORD_WORDS;
+    fill(words, items * sizeof(mihadrena_node));
+    tell_answer(mihadrena_nest(from, from_length, words, items * MIHADRENA_NODE_WORDS, values, MIHADRENA_NEST_VALUES));
+    tell(words, items * sizeof(mihadrena_node));
+    size_t room = 8 * length + 8;
+    fill(out, room);
+    tell_answer(mihadrena_write(from, from_length, source, length, text, length, out, room, values, MIHADRENA_WRITE_VALUES));
+    tell(out, room);
+    fill(out, room);
+    uint32_t answer = mihadrena_items_write(from, from_length, out, room, values, MIHADRENA_ITEMS_VALUES);
+    tell_answer(answer);
+    tell(out, room);
+    if (answer == MIHADRENA_SERVED) {
+        fill(words, sizeof words);
+        tell_answer(mihadrena_items_read(out, values[0], words, sizeof words / sizeof words[0], values, MIHADRENA_ITEMS_VALUES));
+        tell_sum(words, sizeof words);
+    }
+    for (size_t i = 0; i < items; i++) {
+        double value = 0;
+        uint64_t place = 0;
+        tell_answer(mihadrena_record_coordinate(source, length, records[i].kind, records[i].start, records[i].end, &value, &place));
+        tell(&value, sizeof value);
+        tell(&place, sizeof place);
+    }
+}
+
+static void read_whole(uint32_t mode, bool skip, size_t room)
+{
+    fill(records, (length + 1) * sizeof records[0]);
+    fill(text, length);
+    uint32_t answer =
+        mihadrena_read(source, length, mode, skip, (uint32_t *)records, room * MIHADRENA_RECORD_WORDS, text, room, values, 2);
+    tell_answer(answer);
+    tell(records, (length + 1) * sizeof records[0]);
+    tell(text, length);
+    if (answer == MIHADRENA_SERVED) {
+        use_records(values[0]);
+    }
+}
+
+static void read_fields(uint32_t mode, bool skip)
+{
+    uint32_t ends[3] = {(uint32_t)(length / 3), (uint32_t)(length / 2), (uint32_t)length};
+    uint32_t rows[12];
+    fill(rows, sizeof rows);
+    fill(records, length * sizeof records[0]);
+    fill(text, length);
+    tell_answer(mihadrena_read_fields(source, length, ends, 3, mode, skip, rows, 12, (uint32_t *)records, length * MIHADRENA_RECORD_WORDS,
+                                      text, length, values, 2));
+    tell(rows, sizeof rows);
+    tell(records, length * sizeof records[0]);
+    tell(text, length);
+}
+
+static void read_in_pieces(uint32_t mode, bool skip, size_t size)
+{
+    static mihadrena_state state;
+    static uint8_t memory[MIHADRENA_PIECE_TEXT];
+    mihadrena_record record;
+    mihadrena_told told;
+    uint32_t answer = mihadrena_state_open(&state, mode, skip);
+    for (size_t at = 0; answer != MIHADRENA_FINISHED && answer < MIHADRENA_TOO_LONG;) {
+        size_t left = length - at < size ? length - at : size;
+        fill(&record, sizeof record);
+        answer = at < length ? mihadrena_state_piece(&state, source + at, left, memory, sizeof memory, &record, &told)
+                             : mihadrena_state_end(&state, memory, sizeof memory, &record, &told);
+        at += told.taken;
+        tell(&answer, sizeof answer);
+        tell(&told, sizeof told);
+        tell(&record, sizeof record);
+        tell_sum(&state, sizeof state);
+        tell_sum(memory, sizeof memory);
+    }
+}
+
+static void ask_the_rest(void)
+{
+    size_t room = length + 1;
+    fill(words, room * sizeof words[0]);
+    uint32_t answer = mihadrena_lines(source, length, words, room, values, 2);
+    tell_answer(answer);
+    tell(words, room * sizeof words[0]);
+    if (answer == MIHADRENA_SERVED) {
+        size_t starts = values[0];
+        for (size_t place = 0; place <= length && place < 64; place++) {
+            tell_answer(mihadrena_locate(source, length, words, starts, place, values, 2));
+        }
+    }
+    for (uint32_t choice = 0; choice < 3; choice++) {
+        fill(values, sizeof values);
+        tell_answer(mihadrena_number_by(choice, source, length, values, MIHADRENA_NUMBER_WORDS));
+    }
+    double value = 0;
+    uint64_t place = 0;
+    tell_answer(mihadrena_coordinate(source, length, &value, &place));
+    tell(&value, sizeof value);
+    size_t good = mihadrena_good_bytes(source, length);
+    tell(&good, sizeof good);
+}
+
+static void answer_text(void)
+{
+    for (uint32_t mode = MIHADRENA_PLAIN; mode <= MIHADRENA_REPORT; mode++) {
+        for (int skip = 0; skip < 2; skip++) {
+            read_whole(mode, skip, length);
+            read_whole(mode, skip, length / 2);
+            read_fields(mode, skip);
+            read_in_pieces(mode, skip, 1);
+            read_in_pieces(mode, skip, 7);
+            read_in_pieces(mode, skip, 4096);
+        }
+    }
+    ask_the_rest();
+}
+
+int main(void)
+{
+    uint8_t head[4];
+    while (fread(head, 1, sizeof head, stdin) == sizeof head) {
+        length = head[0] | (size_t)head[1] << 8 | (size_t)head[2] << 16 | (size_t)head[3] << 24;
+        if (length >= LONGEST || fread(source, 1, length, stdin) != length) {
+            fprintf(stderr, "answers: a text that is too long, or cut\n");
+            return 1;
+        }
+        fill(values, sizeof values);
+        answer_text();
+    }
+    return 0;
+}
