@@ -23,9 +23,13 @@
 #define MIHADRENA_ASSERT(fact, text) static_assert(fact, text)
 #define MIHADRENA_ALIGN_OF(type) alignof(type)
 extern "C" {
-#else
+#elif defined __STDC_VERSION__ && __STDC_VERSION__ >= 201112L
 #define MIHADRENA_ASSERT(fact, text) _Static_assert(fact, text)
 #define MIHADRENA_ALIGN_OF(type) _Alignof(type)
+#else
+/* C99 has neither; compilers of C11 and of C++ look at these facts. */
+#define MIHADRENA_ASSERT(fact, text) struct mihadrena_fact
+#define MIHADRENA_ALIGN_OF(type) 0
 #endif
 
 /* The version, as CHANGELOG.md and the Rust crate have it. Records, states and the archive are of one version. */

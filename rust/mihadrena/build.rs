@@ -1,5 +1,5 @@
-//! Links the proved functions: libmihadrena.a in the folder that MIHADRENA_ARCHIVE names, else where `.ci/archive` writes the archive of
-//! the target in the repository.
+//! Links the proved functions: libmihadrena.a in the folder that MIHADRENA_ARCHIVE names, else the archive for the machine that is compiled
+//! for: beside the crate in a release, or where `.ci/archive` writes it in the repository.
 use std::env;
 use std::path::PathBuf;
 
@@ -7,8 +7,7 @@ const FOLDER: &str = "MIHADRENA_ARCHIVE";
 
 fn main() {
     println!("cargo:rerun-if-env-changed={FOLDER}");
-    let here = PathBuf::from(env::var_os("CARGO_MANIFEST_DIR").expect("cargo names the folder"));
-    let folder = env::var_os(FOLDER).map_or_else(|| here.join("../../target").join(built()), PathBuf::from);
+    let folder = env::var_os(FOLDER).map_or_else(made, PathBuf::from);
     let archive = folder.join("libmihadrena.a");
     println!("cargo:rerun-if-changed={}", archive.display());
     assert!(archive.exists(), "no {}: run `.ci/archive` first, or name its folder in {FOLDER}", archive.display());
@@ -16,10 +15,13 @@ fn main() {
     println!("cargo:rustc-link-lib=static=mihadrena");
 }
 
-/// The folder below target/ of the archive for the machine that is compiled for; src/lib.rs refuses the machines that have none.
-fn built() -> &'static str {
-    match env::var("CARGO_CFG_TARGET_ARCH").as_deref() {
-        Ok("aarch64") => "aarch64-linux-gnu",
-        _ => "staticlib",
+/// The folder of the archive for the machine that is compiled for; src/lib.rs refuses the machines that have none.
+fn made() -> PathBuf {
+    let top = PathBuf::from(env::var_os("CARGO_MANIFEST_DIR").expect("cargo names the folder")).join("../..");
+    let machine = env::var("CARGO_CFG_TARGET_ARCH").expect("cargo names the machine");
+    let released = top.join(format!("lib/{machine}-linux-gnu"));
+    if released.exists() {
+        return released;
     }
+    top.join(if machine == "x86_64" { "target/staticlib".into() } else { format!("target/{machine}-linux-gnu") })
 }

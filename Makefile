@@ -1,0 +1,31 @@
+# Installs the header, the archive for a machine, and what pkg-config and CMake find them by; from the repository, once `.ci/archive` made the
+# archive, or from the folder that dist/make makes, where it lies already.
+#
+#     make install PREFIX=/usr/local [TARGET=x86_64-linux-gnu|aarch64-linux-gnu] [DESTDIR=]
+PREFIX = /usr/local
+TARGET = $(shell uname -m)-linux-gnu
+DESTDIR =
+
+made = lib/$(TARGET) target/$(TARGET)
+ifeq ($(TARGET),x86_64-linux-gnu)
+made += target/staticlib
+endif
+archive = $(firstword $(wildcard $(addsuffix /libmihadrena.a,$(made))))
+part = $(shell sed -n 's/^.define MIHADRENA_VERSION_$(1) //p' include/mihadrena.h)
+version = $(call part,MAJOR).$(call part,MINOR).$(call part,PATCH)
+filled = sed -e 's|@PREFIX@|$(PREFIX)|g' -e 's|@VERSION@|$(version)|g'
+to = $(DESTDIR)$(PREFIX)
+
+.PHONY: install version
+install:
+	@test -n "$(archive)" || { echo "no archive for $(TARGET): .ci/archive makes it" >&2; exit 1; }
+	mkdir -p $(to)/include $(to)/lib/pkgconfig $(to)/lib/cmake/mihadrena $(to)/share/doc/mihadrena
+	cp include/mihadrena.h $(to)/include/
+	cp $(archive) $(to)/lib/
+	$(filled) dist/mihadrena.pc.in > $(to)/lib/pkgconfig/mihadrena.pc
+	$(filled) dist/mihadrena-config.cmake.in > $(to)/lib/cmake/mihadrena/mihadrena-config.cmake
+	$(filled) dist/mihadrena-config-version.cmake.in > $(to)/lib/cmake/mihadrena/mihadrena-config-version.cmake
+	cp NOTICE $(to)/share/doc/mihadrena/
+
+version:
+	@echo $(version)
