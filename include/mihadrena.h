@@ -195,9 +195,9 @@ MIHADRENA_ASSERT(sizeof(mihadrena_record) == 4 * MIHADRENA_RECORD_WORDS, "a reco
 /* -- Reading a whole text -------------------------------------------------------------------------------------------------- */
 
 /* The modes. In report mode `;`, `"` and `|` also end a number: 14.7;gps is a number and a comment, where plain mode has an identifier;
- * 12|Birch| is a number and an identifier, where plain mode has an error. An error points at its own place there, a bad hex digit to the
- * byte, and MIHADRENA_INVALID_CHAR_DELIMITER is given: in the name of a character that is none, `;`, `"`, `'` or `,` after its first
- * character, at its place. */
+ * 12|Birch| is a number and an identifier, where plain mode has an error. What is no number goes on at `|` as in plain mode: -|a| is an
+ * error in both. An error points at its own place in report mode, a bad hex digit to the byte, and MIHADRENA_INVALID_CHAR_DELIMITER is
+ * given: in the name of a character that is none, `;`, `"`, `'` or `,` after its first character, at its place. */
 #define MIHADRENA_PLAIN 0
 #define MIHADRENA_REPORT 1
 
