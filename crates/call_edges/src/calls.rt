@@ -293,7 +293,7 @@ fn follow(from: Stand, file: &[u8]) {
 }
 
 // All of them.
-pub fn edge() {
+pub(crate) fn edge() {
     no_mode();
     let mut file = [0u8; ROOM];
     let count = load(b"calls", &mut file);

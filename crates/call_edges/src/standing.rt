@@ -93,7 +93,7 @@ fn marks(m: Marks) {
 }
 
 // A state, on a line of its own.
-pub fn show(state: State) {
+pub(crate) fn show(state: State) {
     let m = state.marks;
     let buf = state.buf;
     print(b"  state ");

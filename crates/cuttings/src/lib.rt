@@ -9,6 +9,10 @@ use pieces::State;
 use piecewise::calls::end;
 use piecewise::calls::piece;
 use piecewise::opening::open;
+ghost use mathlib.Core.Path.{_≡_};
+ghost use lib.ListN.{length, take};
+ghost use Rattle.laws.specs.Lent.{written};
+ghost use Rattle.cuttings.specs.Parts.{partOf, recordAt};
 
 // How a text is cut: a first piece of so many bytes, then pieces of `low` bytes, of one byte more each time up to `high`, then of `low`
 // again.
@@ -75,7 +79,9 @@ fn marked(text: &[u8]) -> bool {
 }
 
 // Copies one slice to the front of another, as far as it has room.
-pub fn copy(from: &[u8], to: &mut [u8]) {
+pub fn copy(from: &[u8], to: &mut [u8])
+    ensures { λ _. ⌜ now (to .exit) ≡ written (take (length (now (to .entry))) (now (from .entry))) (now (to .entry)) ⌝ }
+{
     let mut i = 0;
     while i < from.len() {
         if to.len() <= i {
@@ -181,7 +187,9 @@ fn note(
 }
 
 // The record at so many records from the start; an empty one where there is none.
-pub fn record_at(words: &[u32], n: usize) -> Record {
+pub fn record_at(words: &[u32], n: usize) -> Record
+    ensures { λ r. ⌜ r ≡ recordAt (now (words .entry)) n ⌝ }
+{
     if words.len() / WORDS <= n {
         return Record {
             nine: Nine {
@@ -216,7 +224,9 @@ pub fn record_at(words: &[u32], n: usize) -> Record {
 }
 
 // The part of a text between two places, or an empty part.
-pub fn part(source: &[u8], from: usize, to: usize) -> &[u8] {
+pub fn part(source: &[u8], from: usize, to: usize) -> &[u8]
+    ensures { λ r. ⌜ now r ≡ partOf (now (source .entry)) from to ⌝ }
+{
     if to < from {
         return &source[..0];
     }

@@ -1,6 +1,13 @@
 // The cases lie in files, a line for each: fields between tabs, the first of them the case's name, and `$` for a newline in a text.
 use cuttings::copy;
 use cuttings::part;
+use texts::find;
+ghost use mathlib.Core.Path.{_≡_};
+ghost use Prim.Native.Nat.{_+_, _%_, _^_};
+ghost use lib.ListN.{drop, getD};
+ghost use Rattle.laws.specs.Quoted.{code};
+ghost use Rattle.laws.specs.Texts.{before};
+ghost use Rattle.cuttings.specs.Parts.{partOf};
 
 const TAB: u8 = b'\t';
 
@@ -15,18 +22,6 @@ pub const ROOM: usize = 2048;
 // More lines than a file has.
 pub const MOST: u32 = 1000;
 
-// The place of the next such byte from a place on, or past the last byte.
-fn find(bytes: &[u8], from: usize, byte: u8) -> usize {
-    let mut i = from;
-    while i < bytes.len() {
-        if bytes[i] == byte {
-            return i;
-        }
-        i += 1;
-    }
-    i
-}
-
 // Reads a file to the front of a memory; how many bytes it has.
 pub fn load(name: &[u8], file: &mut [u8]) -> usize {
     let fd = os::open_read(name);
@@ -40,12 +35,16 @@ pub fn load(name: &[u8], file: &mut [u8]) -> usize {
 }
 
 // The line that starts at a place.
-pub fn line(file: &[u8], at: usize) -> &[u8] {
+pub fn line(file: &[u8], at: usize) -> &[u8]
+    ensures { λ r. ⌜ now r ≡ partOf (now (file .entry)) at (at + before (code "\n") (drop at (now (file .entry)))) ⌝ }
+{
     part(file, at, find(file, at, NEWLINE))
 }
 
 // The place past a line.
-pub fn past_line(file: &[u8], at: usize) -> usize {
+pub fn past_line(file: &[u8], at: usize) -> usize
+    ensures { λ r. ⌜ r ≡ (at + before (code "\n") (drop at (now (file .entry))) + 1) % 2 ^ 64 ⌝ }
+{
     std::num::wrapping_add_usize(find(file, at, NEWLINE), 1)
 }
 
@@ -72,7 +71,9 @@ pub fn field(line: &[u8], tabs: u32) -> &[u8] {
 }
 
 // The first byte of a field.
-pub fn first(field: &[u8]) -> u8 {
+pub fn first(field: &[u8]) -> u8
+    ensures { λ r. ⌜ r ≡ getD (now (field .entry)) 0 0 ⌝ }
+{
     if field.len() == 0 {
         return 0;
     }

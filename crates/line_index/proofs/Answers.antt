@@ -14,12 +14,10 @@ use Rattle.chars.specs.Utf8.{firstBad, sequences}
 use Rattle.chars.specs.declared.Utf8.the-variants.{Good, Bad}
 use Rattle.items.specs.Whole.{limit}
 use Rattle.lines.specs.Starts.{starts, outcome, buildOf}
-use Rattle.lines.specs.Place.{isIndex, lineOf, column, since, answered, placeOf, locateOf, Search}
+use Rattle.lines.specs.Starts as answer
+use Rattle.lines.specs.Place.{Where, Refused, isIndex, lineOf, column, since, answered, placeOf, locateOf, Search}
 use Rattle.lines.specs.Many.{lineWord, columnWord, answers, locateAllOf}
-use Rattle.lines.specs.declared.Answer.the-variants as answer
 use Rattle.lines.specs.declared.Column.{Column}
-use Rattle.lines.specs.declared.Located.{Located}
-use Rattle.lines.specs.declared.Located.the-variants.{Refused}
 use Rattle.lines.proofs.Line.{starts-search}
 use Rattle.lines.proofs.Bounds.{since-line}
 use Rattle.lines.proofs.Index.{index-is}
@@ -73,7 +71,7 @@ module _ (s index : List ℕ) where
     locates-other e = rw e
 
     module _ (e : isIndex s index ≡ true) where
-      pub locates : {r : Located} → r ≡ placeOf s index p → r ≡ locateOf s index p
+      pub locates : {r : Where} → r ≡ placeOf s index p → r ≡ locateOf s index p
       unfolding locateOf
       locates q = rw e q
 
@@ -99,7 +97,7 @@ module _ (s index : List ℕ) where
 
   -- ---- many places
 
-  pub answers-next : (places m : List ℕ) (k at : ℕ) {r : Located} → k < length places → r ≡ locateOf s index (getD places k 0)
+  pub answers-next : (places m : List ℕ) (k at : ℕ) {r : Where} → k < length places → r ≡ locateOf s index (getD places k 0)
       → stored at (answers s index (drop k places)) m
       ≡ stored (at + 2) (answers s index (drop (k + 1) places)) (set (set m at (lineWord r)) (at + 1) (columnWord r))
   unfolding answers stored

@@ -17,8 +17,8 @@ ghost use lib.ListN.{length, drop, getD};
 ghost use Rattle.laws.specs.Lent.{written};
 ghost use Rattle.laws.specs.Texts.{same};
 ghost use Rattle.chars.specs.Utf8.{sequences};
-ghost use Rattle.lines.specs.Starts.{starts, outcome};
-ghost use Rattle.lines.specs.Place.{isIndex, lineOf, column, placeOf, locateOf, Search};
+ghost use Rattle.lines.specs.Starts.{starts, toldOf, outcome};
+ghost use Rattle.lines.specs.Place.{whereOf, isIndex, lineOf, column, placeOf, locateOf, Search};
 ghost use Rattle.lines.specs.Many.{lineWord, columnWord, answers, locateAllOf};
 
 fn wide(x: u32) -> usize
@@ -116,7 +116,7 @@ fn column_at(text: &[u8], from: usize, place: usize) -> Column
 // Line and column of a place, where the index is the text's: the last line that starts at or before it, and the characters since.
 fn place_at(text: &[u8], index: &[u32], place: usize) -> Located
     requires { ⌜ isIndex (now text) (now index) ≡ true ⌝ }
-    ensures { λ r. ⌜ r ≡ placeOf (now (text .entry)) (now (index .entry)) place ⌝ }
+    ensures { λ r. ⌜ whereOf r ≡ placeOf (now (text .entry)) (now (index .entry)) place ⌝ }
 {
     if text.len() < place {
         return Located::Refused(NO_PLACE, place);
@@ -131,7 +131,7 @@ fn place_at(text: &[u8], index: &[u32], place: usize) -> Located
 
 // Line and column of a byte place, by the index of the text.
 pub fn locate(text: &[u8], index: &[u32], place: usize) -> Located
-    ensures { λ r. ⌜ r ≡ locateOf (now (text .entry)) (now (index .entry)) place ⌝ }
+    ensures { λ r. ⌜ whereOf r ≡ locateOf (now (text .entry)) (now (index .entry)) place ⌝ }
 {
     if is_index(text, index) {
         return place_at(text, index, place);
@@ -141,7 +141,7 @@ pub fn locate(text: &[u8], index: &[u32], place: usize) -> Located
 
 // An answer's line, or 0 for a refusal.
 fn line_word(r: Located) -> usize
-    ensures { λ n. ⌜ n ≡ lineWord r ⌝ }
+    ensures { λ n. ⌜ n ≡ lineWord (whereOf r) ⌝ }
 {
     match r {
         Located::At(line, _) => line,
@@ -151,7 +151,7 @@ fn line_word(r: Located) -> usize
 
 // An answer's column, or a refusal's number.
 fn column_word(r: Located) -> usize
-    ensures { λ n. ⌜ n ≡ columnWord r ⌝ }
+    ensures { λ n. ⌜ n ≡ columnWord (whereOf r) ⌝ }
 {
     match r {
         Located::At(_, column) => column,
@@ -178,7 +178,7 @@ fn put_answers(text: &[u8], index: &[u32], places: &[u32], found: &mut [usize])
 // Line and column of many places, in any order, with one look at the text's index: two numbers for each, as `line_word` and
 // `column_word` have them.
 pub fn locate_all(text: &[u8], index: &[u32], places: &[u32], found: &mut [usize]) -> Answer
-    ensures { λ r. ⌜ outcome r (now (found .exit)) ≡ locateAllOf (now (text .entry)) (now (index .entry)) (now (places .entry)) (now (found .entry)) ⌝ }
+    ensures { λ r. ⌜ outcome (toldOf r) (now (found .exit)) ≡ locateAllOf (now (text .entry)) (now (index .entry)) (now (places .entry)) (now (found .entry)) ⌝ }
 {
     if is_index(text, index) {
         let n = places.len();

@@ -14,7 +14,7 @@ ghost use lib.ListN.{length};
 ghost use Rattle.laws.specs.Choice.{if_then_else_};
 ghost use Rattle.laws.specs.Lent.{written};
 ghost use Rattle.items.specs.Whole.{limit};
-ghost use Rattle.lines.specs.Starts.{newline, starts, outcome, buildOf};
+ghost use Rattle.lines.specs.Starts.{newline, starts, toldOf, outcome, buildOf};
 ghost use Rattle.line_index.specs.Left.{left, Storing, block, wide};
 
 // How many bytes are stored of at once.
@@ -123,7 +123,7 @@ fn put(text: &[u8], index: &mut [u32]) -> usize
 
 // Builds the index of a whole text.
 pub fn build(text: &[u8], index: &mut [u32]) -> Answer
-    ensures { λ r. ⌜ outcome r (now (index .exit)) ≡ buildOf (now (text .entry)) (now (index .entry)) ⌝ }
+    ensures { λ r. ⌜ outcome (toldOf r) (now (index .exit)) ≡ buildOf (now (text .entry)) (now (index .entry)) ⌝ }
 {
     if LIMIT < text.len() {
         return Answer::Refused(TOO_LONG, LIMIT);

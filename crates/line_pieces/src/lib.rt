@@ -15,6 +15,7 @@ ghost use lib.Dec.{ltb};
 ghost use lib.ListN.{length, set};
 ghost use Rattle.laws.specs.Choice.{if_then_else_};
 ghost use Rattle.items.specs.Whole.{limit};
+ghost use Rattle.lines.specs.Starts.{toldOf};
 ghost use Rattle.lines.specs.Pieces.{fed, openOf, movedOf, stoppedOf, stepOf, fedOf, pieceOf, endOf};
 
 // The last place that there is: the end of the longest text.
@@ -159,7 +160,7 @@ pub fn piece(st: State, bytes: &[u8], index: &mut [u32]) -> State
 
 // The declared end: the index is built, or why not.
 pub fn end(st: State, index: &[u32]) -> Answer
-    ensures { λ r. ⌜ r ≡ endOf st (length (now (index .entry))) ⌝ }
+    ensures { λ r. ⌜ toldOf r ≡ endOf st (length (now (index .entry))) ⌝ }
 {
     if st.at < st.lines {
         return Answer::Refused(OUT_OF_BOUNDS, 0);

@@ -20,7 +20,7 @@ use Rattle.lines.specs.Starts.{startsFrom, starts}
 use Rattle.lines.specs.Place.{isIndex, lineOf, column, answered, lineStart, placeOf, locateOf}
 use Rattle.lines.specs.declared.Column.{Column}
 use Rattle.lines.specs.declared.Column.the-variants.{Whole, Inside}
-use Rattle.lines.specs.declared.Located.the-variants.{At}
+use Rattle.lines.specs.Place.{At}
 use Rattle.lines.proofs.Tests.{by-less}
 use Rattle.lines.proofs.Columns.{column-done}
 use Rattle.lines.proofs.Bounds.{since-line}

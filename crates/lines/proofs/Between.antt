@@ -18,7 +18,7 @@ use Rattle.chars.proofs.Chars.{chars-char, char-width}
 use Rattle.chars.proofs.Good.{good-bytes}
 use Rattle.lines.specs.Place.{isIndex, lineOf, column, since, lineStart, placeOf, locateOf}
 use Rattle.lines.specs.declared.Column.the-variants.{Whole}
-use Rattle.lines.specs.declared.Located.the-variants.{At}
+use Rattle.lines.specs.Place.{At}
 use Rattle.lines.proofs.Index.{index-is}
 use Rattle.lines.proofs.Back.{length-bytes}
 

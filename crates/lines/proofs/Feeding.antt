@@ -16,7 +16,7 @@ use Rattle.items.specs.Whole.{limit}
 use Rattle.lines.specs.Starts.{newline}
 use Rattle.lines.specs.Pieces.{fed, movedOf, stoppedOf, stepOf, noted, fedOf, pieceOf, endOf}
 use Rattle.lines.specs.declared.State.{State}
-use Rattle.lines.specs.declared.Answer.the-variants.{Served, Refused}
+use Rattle.lines.specs.Starts.{Served, Refused}
 use Rattle.lines.proofs.Tests.{by-equal}
 use Rattle.laws.proofs.Choice.{if-all}
 use Rattle.refusal.specs.Refusals.{tooLong, notUtf8, linesNoRoom}

@@ -18,7 +18,7 @@ use Rattle.chars.proofs.Run.{run-sequences}
 use Rattle.laws.specs.Lent.{written}
 use Rattle.items.specs.Whole.{limit}
 use Rattle.lines.specs.Starts.{newline, startsFrom, starts, fit, ifGood, buildOf}
-use Rattle.lines.specs.declared.Answer.the-variants.{Served, Refused}
+use Rattle.lines.specs.Starts.{Served, Refused}
 use Rattle.lines.specs.Pieces.{Fed, fresh, movedOf, stoppedOf, noted, fedOf, shown, before, laid}
 use Rattle.lines.specs.declared.State.{State}
 use Rattle.lines.proofs.Tests.{by-less, by-equal}

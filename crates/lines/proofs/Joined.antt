@@ -20,8 +20,7 @@ use Rattle.items.specs.Whole.{limit}
 use Rattle.lines.specs.Starts.{newline, startsFrom, starts, ifGood, buildOf}
 use Rattle.lines.specs.Pieces.{Fed, fed, fresh, openOf, movedOf, stoppedOf, stepOf, noted, fedOf, endOf, pieces, joined}
 use Rattle.lines.specs.declared.State.{State}
-use Rattle.lines.specs.declared.Answer.{Answer}
-use Rattle.lines.specs.declared.Answer.the-variants.{Served, Refused}
+use Rattle.lines.specs.Starts.{Told, Served, Refused}
 use Rattle.lines.proofs.Tests.{by-less, by-equal}
 use Rattle.laws.proofs.Choice.{by-bool}
 use Rattle.refusal.specs.Refusals.{tooLong, notUtf8, linesNoRoom}
@@ -53,14 +52,14 @@ cut ps m = cut-from ps (openOf m) (omega arith)
 
 -- ---- the answer at the declared end
 
-abbrev fits : ℕ → ℕ → Answer
+abbrev fits : ℕ → ℕ → Told
 fits k n = if ltb n k then Refused linesNoRoom k else Served k
 
-abbrev by : Utf8 → ℕ → ℕ → Answer
+abbrev by : Utf8 → ℕ → ℕ → Told
 by (Bad p) k n = Refused notUtf8 p
 by Good k n = fits k n
 
-abbrev said : ℕ → Utf8 → ℕ → ℕ → Answer
+abbrev said : ℕ → Utf8 → ℕ → ℕ → Told
 said len v k n = if ltb limit len then Refused tooLong limit else by v k n
 
 no-grow : (t : State) (m : List ℕ) → noted t t m ≡ m

@@ -7,11 +7,9 @@ use Rattle.laws.specs.Texts.{same}
 use Rattle.chars.specs.Utf8.{first, rest, front, sequences, firstBad}
 use Rattle.chars.specs.Encode.{utf8, bytesOf, spelled}
 use Rattle.lines.specs.Starts.{newline, startsFrom, outcome, buildOf}
-use Rattle.lines.specs.Place.{isIndex, lineOf, column, since, placeOf, locateOf}
+use Rattle.lines.specs.Starts as answer
+use Rattle.lines.specs.Place.{Where, At, Refused, isIndex, lineOf, column, since, placeOf, locateOf}
 use Rattle.lines.specs.Many.{answers, locateAllOf}
-use Rattle.lines.specs.declared.Answer.the-variants as answer
-use Rattle.lines.specs.declared.Located.{Located}
-use Rattle.lines.specs.declared.Located.the-variants.{At, Refused}
 
 -- `a`, a newline, λ (two bytes), `b`, a newline
 abbrev text : List ℕ
@@ -25,9 +23,9 @@ pub record Row : Type 0 where
   pub source : List ℕ
   pub known : List ℕ
   pub place : ℕ
-  pub found : Located
+  pub found : Where
 
-abbrev row : List ℕ → List ℕ → ℕ → Located → Row
+abbrev row : List ℕ → List ℕ → ℕ → Where → Row
 row s k p f = record { source = s; known = k; place = p; found = f }
 
 abbrev each : List Row → List Row

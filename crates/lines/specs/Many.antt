@@ -6,18 +6,16 @@ use lib.ListN.{length}
 use Rattle.laws.specs.Choice.{if_then_else_}
 use Rattle.laws.specs.Lent.{written}
 use Rattle.refusal.specs.Refusals.{linesNoRoom, alien}
-use Rattle.lines.specs.Starts.{Outcome, outcome}
-use Rattle.lines.specs.Place.{isIndex, locateOf}
-use Rattle.lines.specs.declared.Answer.the-variants.{Served, Refused}
-use Rattle.lines.specs.declared.Located.{Located}
-use Rattle.lines.specs.declared.Located.the-variants as located
+use Rattle.lines.specs.Starts.{Served, Refused, Outcome, outcome}
+use Rattle.lines.specs.Place.{Where, isIndex, locateOf}
+use Rattle.lines.specs.Place as located
 
 -- an answer as two numbers: line and column, or 0, which no line has, and the refusal's number
-abbrev pub lineWord : Located → ℕ
+abbrev pub lineWord : Where → ℕ
 lineWord (located.At line column) = line
 lineWord (located.Refused number place) = 0
 
-abbrev pub columnWord : Located → ℕ
+abbrev pub columnWord : Where → ℕ
 columnWord (located.At line column) = column
 columnWord (located.Refused number place) = number
 

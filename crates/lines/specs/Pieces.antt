@@ -10,10 +10,8 @@ use Rattle.chars.specs.Utf8.{Sequence, read, broken, short, sequences}
 use Rattle.chars.specs.Machine.{step, start, told}
 use Rattle.chars.specs.declared.Begun as begun
 use Rattle.items.specs.Whole.{limit}
-use Rattle.lines.specs.Starts.{newline}
+use Rattle.lines.specs.Starts.{newline, Told, Served, Refused}
 use Rattle.lines.specs.declared.State.{State}
-use Rattle.lines.specs.declared.Answer.{Answer}
-use Rattle.lines.specs.declared.Answer.the-variants.{Served, Refused}
 
 -- a state, and what the lent memory holds
 pub record Fed : Type 0 where
@@ -60,7 +58,7 @@ unfoldable pub pieceOf : State → List ℕ → List ℕ → Fed
 pieceOf t s m = if ltb (t .at) (t .lines) then fed t m else fedOf t s m
 
 -- The declared end, where n is the memory's length: 27, then 20, 21 (a sequence that the end cuts too), 33 with the number needed.
-unfoldable pub endOf : State → ℕ → Answer
+unfoldable pub endOf : State → ℕ → Told
 endOf t n =
     if ltb (t .at) (t .lines) then Refused outOfBounds 0
     else if eqb (t .stop) tooLong then Refused tooLong limit

@@ -15,7 +15,17 @@ use Rattle.lines.specs.Starts.{starts}
 use Rattle.lines.specs.declared.Column.{Column}
 use Rattle.lines.specs.declared.Column.the-variants.{Whole, Inside}
 use Rattle.lines.specs.declared.Located.{Located}
-use Rattle.lines.specs.declared.Located.the-variants.{At, Refused}
+use Rattle.lines.specs.declared.Located.the-variants as enum
+
+-- line and column, both from 1; or 01's number of a refusal, and what it comes with
+pub data Where : Type 0 where
+  At : ℕ → ℕ → Where
+  Refused : ℕ → ℕ → Where
+
+-- what each answer of the question means
+abbrev pub whereOf : Located → Where
+whereOf (enum.At line column) = At line column
+whereOf (enum.Refused number place) = Refused number place
 
 abbrev pub goodAnd : Utf8 → Bool → Bool
 goodAnd Good t = t
@@ -45,7 +55,7 @@ since a (read c f t ∷ l) = let more = since a l in if ltb f a then more else r
 since a (broken f t ∷ l) = let more = since a l in if ltb f a then more else broken f t ∷ l
 since a (short f ∷ l) = let more = since a l in if ltb f a then more else short f ∷ l
 
-abbrev pub answered : ℕ → ℕ → Column → Located
+abbrev pub answered : ℕ → ℕ → Column → Where
 answered p line (Whole n) = At line n
 answered p line Inside = Refused noPlace p
 
@@ -54,15 +64,15 @@ abbrev pub lineStart : List ℕ → ℕ → ℕ
 lineStart index line = getD index (line - 1) 0
 
 -- the place p in this line: its column counts the text's characters from the line's start on
-abbrev pub located : List ℕ → List ℕ → ℕ → ℕ → Located
+abbrev pub located : List ℕ → List ℕ → ℕ → ℕ → Where
 located s index p line = answered p line (column p 1 (since (lineStart index line) (sequences 0 0 s)))
 
 -- "34 if the place lies past the end or inside a character"; the end is a place
-unfoldable pub placeOf : List ℕ → List ℕ → ℕ → Located
+unfoldable pub placeOf : List ℕ → List ℕ → ℕ → Where
 placeOf s index p = if ltb (length s) p then Refused noPlace p else located s index p (lineOf p index 1 0)
 
 -- "48 if the index isn't that text's, then 34"
-unfoldable pub locateOf : List ℕ → List ℕ → ℕ → Located
+unfoldable pub locateOf : List ℕ → List ℕ → ℕ → Where
 locateOf s index p = if isIndex s index then placeOf s index p else Refused alien 0
 
 -- ---- what a search asks for

@@ -12,7 +12,7 @@ use Rattle.chars.specs.declared.Utf8.{Utf8}
 use Rattle.chars.specs.declared.Utf8.the-variants.{Good, Bad}
 use Rattle.items.specs.Whole.{limit}
 use Rattle.lines.specs.declared.Answer.{Answer}
-use Rattle.lines.specs.declared.Answer.the-variants.{Served, Refused}
+use Rattle.lines.specs.declared.Answer.the-variants as answer
 
 -- U+000A, which UTF-8 writes as this byte and uses in no other character
 abbrev pub newline : ℕ
@@ -27,12 +27,22 @@ startsFrom at (b ∷ s) = let more = startsFrom (at + 1) s in if eqb b newline t
 abbrev pub starts : List ℕ → List ℕ
 starts s = 0 ∷ startsFrom 0 s
 
+-- served with a count; or 01's number of a refusal, and what it comes with
+pub data Told : Type 0 where
+  Served : ℕ → Told
+  Refused : ℕ → ℕ → Told
+
+-- what each answer of the calls means
+abbrev pub toldOf : Answer → Told
+toldOf (answer.Served n) = Served n
+toldOf (answer.Refused number value) = Refused number value
+
 -- an answer, and what the lent memory then holds
 pub record Outcome : Type 0 where
-  pub answer : Answer
+  pub answer : Told
   pub memory : List ℕ
 
-abbrev pub outcome : Answer → List ℕ → Outcome
+abbrev pub outcome : Told → List ℕ → Outcome
 outcome a m = record { answer = a; memory = m }
 
 -- "33 if the line starts don't fit, with the number needed"; else they are written, and everything past them stays

@@ -7,10 +7,9 @@ use lib.ListN.{length, getD, set}
 use Rattle.laws.specs.Choice.{if_then_else_}
 use Rattle.laws.specs.Lent.{written}
 use Rattle.refusal.specs.Refusals.{outOfBounds}
+use Rattle.lines.specs.Starts.{Told, Refused}
 use Rattle.lines.specs.Pieces.{Fed, fresh, pieceOf, endOf}
 use Rattle.lines.specs.declared.State.{State}
-use Rattle.lines.specs.declared.Answer.{Answer}
-use Rattle.lines.specs.declared.Answer.the-variants.{Refused}
 
 -- how many words a state has
 abbrev pub stateWords : ℕ
@@ -56,7 +55,7 @@ unfoldable pub pieceLeft : List ℕ → List ℕ → List ℕ → Contents
 pieceLeft w s m = if isState w then kept (pieceOf (stateIn w) s m) w else contents w m
 
 -- 27 where the words are no state's, else what the end by value answers
-unfoldable pub endFor : List ℕ → ℕ → Answer
+unfoldable pub endFor : List ℕ → ℕ → Told
 endFor w n = if isState w then endOf (stateIn w) n else Refused outOfBounds 0
 
 -- piece calls one after the other

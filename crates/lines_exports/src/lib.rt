@@ -8,8 +8,8 @@ ghost use mathlib.Core.Path.{_≡_};
 ghost use mathlib.Core.List.{[], _∷_};
 ghost use lib.ListN.{length};
 ghost use Rattle.chars.specs.Encode.{lay};
-ghost use Rattle.lines.specs.Starts.{buildOf};
-ghost use Rattle.lines.specs.Place.{locateOf};
+ghost use Rattle.lines.specs.Starts.{toldOf, buildOf};
+ghost use Rattle.lines.specs.Place.{whereOf, locateOf};
 ghost use Rattle.lines.specs.Many.{locateAllOf};
 ghost use Rattle.lines.specs.Numbers.{answerNumber, answerValue, locatedNumber, locatedFirst, locatedSecond};
 ghost use Rattle.lines.specs.Words.{contents, openLeft, pieceLeft, endFor};
@@ -19,7 +19,7 @@ const VALUES: usize = 2;
 
 // An answer's number.
 fn number(a: Answer) -> u32
-    ensures { λ r. ⌜ r ≡ answerNumber a ⌝ }
+    ensures { λ r. ⌜ r ≡ answerNumber (toldOf a) ⌝ }
 {
     match a {
         Answer::Served(_) => SERVED,
@@ -29,7 +29,7 @@ fn number(a: Answer) -> u32
 
 // What an answer comes with.
 fn value(a: Answer) -> u64
-    ensures { λ r. ⌜ r ≡ answerValue a ⌝ }
+    ensures { λ r. ⌜ r ≡ answerValue (toldOf a) ⌝ }
 {
     match a {
         Answer::Served(n) => n as u64,
@@ -39,7 +39,7 @@ fn value(a: Answer) -> u64
 
 // The number of a place's answer, and its two values.
 fn located_number(r: Located) -> u32
-    ensures { λ n. ⌜ n ≡ locatedNumber r ⌝ }
+    ensures { λ n. ⌜ n ≡ locatedNumber (whereOf r) ⌝ }
 {
     match r {
         Located::At(_, _) => SERVED,
@@ -48,7 +48,7 @@ fn located_number(r: Located) -> u32
 }
 
 fn located_first(r: Located) -> u64
-    ensures { λ n. ⌜ n ≡ locatedFirst r ⌝ }
+    ensures { λ n. ⌜ n ≡ locatedFirst (whereOf r) ⌝ }
 {
     match r {
         Located::At(line, _) => line as u64,
@@ -57,7 +57,7 @@ fn located_first(r: Located) -> u64
 }
 
 fn located_second(r: Located) -> u64
-    ensures { λ n. ⌜ n ≡ locatedSecond r ⌝ }
+    ensures { λ n. ⌜ n ≡ locatedSecond (whereOf r) ⌝ }
 {
     match r {
         Located::At(_, column) => column as u64,
@@ -78,7 +78,7 @@ fn put_values(values: &mut [u64], first: u64, second: u64)
 
 // An answer told: its value goes to the lent memory, and its number back.
 fn tell(a: Answer, values: &mut [u64]) -> u32
-    ensures { λ r. ⌜ (r ≡ answerNumber a) × (now (values .exit) ≡ lay (answerValue a ∷ 0 ∷ []) (now (values .entry))) ⌝ }
+    ensures { λ r. ⌜ (r ≡ answerNumber (toldOf a)) × (now (values .exit) ≡ lay (answerValue (toldOf a) ∷ 0 ∷ []) (now (values .entry))) ⌝ }
 {
     put_values(values, value(a), 0);
     number(a)

@@ -39,7 +39,7 @@ use Rattle.error_places.specs.Delimited.{Delimited}
 use Rattle.error_places.proofs.Names.{delimited-there}
 use Rattle.error_places.proofs.Places.{points-at-what-fails}
 use Rattle.lines.specs.Place.{isIndex, locateOf}
-use Rattle.lines.specs.declared.Located.the-variants.{At}
+use Rattle.lines.specs.Place.{At}
 use Rattle.lines.proofs.Between.{answered-between}
 use Rattle.lines.proofs.Index.{index-is}
 use Rattle.lines_items.proofs.Along.{Along, along, at-start, read-along}

@@ -11,8 +11,7 @@ use Rattle.laws.proofs.Choice.{and-true, if-yes}
 use Rattle.refusal.specs.Refusals.{outOfBounds}
 use Rattle.lines.specs.Pieces.{Fed, fed, openOf, pieceOf, endOf}
 use Rattle.lines.specs.declared.State.{State}
-use Rattle.lines.specs.declared.Answer.{Answer}
-use Rattle.lines.specs.declared.Answer.the-variants.{Refused}
+use Rattle.lines.specs.Starts.{Told, Refused}
 use Rattle.lines.specs.Words.{stateWords, listed, stateIn, isByte, isState, contents, openLeft, pieceLeft, endFor}
 
 -- ---- which words are a state's
@@ -71,7 +70,7 @@ module _ (w m : List ℕ) where
     unfolding pieceLeft
     feeds-not i = rw i
 
-pub ends : (w : List ℕ) (n : ℕ) {r : Answer} → isState w ≡ true → r ≡ endOf (stateIn w) n → r ≡ endFor w n
+pub ends : (w : List ℕ) (n : ℕ) {r : Told} → isState w ≡ true → r ≡ endOf (stateIn w) n → r ≡ endFor w n
 unfolding endFor
 ends w n i e = rw i e
 

@@ -10,6 +10,7 @@ ghost use mathlib.Core.Path.{_≡_};
 ghost use mathlib.Core.Bool.{true};
 ghost use lib.ListN.{length};
 ghost use Rattle.laws.specs.Lent.{written};
+ghost use Rattle.lines.specs.Starts.{toldOf};
 ghost use Rattle.lines.specs.Words.{stateWords, listed, stateIn, isState, contents, openLeft, pieceLeft, endFor};
 
 // How many words a state has.
@@ -93,7 +94,7 @@ pub fn piece(words: &mut [u32], bytes: &[u8], index: &mut [u32])
 
 // The declared end: the index is built, or why not.
 pub fn end(words: &[u32], index: &[u32]) -> Answer
-    ensures { λ r. ⌜ r ≡ endFor (now (words .entry)) (length (now (index .entry))) ⌝ }
+    ensures { λ r. ⌜ toldOf r ≡ endFor (now (words .entry)) (length (now (index .entry))) ⌝ }
 {
     if is_state(words) {
         return line_pieces::end(state_in(words), index);

@@ -1,5 +1,5 @@
--- The index from pieces, by value and on words: `piece` ensures `fed r index′ ≡ pieceOf state bytes index`, `end` `r ≡ endOf state length`;
--- on words `contents words′ index′ ≡ pieceLeft words bytes index` and `r ≡ endFor words length`.
+-- The index from pieces, by value and on words: `piece` ensures `fed r index′ ≡ pieceOf state bytes index`, `end` `toldOf r ≡ endOf state
+-- length`; on words `contents words′ index′ ≡ pieceLeft words bytes index` and `toldOf r ≡ endFor words length`.
 use Prim.Native.Nat.{ℕ}
 use mathlib.Core.Path.{_≡_, refl, ap, _∙_}
 use mathlib.Core.List.{List, [], _∷_, _++_}
@@ -9,11 +9,10 @@ use Rattle.laws.specs.Quoted.{within}
 use Rattle.chars.specs.Utf8.{first}
 use Rattle.chars.specs.Machine.{step, start}
 use Rattle.chars.specs.Encode.{utf8, bytesOf, spelled}
-use Rattle.lines.specs.Starts.{newline}
+use Rattle.lines.specs.Starts.{newline, Served, Refused}
 use Rattle.lines.specs.Pieces.{Fed, fed, openOf, stepOf, fedOf, pieceOf, endOf, pieces}
 use Rattle.lines.specs.Words.{isState, contents, openLeft, pieceLeft, endFor, calls}
 use Rattle.lines.specs.declared.State.{State}
-use Rattle.lines.specs.declared.Answer.the-variants.{Served, Refused}
 
 abbrev room : List ℕ
 room = 9 ∷ 9 ∷ 9 ∷ 9 ∷ []

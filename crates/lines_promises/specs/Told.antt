@@ -13,13 +13,12 @@ use Rattle.chars.specs.Utf8.{first, rest, front, sequences, firstBad}
 use Rattle.chars.specs.Machine.{step}
 use Rattle.chars.specs.Encode.{utf8, bytesOf, spelled, lay}
 use Rattle.lines.specs.Starts.{newline, startsFrom, Outcome, buildOf}
-use Rattle.lines.specs.Place.{isIndex, lineOf, column, since, placeOf, locateOf}
+use Rattle.lines.specs.Starts as starts
+use Rattle.lines.specs.Place.{Where, isIndex, lineOf, column, since, placeOf, locateOf}
 use Rattle.lines.specs.Many.{answers, locateAllOf}
 use Rattle.lines.specs.Pieces.{stepOf, fedOf, pieceOf, endOf}
 use Rattle.lines.specs.Words.{isState, Contents, contents, openLeft, pieceLeft, endFor}
 use Rattle.lines.specs.Numbers.{answerNumber, answerValue, locatedNumber, locatedFirst, locatedSecond}
-use Rattle.lines.specs.declared.Answer.{Answer}
-use Rattle.lines.specs.declared.Located.{Located}
 use Rattle.lines_promises.specs.Whole.{text, index, room}
 
 -- the result and the values
@@ -31,10 +30,10 @@ abbrev told : ℕ → List ℕ → Told
 told n v = record { number = n; values = v }
 
 -- what is told of an answer, and of a place's, into the values 7 and 7 and one more that no call writes
-abbrev tells : Answer → Told
+abbrev tells : starts.Told → Told
 tells a = told (answerNumber a) (lay (answerValue a ∷ 0 ∷ []) (7 ∷ 7 ∷ 7 ∷ []))
 
-abbrev tellsPlace : Located → Told
+abbrev tellsPlace : Where → Told
 tellsPlace r = told (locatedNumber r) (lay (locatedFirst r ∷ locatedSecond r ∷ []) (7 ∷ 7 ∷ 7 ∷ []))
 
 -- the same with the memory after the call

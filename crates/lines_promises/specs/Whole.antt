@@ -1,5 +1,5 @@
--- Building and asking. `build` ensures `outcome r index′ ≡ buildOf text index`, `locate` `r ≡ locateOf text index place`, and `locate_all`
--- `outcome r found′ ≡ locateAllOf text index places found`.
+-- Building and asking. `build` ensures `outcome (toldOf r) index′ ≡ buildOf text index`, `locate` `whereOf r ≡ locateOf text index place`, and
+-- `locate_all` `outcome (toldOf r) found′ ≡ locateAllOf text index places found`.
 use Prim.Native.Nat.{ℕ}
 use mathlib.Core.Path.{_≡_, refl, ap, _∙_}
 use mathlib.Core.List.{List, [], _∷_, _++_}
@@ -9,12 +9,10 @@ use Rattle.laws.specs.Quoted.{within}
 use Rattle.laws.specs.Texts.{same}
 use Rattle.chars.specs.Utf8.{first, rest, front, sequences, firstBad}
 use Rattle.chars.specs.Encode.{utf8, bytesOf, spelled}
-use Rattle.lines.specs.Starts.{newline, startsFrom, Outcome, outcome, buildOf}
+use Rattle.lines.specs.Starts.{newline, startsFrom, Told, Served, Refused, Outcome, outcome, buildOf}
 use Rattle.lines.specs.Place.{isIndex, lineOf, column, since, placeOf, locateOf}
 use Rattle.lines.specs.Many.{answers, locateAllOf}
-use Rattle.lines.specs.declared.Answer.{Answer}
-use Rattle.lines.specs.declared.Answer.the-variants.{Served, Refused}
-use Rattle.lines.specs.declared.Located.the-variants as located
+use Rattle.lines.specs.Place as located
 
 -- `a`, a newline, λ (two bytes), `b`, a newline
 abbrev pub text : List ℕ
@@ -48,7 +46,7 @@ never-refused n v m h =
     let e : Refused n v ≡ Served 3 = ap (λ (o : Outcome). o .answer) (h ∙ built) in let z : _≡_ {A = ℕ} 0 1 = cc in omega arith
 
 -- nor does one that leaves the index as it was
-never-unwritten : (a : Answer) → outcome a room ≡ buildOf text room → ⊥
+never-unwritten : (a : Told) → outcome a room ≡ buildOf text room → ⊥
 never-unwritten a h = let e : getD room 0 0 ≡ 0 = ap (λ (o : Outcome). getD (o .memory) 0 0) (h ∙ built) in omega (arith, e)
 
 -- place 2 starts the second line

@@ -11,23 +11,32 @@ use pieces::State;
 use piecewise::calls::end;
 use piecewise::calls::piece;
 use piecewise::opening::open;
+ghost use mathlib.Core.Path.{_≡_};
+ghost use Prim.Native.Nat.{_≤_};
+ghost use lib.ListN.{length};
+ghost use Rattle.listing.specs.declared.Heard.the-variants.{Refused};
+ghost use Rattle.listing.specs.Counted.{heed, isOver, PieceListed, EndListed};
 
 const OUT: i32 = 1;
 
 // How many bytes are read at once. A piece may have any length: this one keeps the program small.
 const PIECE: usize = 512;
 
-// A piece is taken in at most this many calls: each takes a byte or gives the second item of a pair that took two.
-const CALLS: usize = 2 * PIECE + 2;
-
 // After the end is declared at most this many calls give an item: the pair that waits, the last extent.
 const LAST_CALLS: usize = 4;
 
-// Where the listing stands: the state, how many items were listed, and whether a refusal or a read that failed ended it.
+// What was heard last: that there may be more, that all was given, or a refusal's number and place.
+enum Heard {
+    Going,
+    Finished,
+    Refused(u32, usize),
+}
+
+// Where the listing stands: the state, how many items were listed, and what was heard last.
 struct Listing {
     state: State,
     items: u64,
-    stopped: bool,
+    heard: Heard,
 }
 
 fn number(n: u64) {
@@ -65,8 +74,16 @@ fn list_refusal(refusal: u32, place: usize) {
     end_line();
 }
 
-// The listing after an answer, whose item or refusal is printed.
-fn heed(items: u64, answer: Answer) -> Listing {
+fn list_count(items: u64) {
+    io::write_all(OUT, b"end ");
+    number(items);
+    end_line();
+}
+
+// The listing after an answer, whose item is printed.
+fn heed(items: u64, answer: Answer) -> Listing
+    ensures { λ r. ⌜ r ≡ heed items answer ⌝ }
+{
     let state = answer.state;
     let got = answer.got;
     match got {
@@ -75,97 +92,100 @@ fn heed(items: u64, answer: Answer) -> Listing {
             Listing {
                 state,
                 items: std::num::wrapping_add_u64(items, 1),
-                stopped: false,
+                heard: Heard::Going,
             }
         }
         Got::More => Listing {
             state,
             items,
-            stopped: false,
+            heard: Heard::Going,
         },
         Got::Finished => Listing {
             state,
             items,
-            stopped: false,
+            heard: Heard::Finished,
         },
-        Got::Refused(refusal, place) => {
-            list_refusal(refusal, place);
-            Listing {
-                state,
-                items,
-                stopped: true,
-            }
-        }
+        Got::Refused(refusal, place) => Listing {
+            state,
+            items,
+            heard: Heard::Refused(refusal, place),
+        },
     }
 }
 
-// Whether an answer asks for no further call.
-fn is_last(got: Got) -> bool {
-    match got {
-        Got::Item(_) => false,
-        Got::More => true,
-        Got::Finished => true,
-        Got::Refused(_, _) => true,
+// Whether a last word was heard.
+fn is_over(heard: Heard) -> bool
+    ensures { λ r. ⌜ r ≡ isOver heard ⌝ }
+{
+    match heard {
+        Heard::Going => false,
+        Heard::Finished => true,
+        Heard::Refused(_, _) => true,
     }
 }
 
-// Hands a piece over until all of it is taken.
-fn list_piece(listing: Listing, bytes: &[u8], text: &mut [u8]) -> Listing {
+// The calls were too few, which no text brings about.
+fn too_few(listing: Listing) -> Listing
+    ensures { λ r. ⌜ r ≡ record { state = listing .state; items = listing .items; heard = Refused 0 0 } ⌝ }
+{
+    let state = listing.state;
+    Listing {
+        state,
+        items: listing.items,
+        heard: Heard::Refused(0, 0),
+    }
+}
+
+// Hands a piece over until all of it is taken: each call takes a byte or gives the second item of a pair that took two.
+fn list_piece(listing: Listing, bytes: &[u8], text: &mut [u8]) -> Listing
+    requires { ⌜ length (now bytes) ≤ 512 ⌝ }
+    ensures { λ r. ⌜ PieceListed (length (now (text .entry))) listing (now (bytes .entry)) r ⌝ }
+{
     let mut now = listing;
     let mut from: usize = 0;
-    let mut calls: usize = CALLS;
+    let mut calls: usize = 2 * bytes.len() + 2;
     while calls > 0 {
         let state = now.state;
-        let items = now.items;
         let answer = piece(state, &bytes[from..], text);
-        let got = answer.got;
         let taken = answer.taken;
-        now = heed(items, answer);
-        if is_last(got) {
+        now = heed(now.items, answer);
+        let heard = now.heard;
+        if is_over(heard) {
             return now;
         }
-        if bytes.len() - from < taken {
+        if bytes.len() - from <= taken {
             return now;
         }
         from = from + taken;
         calls = calls - 1;
     }
-    now
+    too_few(now)
 }
 
 // Declares the end, until all items are given.
-fn list_end(listing: Listing, text: &mut [u8]) -> Listing {
+fn list_end(listing: Listing, text: &mut [u8]) -> Listing
+    ensures { λ r. ⌜ EndListed (length (now (text .entry))) listing r ⌝ }
+{
     let mut now = listing;
     let mut calls: usize = LAST_CALLS;
     while calls > 0 {
         let state = now.state;
-        let items = now.items;
         let answer = end(state, text);
-        let got = answer.got;
-        now = heed(items, answer);
-        if is_last(got) {
+        now = heed(now.items, answer);
+        let heard = now.heard;
+        if is_over(heard) {
             return now;
         }
         calls = calls - 1;
     }
-    now
+    too_few(now)
 }
 
-// The listing after a read, and whether it is the last: the input is at its end, or the listing is stopped.
+// The listing after a read, whether it is the last, and whether the read failed, which is not the end of the input.
 struct Step {
     listing: Listing,
     last: bool,
-}
-
-// The input cannot be read, which is not its end.
-fn unread(listing: Listing) -> Listing {
-    io::write_all(OUT, b"unread\n");
-    let state = listing.state;
-    Listing {
-        state,
-        items: listing.items,
-        stopped: true,
-    }
+    unread: bool,
 }
 
 // Reads a piece and lists it.
@@ -174,40 +194,67 @@ fn list_some(fd: i32, listing: Listing, text: &mut [u8]) -> Step {
     let got = libc::read(fd, &mut bytes);
     if got < 0 {
         return Step {
-            listing: unread(listing),
+            listing,
             last: true,
+            unread: true,
         };
     }
     if got == 0 {
         return Step {
             listing,
             last: true,
+            unread: false,
         };
     }
     let n = io::count(got, &bytes);
     let after = list_piece(listing, &bytes[..n], text);
-    let last = after.stopped;
+    let heard = after.heard;
+    let last = is_over(heard);
     Step {
         listing: after,
         last,
+        unread: false,
     }
 }
 
 // Lists all that is read. A proved loop has to end, and nothing says that an input does: so the loop counts its turns down, from a
 // number that no run uses up.
-fn list_all(fd: i32, listing: Listing, text: &mut [u8]) -> Listing {
+fn list_all(fd: i32, listing: Listing, text: &mut [u8]) -> Step {
     let mut now = listing;
     let mut turns = u64::MAX;
     while turns > 0 {
         let step = list_some(fd, now, text);
-        let after = step.listing;
         if step.last {
-            return after;
+            return step;
         }
+        let after = step.listing;
         now = after;
         turns = turns - 1;
     }
-    now
+    Step {
+        listing: now,
+        last: true,
+        unread: false,
+    }
+}
+
+// The listing to its end, unless a refusal ended it.
+fn list_rest(listing: Listing, text: &mut [u8]) -> Listing {
+    let heard = listing.heard;
+    if is_over(heard) {
+        return listing;
+    }
+    list_end(listing, text)
+}
+
+// The last line.
+fn list_last(listing: Listing) {
+    let heard = listing.heard;
+    match heard {
+        Heard::Going => list_refusal(0, 0),
+        Heard::Finished => list_count(listing.items),
+        Heard::Refused(refusal, place) => list_refusal(refusal, place),
+    }
 }
 
 // Lists the items of what is read from a descriptor, to its end, to a refusal, or to a read that fails.
@@ -220,18 +267,14 @@ pub fn list(fd: i32) {
         Listing {
             state,
             items: 0,
-            stopped: false,
+            heard: Heard::Going,
         },
         &mut text,
     );
-    if listed.stopped {
+    if listed.unread {
+        io::write_all(OUT, b"unread\n");
         return;
     }
-    let ended = list_end(listed, &mut text);
-    if ended.stopped {
-        return;
-    }
-    io::write_all(OUT, b"end ");
-    number(ended.items);
-    end_line();
+    let all = listed.listing;
+    list_last(list_rest(all, &mut text));
 }

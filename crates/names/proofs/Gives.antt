@@ -12,7 +12,7 @@ use Rattle.refusal.specs.Refusals.{outOfBounds, noParty, noRoom}
 use Rattle.names.specs.Layout.{count, used, slot, bears, inBounds, halfNames, halfBytes, firstBound, indexSlots, halfWords, tableNames}
 use Rattle.names.specs.Call.{slotOf, tagOf, proposes, probe, probeOf, scan, scanned, lookupOf, orElse, findOf, laid, newWords}
 use Rattle.names.specs.Call.{numbered, freeOf, Outcome, outcome, newOf, enterOf, looks}
-use Rattle.names.specs.declared.Entered.the-variants.{Number, Refused}
+use Rattle.names.specs.Answers.{Number, Refused}
 use Rattle.names.specs.declared.Proposal.{Proposal}
 use Rattle.names.specs.declared.Proposal.the-variants.{Entry, Free, Full}
 use Rattle.names.specs.declared.Found.{Found}

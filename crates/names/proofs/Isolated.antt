@@ -17,8 +17,7 @@ use Rattle.names.specs.Layout.{halfNames, halfBytes, tableNames}
 use Rattle.names.specs.Call.{openMark, openWords, enterOf, markOf, nameOf}
 use Rattle.names.specs.Book.{Name, Book, book, half, place, size, numberIn, added, Reply, reply, ask, markIn, nameIn, Call, namesOf, bookOf}
 use Rattle.names.specs.Isolation.{present, seen, room, newAnswer, toldOr, answerOf, ownAfter, answersTo, answersIn, callsOf, strangers}
-use Rattle.names.specs.declared.Entered.{Entered}
-use Rattle.names.specs.declared.Entered.the-variants.{Number, Refused}
+use Rattle.names.specs.Answers.{Told, Number, Refused}
 use Rattle.names.specs.declared.Found.{Found}
 use Rattle.names.specs.declared.Found.the-variants.{At, Nothing}
 use Rattle.names.proofs.Parts.{same-refl}
@@ -79,7 +78,7 @@ half-other b (suc zero) n two = refl
 half-other b (suc (suc p)) n two = absurd (omega arith)
 
 -- what a call gives, by the own names and by what is seen of the other's
-pub record View (own other : List Name) (p : ℕ) (n : Name) (answer : Entered) (own-then other-then : List Name) : Type 0 where
+pub record View (own other : List Name) (p : ℕ) (n : Name) (answer : Told) (own-then other-then : List Name) : Type 0 where
   pub answers : answer ≡ answerOf p own (seen (1 - p) other n) n
   pub keeps : own-then ≡ ownAfter own (present other n) n
   pub leaves : other-then ≡ other
@@ -101,7 +100,7 @@ module _ (b : Book) (p : ℕ) (n : Name) (two : p < 2) where
       }
 
   module _ (t : present (half b p) n ≡ false) (u : present (half b (1 - p)) n ≡ false) where
-    new-answer : {a : Entered} → a ≡ newAnswer p (half b p) n → a ≡ answerOf p (half b p) (seen (1 - p) (half b (1 - p)) n) n
+    new-answer : {a : Told} → a ≡ newAnswer p (half b p) n → a ≡ answerOf p (half b p) (seen (1 - p) (half b (1 - p)) n) n
     new-answer e = if-no _ _ _ t (e ∙ ap (λ (f : Found). toldOr f (newAnswer p (half b p) n)) (if-no _ _ _ u refl))
 
     view-new : room (half b p) n ≡ true → view b p n (reply (Number (p * halfNames + length (half b p))) (added b p n))

@@ -13,7 +13,7 @@ use Rattle.laws.proofs.Compared.{same-is}
 use Rattle.refusal.specs.Refusals.{noParty, noRoom}
 use Rattle.names.specs.Book.{Name, Book, half, place, size, numberIn, added, Reply, reply, newIn, ask, markIn, nameIn, Call, asks}
 use Rattle.names.specs.Layout.{halfNames, halfBytes, tableNames}
-use Rattle.names.specs.declared.Entered.the-variants.{Number, Refused}
+use Rattle.names.specs.Answers.{Number, Refused}
 use Rattle.names.specs.declared.Found.the-variants.{At, Nothing}
 use Rattle.names.proofs.Gives.{by-found}
 use Rattle.names.proofs.Parts.{same-refl}

@@ -15,8 +15,7 @@ use Rattle.names.specs.Layout.{count, bound, used, nameAt, inBounds, hal
 use Rattle.names.specs.Call.{findOf, probeOf, slotOf, tagOf, freeOf, newWords, laid, Outcome, outcome, newOf, enterOf, openMark}
 use Rattle.names.specs.Call.{openWords, markOf, nameOf, looks, Opening}
 use Rattle.names.specs.Book.{Name, Book, book, half, place, size, numberIn, Reply, ask, markIn, nameIn, Call, asks, firstNames, namesOf, bookOf, Memory, memory, calls}
-use Rattle.names.specs.declared.Entered.{Entered}
-use Rattle.names.specs.declared.Entered.the-variants.{Number, Refused}
+use Rattle.names.specs.Answers.{Told, Number, Refused}
 use Rattle.names.specs.declared.Found.the-variants.{At}
 use Rattle.names.proofs.Laws.{slot-small, Bounds, bounds, cleared, length-cleared, party-of, open-few, open-short, open-all}
 use Rattle.names.proofs.Laws.{name-none, name-there, mark-outside, mark-far, mark-none, mark-there}
@@ -189,7 +188,7 @@ pub record Kept (w b : List ℕ) (p : ℕ) (o : Outcome) : Type 0 where
   pub bytes : (i : ℕ) → (i < p * halfBytes) ⊎ (p * halfBytes + halfBytes ≤ i) → getD (o .bytes) i 0 ≡ getD b i 0
   pub refused : (k : ℕ) → o .answer ≡ Refused k → (o .words ≡ w) × (o .bytes ≡ b)
 
-kept-all : (w b : List ℕ) (p : ℕ) (a : Entered) → Kept w b p (outcome a w b)
+kept-all : (w b : List ℕ) (p : ℕ) (a : Told) → Kept w b p (outcome a w b)
 kept-all w b p a = record { words = λ i h. refl; bytes = λ i h. refl; refused = λ k e. (refl, refl) }
 
 module _ (w b : List ℕ) (p : ℕ) (name : Name) (r : Bounds w b) (two : p < 2) where

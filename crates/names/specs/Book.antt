@@ -8,8 +8,7 @@ use Rattle.laws.specs.Texts.{same}
 use Rattle.refusal.specs.Refusals.{noParty, noRoom, noName}
 use Rattle.names.specs.Layout.{halfNames, halfBytes, tableNames, count, nameAt}
 use Rattle.names.specs.Call.{enterOf}
-use Rattle.names.specs.declared.Entered.{Entered}
-use Rattle.names.specs.declared.Entered.the-variants.{Number, Refused}
+use Rattle.names.specs.Answers.{Told, Number, Refused}
 use Rattle.names.specs.declared.Found.{Found}
 use Rattle.names.specs.declared.Found.the-variants.{At, Nothing}
 
@@ -49,10 +48,10 @@ added b zero n = book (b .planner ++ (n ∷ [])) (b .contractor)
 added b (suc p) n = book (b .planner) (b .contractor ++ (n ∷ []))
 
 pub record Reply : Type 0 where
-  pub answer : Entered
+  pub answer : Told
   pub after : Book
 
-abbrev pub reply : Entered → Book → Reply
+abbrev pub reply : Told → Book → Reply
 reply a b = record { answer = a; after = b }
 
 -- a new name gets the count of names in its half, plus 512 for party 1; 36: the own half lacks the entry or the bytes

@@ -10,8 +10,7 @@ use Rattle.refusal.specs.Refusals.{outOfBounds, noParty, noRoom, noName}
 use Rattle.names.specs.Layout.{halfNames, halfBytes, firstBound, firstSlot, indexSlots, halfWords, tableNames, tableBytes, tableWords}
 use Rattle.names.specs.Layout.{count, used, slot, nowhere, cut, placeAt, bears, inBounds}
 use Rattle.names.specs.declared.Place.{Place}
-use Rattle.names.specs.declared.Entered.{Entered}
-use Rattle.names.specs.declared.Entered.the-variants.{Number, Refused}
+use Rattle.names.specs.Answers.{Told, Number, Refused}
 use Rattle.names.specs.declared.Proposal.{Proposal}
 use Rattle.names.specs.declared.Proposal.the-variants.{Entry, Free, Full}
 use Rattle.names.specs.declared.Found.{Found}
@@ -111,11 +110,11 @@ findOf w b p name = orElse (lookupOf w b p name) (lookupOf w b (1 - p) name)
 
 -- what a call gives: its answer, and the final contents of the lent memory
 pub record Outcome : Type 0 where
-  pub answer : Entered
+  pub answer : Told
   pub words : List ℕ
   pub bytes : List ℕ
 
-abbrev pub outcome : Entered → List ℕ → List ℕ → Outcome
+abbrev pub outcome : Told → List ℕ → List ℕ → Outcome
 outcome a w b = record { answer = a; words = w; bytes = b }
 
 -- the slot at which the index is extended, or the one that is never asked

@@ -9,15 +9,14 @@ use Rattle.laws.specs.Texts.{same}
 use Rattle.refusal.specs.Refusals.{noParty, noRoom}
 use Rattle.names.specs.Layout.{halfBytes}
 use Rattle.names.specs.Book.{Name, Book, book, place, size, numberIn, newIn, ask}
-use Rattle.names.specs.declared.Entered.{Entered}
-use Rattle.names.specs.declared.Entered.the-variants.{Number, Refused}
+use Rattle.names.specs.Answers.{Told, Number, Refused}
 
 pub record Row : Type 0 where
   pub party : ℕ
   pub name : Name
-  pub answer : Entered
+  pub answer : Told
 
-abbrev row : ℕ → String → Entered → Row
+abbrev row : ℕ → String → Told → Row
 row p n a = record { party = p; name = codes n; answer = a }
 
 unfoldable pub rows : List Row
@@ -35,11 +34,11 @@ rows =
     ∷ row 1 "Quercus" (Number 1)
     ∷ []
 
-unfoldable pub given : Book → List Row → List Entered
+unfoldable pub given : Book → List Row → List Told
 given b [] = []
 given b (r ∷ rs) = let a = ask b (r .party) (r .name) in a .answer ∷ given (a .after) rs
 
-unfoldable pub wanted : List Row → List Entered
+unfoldable pub wanted : List Row → List Told
 wanted [] = []
 wanted (r ∷ rs) = r .answer ∷ wanted rs
 

@@ -9,8 +9,7 @@ use Rattle.refusal.specs.Refusals.{noRoom}
 use Rattle.names.specs.Layout.{halfNames, halfBytes}
 use Rattle.names.specs.Call.{enterOf}
 use Rattle.names.specs.Book.{Name, Book, half, place, size, ask, Call}
-use Rattle.names.specs.declared.Entered.{Entered}
-use Rattle.names.specs.declared.Entered.the-variants.{Number, Refused}
+use Rattle.names.specs.Answers.{Told, Number, Refused}
 use Rattle.names.specs.declared.Found.{Found}
 use Rattle.names.specs.declared.Found.the-variants.{At, Nothing}
 
@@ -27,16 +26,16 @@ abbrev pub room : List Name → Name → Bool
 room own n = if ltb (length own) halfNames then leb (size own + length n) halfBytes else false
 
 -- the answer to a name that is new to both: the own names alone decide it
-abbrev pub newAnswer : ℕ → List Name → Name → Entered
+abbrev pub newAnswer : ℕ → List Name → Name → Told
 newAnswer p own n = if room own n then Number (p * halfNames + length own) else Refused noRoom
 
-abbrev pub toldOr : Found → Entered → Entered
+abbrev pub toldOr : Found → Told → Told
 toldOr (At k) a = Number k
 toldOr Nothing a = a
 
 -- the answer to party p: by its own names alone where the name is one of them; else the number that the name has among the other's names;
 -- else by the own names alone again
-abbrev pub answerOf : ℕ → List Name → Found → Name → Entered
+abbrev pub answerOf : ℕ → List Name → Found → Name → Told
 answerOf p own other n = if present own n then Number (p * halfNames + place n own) else toldOr other (newAnswer p own n)
 
 -- the own names after the call: of the other's names it matters only whether the name is one of them
@@ -44,7 +43,7 @@ abbrev pub ownAfter : List Name → Bool → Name → List Name
 ownAfter own other n = if present own n then own else if other then own else if room own n then own ++ (n ∷ []) else own
 
 -- the answers that party p gets among calls one after the other
-unfoldable pub answersTo : ℕ → Book → List Call → List Entered
+unfoldable pub answersTo : ℕ → Book → List Call → List Told
 answersTo p b [] = []
 answersTo p b (c ∷ cs) =
     let more = answersTo p (ask b (c .party) (c .name) .after) cs in
@@ -52,7 +51,7 @@ answersTo p b (c ∷ cs) =
     if eqb (c .party) p then answer ∷ more else more
 
 -- the same in lent memory
-unfoldable pub answersIn : ℕ → List ℕ → List ℕ → List Call → List Entered
+unfoldable pub answersIn : ℕ → List ℕ → List ℕ → List Call → List Told
 answersIn p w b [] = []
 answersIn p w b (c ∷ cs) =
     let o = enterOf w b (c .party) (c .name) in

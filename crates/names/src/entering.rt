@@ -22,6 +22,7 @@ ghost use Prim.Native.Nat.{_+_, _≤_, _<_};
 ghost use lib.ListN.{length, replicate};
 ghost use Rattle.laws.specs.Lent.{written};
 ghost use Rattle.names.specs.Layout.{halfNames, halfBytes, indexSlots, tableWords, tableBytes, count, used};
+ghost use Rattle.names.specs.Answers.{toldOf};
 ghost use Rattle.names.specs.Call.{hashesASlot, tagOf, probeOf, freeOf, newWords, laid, outcome, newOf, enterOf, opening, openOf};
 
 // How many parties there are.
@@ -73,7 +74,7 @@ fn add(
     requires { ⌜ party < 2 ⌝ }
     requires { ⌜ count (now words) party ≤ halfNames ⌝ }
     requires { ⌜ used (now words) party ≤ halfBytes ⌝ }
-    ensures { λ r. ⌜ outcome r (now (words .exit)) (now (bytes .exit)) ≡ newOf (now (words .entry)) (now (bytes .entry)) party (now (name .entry)) ⌝ }
+    ensures { λ r. ⌜ outcome (toldOf r) (now (words .exit)) (now (bytes .exit)) ≡ newOf (now (words .entry)) (now (bytes .entry)) party (now (name .entry)) ⌝ }
 {
     let n = word(words, party * HALF_WORDS);
     if HALF_NAMES <= n {
@@ -90,7 +91,7 @@ fn add(
 
 // A party asks for a name's number; a name that is in neither half is entered in the party's own.
 pub fn enter(words: &mut [u32], bytes: &mut [u8], party: u32, name: &[u8]) -> Entered
-    ensures { λ r. ⌜ outcome r (now (words .exit)) (now (bytes .exit)) ≡ enterOf (now (words .entry)) (now (bytes .entry)) party (now (name .entry)) ⌝ }
+    ensures { λ r. ⌜ outcome (toldOf r) (now (words .exit)) (now (bytes .exit)) ≡ enterOf (now (words .entry)) (now (bytes .entry)) party (now (name .entry)) ⌝ }
 {
     if !in_bounds(words, bytes) {
         return Entered::Refused(OUT_OF_BOUNDS);

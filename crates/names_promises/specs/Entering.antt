@@ -1,5 +1,5 @@
--- The call that asks for a number: `names::enter` ensures `outcome r words′ bytes′ ≡ enterOf words bytes party name`; in a table that the
--- calls made it means `ask`.
+-- The call that asks for a number: `names::enter` ensures `outcome (toldOf r) words′ bytes′ ≡ enterOf words bytes party name`; in a table that
+-- the calls made it means `ask`.
 use Prim.Native.Nat.{ℕ, _+_, _-_}
 use native.Mathlib.Omega.{arith}
 use mathlib.Core.Path.{_≡_, refl, sym, ap, _∙_}
@@ -11,11 +11,24 @@ use Rattle.refusal.specs.Refusals.{outOfBounds, noParty, noRoom}
 use Rattle.names.specs.Layout.{halfNames, halfBytes, firstSlot, tableWords, tableBytes, placeAt, nameAt, bears, halfBounds, inBounds}
 use Rattle.names.specs.Call.{rest, mix, slotOf, tagOf, slotWord, proposes, probe, scan, lookupOf, findOf, newWords, laid, newOf, Outcome, outcome, enterOf}
 use Rattle.names.specs.Book.{book, place, size, numberIn, newIn, reply, ask}
+use Rattle.names.specs.Answers.{Told, Number, Refused, toldOf}
 use Rattle.names.specs.declared.Entered.{Entered}
-use Rattle.names.specs.declared.Entered.the-variants.{Number, Refused}
+use Rattle.names.specs.declared.Entered.the-variants as entered
 
-one-answer : (w b : List ℕ) (p : ℕ) (n : List ℕ) (x y : Outcome) → x ≡ enterOf w b p n → y ≡ enterOf w b p n → x ≡ y
-one-answer w b p n x y e f = e ∙ sym f
+-- two answers that mean the same are the same
+entered-once : (x y : Entered) → toldOf x ≡ toldOf y → x ≡ y
+entered-once (entered.Number j) (entered.Number k) e = cc
+entered-once (entered.Refused j) (entered.Refused k) e = cc
+entered-once (entered.Number j) (entered.Refused k) e = let z : _≡_ {A = ℕ} 0 1 = cc in absurd (omega arith)
+entered-once (entered.Refused j) (entered.Number k) e = let z : _≡_ {A = ℕ} 0 1 = cc in absurd (omega arith)
+
+-- so two permitted answers coincide, with the memory after them
+one-answer : (w b : List ℕ) (p : ℕ) (n : List ℕ) (x y : Entered) (v c v′ c′ : List ℕ) → outcome (toldOf x) v c ≡ enterOf w b p n
+    → outcome (toldOf y) v′ c′ ≡ enterOf w b p n
+    → (x ≡ y) × ((v ≡ v′) × (c ≡ c′))
+one-answer w b p n x y v c v′ c′ e f =
+    let g : outcome (toldOf x) v c ≡ outcome (toldOf y) v′ c′ = e ∙ sym f in
+    (entered-once x y (ap (λ (o : Outcome). o .answer) g), (ap (λ (o : Outcome). o .words) g, ap (λ (o : Outcome). o .bytes) g))
 
 -- ---- in lent memory
 
@@ -51,7 +64,7 @@ never-refused k w b h =
     let e : Refused k ≡ Number 0 = ap (λ (o : Outcome). o .answer) h ∙ first-name in let z : _≡_ {A = ℕ} 0 1 = cc in omega arith
 
 -- nor does one that leaves the words as they were
-never-unwritten : (a : Entered) (b : List ℕ) → outcome a words b ≡ enterOf words bytes 0 (codes "a") → ⊥
+never-unwritten : (a : Told) (b : List ℕ) → outcome a words b ≡ enterOf words bytes 0 (codes "a") → ⊥
 unfolding mix rest
 never-unwritten a b h =
     let e : getD words (firstSlot + slotOf (codes "a")) 0 ≡ slotWord (tagOf (codes "a")) 0 =

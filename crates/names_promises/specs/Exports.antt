@@ -14,8 +14,7 @@ use Rattle.names.specs.Layout.{halfNames, tableWords, tableBytes, placed, nowhe
 use Rattle.names.specs.Call.{rest, mix, proposes, probe, scan, lookupOf, findOf, newWords, laid, newOf, enterOf}
 use Rattle.names.specs.Call.{Opening, opening, openOf, markOf, placeOf}
 use Rattle.names.specs.declared.Place.{Place}
-use Rattle.names.specs.declared.Entered.{Entered}
-use Rattle.names.specs.declared.Entered.the-variants.{Number, Refused}
+use Rattle.names.specs.Answers.{Told, Number, Refused}
 use Rattle.names_exports.specs.Marks.{Marked, entered, marked, enteredOf}
 use Rattle.names_promises.specs.Opening.{cleared, too-little}
 use Rattle.names_promises.specs.Entering.{words, bytes}
@@ -56,7 +55,7 @@ never-marked : (n : ℕ) (w b : List ℕ) → entered 0 n w b ≡ enteredOf (ent
 never-marked n w b h = let e : _≡_ {A = ℕ} 0 27 = ap (λ (m : Marked). m .mark) (h ∙ refusal-told) in omega (arith, e)
 
 -- a mark other than 0 comes with the number 0
-refused-zero : (a : Entered) (w b : List ℕ) (mark number : ℕ) (w′ b′ : List ℕ)
+refused-zero : (a : Told) (w b : List ℕ) (mark number : ℕ) (w′ b′ : List ℕ)
     → entered mark number w′ b′ ≡ marked a w b → 0 < mark → number ≡ 0
 refused-zero (Number n) w b mark number w′ b′ e l = let z : mark ≡ 0 = ap (λ (m : Marked). m .mark) e in omega (arith, z, l)
 refused-zero (Refused k) w b mark number w′ b′ e l = ap (λ (m : Marked). m .number) e

@@ -4,8 +4,7 @@ use refusal::SERVED;
 ghost use mathlib.Core.Path.{_≡_};
 ghost use mathlib.Core.List.{[], _∷_};
 ghost use Rattle.chars.specs.Encode.{lay};
-ghost use Rattle.nested.specs.Lent.{nestedOf};
-ghost use Rattle.nested_exports.specs.Nest.{nestNumber, nestValue};
+ghost use Rattle.nested.specs.Lent.{nestNumber, nestValue, nestedOf};
 
 // How many values are written.
 const VALUES: usize = 1;
@@ -47,8 +46,8 @@ fn put_value(values: &mut [u64], value: u64)
 // `values` gets how many there are, or the record of the refusal; where there is no room for it, it is left as it was.
 #[no_mangle]
 pub extern "C" fn mihadrena_nest(records: &[u32], nodes: &mut [u32], values: &mut [u64]) -> u32
-    ensures { λ r. ⌜ r ≡ nestNumber (nestedOf (now (records .entry)) (now (nodes .entry)) .answer) ⌝ }
-    ensures { λ _. ⌜ now (values .exit) ≡ lay (nestValue (nestedOf (now (records .entry)) (now (nodes .entry)) .answer) ∷ []) (now (values .entry)) ⌝ }
+    ensures { λ r. ⌜ r ≡ nestedOf (now (records .entry)) (now (nodes .entry)) .number ⌝ }
+    ensures { λ _. ⌜ now (values .exit) ≡ lay (nestedOf (now (records .entry)) (now (nodes .entry)) .value ∷ []) (now (values .entry)) ⌝ }
     ensures { λ _. ⌜ now (nodes .exit) ≡ nestedOf (now (records .entry)) (now (nodes .entry)) .memory ⌝ }
 {
     let w = answer(nested::build(records, nodes));

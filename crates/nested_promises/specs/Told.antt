@@ -1,5 +1,5 @@
--- What C gets. `mihadrena_nest` ensures `r ≡ nestNumber (nestedOf records nodes .answer)`,
--- `values′ ≡ lay (nestValue (nestedOf records nodes .answer) ∷ []) values` and `nodes′ ≡ nestedOf records nodes .memory`.
+-- What C gets. `mihadrena_nest` ensures `r ≡ nestedOf records nodes .number`, `values′ ≡ lay (nestedOf records nodes .value ∷ []) values` and
+-- `nodes′ ≡ nestedOf records nodes .memory`.
 use Prim.Native.Nat.{ℕ}
 use mathlib.Core.Path.{_≡_, refl}
 use mathlib.Core.List.{List, [], _∷_}
@@ -9,7 +9,6 @@ use Rattle.chars.specs.Encode.{isScalar, lay}
 use Rattle.nested.specs.Items.{symbol, plainList, hasDetail, sortOf, classOf, itemsFrom}
 use Rattle.nested.specs.Reader.{readOn, giveIn}
 use Rattle.nested.specs.Lent.{wordsOf, nestedOf}
-use Rattle.nested_exports.specs.Nest.{nestNumber, nestValue}
 use Rattle.nested_promises.specs.Rows.{wordsIn, opens, a, closes, closeSquare}
 
 -- all that a call leaves: its result and the two memories lent
@@ -23,7 +22,7 @@ sees n v m = record { number = n; values = v; nodes = m }
 
 abbrev pub seen : List ℕ → List ℕ → List ℕ → Seen
 seen records nodes values =
-    let o = nestedOf records nodes in sees (nestNumber (o .answer)) (lay (nestValue (o .answer) ∷ []) values) (o .memory)
+    let o = nestedOf records nodes in sees (o .number) (lay (o .value ∷ []) values) (o .memory)
 
 -- (a) into six words: 0, how many nodes there are, and the value behind it stays
 pub count-told : seen (wordsIn (opens ∷ a ∷ closes ∷ [])) (replicate 6 7) (9 ∷ 9 ∷ [])

@@ -43,7 +43,7 @@ fn each(job: Job, file: &[u8]) {
 }
 
 // Does it with the cases of a file.
-pub fn cases(job: Job, name: &[u8]) {
+pub(crate) fn cases(job: Job, name: &[u8]) {
     let mut file = [0u8; ROOM];
     let count = load(name, &mut file);
     each(job, part(&file, 0, count));

@@ -46,7 +46,7 @@ fn each_cut(text: &[u8]) {
 }
 
 // The text of a line, cut at each such place.
-pub fn cut_case(line: &[u8]) {
+pub(crate) fn cut_case(line: &[u8]) {
     let mut source = [0u8; REST];
     show::print(field(line, 0));
     show::end_line();
@@ -57,12 +57,12 @@ pub fn cut_case(line: &[u8]) {
 
 // Beyond a string, as a word, in a string, in a comment, as a character; in a first line; blanks (U+0085, U+3000); in vertical lines, in a
 // delimiter, in a nested comment, after a backslash.
-pub fn characters() {
+pub(crate) fn characters() {
     cases(Job::Cut, b"cut_inside");
 }
 
 // The text of a line, under a cutting.
-pub fn read_case(cutting: Cutting, line: &[u8]) {
+pub(crate) fn read_case(cutting: Cutting, line: &[u8]) {
     show::print(field(line, 0));
     show::end_line();
     show::reading(field(line, 1), cutting, false);
@@ -70,11 +70,11 @@ pub fn read_case(cutting: Cutting, line: &[u8]) {
 
 // Bytes after a bracket and a word that has not ended: the bracket is given, and the stop comes at the byte that shows it, a byte after
 // which no valid text can follow.
-pub fn not_utf8(cutting: Cutting) {
+pub(crate) fn not_utf8(cutting: Cutting) {
     cases(Job::Read(cutting), b"not_utf8");
 }
 
 // The same with a character that the end cuts, at each place.
-pub fn cut_by_end(cutting: Cutting) {
+pub(crate) fn cut_by_end(cutting: Cutting) {
     cases(Job::Read(cutting), b"cut_by_end");
 }

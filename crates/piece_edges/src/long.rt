@@ -61,7 +61,7 @@ fn item(run: Run, head: &[u8], byte: u8, close: &[u8], beyond: &[u8]) {
 }
 
 // The item of a line.
-pub fn case(run: Run, line: &[u8]) {
+pub(crate) fn case(run: Run, line: &[u8]) {
     show::print(field(line, 0));
     show::end_line();
     item(
@@ -98,7 +98,7 @@ fn sorts(cutting: Cutting, size: usize) {
 }
 
 // Every sort of item at the longest, and a byte longer.
-pub fn edge(cutting: Cutting) {
+pub(crate) fn edge(cutting: Cutting) {
     show::print(b"-- 4096 bytes\n");
     sorts(cutting, LONGEST);
     show::print(b"-- 4097 bytes\n");
@@ -106,7 +106,7 @@ pub fn edge(cutting: Cutting) {
 }
 
 // A character of two, three and four bytes whose last byte makes the item too long, the first byte not yet.
-pub fn wide_ends(cutting: Cutting) {
+pub(crate) fn wide_ends(cutting: Cutting) {
     let run = Run {
         cutting,
         size: LONGEST - 1,
@@ -117,7 +117,7 @@ pub fn wide_ends(cutting: Cutting) {
 }
 
 // What is no item may be longer: blanks, and a first line that starts with #!.
-pub fn no_items(cutting: Cutting) {
+pub(crate) fn no_items(cutting: Cutting) {
     cases(sized(cutting, LONG, false), b"blanks");
     let mut source = [0u8; ROOM];
     let headed = put(&mut source, 0, b"#!");

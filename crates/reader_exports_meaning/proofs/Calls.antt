@@ -74,10 +74,10 @@ module _ (s : List ℕ) (short : length s ≤ limit) where
       ∙ fits-is p (omega (arith, h .within .0, h .within .1)) (omega (arith, h .within .1)) (h .depth)
 
   module _ (p : Position) (m : Memory) (h : HoldsPosition p (m .words)) where
-    abbrev room : Bool
+    abbrev pub room : Bool
     room = isRoom (length (m .item)) (length (m .values))
 
-    call-at : room ≡ true → nextLeft s m ≡ given m (nextOf s p (m .text))
+    pub call-at : room ≡ true → nextLeft s m ≡ given m (nextOf s p (m .text))
     unfolding nextLeft
     call-at b =
         sym (if-yes room _ _ b
@@ -93,36 +93,36 @@ module _ (s : List ℕ) (short : length s ≤ limit) where
     reply-ends e = rw (le-ltb limit (length s) short) (ap (λ (t : Turn). giveOf (p .depth) t (m .text)) e)
 
     module _ (i : Item) (q : Spot) (e : nextAt s (p .spot) ≡ gives i q) where
-      abbrev to : Position
+      abbrev pub to : Position
       to = positionAt q (depthAfter (i .kind) (p .depth))
 
-      abbrev then : Memory
+      abbrev pub then : Memory
       then =
           memory (written (listed to) (m .words)) (written (memoryOf (i .text)) (m .text)) (written (recordOf 0 (p .depth) i) (m .item))
           (told 0 0 (m .values))
 
-      abbrev enough : Bool
+      abbrev pub enough : Bool
       enough = leb (length (memoryOf (i .text))) (length (m .text))
 
       reply-gives : enough ≡ true → nextOf s p (m .text) ≡ replied (item (recordOf 0 (p .depth) i) to) (written (memoryOf (i .text)) (m .text))
       unfolding nextOf giveOf
       reply-gives b = rw (le-ltb limit (length s) short) (ap (λ (t : Turn). giveOf (p .depth) t (m .text)) e ∙ rw b)
 
-      reply-stays : enough ≡ false → nextOf s p (m .text) ≡ replied (refuses refusal.tooFew 1 (length (memoryOf (i .text)))) (m .text)
+      pub reply-stays : enough ≡ false → nextOf s p (m .text) ≡ replied (refuses refusal.tooFew 1 (length (memoryOf (i .text)))) (m .text)
       unfolding nextOf giveOf
       reply-stays b = rw (le-ltb limit (length s) short) (ap (λ (t : Turn). giveOf (p .depth) t (m .text)) e ∙ rw b)
 
-      call-gives : room ≡ true → enough ≡ true → nextLeft s m ≡ left refusal.item then
+      pub call-gives : room ≡ true → enough ≡ true → nextLeft s m ≡ left refusal.item then
       call-gives b f = call-at b ∙ ap (given m) (reply-gives f)
 
-      held-then : HoldsPosition to (written (listed to) (m .words))
+      pub held-then : HoldsPosition to (written (listed to) (m .words))
       held-then = record {
         words = ap (written (listed to)) (h .words);
         within = next-within s (p .spot) q i (h .within) e;
         depth = depth-fits (i .kind) (p .depth) (h .depth);
       }
 
-    call-ends : room ≡ true → nextAt s (p .spot) ≡ ends → nextLeft s m ≡ left refusal.finished (memory (m .words) (m .text) (m .item) (told 0 0 (m .values)))
+    pub call-ends : room ≡ true → nextAt s (p .spot) ≡ ends → nextLeft s m ≡ left refusal.finished (memory (m .words) (m .text) (m .item) (told 0 0 (m .values)))
     call-ends b e = call-at b ∙ ap (given m) (reply-ends e)
 
     same : {w : List ℕ} → w ≡ m .words → (q : Position) × HoldsPosition q w

@@ -148,7 +148,13 @@ fn ended(f: Frame, r: Reading) -> bool {
 }
 
 // Whether the piece calls give under a cutting what a frame tells.
-pub fn frame(f: Frame, source: &[u8], words: &[u8], memory: &[u8], cutting: Cutting) -> bool {
+pub(crate) fn frame(
+    f: Frame,
+    source: &[u8],
+    words: &[u8],
+    memory: &[u8],
+    cutting: Cutting,
+) -> bool {
     let mut told = [0u32; ROOM];
     let mut records = [0u32; ROOM];
     let mut counts = [0usize; ROOM];

@@ -57,7 +57,7 @@ fn four(a: u8, b: u8, c: u8, d: u8) -> u32 {
 }
 
 // A head, of its bytes.
-pub fn head(b: &[u8; HEAD]) -> Frame {
+pub(crate) fn head(b: &[u8; HEAD]) -> Frame {
     Frame {
         whole: b[2] != PIECES_ALONE,
         pieces: b[2] != WHOLE_ALONE,
@@ -75,7 +75,7 @@ pub fn head(b: &[u8; HEAD]) -> Frame {
 }
 
 // Reads so many bytes to the front of a slice; whether they were there and fit.
-pub fn fill(fd: i32, to: &mut [u8], n: usize) -> bool {
+pub(crate) fn fill(fd: i32, to: &mut [u8], n: usize) -> bool {
     if n == 0 {
         return true;
     }
@@ -114,7 +114,7 @@ fn past_word(told: &[u8], at: usize) -> usize {
 }
 
 // Whether the words spelled are those of the records, all of them.
-pub fn same_words(told: &[u8], records: &[u32]) -> bool {
+pub(crate) fn same_words(told: &[u8], records: &[u32]) -> bool {
     let mut at: usize = 0;
     let mut n: usize = 0;
     while n < records.len() {
@@ -128,7 +128,7 @@ pub fn same_words(told: &[u8], records: &[u32]) -> bool {
 }
 
 // Writes the words spelled, as far as there is room; how many there are.
-pub fn spell_out(told: &[u8], words: &mut [u32]) -> usize {
+pub(crate) fn spell_out(told: &[u8], words: &mut [u32]) -> usize {
     let mut at: usize = 0;
     let mut n: usize = 0;
     while n < words.len() {

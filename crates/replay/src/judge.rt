@@ -110,7 +110,7 @@ fn judged(
 }
 
 // What comes of a frame. The slices are longer than what it has of each.
-pub fn frame(
+pub(crate) fn frame(
     f: Frame,
     source: &[u8],
     words: &[u8],

@@ -1,25 +1,35 @@
--- Each place that is read or written lies in its slice.
+-- The invariant: what was copied so far is the front of the bytes. It ends where they do, or where there is no more room.
 use borrow.Author.Needs.{needs}
-use Prim.Native.Nat.{_≤_, _-_}
-use mathlib.Core.Path.{_≡_}
-use lib.ListN.{length}
+use Prim.Native.Nat.{ℕ, _≤_, _-_}
+use mathlib.Core.Path.{_≡_, refl, sym, ap, _∙_}
+use mathlib.Core.List.{List}
+use denote.Ref.{now}
+use lib.ListN.{length, take, length-set}
+use lib.Seq.{take-all}
+use native.Mathlib.Omega.{arith}
+use Rattle.escapes.proofs.Laying.{copied-next, copied-end}
+use Rattle.laws.specs.Lent.{written}
 use Rattle.cuttings.proofs.copy.Statement.{statement}
 use Rattle.cuttings.proofs.copy.Tie as tie
 
 abbrev Inv-loop : tie.InvT-loop
-Inv-loop from to₀ i₀ to i = (i ≤ length from) × (length to ≡ length to₀)
+Inv-loop from to₀ i₀ to i = (i ≤ length from) × (i ≤ length to₀) × (length to ≡ length to₀) × (to ≡ written (take i from) to₀)
 
 abbrev μ-loop : tie.MeasureT-loop
 μ-loop from to₀ i₀ to i = length from - i
 
 loop-holds : tie.Need-loop-holds Inv-loop μ-loop
-loop-holds c = search needs
+loop-holds c = (omega arith, omega arith, refl, refl)
 
 same-length : tie.Need-same-length Inv-loop μ-loop
 same-length c = search needs
 
 returns : tie.Need-returns Inv-loop μ-loop
-returns c = search needs
+returns c =
+    let l = c .before .before .loop in
+    let a = c .before .before .before .args in
+    let full : l .i ≡ length (now (a .to)) = omega arith in
+    l .inv .3 ∙ ap (λ (k : ℕ). written (take k (now (a .from))) (now (a .to))) full
 
 shared-slice-read-to : tie.Need-shared-slice-read-to Inv-loop μ-loop
 shared-slice-read-to c = search needs
@@ -34,13 +44,24 @@ loop-less : tie.Need-loop-less Inv-loop μ-loop
 loop-less c = search needs
 
 loop-again : tie.Need-loop-again Inv-loop μ-loop
-loop-again c = search needs
+loop-again c =
+    let l = c .before .before .before .loop in
+    let a = c .before .before .before .before .args in (
+      omega arith,
+      omega arith,
+      simp length-set (omega arith),
+      copied-next (now (a .from)) (now (a .to)) (l .to) (l .i) (omega arith) (omega arith) (l .inv .3),
+    )
 
 same-length-2 : tie.Need-same-length-2 Inv-loop μ-loop
 same-length-2 c = search needs
 
 returns-2 : tie.Need-returns-2 Inv-loop μ-loop
-returns-2 c = search needs
+returns-2 c =
+    let l = c .before .loop in
+    let a = c .before .before .args in
+    copied-end (now (a .from)) (now (a .to)) (l .to) (l .i) (c .loop-test .left) (l .inv .3)
+    ∙ ap (λ (k : List ℕ). written k (now (a .to))) (sym (take-all (length (now (a .to))) (now (a .from)) (omega arith)))
 
 pub copy-spec : {M : Type 1} → statement M
 copy-spec =

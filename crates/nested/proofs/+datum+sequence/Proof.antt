@@ -32,7 +32,7 @@ sequence-loop-holds t c =
 sequence-datum-requires : (t : ℕ) → sequence-lts.Need-datum-requires (sequence-claims t) (sequence-at t) sequence.Post sequence-Inv-loop sequence-μ-loop
 sequence-datum-requires t c κs =
     let entry = c .before .before .before .before .before in (
-      omega (arith, entry .pre .0, c .before .before .loop .inv .back, c .before .loop-test .taken, entry .pre .1 .counted),
+      omega (arith, entry .pre .0, c .before .before .loop .inv .back, c .before .loop-test .taken, entry .pre .1 .counted, entry .pre .1 .shallow),
       (entry .pre .1 .counted, c .before .loop-test .taken, c .before .before .loop .inv .few, entry .pre .1 .shallow),
     )
 

@@ -1,7 +1,7 @@
 -- Each arm tells the number and the value that `nestNumber` and `nestValue` name for its case.
 use mathlib.Core.Path.{sym, ap, _∙_}
 use borrow.Author.Needs.{needs}
-use Rattle.nested_exports.specs.Nest.{nestNumber, nestValue}
+use Rattle.nested.specs.Lent.{nestNumber, nestValue}
 use Rattle.nested_exports.proofs.answer.Statement.{statement}
 use Rattle.nested_exports.proofs.answer.Tie as tie
 

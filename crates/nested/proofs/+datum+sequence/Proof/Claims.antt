@@ -1,7 +1,8 @@
 -- What the datum reader and the sequence reader, which call each other, may claim of those that they call: all of the other one, where the
--- measure has fallen. The measure is twice the records that are left, and 1 more for a sequence.
+-- measure has fallen. The measure is document 01's: remaining records, then remaining depth.
 use Prim.Native.Nat.{ℕ, _*_, _+_, _-_, _<_}
 use Rattle.nested.specs.Items.{countOf}
+use Rattle.nested.specs.Grammar.{deepest}
 use borrow.Fn.Kinds.{In}
 use borrow.Fn.PlainCycle.{Measures, is, falls, and}
 use Rattle.nested.proofs.datum.Reads as datum
@@ -25,11 +26,17 @@ use Rattle.nested.proofs.refusals.wrong_at.Reads as wrong-at-reads
 use Rattle.nested.proofs.simples.Reads as simples-reads
 use Rattle.nested.proofs.took.Reads as took-reads
 
-abbrev pub μ-datum : Measures 2 datum-kinds.ps ℕ
-μ-datum κs a = 2 * (countOf (a .0 .now) - a .1 .1 .0)
+-- the two as one number: no depth weighs as much as a record
+abbrev records-then-depth : ℕ → ℕ → ℕ
+records-then-depth records depth = records * (deepest + 2) + depth
 
+-- the records from the datum on, and the levels that may still be opened in it
+abbrev pub μ-datum : Measures 2 datum-kinds.ps ℕ
+μ-datum κs a = records-then-depth (countOf (a .0 .now) - a .1 .1 .0) (deepest - a .1 .1 .1 .0)
+
+-- the same of a sequence, which is a level itself: its data have one less
 abbrev pub μ-sequence : Measures 2 sequence-kinds.ps ℕ
-μ-sequence κs a = 2 * (countOf (a .0 .now) - a .1 .1 .0) + 1
+μ-sequence κs a = records-then-depth (countOf (a .0 .now) - a .1 .1 .0) (deepest + 1 - a .1 .1 .1 .0)
 
 abbrev pub datum-at : ℕ → In 2 datum-kinds.ps
 datum-at t = and 2 datum-kinds.ps (is 2 datum-kinds.ps μ-datum t) datum.Pre
