@@ -9,3 +9,5 @@ pub mod Places
 pub mod Rows
 pub mod First
 pub mod Names
+pub mod Outcomes
+pub mod NameErrors

@@ -48,10 +48,10 @@ ninth-digit = record {
   p = 8;
   q = 9;
   stand = escape refl (codes "\"") (codes "\\x") (codes ";") OfEscape.x refl
-  (refl, (refl, (refl, (refl, (refl, (refl, (refl, (refl, (refl, (refl, tt))))))))));
+      (refl, (refl, (refl, (refl, (refl, (refl, (refl, (refl, (refl, (refl, tt))))))))));
   fails = over (codes "1FFFFFFF") (code "F") (codes "F") refl
-  (omega arith, (omega arith, (omega arith, (omega arith, (omega arith, (omega arith, (omega arith, (omega arith, tt))))))))
-  (omega arith) (omega arith) (omega arith);
+      (omega arith, (omega arith, (omega arith, (omega arith, (omega arith, (omega arith, (omega arith, (omega arith, tt))))))))
+      (omega arith) (omega arith) (omega arith);
   begins = refl;
   ends = refl;
 }
