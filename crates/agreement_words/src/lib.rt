@@ -1,0 +1,2 @@
+// The other way, for the kinds that `agreement` leaves out: what stands in the extent of a dot, of a word with a kind of its own, of a keyword, of
+// a mark that quotes syntax, of a comment and of an identifier. specs/Words says it, proofs/ shows it of every item. It has no code.
