@@ -57,7 +57,7 @@ record Apart (k : ℕ) : Type 0 where
   comment : eqb k kind.Comment ≡ false
   identifier : eqb k kind.Identifier ≡ false
 
-none : {A : Type 0} {b : Bool} → b ≡ false → b ≡ true → A
+pub none : {A : Type 0} {b : Bool} → b ≡ false → b ≡ true → A
 none f e = no-yes (sym f ∙ e)
 
 apart : (raw : List ℕ) (k : ℕ) → Apart k → Known raw k
@@ -70,7 +70,7 @@ apart raw k a = record {
 }
 
 -- no error's
-error-not : (ks : List ℕ) (n : ℕ) → map (λ k. ltb k kind.firstError) ks ≡ map (λ k. true) ks → oneOf ks (kind.firstError + n) ≡ false
+pub error-not : (ks : List ℕ) (n : ℕ) → map (λ k. ltb k kind.firstError) ks ≡ map (λ k. true) ks → oneOf ks (kind.firstError + n) ≡ false
 error-not [] n h = refl
 error-not (k ∷ ks) n h =
     let below : ltb k kind.firstError ≡ true = cc in
@@ -152,6 +152,16 @@ among-own (r ∷ rs) h (there a) = among-own rs (by-bool (oneOf ownKinds (r .num
 not-dot : (raw : List ℕ) → eqb (wordKind raw) kind.Identifier ≡ true → raw ≡ spelled "." → ⊥
 unfolding wordKind words lookup same bytesOf utf8
 not-dot raw e z = no-yes (sym (ap (λ (l : List ℕ). eqb (wordKind l) kind.Identifier) z) ∙ e)
+
+-- a word that is no identifier has a kind of its own
+pub word-own : (raw : List ℕ) → eqb (wordKind raw) kind.Identifier ≡ false → oneOf ownKinds (wordKind raw) ≡ true
+unfolding wordKind words
+word-own raw n = go (among ownWords raw kind.Identifier)
+  where
+    go : (lookup ownWords raw kind.Identifier ≡ kind.Identifier) ⊎ Among ownWords raw (lookup ownWords raw kind.Identifier)
+        → oneOf ownKinds (lookup ownWords raw kind.Identifier) ≡ true
+    go (inl e) = no-yes (sym n ∙ eq-eqb (lookup ownWords raw kind.Identifier) kind.Identifier e)
+    go (inr a) = among-own ownWords refl a
 
 word-known : (raw : List ℕ) → eqb (wordKind raw) kind.Identifier ≡ false → Known raw (wordKind raw)
 unfolding wordKind words
