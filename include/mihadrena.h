@@ -557,8 +557,8 @@ uint32_t mihadrena_number_by(uint32_t choice, const uint8_t *text, size_t text_l
 uint32_t mihadrena_coordinate(const uint8_t *text, size_t text_length, double *value, uint64_t *place);
 
 /* The same for the extent of a record, by the record's kind and its extent: first MIHADRENA_OUT_OF_BOUNDS if the extent is no part of the
- * source, MIHADRENA_NO_COORDINATE if the kind is not MIHADRENA_NUMBER. A place is counted from the extent's start. In pieces a number's
- * text is copied: call mihadrena_coordinate on it. */
+ * source; MIHADRENA_NO_COORDINATE also if the kind is not MIHADRENA_NUMBER. A place is counted from the extent's start. In pieces a
+ * number's text is copied: call mihadrena_coordinate on it. */
 uint32_t mihadrena_record_coordinate(const uint8_t *source, size_t source_length, uint32_t kind, uint32_t start, uint32_t end,
                                      double *value, uint64_t *place);
 

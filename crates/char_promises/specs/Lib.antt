@@ -1,2 +1,3 @@
 -- `Rows` says what the calls must answer, `rows` computes it.
 pub mod Chars
+pub mod Ascii

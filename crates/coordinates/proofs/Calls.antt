@@ -14,27 +14,36 @@ use Rattle.numbers.specs.Reals.{oneDecimal}
 use Rattle.numbers.proofs.Inside.{one-decimal-inside}
 use Rattle.items.specs.Kinds as kind
 use Rattle.coordinates.specs.Answers.{Answer, refused}
-use Rattle.coordinates.specs.Coordinate.{outside, ofPoint, ofDecimal, coordinate, recordCoordinate}
+use Rattle.coordinates.specs.Coordinate.{outside, ofPoint, ofDecimal, judged, coordinate, recordCoordinate}
 use Rattle.coordinates.proofs.Ascii.{decimal-good}
+
+-- 20 and 21 before an answer
+module _ (s : List ℕ) (a : Answer) where
+  pub judged-long : limit < length s → refused tooLong limit ≡ judged s a
+  unfolding judged
+  judged-long h = simp (lt-ltb _ _ h)
+
+  module _ (h : length s ≤ limit) where
+    pub judged-good : utf8.Good ≡ firstBad s → a ≡ judged s a
+    unfolding judged
+    judged-good g = simp (le-ltb _ _ h, ← g)
+
+    pub judged-bad : (at : ℕ) → utf8.Bad at ≡ firstBad s → refused notUtf8 at ≡ judged s a
+    unfolding judged
+    judged-bad at g = simp (le-ltb _ _ h, ← g)
 
 module _ (s : List ℕ) where
   pub call-long : limit < length s → refused tooLong limit ≡ coordinate s
   unfolding coordinate
-  call-long h = simp (lt-ltb _ _ h)
+  call-long h = judged-long s (ofDecimal s (oneDecimal s)) h
 
-  module _ (h : length s ≤ limit) where
-    pub call-point : (p : Point) (r : Answer) → APoint p ≡ oneDecimal s → r ≡ ofPoint s p → r ≡ coordinate s
-    unfolding coordinate ofDecimal
-    call-point p r d e = simp (le-ltb _ _ h, decimal-good s p (sym d), ← d) e
+  pub call-point : length s ≤ limit → (p : Point) (r : Answer) → APoint p ≡ oneDecimal s → r ≡ ofPoint s p → r ≡ coordinate s
+  unfolding coordinate judged ofDecimal
+  call-point h p r d e = simp (le-ltb _ _ h, decimal-good s p (sym d), ← d) e
 
-    module _ (d : NoPoint ≡ oneDecimal s) where
-      pub call-none : utf8.Good ≡ firstBad s → outside ≡ coordinate s
-      unfolding coordinate ofDecimal
-      call-none g = simp (le-ltb _ _ h, ← g, ← d)
-
-      pub call-bad : (at : ℕ) → utf8.Bad at ≡ firstBad s → refused notUtf8 at ≡ coordinate s
-      unfolding coordinate
-      call-bad at g = simp (le-ltb _ _ h, ← g)
+  pub call-none : NoPoint ≡ oneDecimal s → (r : Answer) → r ≡ judged s outside → r ≡ coordinate s
+  unfolding coordinate ofDecimal
+  call-none d r e = simp (← d) e
 
 pub point-places : (s : List ℕ) (p : Point) → APoint p ≡ oneDecimal s → InPoint (length s) p
 point-places s p e = one-decimal-inside s p (sym e)
@@ -51,9 +60,9 @@ module _ (s : List ℕ) (k from to : ℕ) where
 
     module _ (l : to ≤ length s) where
       pub record-number : k ≡ kind.Number → (r : Answer) → r ≡ coordinate (take (to - from) (drop from s)) → r ≡ recordCoordinate s k from to
-      unfolding recordCoordinate
+      unfolding recordCoordinate coordinate
       record-number n r e = simp (le-leb _ _ h, le-leb _ _ l, eq-eqb _ _ n) e
 
-      pub record-other : (k ≡ kind.Number → ⊥) → outside ≡ recordCoordinate s k from to
+      pub record-other : (k ≡ kind.Number → ⊥) → (r : Answer) → r ≡ judged (take (to - from) (drop from s)) outside → r ≡ recordCoordinate s k from to
       unfolding recordCoordinate
-      record-other n = simp (le-leb _ _ h, le-leb _ _ l, ne-eqb _ _ n)
+      record-other n r e = simp (le-leb _ _ h, le-leb _ _ l, ne-eqb _ _ n) e

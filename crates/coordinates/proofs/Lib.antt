@@ -5,5 +5,6 @@ pub mod Rounding
 pub mod Only
 pub mod Nearer
 pub mod Means
+pub mod Outside
 pub mod Ascii
 pub mod Calls

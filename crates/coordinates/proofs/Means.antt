@@ -20,7 +20,7 @@ use Rattle.numbers.specs.declared.MaybePoint.{MaybePoint}
 use Rattle.numbers.specs.declared.MaybePoint.the-variants.{APoint, NoPoint}
 use Rattle.numbers.specs.Reals.{oneDecimal}
 use Rattle.coordinates.specs.Answers.{Answer, float, refused}
-use Rattle.coordinates.specs.Coordinate.{allDigits, scale, mostDigits, mostScale, numerator, denominator, inRange, scaled, outside, ofPoint, ofDecimal, checked, coordinate}
+use Rattle.coordinates.specs.Coordinate.{allDigits, scale, mostDigits, mostScale, numerator, denominator, inRange, scaled, outside, ofPoint, ofDecimal, checked, judged, coordinate}
 use Rattle.coordinates.specs.Nearest.{Nearest}
 use Rattle.coordinates.specs.Means.{Means}
 use Rattle.coordinates.proofs.Floats.{ten-pos}
@@ -58,7 +58,7 @@ text-means s = go (oneDecimal s) refl
     go NoPoint e = unfold ofDecimal in tt
 
 call-means : (s : List ℕ) → MeansIf s (coordinate s)
-unfolding coordinate
+unfolding coordinate judged
 call-means s = if-is (MeansIf s) (ltb limit (length s)) (λ _. tt) (λ _. go (firstBad s))
   where
     go : (u : Utf8) → MeansIf s (checked u (ofDecimal s (oneDecimal s)))
@@ -75,7 +75,7 @@ den-pos (negsuc k) = ten-pos (suc k)
 
 -- and a text's value is given: no other f64 is
 pub means-value : (s : List ℕ) (x : Float) → length s ≤ limit → firstBad s ≡ utf8.Good → T (fits binary64 x) → Means s x → coordinate s ≡ float x
-unfolding coordinate ofDecimal ofPoint scaled
+unfolding coordinate judged ofDecimal ofPoint scaled
 means-value s x l u f a =
     let m = allDigits s (a .point) in
     let t = scale s (a .point) in
@@ -105,7 +105,7 @@ pub outside-exactly : (s : List ℕ) → length s ≤ limit → firstBad s ≡ u
 outside-exactly s l u n = else-outside (coordinate s) whole (λ x e. n x (value-means s x e))
   where
     whole : GivenOrOutside (coordinate s)
-    whole = unfold coordinate in (simp (le-ltb _ _ l, u) (decimal-given s (oneDecimal s)))
+    whole = unfold coordinate judged in (simp (le-ltb _ _ l, u) (decimal-given s (oneDecimal s)))
 
 pub means-not-outside : (s : List ℕ) (x : Float) → length s ≤ limit → firstBad s ≡ utf8.Good → T (fits binary64 x) → Means s x
     → coordinate s ≡ outside → ⊥

@@ -74,14 +74,18 @@ abbrev pub checked : Utf8 → Answer → Answer
 checked utf8.Good a = a
 checked (utf8.Bad at) a = refused notUtf8 at
 
--- "20 and 21 first"
+-- "20 and 21 first": what they leave to a text
+unfoldable pub judged : List ℕ → Answer → Answer
+judged s a = if ltb limit (length s) then refused tooLong limit else checked (firstBad s) a
+
 unfoldable pub coordinate : List ℕ → Answer
-coordinate s = if ltb limit (length s) then refused tooLong limit else checked (firstBad s) (ofDecimal s (oneDecimal s))
+coordinate s = judged s (ofDecimal s (oneDecimal s))
 
 -- The coordinate of a record's extent, by the record's kind and its extent's two places: 27 where they go back or pass the source, as in
--- the text call; 28 where the record is no Number; else what the extent's text gives.
+-- the text call; else 20 and 21 of the extent's text; then 28 where the record is no Number; else what the text gives.
 unfoldable pub recordCoordinate : List ℕ → ℕ → ℕ → ℕ → Answer
 recordCoordinate source k from to =
+    let text : List ℕ = take (to - from) (drop from source) in
     if leb from to
-    then (if leb to (length source) then (if eqb k kind.Number then coordinate (take (to - from) (drop from source)) else outside) else refused outOfBounds 0)
+    then (if leb to (length source) then judged text (if eqb k kind.Number then ofDecimal text (oneDecimal text) else outside) else refused outOfBounds 0)
     else refused outOfBounds 0

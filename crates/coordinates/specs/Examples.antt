@@ -12,7 +12,7 @@ use Rattle.chars.specs.Utf8.{firstBad, sequences, front, rest, first}
 use Rattle.digits.specs.Digits.{digitOf, sign, uinteger, value, signed}
 use Rattle.numbers.specs.Reals.{exponentMarker, exponent, suffix, pointOf, dotted, undotted, decimal, pointIn, oneDecimal}
 use Rattle.coordinates.specs.Answers.{Answer, float, refused}
-use Rattle.coordinates.specs.Coordinate.{allDigits, scale, scaled, outside, ofPoint, ofDecimal, coordinate}
+use Rattle.coordinates.specs.Coordinate.{allDigits, scale, scaled, outside, ofPoint, ofDecimal, judged, coordinate}
 
 pub record Row : Type 0 where
   pub text : String
@@ -55,10 +55,10 @@ table =
 
 pub computed : map (λ r. coordinate (codes (r .text))) table ≡ map (λ r. r .answer) table
 -- the list only permits the computing
-unfolding table coordinate oneDecimal pointIn ofDecimal ofPoint allDigits scale scaled value decimal dotted undotted suffix exponent
+unfolding table coordinate judged oneDecimal pointIn ofDecimal ofPoint allDigits scale scaled value decimal dotted undotted suffix exponent
     uinteger pointOf signed firstBad sequences front round ofBits first starts span sign digitOf exponentMarker within
 computed = refl
 
 pub not-utf8 : coordinate (0x31 ∷ 0x2E ∷ 0xC3 ∷ []) ≡ refused notUtf8 2
-unfolding coordinate firstBad sequences front first rest within
+unfolding coordinate judged firstBad sequences front first rest within
 not-utf8 = refl

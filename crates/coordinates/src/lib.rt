@@ -7,7 +7,7 @@ use numbers::MaybePoint;
 use refusal::LIMIT;
 ghost use mathlib.Core.Path.{_≡_};
 ghost use Rattle.coordinates.specs.Answers.{answered};
-ghost use Rattle.coordinates.specs.Coordinate.{coordinate, recordCoordinate};
+ghost use Rattle.coordinates.specs.Coordinate.{outside, judged, coordinate, recordCoordinate};
 
 mod amounts;
 mod scaling;
@@ -41,10 +41,20 @@ pub fn coordinate(t: &[u8]) -> CoordinateAnswer
     }
     match numbers::one_decimal(t) {
         MaybePoint::APoint(p) => amounts::of_point(t, p),
-        MaybePoint::NoPoint => match chars::first_bad(t) {
-            Utf8::Good => CoordinateAnswer::NoCoordinate,
-            Utf8::Bad(at) => CoordinateAnswer::NotUtf8(at),
-        },
+        MaybePoint::NoPoint => no_coordinate(t),
+    }
+}
+
+// The answer to a text that has none: 20 and 21 go before 28.
+fn no_coordinate(t: &[u8]) -> CoordinateAnswer
+    ensures { λ r. ⌜ answered r ≡ judged (now (t .entry)) outside ⌝ }
+{
+    if LIMIT < t.len() {
+        return CoordinateAnswer::TooLong;
+    }
+    match chars::first_bad(t) {
+        Utf8::Good => CoordinateAnswer::NoCoordinate,
+        Utf8::Bad(at) => CoordinateAnswer::NotUtf8(at),
     }
 }
 
@@ -60,8 +70,9 @@ pub fn record_coordinate(source: &[u8], kind: u32, start: u32, end: u32) -> Coor
     if source.len() < to {
         return CoordinateAnswer::NoExtent;
     }
+    let text = &source[from..to];
     if kind == kinds::NUMBER {
-        return coordinate(&source[from..to]);
+        return coordinate(text);
     }
-    CoordinateAnswer::NoCoordinate
+    no_coordinate(text)
 }

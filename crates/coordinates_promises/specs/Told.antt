@@ -13,7 +13,7 @@ use Rattle.digits.specs.Digits.{digitOf, sign, uinteger, value, signed}
 use Rattle.numbers.specs.Reals.{exponentMarker, exponent, suffix, pointOf, dotted, undotted, decimal, pointIn, oneDecimal}
 use Rattle.items.specs.Kinds as kind
 use Rattle.coordinates.specs.Answers.{Answer}
-use Rattle.coordinates.specs.Coordinate.{allDigits, scale, scaled, ofPoint, ofDecimal, coordinate, recordCoordinate}
+use Rattle.coordinates.specs.Coordinate.{allDigits, scale, scaled, ofPoint, ofDecimal, judged, coordinate, recordCoordinate}
 use Rattle.coordinates_exports.specs.Told.{numberOf, valueOr, placeOr}
 
 -- all that a call leaves: its result and the two places lent
@@ -32,20 +32,20 @@ sees n x p = record { number = n; value = x; place = p }
 -- a value is written, and the place stays
 value-told : seen (coordinate (codes "-1.5")) ≡ sees 0 (fin true 3 (negsuc 0)) 7
 -- the list only permits the computing
-unfolding coordinate oneDecimal pointIn ofDecimal ofPoint allDigits scale scaled value decimal dotted undotted suffix exponent uinteger
+unfolding coordinate judged oneDecimal pointIn ofDecimal ofPoint allDigits scale scaled value decimal dotted undotted suffix exponent uinteger
     pointOf signed firstBad sequences front first rest round starts span sign digitOf exponentMarker within
 value-told = refl
 
 -- a refusal's place is written, and the value stays
 refusal-told : seen (coordinate (0x31 ∷ 0x2E ∷ 0xFF ∷ [])) ≡ sees 21 (fin false 1 (pos 0)) 2
 -- the list only permits the computing
-unfolding coordinate oneDecimal pointIn ofDecimal ofPoint allDigits scale scaled value decimal dotted undotted suffix exponent uinteger
+unfolding coordinate judged oneDecimal pointIn ofDecimal ofPoint allDigits scale scaled value decimal dotted undotted suffix exponent uinteger
     pointOf signed firstBad sequences front first rest round starts span sign digitOf exponentMarker within
 refusal-told = refl
 
 record-told : seen (recordCoordinate (codes "(1.5)") kind.Number 1 4) ≡ sees 0 (fin false 3 (negsuc 0)) 7
 -- the list only permits the computing
-unfolding recordCoordinate coordinate oneDecimal pointIn ofDecimal ofPoint allDigits scale scaled value decimal dotted undotted suffix
+unfolding recordCoordinate coordinate judged oneDecimal pointIn ofDecimal ofPoint allDigits scale scaled value decimal dotted undotted suffix
     exponent uinteger pointOf signed firstBad sequences front first rest round starts span sign digitOf exponentMarker within
 record-told = refl
 
@@ -56,6 +56,6 @@ extent-told = refl
 -- no program that leaves the value as it was meets the promise
 never-unwritten : valueOr (fin false 1 (pos 0)) (coordinate (codes "-0.0")) ≡ fin false 1 (pos 0) → ⊥
 -- the list only permits the computing
-unfolding coordinate oneDecimal pointIn ofDecimal ofPoint allDigits scale scaled value decimal dotted undotted suffix exponent uinteger
+unfolding coordinate judged oneDecimal pointIn ofDecimal ofPoint allDigits scale scaled value decimal dotted undotted suffix exponent uinteger
     pointOf signed firstBad sequences front first rest round starts span sign digitOf exponentMarker within
 never-unwritten h = let z : _≡_ {A = ℕ} 0 1 = cc in omega arith

@@ -1,23 +1,29 @@
 -- What the digit reader refuses, in the digits' characters and bytes: the character that is no digit, and the digit that is one too many.
 use Prim.Native.Nat.{ℕ, _+_, _*_, _^_, _≤_, _<_}
 use mathlib.Core.Path.{_≡_, refl, sym, ap, subst, _∙_}
-use mathlib.Core.Bool.{false}
-use mathlib.Core.List.{List, [], _∷_, _++_}
+use mathlib.Core.Bool.{true, false}
+use mathlib.Core.List.{List, [], _∷_, _++_, append-assoc}
 use mathlib.Core.Logic.{_⊎_, inl, inr}
 use lib.ListN.{length}
 use lib.Dec.{ltb, eqb}
 use native.Mathlib.Omega.{arith}
-use borrow.Author.Tests.{ltb-true, ltb-false, eqb-true, ne-eqb}
+use borrow.Author.Tests.{lt-ltb, ltb-true, ltb-false, eq-eqb, eqb-true, ne-eqb}
 use Rattle.laws.specs.Quoted.{code, within}
+use Rattle.laws.specs.Texts.{starts}
 use Rattle.laws.proofs.Choice.{by-bool, if-all, within-is}
-use Rattle.chars.specs.Encode.{utf8, bytesOf}
+use Rattle.chars.specs.Encode.{utf8, bytesOf, isScalar}
 use Rattle.digits.specs.declared.Hex.{Hex}
 use Rattle.digits.specs.declared.Hex.the-variants.{Value, Wrong}
 use Rattle.digits.specs.Digits.{digitOf, value}
 use Rattle.digits.specs.Hex.{hexDigits, hexAfterPlus, hexValue, empty, badDigit, overflow}
 use Rattle.items.proofs.Every.{Every}
-use Rattle.coverage.proofs.Bytes.{bytes-some, Spelt, low, high, spelt}
+use Rattle.coverage.proofs.Bytes.{bytes-append, bytes-some, Spelt, low, high, spelt}
 use Rattle.error_places.specs.Failing.{IsDigit}
+use Rattle.error_places.specs.First.{plus}
+
+pub every-right : (P : ℕ → Type 0) (xs ys : List ℕ) → Every P (xs ++ ys) → Every P ys
+every-right P [] ys h = h
+every-right P (x ∷ xs) ys h = every-right P xs ys (h .1)
 
 -- no byte and no character past ASCII is a digit
 high-none : (c : ℕ) → 0x80 ≤ c → 16 ≤ digitOf c
@@ -31,39 +37,45 @@ high-none c h =
 pub digit-small : (c : ℕ) → IsDigit c → c < 0x80
 digit-small c h = by-bool (ltb c 0x80) (λ e. ltb-true c 0x80 e) (λ e. absurd (omega (arith, high-none c (ltb-false c 0x80 e))))
 
-plus-none : 16 ≤ digitOf (code "+")
+plus-no-digit : 16 ≤ digitOf (code "+")
 unfolding digitOf within
-plus-none = omega arith
+plus-no-digit = omega arith
 
--- ---- a bad digit: the first p bytes are characters before it
+-- ---- a bad digit, after digits of the value v
 
-pub record Bad (hs : List ℕ) (q p : ℕ) : Type 0 where
-  pub before : List ℕ
+pub record Bad (hs : List ℕ) (q v p : ℕ) : Type 0 where
+  pub good : List ℕ
   pub c : ℕ
   pub after : List ℕ
-  pub is : hs ≡ before ++ c ∷ after
-  pub place : q + length (bytesOf before) ≡ p
+  pub is : hs ≡ good ++ c ∷ after
+  pub plain : bytesOf good ≡ good
+  pub place : q + length good ≡ p
+  pub digits : Every IsDigit good
+  pub fits : value 16 v good < 2 ^ 32
   pub wrong : 16 ≤ digitOf c
 
-pub bad-digits : (hs : List ℕ) (q v p : ℕ) → hexDigits q v (bytesOf hs) ≡ Wrong badDigit p → Bad hs q p
-unfolding hexDigits bytesOf
-bad-digits [] q v p e = let z : _≡_ {A = ℕ} 0 1 = cc in absurd (omega arith)
-bad-digits (c ∷ hs) q v p e = go (λ n f. bad-digits hs (q + 1) n p f) (utf8 c) refl (spelt c) e
+pub bad-digits : (hs : List ℕ) (q v p : ℕ) → v < 2 ^ 32 → hexDigits q v (bytesOf hs) ≡ Wrong badDigit p → Bad hs q v p
+unfolding hexDigits bytesOf value
+bad-digits [] q v p small e = let z : _≡_ {A = ℕ} 0 1 = cc in absurd (omega arith)
+bad-digits (c ∷ hs) q v p small e = go (λ n l f. bad-digits hs (q + 1) n p l f) (utf8 c) refl (spelt c) e
   where
-    here : q ≡ p → 16 ≤ digitOf c → Bad (c ∷ hs) q p
-    here z w = record { before = []; c = c; after = hs; is = refl; place = omega arith; wrong = w }
+    here : q ≡ p → 16 ≤ digitOf c → Bad (c ∷ hs) q v p
+    here z w = record { good = []; c = c; after = hs; is = refl; plain = refl; place = omega arith; digits = tt; fits = small; wrong = w }
 
-    go : ((n : ℕ) → hexDigits (q + 1) n (bytesOf hs) ≡ Wrong badDigit p → Bad hs (q + 1) p)
-        → (w : List ℕ) → w ≡ utf8 c → Spelt c w → hexDigits q v (w ++ bytesOf hs) ≡ Wrong badDigit p → Bad (c ∷ hs) q p
+    go : ((n : ℕ) → n < 2 ^ 32 → hexDigits (q + 1) n (bytesOf hs) ≡ Wrong badDigit p → Bad hs (q + 1) n p)
+        → (w : List ℕ) → w ≡ utf8 c → Spelt c w → hexDigits q v (w ++ bytesOf hs) ≡ Wrong badDigit p → Bad (c ∷ hs) q v p
     go on w f (low h) e = by-bool (ltb (digitOf c) 16)
         (λ g. by-bool (ltb (v * 16 + digitOf c) (2 ^ 32))
-        (λ k. let r = on (v * 16 + digitOf c) (rw (g, k, hexDigits) at e) in
+        (λ k. let r = on (v * 16 + digitOf c) (ltb-true _ _ k) (rw (g, k, hexDigits) at e) in
         record {
-          before = c ∷ r .before;
+          good = c ∷ r .good;
           c = r .c;
           after = r .after;
           is = ap (λ (l : List ℕ). c ∷ l) (r .is);
-          place = let s : bytesOf (c ∷ r .before) ≡ c ∷ bytesOf (r .before) = ap (λ (l : List ℕ). l ++ bytesOf (r .before)) (sym f) in omega (arith, ap length s, r .place);
+          plain = ap (λ (l : List ℕ). l ++ bytesOf (r .good)) (sym f) ∙ ap (λ (l : List ℕ). c ∷ l) (r .plain);
+          place = omega (arith, r .place);
+          digits = (ltb-true _ _ g, r .digits);
+          fits = r .fits;
           wrong = r .wrong;
         })
         (λ k. let t : Wrong overflow q ≡ Wrong badDigit p = rw (g, k, hexDigits) at e in let z : _≡_ {A = ℕ} 3 2 = cc in absurd (omega arith)))
@@ -113,6 +125,19 @@ over-digits (c ∷ s) q v p h e = by-bool (ltb (digitOf c) 16)
 
 -- ---- all of the digits, one plus before them or none
 
+module _ (b : ℕ) where
+  plus-one : (l : List ℕ) → eqb b (code "+") ≡ true → 0 < length l → plus (b ∷ l) ≡ 1
+  unfolding plus starts
+  plus-one l e h = rw (e, lt-ltb 1 (length (b ∷ l)) (omega arith))
+
+  plus-none : (l : List ℕ) → eqb b (code "+") ≡ false → plus (b ∷ l) ≡ 0
+  unfolding plus starts
+  plus-none l e = rw e
+
+  plus-lone : plus (b ∷ []) ≡ 0
+  unfolding plus starts
+  plus-lone = by-bool (eqb b (code "+")) (λ e. rw e) (λ e. rw e)
+
 -- an error's detail is one of three
 abbrev pub Known : Hex → Type 0
 Known (Value v) = Unit {0}
@@ -155,58 +180,130 @@ unfolding hexValue
 empty-value [] p e = let z : p ≡ 0 = cc in z
 empty-value (c ∷ s) p e = absurd (subst NotEmpty e (some-not-empty c s) refl)
 
+pub empty-none : (s : List ℕ) (p : ℕ) → hexValue s ≡ Wrong empty p → s ≡ []
+empty-none [] p e = refl
+empty-none (c ∷ s) p e = absurd (subst NotEmpty e (some-not-empty c s) refl)
+
 after-plus : (l : List ℕ) → 0 < length l → hexAfterPlus l ≡ hexDigits 1 0 l
 unfolding hexAfterPlus
 after-plus [] h = absurd (omega arith)
 after-plus (c ∷ l) h = refl
 
-pub bad-value : (hs : List ℕ) (p : ℕ) → hexValue (bytesOf hs) ≡ Wrong badDigit p → Bad hs 0 p
-unfolding hexValue bytesOf hexAfterPlus
+-- the bad digit stands after digits, and these after a plus or nothing
+pub record Signed (hs : List ℕ) (p : ℕ) : Type 0 where
+  pub sign : List ℕ
+  pub rest : List ℕ
+  pub is : hs ≡ sign ++ rest
+  pub plain : bytesOf sign ≡ sign
+  pub taken : plus (bytesOf hs) ≡ length sign
+  pub bad : Bad rest (length sign) 0 p
+
+bad-value : (hs : List ℕ) (p : ℕ) → hexValue (bytesOf hs) ≡ Wrong badDigit p → Signed hs p
+unfolding hexValue bytesOf hexAfterPlus value
 bad-value [] p e = let z : _≡_ {A = ℕ} 1 2 = cc in absurd (omega arith)
 bad-value (c ∷ hs) p e = go (utf8 c) refl (spelt c) e
   where
-    plain : hexDigits 0 0 (bytesOf (c ∷ hs)) ≡ Wrong badDigit p → Bad (c ∷ hs) 0 p
-    plain e = bad-digits (c ∷ hs) 0 0 p e
+    unsigned : plus (bytesOf (c ∷ hs)) ≡ 0 → Bad (c ∷ hs) 0 0 p → Signed (c ∷ hs) p
+    unsigned z b = record { sign = []; rest = c ∷ hs; is = refl; plain = refl; taken = z; bad = b }
 
     -- after a plus
-    signed : (l : List ℕ) → l ≡ hs → utf8 c ≡ c ∷ [] → c ≡ code "+" → hexAfterPlus (bytesOf l) ≡ Wrong badDigit p → Bad (c ∷ hs) 0 p
+    signed : (l : List ℕ) → l ≡ hs → utf8 c ≡ c ∷ [] → c ≡ code "+" → hexAfterPlus (bytesOf l) ≡ Wrong badDigit p → Signed (c ∷ hs) p
     signed [] g f z e =
         let t : Wrong badDigit 0 ≡ Wrong badDigit p = e in
         let y : 0 ≡ p = cc in
-        record { before = []; c = c; after = hs; is = refl; place = omega arith; wrong = rw z plus-none }
+        let lone : bytesOf (c ∷ hs) ≡ c ∷ [] = ap (λ (m : List ℕ). m ++ bytesOf hs) f ∙ ap (λ (m : List ℕ). c ∷ bytesOf m) (sym g) in
+        unsigned (ap plus lone ∙ plus-lone c)
+        (record {
+          good = [];
+          c = c;
+          after = hs;
+          is = refl;
+          plain = refl;
+          place = omega arith;
+          digits = tt;
+          fits = omega arith;
+          wrong = rw z plus-no-digit;
+        })
     signed (h ∷ l) g f z e =
-        let r : Bad (h ∷ l) 1 p = bad-digits (h ∷ l) 1 0 p (sym (after-plus (bytesOf (h ∷ l)) (bytes-some h l)) ∙ e) in
+        let r : Bad (h ∷ l) 1 0 p = bad-digits (h ∷ l) 1 0 p (omega arith) (sym (after-plus (bytesOf (h ∷ l)) (bytes-some h l)) ∙ e) in
+        let all : bytesOf (c ∷ hs) ≡ c ∷ bytesOf (h ∷ l) = ap (λ (m : List ℕ). m ++ bytesOf hs) f ∙ ap (λ (m : List ℕ). c ∷ bytesOf m) (sym g) in
         record {
-          before = c ∷ r .before;
-          c = r .c;
-          after = r .after;
-          is = ap (λ (m : List ℕ). c ∷ m) (sym g ∙ r .is);
-          place = omega (arith, ap (λ (m : List ℕ). length (m ++ bytesOf (r .before))) f, r .place);
-          wrong = r .wrong;
+          sign = c ∷ [];
+          rest = h ∷ l;
+          is = ap (λ (m : List ℕ). c ∷ m) (sym g);
+          plain = ap (λ (m : List ℕ). m ++ []) f;
+          taken = ap plus all ∙ plus-one c (bytesOf (h ∷ l)) (eq-eqb c (code "+") z) (bytes-some h l);
+          bad = r;
         }
 
-    go : (w : List ℕ) → w ≡ utf8 c → Spelt c w → hexValue (w ++ bytesOf hs) ≡ Wrong badDigit p → Bad (c ∷ hs) 0 p
+    go : (w : List ℕ) → w ≡ utf8 c → Spelt c w → hexValue (w ++ bytesOf hs) ≡ Wrong badDigit p → Signed (c ∷ hs) p
     go w f (low h) e = by-bool (eqb c (code "+"))
         (λ g. signed hs refl (sym f) (eqb-true c (code "+") g) (rw (g, hexValue) at e))
-        (λ g. plain (ap (λ (m : List ℕ). hexDigits 0 0 (m ++ bytesOf hs)) (sym f) ∙ (rw (g, hexValue) at e)))
+        (λ g. unsigned (ap (λ (m : List ℕ). plus (m ++ bytesOf hs)) (sym f) ∙ plus-none c (bytesOf hs) g)
+        (bad-digits (c ∷ hs) 0 0 p (omega arith) (ap (λ (m : List ℕ). hexDigits 0 0 (m ++ bytesOf hs)) (sym f) ∙ (rw (g, hexValue) at e))))
     go w f (high x u k h) e =
         let g : eqb x (code "+") ≡ false = ne-eqb x (code "+") (λ z. omega (arith, h .0)) in
-        plain (ap (λ (m : List ℕ). hexDigits 0 0 (m ++ bytesOf hs)) (sym f) ∙ (rw (g, hexValue) at e))
+        unsigned (ap (λ (m : List ℕ). plus (m ++ bytesOf hs)) (sym f) ∙ plus-none x (u ++ bytesOf hs) g)
+        (bad-digits (c ∷ hs) 0 0 p (omega arith) (ap (λ (m : List ℕ). hexDigits 0 0 (m ++ bytesOf hs)) (sym f) ∙ (rw (g, hexValue) at e)))
+
+-- the same in the digits' bytes
+pub record BadAt (ds : List ℕ) (p : ℕ) : Type 0 where
+  pub sign : List ℕ
+  pub good : List ℕ
+  pub c : ℕ
+  pub after : List ℕ
+  pub is : ds ≡ (sign ++ good) ++ (utf8 c ++ after)
+  pub taken : plus ds ≡ length sign
+  pub place : p ≡ length sign + length good
+  pub digits : Every IsDigit good
+  pub fits : value 16 0 good < 2 ^ 32
+  pub scalar : isScalar c ≡ true
+  pub wrong : 16 ≤ digitOf c
+
+pub bad-at : (hs : List ℕ) (p : ℕ) → Every (λ (c : ℕ). isScalar c ≡ true) hs → hexValue (bytesOf hs) ≡ Wrong badDigit p → BadAt (bytesOf hs) p
+unfolding bytesOf
+bad-at hs p chars e =
+    let m : Signed hs p = bad-value hs p e in
+    let r : Bad (m .rest) (length (m .sign)) 0 p = m .bad in
+    let all : hs ≡ (m .sign ++ r .good) ++ (r .c ∷ r .after)
+    = m .is ∙ ap (λ (l : List ℕ). m .sign ++ l) (r .is) ∙ sym (append-assoc (m .sign) (r .good) (r .c ∷ r .after)) in
+    let front : bytesOf (m .sign ++ r .good) ≡ m .sign ++ r .good
+    = bytes-append (m .sign) (r .good) ∙ ap (λ (l : List ℕ). l ++ bytesOf (r .good)) (m .plain) ∙ ap (λ (l : List ℕ). m .sign ++ l) (r .plain) in
+    record {
+      sign = m .sign;
+      good = r .good;
+      c = r .c;
+      after = bytesOf (r .after);
+      is = ap bytesOf all ∙ bytes-append (m .sign ++ r .good) (r .c ∷ r .after) ∙ ap (λ (l : List ℕ). l ++ bytesOf (r .c ∷ r .after)) front;
+      taken = m .taken;
+      place = sym (r .place);
+      digits = r .digits;
+      fits = r .fits;
+      scalar = every-right (λ (c : ℕ). isScalar c ≡ true) (m .sign ++ r .good) (r .c ∷ r .after) (subst (Every (λ (c : ℕ). isScalar c ≡ true)) all chars) .0;
+      wrong = r .wrong;
+    }
 
 -- the digits that are too many stand after a plus or nothing
 pub record Many (s : List ℕ) (p : ℕ) : Type 0 where
   pub sign : List ℕ
   pub rest : List ℕ
   pub is : s ≡ sign ++ rest
+  pub taken : plus s ≡ length sign
   pub over : Over rest (length sign) 0 p
 
 pub over-value : (s : List ℕ) (p : ℕ) → hexValue s ≡ Wrong overflow p → Many s p
 unfolding hexValue hexAfterPlus
 over-value [] p e = let z : _≡_ {A = ℕ} 1 3 = cc in absurd (omega arith)
 over-value (c ∷ s) p e = by-bool (eqb c (code "+"))
-    (λ g. signed s (rw (g, hexValue) at e))
-    (λ g. record { sign = []; rest = c ∷ s; is = refl; over = over-digits (c ∷ s) 0 0 p (omega arith) (rw (g, hexValue) at e) })
+    (λ g. signed s g (rw (g, hexValue) at e))
+    (λ g. record { sign = []; rest = c ∷ s; is = refl; taken = plus-none c s g; over = over-digits (c ∷ s) 0 0 p (omega arith) (rw (g, hexValue) at e) })
   where
-    signed : (l : List ℕ) → hexAfterPlus l ≡ Wrong overflow p → Many (c ∷ l) p
-    signed [] e = let z : _≡_ {A = ℕ} 2 3 = cc in absurd (omega arith)
-    signed (b ∷ l) e = record { sign = c ∷ []; rest = b ∷ l; is = refl; over = over-digits (b ∷ l) 1 0 p (omega arith) e }
+    signed : (l : List ℕ) → eqb c (code "+") ≡ true → hexAfterPlus l ≡ Wrong overflow p → Many (c ∷ l) p
+    signed [] g e = let z : _≡_ {A = ℕ} 2 3 = cc in absurd (omega arith)
+    signed (b ∷ l) g e = record {
+      sign = c ∷ [];
+      rest = b ∷ l;
+      is = refl;
+      taken = plus-one c (b ∷ l) g (omega arith);
+      over = over-digits (b ∷ l) 1 0 p (omega arith) e;
+    }

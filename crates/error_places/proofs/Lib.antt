@@ -3,5 +3,11 @@ pub mod Digits
 pub mod Phases
 pub mod Steps
 pub mod Characters
+pub mod Marked
+pub mod Eleven
 pub mod Places
+pub mod Rows
+pub mod First
 pub mod Names
+pub mod Outcomes
+pub mod NameErrors

@@ -1,12 +1,12 @@
 -- Error 13 exactly where 10 would stand and a delimiter stands after the name's first character.
 use Prim.Native.Nat.{ℕ, zero, suc, _-_, _<_}
 use mathlib.Core.Path.{_≡_, refl, sym, ap, subst}
-use mathlib.Core.Bool.{true, false, _&&_, _||_}
+use mathlib.Core.Bool.{Bool, true, false, _&&_, _||_}
 use mathlib.Core.List.{List, [], _∷_, map}
 use lib.ListN.{length, getD, take, drop}
 use lib.Dec.{eqb, ltb}
 use native.Mathlib.Omega.{arith}
-use borrow.Author.Tests.{lt-ltb, ltb-true}
+use borrow.Author.Tests.{lt-ltb, ltb-true, ltb-false}
 use Rattle.laws.specs.Quoted.{code}
 use Rattle.laws.specs.Texts.{span}
 use Rattle.laws.proofs.Choice.{by-bool, if-all}
@@ -21,7 +21,7 @@ use Rattle.items.specs.declared.CharValue.{CharValue}
 use Rattle.items.specs.declared.CharValue.the-variants.{Scalar, Wrong, WrongAt}
 use Rattle.items.specs.Meaning.{lookup, lower, charNames, unnamed, isDelimiter, beforeDelimiter, nameless, onlyOne, later, hexNamed, spelledOut, characterOf}
 use Rattle.items.specs.Readers.{firstIs, lastIs, scalarOf}
-use Rattle.error_places.specs.Delimited.{Delimited, Ten, Thirteen}
+use Rattle.error_places.specs.Delimited.{Delimited, Undelimited, Ten, Thirteen}
 
 -- ---- the first delimiter
 
@@ -142,3 +142,68 @@ delimited-there t d p e = delimited-from t d p (modes t) e .1
 
 pub thirteen-only : (t : List ℕ) (p : ℕ) → Thirteen t p → Ten t × Delimited t p
 thirteen-only t p e = delimited-from t 0 p (modes t) e
+
+-- ---- error 10 in report mode: no delimiter
+
+none-after : (t : List ℕ) → ltb (suc (beforeDelimiter (drop 1 t))) (length t) ≡ false → Undelimited t
+none-after [] e j a b = absurd (omega arith)
+none-after (c ∷ l) e zero a b = absurd (omega arith)
+none-after (c ∷ l) e (suc j) a b = before-none l j (omega (arith, ltb-false (suc (beforeDelimiter l)) (length (c ∷ l)) e))
+
+undelimited-from : (t : List ℕ) (d : ℕ) {v w : CharValue} → Modes t v w → v ≡ Wrong kind.InvalidCharName d → Undelimited t
+unfolding nameless
+undelimited-from t d (Modes.same v a) e = absurd (subst Apart e a refl)
+undelimited-from t d Modes.none e =
+    let n : ℕ = suc (beforeDelimiter (drop 1 t)) in
+    by-bool (ltb n (length t))
+    (λ f. let g : WrongAt kind.InvalidCharDelimiter 0 n ≡ Wrong kind.InvalidCharName d = rw f at e in
+    let z : _≡_ {A = ℕ} 0 1 = cc in
+    absurd (omega arith))
+    (λ f. none-after t f)
+
+pub undelimited-there : (t : List ℕ) (d : ℕ) → characterOf true t ≡ Wrong kind.InvalidCharName d → Undelimited t
+undelimited-there t d e = undelimited-from t d (modes t) e
+
+-- only a hex form or a name sets a place within the name; only 12, 9 and 10 none
+abbrev pub Numbers : CharValue → Type 0
+Numbers (Scalar c) = Unit {0}
+Numbers (Wrong n d) = (n ≡ kind.InvalidCharDelimiter → ⊥)
+Numbers (WrongAt n d p) = (n ≡ kind.InvalidCharName → ⊥)
+
+numbers-hex : (n : ℕ) (h : Hex) → Numbers (later n (scalarOf h))
+unfolding scalarOf
+numbers-hex n (hex.Value v) = if-all (λ (c : CharValue). Numbers (later n c)) (isScalar v) tt (λ e. omega arith)
+numbers-hex n (hex.Wrong d p) = λ e. omega arith
+
+numbers-nameless : (report : Bool) (t : List ℕ) → Numbers (nameless report t)
+unfolding nameless
+numbers-nameless report t = if-all Numbers (report && ltb (suc (beforeDelimiter (drop 1 t))) (length t)) (λ e. omega arith) (λ e. omega arith)
+
+numbers-only : (report : Bool) (f : Front) (t : List ℕ) → Numbers (onlyOne report f t)
+numbers-only report (Utf8.char c n) t = if-all Numbers (eqb n (length t)) tt (numbers-nameless report t)
+numbers-only report (Utf8.bad n) t = numbers-nameless report t
+numbers-only report Utf8.cut t = numbers-nameless report t
+numbers-only report Utf8.none t = numbers-nameless report t
+
+pub numbers : (report : Bool) (t : List ℕ) → Numbers (characterOf report t)
+unfolding characterOf spelledOut hexNamed
+numbers report t =
+    if-all Numbers (eqb (lookup charNames (map lower t) unnamed) unnamed)
+    (if-all Numbers ((firstIs (code "u") t || firstIs (code "x") t) && ltb 1 (length t))
+    (if-all Numbers (firstIs (code "u") t && eqb (getD t 1 0) (code "{"))
+    (if-all Numbers (lastIs (code "}") t) (numbers-hex 2 (hexValue (take (length t - 3) (drop 2 t)))) (λ e. omega arith))
+    (numbers-hex 1 (hexValue (drop 1 t))))
+    (numbers-only report (front t) t))
+    tt
+
+-- in plain mode no place within a name is told but of a hex form
+pub plain-never : (t : List ℕ) (d p : ℕ) → characterOf false t ≡ WrongAt kind.InvalidCharDelimiter d p → ⊥
+unfolding nameless
+plain-never t d p e = go (modes t) e
+  where
+    go : {v w : CharValue} → Modes t v w → w ≡ WrongAt kind.InvalidCharDelimiter d p → ⊥
+    go (Modes.same v a) e = subst Apart e a refl
+    go Modes.none e = never e
+      where
+        never : nameless false t ≡ WrongAt kind.InvalidCharDelimiter d p → ⊥
+        never e = let z : _≡_ {A = ℕ} 0 1 = cc in omega arith

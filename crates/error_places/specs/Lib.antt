@@ -1,2 +1,3 @@
 pub mod Failing
+pub mod First
 pub mod Delimited

@@ -9,6 +9,7 @@ use Rattle.laws.specs.Quoted.{within}
 use Rattle.chars.specs.Utf8.{first}
 use Rattle.chars.specs.Machine.{step, start}
 use Rattle.chars.specs.Encode.{utf8, bytesOf, spelled}
+use Rattle.chars.specs.declared.Begun.{Begun}
 use Rattle.lines.specs.Starts.{newline, Served, Refused}
 use Rattle.lines.specs.Pieces.{Fed, fed, openOf, stepOf, fedOf, pieceOf, endOf, pieces}
 use Rattle.lines.specs.Words.{isState, contents, openLeft, pieceLeft, endFor, calls}
@@ -21,9 +22,13 @@ room = 9 ∷ 9 ∷ 9 ∷ 9 ∷ []
 abbrev parts : List (List ℕ)
 parts = (spelled "a" ++ newline ∷ 0xCE ∷ []) ∷ (0xBB ∷ newline ∷ []) ∷ []
 
--- the same with a byte after the first newline that no valid text goes on with
+-- the same with a sequence after the first newline that the second one breaks off: the byte that shows it is not the sequence's first
 abbrev broken : List (List ℕ)
-broken = (spelled "a" ++ newline ∷ 0xFF ∷ []) ∷ (newline ∷ []) ∷ []
+broken = (spelled "a" ++ newline ∷ 0xE2 ∷ []) ∷ (newline ∷ []) ∷ []
+
+-- what E2 begins: two bytes from 80 to BF are still to come
+abbrev begunAt2 : Begun
+begunAt2 = record { need = 2; low = 0x80; high = 0xBF; code = 2 }
 
 -- the starts in the memory, the places counted on from piece to piece
 fed-all : pieces (openOf room) parts ≡ fed (record { begun = start; from = 5; at = 5; lines = 2; stop = 0 }) (0 ∷ 2 ∷ 5 ∷ 9 ∷ [])
@@ -35,13 +40,22 @@ unfolding endOf
 ended = refl
 
 -- no piece is refused: the bad byte is told at the end, with the start of its sequence, and no start after it is noted
-fed-bad : pieces (openOf room) broken ≡ fed (record { begun = start; from = 2; at = 4; lines = 1; stop = 21 }) (0 ∷ 2 ∷ 9 ∷ 9 ∷ [])
+fed-bad : pieces (openOf room) broken ≡ fed (record { begun = begunAt2; from = 2; at = 4; lines = 1; stop = 21 }) (0 ∷ 2 ∷ 9 ∷ 9 ∷ [])
 unfolding within first step utf8 bytesOf stepOf fedOf pieceOf
 fed-bad = refl
 
-ended-bad : endOf (record { begun = start; from = 2; at = 4; lines = 1; stop = 21 }) 4 ≡ Refused 21 2
+ended-bad : endOf (record { begun = begunAt2; from = 2; at = 4; lines = 1; stop = 21 }) 4 ≡ Refused 21 2
 unfolding endOf
 ended-bad = refl
+
+-- memory for one start: as many as fit are noted, no piece is refused, and the end says how many there are
+fed-short : pieces (openOf (9 ∷ [])) parts ≡ fed (record { begun = start; from = 5; at = 5; lines = 2; stop = 0 }) (0 ∷ [])
+unfolding within first step utf8 bytesOf stepOf fedOf pieceOf
+fed-short = refl
+
+ended-short : endOf (record { begun = start; from = 5; at = 5; lines = 2; stop = 0 }) 1 ≡ Refused 33 3
+unfolding endOf
+ended-short = refl
 
 -- a state with more newline bytes than bytes is forged
 forged : endOf (record { begun = start; from = 0; at = 0; lines = 1; stop = 0 }) 4 ≡ Refused 27 0

@@ -1,26 +1,24 @@
--- The call that asks for a number: `names::enter` ensures `outcome (toldOf r) words′ bytes′ ≡ enterOf words bytes party name`; in a table that
--- the calls made it means `ask`.
-use Prim.Native.Nat.{ℕ, _+_, _-_}
+-- The call that asks for a number: `names::enter` ensures `outcome (toldOf r) words′ bytes′ ≡ enterOf words bytes party name`.
+use Prim.Native.Nat.{ℕ, zero, suc, _+_, _-_, _*_, _/_, _%_}
 use native.Mathlib.Omega.{arith}
 use mathlib.Core.Path.{_≡_, refl, sym, ap, _∙_}
-use mathlib.Core.List.{List, [], _∷_}
+use mathlib.Core.List.{List, [], _∷_, _++_}
 use lib.ListN.{replicate, getD}
-use Rattle.laws.specs.Quoted.{code, codes}
+use Rattle.laws.specs.Quoted.{codes}
 use Rattle.laws.specs.Texts.{same}
 use Rattle.refusal.specs.Refusals.{outOfBounds, noParty, noRoom}
-use Rattle.names.specs.Layout.{halfNames, halfBytes, firstSlot, tableWords, tableBytes, placeAt, nameAt, bears, halfBounds, inBounds}
+use Rattle.names.specs.Layout.{halfNames, halfBytes, halfWords, firstSlot, tableWords, tableBytes, placeAt, nameAt, bears, halfBounds, inBounds}
 use Rattle.names.specs.Call.{rest, mix, slotOf, tagOf, slotWord, proposes, probe, scan, lookupOf, findOf, newWords, laid, newOf, Outcome, outcome, enterOf}
-use Rattle.names.specs.Book.{book, place, size, numberIn, newIn, reply, ask}
 use Rattle.names.specs.Answers.{Told, Number, Refused, toldOf}
 use Rattle.names.specs.declared.Entered.{Entered}
-use Rattle.names.specs.declared.Entered.the-variants as entered
+use Rattle.names.specs.declared.Entered.the-variants as case
 
 -- two answers that mean the same are the same
 entered-once : (x y : Entered) → toldOf x ≡ toldOf y → x ≡ y
-entered-once (entered.Number j) (entered.Number k) e = cc
-entered-once (entered.Refused j) (entered.Refused k) e = cc
-entered-once (entered.Number j) (entered.Refused k) e = let z : _≡_ {A = ℕ} 0 1 = cc in absurd (omega arith)
-entered-once (entered.Refused j) (entered.Number k) e = let z : _≡_ {A = ℕ} 0 1 = cc in absurd (omega arith)
+entered-once (case.Number j) (case.Number k) e = cc
+entered-once (case.Refused j) (case.Refused k) e = cc
+entered-once (case.Number j) (case.Refused k) e = let z : _≡_ {A = ℕ} 0 1 = cc in absurd (omega arith)
+entered-once (case.Refused j) (case.Number k) e = let z : _≡_ {A = ℕ} 0 1 = cc in absurd (omega arith)
 
 -- so two permitted answers coincide, with the memory after them
 one-answer : (w b : List ℕ) (p : ℕ) (n : List ℕ) (x y : Entered) (v c v′ c′ : List ℕ) → outcome (toldOf x) v c ≡ enterOf w b p n
@@ -71,29 +69,67 @@ never-unwritten a b h =
     ap (λ (o : Outcome). getD (o .words) (firstSlot + slotOf (codes "a")) 0) h ∙ indexed in
     omega (arith, e)
 
--- ---- in the book
+-- ---- both halves
+
+-- how many names stand in each half after a call
+abbrev counts : Outcome → List ℕ
+counts o = getD (o .words) 0 0 ∷ getD (o .words) halfWords 0 ∷ []
+
+-- the table in which party 1 has entered one name
+abbrev entered : Outcome
+entered = enterOf words bytes 1 (codes "Fagus")
 
 -- a new name of party 1: the count of its half, plus 512, and it stands in that half
-new-of-contractor : ask (book [] []) 1 (codes "Fagus") ≡ reply (Number halfNames) (book [] (codes "Fagus" ∷ []))
-unfolding ask numberIn newIn place size
-new-of-contractor = refl
+new-of-contractor : (entered .answer ≡ Number halfNames) × (counts entered ≡ 0 ∷ 1 ∷ [])
+unfolding enterOf inBounds halfBounds findOf lookupOf probe scan proposes bears nameAt placeAt same mix rest newOf newWords laid
+new-of-contractor = (refl, refl)
+
+-- party 0 asks for it
+abbrev asked : Outcome
+asked = enterOf (entered .words) (entered .bytes) 0 (codes "Fagus")
 
 -- equal names have equal numbers, whoever asks: nothing is entered
-shared-name : ask (book [] (codes "Fagus" ∷ [])) 0 (codes "Fagus") ≡ reply (Number halfNames) (book [] (codes "Fagus" ∷ []))
-unfolding ask numberIn newIn place size same
-shared-name = refl
+shared-name : (asked .answer ≡ Number halfNames) × (counts asked ≡ 0 ∷ 1 ∷ [])
+unfolding enterOf inBounds halfBounds findOf lookupOf probe scan proposes bears nameAt placeAt same mix rest newOf newWords laid
+shared-name = (refl, refl)
+
+-- ---- a half that is all but full
+
+-- so many names of two bytes, from the k-th on, no two of them alike; and so many bounds, from a place on
+unfoldable pairs : ℕ → ℕ → List ℕ
+pairs zero k = []
+pairs (suc n) k = k / 256 ∷ k % 256 ∷ pairs n (k + 1)
+
+unfoldable bounds : ℕ → ℕ → List ℕ
+bounds zero at = []
+bounds (suc n) at = at ∷ bounds n (at + 2)
+
+-- memory in whose first half stand n of 512 such names
+abbrev filled : ℕ → List ℕ
+filled n = n ∷ (bounds (halfNames + 1) 0 ++ replicate (tableWords - firstSlot) 0)
+
+abbrev names : List ℕ
+names = pairs halfNames 0 ++ replicate (tableBytes - 2 * halfNames) 0
 
 -- a half holds 512 names, so the 512th is taken
-last-entry : ask (book (replicate (halfNames - 1) (codes "a")) []) 0 (codes "b") .answer ≡ Number 511
-unfolding ask numberIn newIn place size same
+last-entry : enterOf (filled 511) names 0 (codes "b") .answer ≡ Number 511
+unfolding pairs bounds enterOf inBounds halfBounds findOf lookupOf probe scan proposes bears nameAt placeAt same mix rest newOf newWords laid
 last-entry = refl
 
 -- and the 513th refused, whatever room the other has
-full : ask (book (replicate halfNames (codes "a")) []) 0 (codes "b") .answer ≡ Refused noRoom
-unfolding ask numberIn newIn place size same
+full : enterOf (filled halfNames) names 0 (codes "b") .answer ≡ Refused noRoom
+unfolding pairs bounds enterOf inBounds halfBounds findOf lookupOf probe scan proposes bears nameAt placeAt same mix rest newOf newWords laid
 full = refl
 
--- a half holds 16,384 bytes, so a name that just fits is taken
-last-byte : ask (book (replicate (halfBytes - 1) (code "a") ∷ []) []) 0 (codes "b") .answer ≡ Number 1
-unfolding ask numberIn newIn place size same
+-- memory in whose first half stands one name, of all its bytes but one
+abbrev allButOne : List ℕ
+allButOne = 1 ∷ 0 ∷ (halfBytes - 1) ∷ replicate (tableWords - 3) 0
+
+-- a half holds 16,384 bytes, so a name that just fits is taken, and one of a byte more is not
+last-byte : enterOf allButOne bytes 0 (codes "b") .answer ≡ Number 1
+unfolding enterOf inBounds halfBounds findOf lookupOf probe scan proposes bears nameAt placeAt same mix rest newOf newWords laid
 last-byte = refl
+
+byte-more : enterOf allButOne bytes 0 (codes "bc") .answer ≡ Refused noRoom
+unfolding enterOf inBounds halfBounds findOf lookupOf probe scan proposes bears nameAt placeAt same mix rest newOf newWords laid
+byte-more = refl

@@ -4,3 +4,4 @@ pub mod Tenth
 pub mod Deep
 pub mod Siblings
 pub mod Built
+pub mod Refused

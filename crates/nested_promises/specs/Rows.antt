@@ -8,12 +8,11 @@ use Rattle.laws.specs.Quoted.{within}
 use Rattle.chars.specs.Encode.{isScalar}
 use Rattle.items.specs.Kinds as kind
 use Rattle.items.specs.Items.{recordWords}
-use Rattle.nested.specs.Items.{Item, item, lastError, boolean, number, character, string, symbol, plainList, dottedList, vector, byteList}
+use Rattle.nested.specs.Items.{lastError, boolean, number, character, string, symbol, plainList, dottedList, vector, byteList}
 use Rattle.nested.specs.Items.{abbreviation, hasDetail, sortOf, classOf, itemsFrom, itemsOf, countOf}
-use Rattle.nested.specs.Grammar.{node}
+use Rattle.nested.specs.Grammar.{Node, node}
 use Rattle.nested.specs.Reader.{Result, Nodes, No, run, readOn, giveIn, start}
 use Rattle.nested.specs.Lent.{wordsOf, nestedOf, outcome}
-use Rattle.nested.specs.declared.Class.the-variants.{Opens}
 use Rattle.nested.specs.declared.Nested.the-variants.{Built, Refused}
 
 -- a record by its kind and its detail; its other words are 0
@@ -121,6 +120,11 @@ infix 5 _gives_
 pub data Row : Type 0 where
   _gives_ : List Rec → Result → Row
 
+-- so many lists, one in another, from a place on
+unfoldable pub tower : ℕ → ℕ → List Node
+tower zero p = []
+tower (suc n) p = node plainList p n ∷ tower n (p + 1)
+
 unfoldable pub table : List Row
 table =
     -- nothing; a; ;comment a; (a b); [] ; #(1 {x}); #u8("s" #\a)
@@ -136,26 +140,35 @@ table =
     ∷ ((opens ∷ a ∷ dot ∷ a ∷ drops ∷ a ∷ closes ∷ []) gives Nodes (node dottedList 0 2 ∷ node symbol 1 0 ∷ node symbol 3 0 ∷ []))
     ∷ ((opens ∷ a ∷ dot ∷ drops ∷ a ∷ a ∷ closes ∷ []) gives Nodes (node dottedList 0 2 ∷ node symbol 1 0 ∷ node symbol 5 0 ∷ []))
     ∷ ((opens ∷ word ∷ dot ∷ yes ∷ closes ∷ []) gives Nodes (node dottedList 0 2 ∷ node symbol 1 0 ∷ node boolean 3 0 ∷ []))
+    -- [a . b]; {a . b}
+    ∷ ((openSquare ∷ a ∷ dot ∷ a ∷ closeSquare ∷ []) gives Nodes (node dottedList 0 2 ∷ node symbol 1 0 ∷ node symbol 3 0 ∷ []))
+    ∷ ((openCurly ∷ a ∷ dot ∷ a ∷ closeCurly ∷ []) gives Nodes (node dottedList 0 2 ∷ node symbol 1 0 ∷ node symbol 3 0 ∷ []))
     -- 'a; #,@(a); '#;a b; #;#;a b c
     ∷ ((quote ∷ a ∷ []) gives Nodes (node abbreviation 0 1 ∷ node symbol 1 0 ∷ []))
     ∷ ((spliceSyntax ∷ opens ∷ a ∷ closes ∷ []) gives Nodes (node abbreviation 0 2 ∷ node plainList 1 1 ∷ node symbol 2 0 ∷ []))
     ∷ ((quote ∷ drops ∷ a ∷ a ∷ []) gives Nodes (node abbreviation 0 1 ∷ node symbol 3 0 ∷ []))
     ∷ ((drops ∷ drops ∷ a ∷ a ∷ a ∷ []) gives Nodes (node symbol 4 0 ∷ []))
-    -- 48: kind 32, kind 100, a kind past the last error, a boolean 2, an opening 4, a surrogate; 45
+    -- 64 levels, one in another
+    ∷ ((replicate 64 opens ++ replicate 64 closes) gives Nodes (tower 64 0))
+    -- 48: kind 32, kind 100, a kind past the last error, a boolean 2, an opening 4, a surrogate, an identifier 1; 45
     ∷ ((noToken ∷ []) gives No 48 0)
     ∷ ((a ∷ noError ∷ []) gives No 48 1)
     ∷ ((pastErrors ∷ []) gives No 48 0)
     ∷ ((kind.BooleanLiteral # 2 ∷ []) gives No 48 0)
     ∷ ((kind.OpenParen # 4 ∷ []) gives No 48 0)
     ∷ ((kind.CharacterLiteral # 0xD800 ∷ []) gives No 48 0)
+    ∷ ((kind.Identifier # 1 ∷ []) gives No 48 0)
     ∷ ((lastOne ∷ []) gives No 45 0)
-    -- 43: ' and the end; (' ) ; (#;) ; (' . a)
+    -- 43: ' and the end; #; and the end; (' ] ; (#;) ; (' . a)
     ∷ ((quote ∷ []) gives No 43 1)
+    ∷ ((drops ∷ []) gives No 43 1)
     ∷ ((opens ∷ quote ∷ closeSquare ∷ []) gives No 43 2)
     ∷ ((opens ∷ drops ∷ closes ∷ []) gives No 43 2)
     ∷ ((opens ∷ quote ∷ dot ∷ a ∷ []) gives No 43 2)
-    -- 42: . ; (. a) ; #(a . a) ; (a . ) ; (a . ] ; (a . a a) ; (a . a . a) ; (a . and the end
+    -- 42: . ; (. a) ; (#;a . b) ; (a . #;b) ; #(a . a) ; (a . ) ; (a . ] ; (a . a a) ; (a . a . a) ; (a . and the end
     ∷ ((dot ∷ []) gives No 42 0)
+    ∷ ((opens ∷ drops ∷ a ∷ dot ∷ a ∷ closes ∷ []) gives No 42 3)
+    ∷ ((opens ∷ a ∷ dot ∷ drops ∷ a ∷ closes ∷ []) gives No 42 5)
     ∷ ((opens ∷ dot ∷ a ∷ closes ∷ []) gives No 42 1)
     ∷ ((openVector ∷ a ∷ dot ∷ a ∷ closes ∷ []) gives No 42 2)
     ∷ ((opens ∷ a ∷ dot ∷ closes ∷ []) gives No 42 3)
@@ -183,7 +196,7 @@ abbrev pub wanted : Row → Result
 wanted (rs gives r) = r
 
 pub computed : map read table ≡ map wanted table
-unfolding table wordsIn isScalar within hasDetail sortOf classOf itemsFrom readOn giveIn
+unfolding tower table wordsIn isScalar within hasDetail sortOf classOf itemsFrom readOn giveIn
 computed = refl
 
 -- ---- whole answers, with the memory
@@ -208,14 +221,9 @@ pub square-row : nestedOf (wordsIn (opens ∷ a ∷ closeSquare ∷ [])) (replic
 unfolding wordsIn isScalar within hasDetail sortOf classOf itemsFrom readOn giveIn nestedOf wordsOf
 square-row = refl
 
--- so many open brackets, from a place on
-unfoldable pub levels : ℕ → ℕ → List Item
-levels zero p = []
-levels (suc n) p = item p (Opens kind.Round) ∷ levels n (suc p)
-
 -- 65 open brackets: the last is refused
-pub deep-row : readOn (levels 65 0) 65 start ≡ No 44 64
-unfolding levels readOn
+pub deep-row : nestedOf (wordsIn (replicate 65 opens)) (replicate 3 7) ≡ outcome (Refused 44 64) (replicate 3 7)
+unfolding wordsIn isScalar within hasDetail sortOf classOf itemsFrom readOn giveIn nestedOf wordsOf
 deep-row = refl
 
 -- (a) into seven words: six are written

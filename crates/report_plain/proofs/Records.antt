@@ -10,7 +10,8 @@ use lib.ListN.{length, getD}
 use lib.Seq.{getD-at}
 use Rattle.laws.specs.Quoted.{codes, oneOf}
 use Rattle.laws.specs.Choice.{if_then_else_}
-use Rattle.laws.proofs.Choice.{and-no}
+use borrow.Author.Tests.{eqb-true, eqb-false}
+use Rattle.laws.proofs.Choice.{by-bool, and-no}
 use Rattle.chars.specs.Encode.{utf8, bytesOf}
 use Rattle.chars.specs.Utf8.{chars}
 use Rattle.chars.proofs.Good.{good-bytes}
@@ -21,10 +22,13 @@ use Rattle.items.proofs.Splits.{length-bytes}
 use Rattle.coverage.proofs.Bytes.{bytes-append}
 use Rattle.coverage.proofs.Calls.{Rows, served-rows}
 use Rattle.coverage.proofs.Records.{rowsFrom, rowsOf}
-use Rattle.coverage.specs.Records.{rowsIn}
+use Rattle.coverage.specs.Records.{rowsIn, rowKind}
+use Rattle.items.proofs.Every.{Every}
+use Rattle.error_places.specs.Delimited.{NameError}
+use Rattle.error_places.proofs.NameErrors.{ten, thirteen, read-name-errors, read-never-thirteen}
 use Rattle.report_plain.specs.Together.{Together, ends, next, number, Same}
 use Rattle.report_plain.specs.Together as beside
-use Rattle.report_plain.specs.Records.{SameRow, RowsTogether}
+use Rattle.report_plain.specs.Records.{SameRow, RowsTogether, NamedTogether}
 use Rattle.report_plain.specs.Records as rows
 use Rattle.report_plain.proofs.AsPlain.{at-one-of}
 use Rattle.report_plain.proofs.Together.{read-together}
@@ -59,10 +63,10 @@ byte-after before c after h =
 -- ---- all records
 
 together-rows : (text : List ℕ) (free depth : ℕ) {is js : List Item} → Together text is js
-    → RowsTogether (bytesOf text) (rowsFrom free depth is) (rowsFrom free depth js)
+    → RowsTogether SameRow (bytesOf text) (rowsFrom free depth is) (rowsFrom free depth js)
 together-rows text free depth ends = rows.ends
 together-rows text free depth (next {i = i} {j = j} {is = is} {js = js} s t) =
-    let more : RowsTogether (bytesOf text) (rowsFrom (free + length (memoryOf (i .text))) (depthAfter (i .kind) depth) is)
+    let more : RowsTogether SameRow (bytesOf text) (rowsFrom (free + length (memoryOf (i .text))) (depthAfter (i .kind) depth) is)
     (rowsFrom (free + length (memoryOf (j .text))) (depthAfter (j .kind) depth) js)
     = rw (← same-text i j s, ← same-depth depth i j s) (together-rows text (free + length (memoryOf (i .text))) (depthAfter (i .kind) depth) t) in
     rows.next (same-row free depth i j s) more
@@ -103,12 +107,37 @@ module _ (text : List ℕ) (skip : Bool) where
 pub records-together : (source : List ℕ) (skip : Bool) (recs text recs′ text′ : List ℕ) (n m n′ m′ : ℕ)
     → readOf source 1 skip recs text .answer ≡ served n m
     → readOf source 0 skip recs′ text′ .answer ≡ served n′ m′
-    → RowsTogether source (rowsIn n (readOf source 1 skip recs text .records)) (rowsIn n′ (readOf source 0 skip recs′ text′ .records))
+    → RowsTogether SameRow source (rowsIn n (readOf source 1 skip recs text .records)) (rowsIn n′ (readOf source 0 skip recs′ text′ .records))
 records-together source skip recs text recs′ text′ n m n′ m′ e f =
     let r : Rows source 1 skip recs text n m = served-rows source 1 skip recs text n m e in
     let p : Rows source 0 skip recs′ text′ n′ m′ = served-rows source 0 skip recs′ text′ n′ m′ f in
     let rs : List (List ℕ) = rowsOf (kept skip (items true (chars source))) in
     let ps : List (List ℕ) = rowsOf (kept skip (items false (chars source))) in
-    let both : RowsTogether (bytesOf (chars source)) rs ps
+    let both : RowsTogether SameRow (bytesOf (chars source)) rs ps
     = together-rows (chars source) 0 0 (together-kept (chars source) skip (read-together (chars source))) in
-    rw (r .rows, p .rows) (subst (λ (s : List ℕ). RowsTogether s rs ps) (good-bytes source (r .good)) both)
+    rw (r .rows, p .rows) (subst (λ (s : List ℕ). RowsTogether SameRow s rs ps) (good-bytes source (r .good)) both)
+
+-- ---- 13 for 10
+
+-- what holds of the records of each mode, and of two side by side
+module _ (R : List ℕ → List ℕ → Type 0) (P Q : List ℕ → Type 0) (source : List ℕ) (both : (r p : List ℕ) → SameRow r p → P r → Q p → R r p) where
+  rows-with : {rs ps : List (List ℕ)} → RowsTogether SameRow source rs ps → Every P rs → Every Q ps → RowsTogether R source rs ps
+  rows-with rows.ends f g = rows.ends
+  rows-with (rows.next {r = r} {p = p} s t) f g = rows.next (both r p s (f .0) (g .0)) (rows-with t (f .1) (g .1))
+  rows-with (rows.number k o) f g = rows.number k o
+
+named-row : (source r p : List ℕ) → SameRow r p → NameError source r → (rowKind p ≡ thirteen → ⊥) → NamedTogether source r p
+named-row source r p (rows.row rows.thirteen d s e a b from to rest) f g = rows.delimited refl refl (f .thirteen refl)
+named-row source r p (rows.row (rows.equal k) d s e a b from to rest) f g = by-bool (eqb k ten)
+    (λ h. let z : k ≡ ten = eqb-true k ten h in let w = f .ten z in rows.undelimited z z (w .0) (w .1))
+    (λ h. rows.neither (λ z. eqb-false k ten h z) g (λ z. eqb-false k ten h z))
+
+-- IN REPORT MODE ERROR 13 STANDS EXACTLY WHERE PLAIN MODE HAS 10 AND A DELIMITER STANDS after the name's first character; where none does, 10
+pub thirteen-for-ten : (source : List ℕ) (skip : Bool) (recs text recs′ text′ : List ℕ) (n m n′ m′ : ℕ)
+    → readOf source 1 skip recs text .answer ≡ served n m
+    → readOf source 0 skip recs′ text′ .answer ≡ served n′ m′
+    → RowsTogether (NamedTogether source) source (rowsIn n (readOf source 1 skip recs text .records)) (rowsIn n′ (readOf source 0 skip recs′ text′ .records))
+thirteen-for-ten source skip recs text recs′ text′ n m n′ m′ e f =
+    rows-with (NamedTogether source) (NameError source) (λ (row : List ℕ). rowKind row ≡ thirteen → ⊥) source (named-row source)
+    (records-together source skip recs text recs′ text′ n m n′ m′ e f) (read-name-errors source skip recs text n m e)
+    (read-never-thirteen source skip recs′ text′ n′ m′ f)

@@ -1,5 +1,5 @@
 -- A text that is one decimal is UTF-8, so only one that is none is asked for its first bad sequence.
-use Rattle.coordinates.proofs.Calls.{call-long, call-point, call-none, call-bad, point-places}
+use Rattle.coordinates.proofs.Calls.{call-long, call-point, call-none, point-places}
 use mathlib.Core.Path.{sym, _∙_}
 use native.Mathlib.Omega.{arith}
 use borrow.Author.Needs.{needs}
@@ -23,14 +23,8 @@ of-point-requires c κs =
 enum-told : tie.Need-enum-told
 enum-told c = search needs
 
-first-bad-requires : tie.Need-first-bad-requires
-first-bad-requires c κs = search needs
-
-enum-told-2 : tie.Need-enum-told-2
-enum-told-2 c = search needs
-
-enum-known-at : tie.Need-enum-known-at
-enum-known-at c = search needs
+no-coordinate-requires : tie.Need-no-coordinate-requires
+no-coordinate-requires c κs = search needs
 
 returns-2 : tie.Need-returns-2
 returns-2 c =
@@ -38,30 +32,8 @@ returns-2 c =
     (sym (c .before .before .p .given .1) ∙ c .before .before .before .before .one-decimal .ensures) (c .of-point .ensures)
 
 returns-3 : tie.Need-returns-3
-returns-3 c =
-    call-none _ (c .before .before .before .before .before .before .if1 .left)
-    (sym (c .before .before .before .enum-told .given .1) ∙ c .before .before .before .before .before .one-decimal .ensures)
-    (sym (c .enum-told2 .given .1) ∙ c .before .before .first-bad .ensures)
-
-returns-4 : tie.Need-returns-4
-returns-4 c =
-    let told = c .before .before .before .before in
-    call-bad _ (told .before .before .before .if1 .left)
-    (sym (told .enum-told .given .1) ∙ told .before .before .one-decimal .ensures) _
-    (sym (c .before .at .given .1) ∙ c .before .before .before .first-bad .ensures)
+returns-3 c = call-none _ (sym (c .before .enum-told .given .1) ∙ c .before .before .before .one-decimal .ensures) _ (c .no-coordinate .ensures)
 
 pub coordinate-spec : {M : Type 1} → statement M
 coordinate-spec =
-    tie.close
-    (tie.spec
-    returns
-    one-decimal-requires
-    enum-known-p
-    of-point-requires
-    enum-told
-    first-bad-requires
-    enum-told-2
-    enum-known-at
-    returns-2
-    returns-3
-    returns-4)
+    tie.close (tie.spec returns one-decimal-requires enum-known-p of-point-requires enum-told no-coordinate-requires returns-2 returns-3)
