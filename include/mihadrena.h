@@ -34,8 +34,11 @@ extern "C" {
 
 /* The version, as CHANGELOG.md and the Rust crate have it. Records, states and the archive are of one version. */
 #define MIHADRENA_VERSION_MAJOR 0
-#define MIHADRENA_VERSION_MINOR 20
+#define MIHADRENA_VERSION_MINOR 21
 #define MIHADRENA_VERSION_PATCH 0
+
+/* The version of the archive that is linked: major * 65536 + minor * 256 + patch. */
+uint32_t mihadrena_version(void);
 
 /* -- The record of an item ------------------------------------------------------------------------------------------------- */
 
@@ -569,6 +572,23 @@ static inline uint32_t mihadrena_coordinate_of(const mihadrena_record *record, c
     return mihadrena_record_coordinate(source, source_length, record->kind, record->start, record->end, value, place);
 }
 
+/* The value of a record's number, a decimal or an integer: a corner is also written 6892014. A decimal has the value of its coordinate, an
+ * integer up to 9,007,199,254,740,992 its own, zero with its sign; any other number and any other kind is MIHADRENA_NO_COORDINATE. All else
+ * is as with mihadrena_record_coordinate.
+ *
+ *     mihadrena_record_value((const uint8_t *)"(corner 6892014)", 16, MIHADRENA_NUMBER, 8, 15, &value, &place);
+ *     // MIHADRENA_SERVED, value == 6892014.0
+ */
+uint32_t mihadrena_record_value(const uint8_t *source, size_t source_length, uint32_t kind, uint32_t start, uint32_t end,
+                                double *value, uint64_t *place);
+
+/* The same with the record itself. */
+static inline uint32_t mihadrena_value_of(const mihadrena_record *record, const uint8_t *source, size_t source_length,
+                                          double *value, uint64_t *place)
+{
+    return mihadrena_record_value(source, source_length, record->kind, record->start, record->end, value, place);
+}
+
 /* -- Characters ------------------------------------------------------------------------------------------------------------ */
 
 /* What mihadrena_code_at answers where no character stands. */
@@ -716,6 +736,36 @@ MIHADRENA_ASSERT(sizeof(mihadrena_node) == 4 * MIHADRENA_NODE_WORDS, "a node is 
  */
 uint32_t mihadrena_nest(const uint32_t *records, size_t records_length, uint32_t *nodes, size_t nodes_length, uint64_t *values,
                         size_t values_length);
+
+/* The first node that lies beneath a node, and the next one beside it, both directly beneath the node `within`; at the top `within` is how
+ * many nodes there are. Where there is none the answer is how many nodes there are. A node that says that more lie beneath it than there
+ * are ends with the last one.
+ *
+ *     // nodes of (a (b) c): 0 the list, 1 a, 2 the list (b), 3 b, 4 c
+ *     mihadrena_first_child((const uint32_t *)nodes, 5 * MIHADRENA_NODE_WORDS, 0);      // 1
+ *     mihadrena_next_sibling((const uint32_t *)nodes, 5 * MIHADRENA_NODE_WORDS, 0, 2);  // 4
+ *     mihadrena_next_sibling((const uint32_t *)nodes, 5 * MIHADRENA_NODE_WORDS, 2, 3);  // 5: there is none
+ */
+size_t mihadrena_first_child(const uint32_t *nodes, size_t nodes_length, size_t at);
+size_t mihadrena_next_sibling(const uint32_t *nodes, size_t nodes_length, size_t within, size_t at);
+
+/* The bracket in which the record number `at` lies, and of a close the one that it closes: the number of its record. How many records there
+ * are, if it lies in none or there is no such record. It goes by the depths, back from `at`.
+ *
+ *     // records of (a (b)): 0 (, 1 a, 2 (, 3 b, 4 ), 5 )
+ *     mihadrena_opener((const uint32_t *)records, 6 * MIHADRENA_RECORD_WORDS, 4);  // 2
+ *     mihadrena_opener((const uint32_t *)records, 6 * MIHADRENA_RECORD_WORDS, 0);  // 6: it lies in none
+ */
+size_t mihadrena_opener(const uint32_t *records, size_t records_length, size_t at);
+
+/* Whether all records lie in a source and a text memory of these lengths: extents and places in the source, texts where they say. Records
+ * that were stored or sent are tried with it before their places are used.
+ *
+ *     // records of (a), whose source has three bytes
+ *     mihadrena_records_fit((const uint32_t *)records, 3 * MIHADRENA_RECORD_WORDS, 3, 0);  // true
+ *     mihadrena_records_fit((const uint32_t *)records, 3 * MIHADRENA_RECORD_WORDS, 2, 0);  // false
+ */
+bool mihadrena_records_fit(const uint32_t *records, size_t records_length, size_t source_length, size_t text_length);
 
 /* -- Item files ------------------------------------------------------------------------------------------------------------ */
 

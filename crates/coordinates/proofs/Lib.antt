@@ -7,3 +7,4 @@ pub mod Nearer
 pub mod Means
 pub mod Ascii
 pub mod Calls
+pub mod Wholes

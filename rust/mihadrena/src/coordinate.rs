@@ -106,3 +106,31 @@ pub fn record_coordinate<S: AsRef<[u8]> + ?Sized>(source: &S, record: &Record) -
     };
     told(answer, value, place)
 }
+
+/// The value of a record's number in its source, a decimal or an integer: a corner is also written `6892014`. A decimal has the value of
+/// its coordinate, an integer up to 9,007,199,254,740,992 its own.
+///
+/// ```
+/// use mihadrena::{record_value, Items, NoCoordinate, Options, Record};
+///
+/// let plan = "(corner 6892014 611208.2)";
+/// let mut records = [Record::default(); 8];
+/// Items::new(plan, Options::default(), &mut records, &mut [])?;
+/// assert_eq!(record_value(plan, &records[2]), Ok(6892014.0));
+/// assert_eq!(record_value(plan, &records[3]), Ok(611208.2));
+/// assert_eq!(record_value(plan, &records[1]), Err(NoCoordinate::Outside));
+/// # Ok::<(), mihadrena::Refusal>(())
+/// ```
+///
+/// # Errors
+/// A [`NoCoordinate`], as [`record_coordinate`], and for a number that is neither, or an integer that is larger.
+pub fn record_value<S: AsRef<[u8]> + ?Sized>(source: &S, record: &Record) -> Result<f64, NoCoordinate> {
+    let source = source.as_ref();
+    let Record { kind, start, end, .. } = *record;
+    let (mut value, mut place) = (0.0, 0);
+    // SAFETY: the pointer and the length are those of a slice, and both places are lent for the call.
+    let answer = unsafe {
+        raw::mihadrena_record_value(source.as_ptr(), source.len(), kind, start, end, &raw mut value, &raw mut place)
+    };
+    told(answer, value, place)
+}

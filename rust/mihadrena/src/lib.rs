@@ -52,7 +52,7 @@ pub mod raw;
 mod reader;
 mod write;
 
-pub use coordinate::{coordinate, record_coordinate, NoCoordinate};
+pub use coordinate::{coordinate, record_coordinate, record_value, NoCoordinate};
 pub use error::{Error, HexError, Refusal};
 pub use fields::{Fields, NoFields};
 pub use files::{read_items, write_items, FileRefusal};
@@ -67,3 +67,14 @@ pub use pieces::PieceReader;
 pub use raw::Record;
 pub use reader::Reader;
 pub use write::{write, NotWritten};
+
+/// The version of the archive that is linked: major times 65536, minor times 256, patch.
+///
+/// ```
+/// assert!(mihadrena::version() >= 21 * 256);
+/// ```
+#[must_use]
+pub fn version() -> u32 {
+    // SAFETY: the call takes nothing.
+    unsafe { raw::mihadrena_version() }
+}

@@ -52,13 +52,15 @@ fn raw_constants() -> BTreeMap<String, u64> {
         .collect()
 }
 
-/// The header's version, which is that of `raw` too, is the crate's and the newest that CHANGELOG.md has.
+/// The header's version, which is that of `raw` too, is the crate's, the archive's and the newest that CHANGELOG.md has.
 #[test]
 fn one_version() {
     let version = format!("{}.{}.{}", raw::VERSION_MAJOR, raw::VERSION_MINOR, raw::VERSION_PATCH);
     let newest = CHANGES.lines().find_map(|line| line.strip_prefix("## ")).and_then(|line| line.split_once(':'));
     assert_eq!(newest.map(|(number, _)| number), Some(version.as_str()));
     assert_eq!(env!("CARGO_PKG_VERSION"), version);
+    let [major, minor, patch] = [raw::VERSION_MAJOR, raw::VERSION_MINOR, raw::VERSION_PATCH];
+    assert_eq!(mihadrena::version(), major * 65536 + minor * 256 + patch);
 }
 
 #[test]
@@ -156,7 +158,7 @@ fn header_functions() -> Declared {
             continue;
         };
         let inside = &declaration[paren + 1..declaration.len() - 1];
-        let parameters: Vec<String> = inside.split(',').map(rust_parameter).collect();
+        let parameters: Vec<String> = inside.split(',').filter(|one| *one != "void").map(rust_parameter).collect();
         let answers = if result == "void" { String::new() } else { format!(" -> {}", rust_type(result)) };
         functions.insert(name.to_string(), format!("({}){answers}", parameters.join(", ")));
     }
