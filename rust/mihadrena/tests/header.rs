@@ -149,11 +149,12 @@ fn without_inline(code: &str) -> String {
 
 fn header_functions() -> Declared {
     let declarations = without_inline(&code(HEADER));
+    let declarations: Vec<&str> = declarations.lines().filter(|line| !line.starts_with('#')).collect();
+    let declarations = declarations.join("\n");
     let mut functions = Declared::new();
     for declaration in declarations.split(';') {
         let Some(paren) = declaration.find('(').filter(|_| declaration.ends_with(')')) else { continue };
-        let head = declaration[..paren].trim_start();
-        let head = head.lines().last().expect("a line");
+        let head = declaration[..paren].lines().last().expect("a line");
         let Some((result, name)) = head.rsplit_once(' ').filter(|(_, name)| name.starts_with("mihadrena_")) else {
             continue;
         };
