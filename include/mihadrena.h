@@ -221,12 +221,12 @@ MIHADRENA_ASSERT(sizeof(mihadrena_record) == 4 * MIHADRENA_RECORD_WORDS, "a reco
  *     mihadrena_record records[8];
  *     uint8_t text[16];
  *     uint64_t values[MIHADRENA_READ_VALUES];
- *     uint32_t answer = mihadrena_read(source, sizeof source - 1, MIHADRENA_PLAIN, false,
+ *     uint32_t answer = mihadrena_read(source, sizeof source - 1, MIHADRENA_REPORT, false,
  *                                      (uint32_t *)records, 8 * MIHADRENA_RECORD_WORDS, text, sizeof text,
  *                                      values, MIHADRENA_READ_VALUES);
  *     // answer == MIHADRENA_SERVED, values[0] == 4 (OPEN_PAREN, IDENTIFIER, NUMBER, CLOSE_PAREN), values[1] == 0,
  *     // and the depths are 0, 1, 1, 1
- *     answer = mihadrena_read(source, sizeof source - 1, MIHADRENA_PLAIN, false,
+ *     answer = mihadrena_read(source, sizeof source - 1, MIHADRENA_REPORT, false,
  *                             (uint32_t *)records, 0, text, 0, values, MIHADRENA_READ_VALUES);
  *     // answer == MIHADRENA_TOO_FEW, values[0] == 4, values[1] == 0
  */
@@ -318,7 +318,7 @@ MIHADRENA_ASSERT(sizeof(mihadrena_told) == 8 * MIHADRENA_PIECE_VALUES, "these ar
  * the two slices have not the lengths of a state's.
  *
  *     mihadrena_state state;
- *     mihadrena_open(MIHADRENA_PLAIN, false, state.bytes, MIHADRENA_STATE_BYTES,
+ *     mihadrena_open(MIHADRENA_REPORT, false, state.bytes, MIHADRENA_STATE_BYTES,
  *                    state.words, MIHADRENA_STATE_WORDS);  // MIHADRENA_SERVED
  */
 uint32_t mihadrena_open(uint32_t mode, bool skip_comments, uint8_t *bytes, size_t bytes_length, uint64_t *words, size_t words_length);
@@ -366,7 +366,7 @@ uint32_t mihadrena_end(uint8_t *bytes, size_t bytes_length, uint64_t *words, siz
  *
  *     mihadrena_state state;
  *     mihadrena_told told;
- *     mihadrena_state_open(&state, MIHADRENA_PLAIN, false);                                          // MIHADRENA_SERVED
+ *     mihadrena_state_open(&state, MIHADRENA_REPORT, false);                                          // MIHADRENA_SERVED
  *     mihadrena_state_piece(&state, (const uint8_t *)"(cor", 4, text, sizeof text, &record, &told);  // MIHADRENA_ITEM, told.taken == 2
  *     mihadrena_state_piece(&state, (const uint8_t *)"or", 2, text, sizeof text, &record, &told);    // MIHADRENA_MORE, told.taken == 2
  *     mihadrena_state_end(&state, text, sizeof text, &record, &told);                                // MIHADRENA_ITEM: `cor`, depth 1
@@ -409,7 +409,7 @@ static inline uint32_t mihadrena_state_end(mihadrena_state *state, uint8_t *text
  *     const uint8_t source[] = "(a \"b\\n\")";
  *     uint64_t position[MIHADRENA_READER_WORDS];
  *     uint64_t values[MIHADRENA_READER_VALUES];
- *     uint32_t answer = mihadrena_reader_open(source, sizeof source - 1, MIHADRENA_PLAIN, false,
+ *     uint32_t answer = mihadrena_reader_open(source, sizeof source - 1, MIHADRENA_REPORT, false,
  *                                             position, MIHADRENA_READER_WORDS, values, MIHADRENA_READER_VALUES);
  *     // answer == MIHADRENA_SERVED
  */

@@ -19,7 +19,7 @@ static void read_and_text(void)
     mihadrena_record records[8];
     uint8_t text[16];
     uint64_t values[MIHADRENA_READ_VALUES];
-    uint32_t answer = mihadrena_read(source, sizeof source - 1, MIHADRENA_PLAIN, false, (uint32_t *)records,
+    uint32_t answer = mihadrena_read(source, sizeof source - 1, MIHADRENA_REPORT, false, (uint32_t *)records,
                                      8 * MIHADRENA_RECORD_WORDS, text, sizeof text, values, MIHADRENA_READ_VALUES);
     expect(answer == MIHADRENA_SERVED && values[0] == 4 && values[1] == 0, "mihadrena_read");
     expect(records[0].kind == MIHADRENA_OPEN_PAREN && records[1].kind == MIHADRENA_IDENTIFIER &&
@@ -29,7 +29,7 @@ static void read_and_text(void)
     const uint8_t *name = mihadrena_text(&records[1], source, sizeof source - 1, text, sizeof text);
     expect(name == source + 1 && records[1].text_end - records[1].text_start == 6, "mihadrena_text");
     expect(mihadrena_text(&records[0], source, sizeof source - 1, text, sizeof text) == NULL, "mihadrena_text, none");
-    answer = mihadrena_read(source, sizeof source - 1, MIHADRENA_PLAIN, false, (uint32_t *)records, 0, text, 0, values,
+    answer = mihadrena_read(source, sizeof source - 1, MIHADRENA_REPORT, false, (uint32_t *)records, 0, text, 0, values,
                             MIHADRENA_READ_VALUES);
     expect(answer == MIHADRENA_TOO_FEW && values[0] == 4 && values[1] == 0, "mihadrena_read, too few");
     answer = mihadrena_read(source, sizeof source - 1, 2, false, (uint32_t *)records, 0, text, 0, values, MIHADRENA_READ_VALUES);
@@ -72,7 +72,7 @@ static void pieces(void)
     mihadrena_record record;
     uint64_t values[MIHADRENA_PIECE_VALUES];
     uint32_t answer =
-        mihadrena_open(MIHADRENA_PLAIN, false, state.bytes, MIHADRENA_STATE_BYTES, state.words, MIHADRENA_STATE_WORDS);
+        mihadrena_open(MIHADRENA_REPORT, false, state.bytes, MIHADRENA_STATE_BYTES, state.words, MIHADRENA_STATE_WORDS);
     expect(answer == MIHADRENA_SERVED, "mihadrena_open");
     answer = mihadrena_end(state.bytes, MIHADRENA_STATE_BYTES, state.words, MIHADRENA_STATE_WORDS, text, sizeof text,
                            (uint32_t *)&record, MIHADRENA_RECORD_WORDS, values, MIHADRENA_PIECE_VALUES);
@@ -96,7 +96,7 @@ static void states(void)
     uint8_t text[MIHADRENA_PIECE_TEXT];
     mihadrena_record record;
     mihadrena_told told;
-    uint32_t answer = mihadrena_state_open(&state, MIHADRENA_PLAIN, false);
+    uint32_t answer = mihadrena_state_open(&state, MIHADRENA_REPORT, false);
     expect(answer == MIHADRENA_SERVED, "mihadrena_state_open");
     answer = mihadrena_state_piece(&state, (const uint8_t *)"(cor", 4, text, sizeof text, &record, &told);
     expect(answer == MIHADRENA_ITEM && told.taken == 2, "mihadrena_state_piece");
@@ -160,7 +160,7 @@ static void nest(void)
     mihadrena_node nodes[3];
     uint8_t text[4];
     uint64_t values[MIHADRENA_READ_VALUES];
-    uint32_t answer = mihadrena_read(source, sizeof source - 1, MIHADRENA_PLAIN, false, (uint32_t *)records,
+    uint32_t answer = mihadrena_read(source, sizeof source - 1, MIHADRENA_REPORT, false, (uint32_t *)records,
                                      3 * MIHADRENA_RECORD_WORDS, text, sizeof text, values, MIHADRENA_READ_VALUES);
     expect(answer == MIHADRENA_SERVED && values[0] == 3, "mihadrena_read, a list");
     answer = mihadrena_nest((const uint32_t *)records, 3 * MIHADRENA_RECORD_WORDS, (uint32_t *)nodes, 3 * MIHADRENA_NODE_WORDS, values,
@@ -185,10 +185,10 @@ static void depths(void)
     mihadrena_record records[ITEMS];
     uint8_t text[1];
     uint64_t values[MIHADRENA_READ_VALUES];
-    uint32_t answer = mihadrena_read(source, sizeof source - 1, MIHADRENA_PLAIN, false, (uint32_t *)records,
+    uint32_t answer = mihadrena_read(source, sizeof source - 1, MIHADRENA_REPORT, false, (uint32_t *)records,
                                      ITEMS * MIHADRENA_RECORD_WORDS - 1, text, 0, values, MIHADRENA_READ_VALUES);
     expect(answer == MIHADRENA_TOO_FEW && values[0] == ITEMS && values[1] == 0, "mihadrena_read, a word too few");
-    answer = mihadrena_read(source, sizeof source - 1, MIHADRENA_PLAIN, false, (uint32_t *)records,
+    answer = mihadrena_read(source, sizeof source - 1, MIHADRENA_REPORT, false, (uint32_t *)records,
                             ITEMS * MIHADRENA_RECORD_WORDS, text, 0, values, MIHADRENA_READ_VALUES);
     expect(answer == MIHADRENA_SERVED && values[0] == ITEMS, "mihadrena_read, just enough words");
     for (size_t i = 0; i < ITEMS; i++)
@@ -207,7 +207,7 @@ static void reader(void)
     uint8_t text[2];
     uint32_t answer = mihadrena_reader_open(source, length, 2, false, position, MIHADRENA_READER_WORDS, values, MIHADRENA_READER_VALUES);
     expect(answer == MIHADRENA_NO_MODE && values[0] == 2 && values[1] == 0, "mihadrena_reader_open, no mode");
-    answer = mihadrena_reader_open(source, length, MIHADRENA_PLAIN, false, position, MIHADRENA_READER_WORDS, values,
+    answer = mihadrena_reader_open(source, length, MIHADRENA_REPORT, false, position, MIHADRENA_READER_WORDS, values,
                                    MIHADRENA_READER_VALUES);
     expect(answer == MIHADRENA_SERVED && values[0] == 0 && values[1] == 0, "mihadrena_reader_open");
     answer = mihadrena_reader_next(source, length, position, MIHADRENA_READER_WORDS, text, 0, words, 9, values, MIHADRENA_READER_VALUES);
