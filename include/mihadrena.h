@@ -5,12 +5,13 @@
  * nothing between two calls, and writes only to the memory that a call is lent. Every call ends.
  *
  * Link with libmihadrena.a: `.ci/archive` writes it to target/staticlib, for x86-64 Linux, `.ci/archive --target aarch64-linux-gnu` to
- * target/aarch64-linux-gnu, for Linux on Arm of 64 bits. It needs `memcpy` and `memset` and nothing else.
+ * target/aarch64-linux-gnu, for Linux on Arm of 64 bits. Of the C library it calls `memcpy` and `memset` and nothing else.
  *
- * A new program reads in MIHADRENA_REPORT; MIHADRENA_PLAIN is there to read as Steel does.
+ * A new program reads in MIHADRENA_REPORT; MIHADRENA_PLAIN is there to read as Steel does. examples/c/terminal.c is a program to start from.
+ * mihadrena_plan.h has the calls of many arguments over a struct, and names and words for kinds, errors and refusals.
  *
- * A pointer and the length after it are one slice. A pointer must not be NULL, not even where the length is 0, and memory that a call
- * writes to must overlap with no other memory that the same call is lent.
+ * A pointer and the length after it are one slice. A pointer must not be NULL, not even where the length is 0 (the forms of mihadrena_plan.h
+ * see to that), and memory that a call writes to must overlap with no other memory that the same call is lent.
  */
 #ifndef MIHADRENA_H
 #define MIHADRENA_H
@@ -325,7 +326,8 @@ uint32_t mihadrena_open(uint32_t mode, bool skip_comments, uint8_t *bytes, size_
 
 /* Reads on in a piece: takes the fewest bytes from its front that make an item ready, or all of them. An item is ready once a character
  * behind it was read. Call it again with what was not taken, until it answers MIHADRENA_MORE. A call costs a fixed part and what the
- * bytes that it takes cost, however long the piece is: a text may be lent whole.
+ * bytes that it takes cost, however long the piece is: a text may be lent whole. Pieces of 64 bytes cost hardly more than those of 4,096,
+ * 97.1 and 93.3 instructions a byte of a plan; byte by byte it is 317.7 (docs/SPEED.md).
  *
  * MIHADRENA_ITEM: the item's record goes to `record`, its text, a number's digits too, to the front of `text` (MIHADRENA_IN_MEMORY); no
  * other byte of `text` changes. MIHADRENA_MORE changes neither. values[0] is 0, values[1] is how many bytes were taken.
@@ -335,7 +337,8 @@ uint32_t mihadrena_open(uint32_t mode, bool skip_comments, uint8_t *bytes, size_
  *       nothing changes; where there are two values they are 1, the records needed, and 0, the bytes taken
  *   MIHADRENA_OUT_OF_BOUNDS (slices of other lengths too), MIHADRENA_LITTLE_TEXT, MIHADRENA_AFTER_END  nothing is taken, nothing changes
  *   MIHADRENA_TOO_LONG, MIHADRENA_NOT_UTF8, MIHADRENA_LONG_ITEM  the reading stops, at the byte that shows it, which is taken; every
- *       later call with a state and memory enough takes nothing and answers the same
+ *       later call with a state and memory enough takes nothing and answers the same. A quote, a vertical line or a #| that is never closed
+ *       makes an item of all that follows: MIHADRENA_LONG_ITEM with its place, or its error at the end, if that comes sooner
  * After MIHADRENA_TOO_FEW they are tried in this order: MIHADRENA_OUT_OF_BOUNDS, MIHADRENA_LITTLE_TEXT, a stop that stands,
  * MIHADRENA_AFTER_END.
  *
@@ -638,6 +641,9 @@ size_t mihadrena_put_char(uint32_t code, uint8_t *text, size_t text_length);
 /* Builds the index of a whole text: MIHADRENA_SERVED, and values[0] is how many line starts were written; or MIHADRENA_TOO_LONG,
  * MIHADRENA_NOT_UTF8 or MIHADRENA_LINES_NO_ROOM, in this order, and nothing is written. Of the index asked about later pass as many words
  * as were served. A text has at most one line start more than it has bytes.
+ *
+ * Of a text that is not UTF-8, the bytes before the first bad sequence have an index: where a call was refused with MIHADRENA_NOT_UTF8 and
+ * a place, lend as many bytes of the text as that place says, here and to mihadrena_locate; the place is then the end of the text.
  *
  *     uint32_t index[8];
  *     uint64_t values[MIHADRENA_LINES_VALUES];
