@@ -28,18 +28,24 @@ typedef struct mihadrena_plan {
     uint64_t place;    /* what a refusal comes with */
 } mihadrena_plan;
 
-/* A pointer that is not NULL, for a slice that has no bytes. */
-static inline void *mihadrena_lent(const void *memory)
+/* A pointer that is not NULL, for a slice that has no bytes: one that is written to, and one that is read. */
+static inline void *mihadrena_lent(void *memory)
 {
     static uint64_t nothing;
-    return memory ? (void *)memory : (void *)&nothing;
+    return memory ? memory : &nothing;
+}
+
+static inline const void *mihadrena_shown(const void *memory)
+{
+    static const uint64_t nothing = 0;
+    return memory ? memory : &nothing;
 }
 
 /* mihadrena_read over a plan's source, into its records and text. */
 static inline uint32_t mihadrena_read_all(mihadrena_plan *plan, uint32_t mode, bool skip_comments)
 {
     uint64_t values[MIHADRENA_READ_VALUES] = {0, 0};
-    uint32_t answer = mihadrena_read((const uint8_t *)mihadrena_lent(plan->source), plan->source_length, mode, skip_comments,
+    uint32_t answer = mihadrena_read((const uint8_t *)mihadrena_shown(plan->source), plan->source_length, mode, skip_comments,
                                      (uint32_t *)mihadrena_lent(plan->records), plan->records_room * MIHADRENA_RECORD_WORDS,
                                      (uint8_t *)mihadrena_lent(plan->text), plan->text_room, values, MIHADRENA_READ_VALUES);
     bool counted = answer == MIHADRENA_SERVED || answer == MIHADRENA_TOO_FEW;
@@ -50,11 +56,13 @@ static inline uint32_t mihadrena_read_all(mihadrena_plan *plan, uint32_t mode, b
     return answer;
 }
 
-/* mihadrena_nest over the records that mihadrena_read_all gave. A refusal's record is in `place`. */
+/* mihadrena_nest over the records that mihadrena_read_all gave. A refusal's record is in `place`. Where the reading was refused with
+ * MIHADRENA_TOO_FEW so is this. */
 static inline uint32_t mihadrena_nest_all(mihadrena_plan *plan)
 {
     uint64_t value = 0;
-    uint32_t answer = mihadrena_nest((const uint32_t *)mihadrena_lent(plan->records), plan->items * MIHADRENA_RECORD_WORDS,
+    if (plan->records_room < plan->items) return MIHADRENA_TOO_FEW;
+    uint32_t answer = mihadrena_nest((const uint32_t *)mihadrena_shown(plan->records), plan->items * MIHADRENA_RECORD_WORDS,
                                      (uint32_t *)mihadrena_lent(plan->nodes), plan->nodes_room * MIHADRENA_NODE_WORDS,
                                      &value, MIHADRENA_NEST_VALUES);
     plan->tree = answer == MIHADRENA_SERVED ? (size_t)value : 0;
@@ -70,10 +78,10 @@ static inline const uint8_t *mihadrena_spelling(const mihadrena_plan *plan, cons
     if (record->text_source == MIHADRENA_NO_TEXT) {
         if (record->end < record->start || plan->source_length < record->end) return NULL;
         *length = record->end - record->start;
-        return (const uint8_t *)mihadrena_lent(plan->source) + record->start;
+        return (const uint8_t *)mihadrena_shown(plan->source) + record->start;
     }
-    const uint8_t *text = mihadrena_text(record, (const uint8_t *)mihadrena_lent(plan->source), plan->source_length,
-                                         (const uint8_t *)mihadrena_lent(plan->text), plan->text_room);
+    const uint8_t *text = mihadrena_text(record, (const uint8_t *)mihadrena_shown(plan->source), plan->source_length,
+                                         (const uint8_t *)mihadrena_shown(plan->text), plan->text_room);
     if (text) *length = record->text_end - record->text_start;
     return text;
 }
@@ -82,12 +90,12 @@ static inline const uint8_t *mihadrena_spelling(const mihadrena_plan *plan, cons
  * `within` is `tree`, and the first node is 0. */
 static inline size_t mihadrena_child(const mihadrena_plan *plan, size_t at)
 {
-    return mihadrena_first_child((const uint32_t *)mihadrena_lent(plan->nodes), plan->tree * MIHADRENA_NODE_WORDS, at);
+    return mihadrena_first_child((const uint32_t *)mihadrena_shown(plan->nodes), plan->tree * MIHADRENA_NODE_WORDS, at);
 }
 
 static inline size_t mihadrena_sibling(const mihadrena_plan *plan, size_t within, size_t at)
 {
-    return mihadrena_next_sibling((const uint32_t *)mihadrena_lent(plan->nodes), plan->tree * MIHADRENA_NODE_WORDS, within, at);
+    return mihadrena_next_sibling((const uint32_t *)mihadrena_shown(plan->nodes), plan->tree * MIHADRENA_NODE_WORDS, within, at);
 }
 
 /* -- A plan that comes in pieces ------------------------------------------------------------------------------------------- */
@@ -111,7 +119,7 @@ static inline uint32_t mihadrena_reading_step(mihadrena_reading *reading, const 
 {
     mihadrena_told told = {0, 0};
     uint32_t answer = mihadrena_piece(reading->state.bytes, MIHADRENA_STATE_BYTES, reading->state.words, MIHADRENA_STATE_WORDS,
-                                      (const uint8_t *)mihadrena_lent(*piece), *length, reading->text, MIHADRENA_PIECE_TEXT,
+                                      (const uint8_t *)mihadrena_shown(*piece), *length, reading->text, MIHADRENA_PIECE_TEXT,
                                       (uint32_t *)&reading->record, MIHADRENA_RECORD_WORDS, (uint64_t *)&told, MIHADRENA_PIECE_VALUES);
     if (*piece) *piece += told.taken;
     *length -= (size_t)told.taken;

@@ -331,6 +331,7 @@ static void nothing_lent(void)
     plan.source_length = 6;
     uint32_t answer = mihadrena_read_all(&plan, MIHADRENA_REPORT, false);
     expect(answer == MIHADRENA_TOO_FEW && plan.items == 3 && plan.text_bytes == 1 && plan.place == 0, "what a plan needs");
+    expect(mihadrena_nest_all(&plan) == MIHADRENA_TOO_FEW, "no nodes of records that did not fit");
     answer = mihadrena_read_all(&plan, 2, false);
     expect(answer == MIHADRENA_NO_MODE && plan.items == 0 && plan.place == 2, "what a refusal comes with");
     static mihadrena_reading reading;
