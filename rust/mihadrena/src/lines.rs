@@ -124,6 +124,36 @@ impl<'a> LineIndex<'a> {
         }
     }
 
+    /// The index of a text from line starts that were kept, or that [`LinePieces`] found; none if they are not the text's. The library looks
+    /// once, with one pass over the text.
+    ///
+    /// ```
+    /// use mihadrena::LineIndex;
+    ///
+    /// let lines = LineIndex::kept("a\nλb\n", &[0, 2, 6]).expect("its own");
+    /// assert_eq!(lines.locate(4)?.to_string(), "2:2");
+    /// assert!(LineIndex::kept("a\nλb\n", &[0, 3, 6]).is_none());
+    /// # Ok::<(), mihadrena::LineRefusal>(())
+    /// ```
+    #[must_use]
+    pub fn kept<S: AsRef<[u8]> + ?Sized>(text: &'a S, starts: &'a [u32]) -> Option<Self> {
+        let text = text.as_ref();
+        let mut values = [0; raw::LINES_VALUES];
+        // SAFETY: each pointer and length is those of a slice, and the mutable one is borrowed as such.
+        let answer = unsafe {
+            raw::mihadrena_locate(
+                text.as_ptr(),
+                text.len(),
+                starts.as_ptr(),
+                starts.len(),
+                0,
+                values.as_mut_ptr(),
+                values.len(),
+            )
+        };
+        (answer == raw::SERVED).then_some(Self { text, starts })
+    }
+
     /// The index that was built of this text before.
     #[cfg(feature = "alloc")]
     pub(crate) const fn of(text: &'a [u8], starts: &'a [u32]) -> Self {

@@ -1,5 +1,5 @@
 //! Line and column without a pass over the text are those that the library tells.
-use mihadrena::{raw, LineIndex, LineRefusal, Position};
+use mihadrena::{raw, LineIndex, LinePieces, LineRefusal, Position};
 
 const TEXTS: [&[u8]; 8] = [
     include_bytes!("../../../examples/plan.scm"),
@@ -43,6 +43,12 @@ fn every_place_of_the_examples() {
         for place in (0..=text.len()).chain(past) {
             assert_eq!(lines.locate(place), told(text, lines.starts(), place), "{place}");
         }
+        let mut pieces = vec![0; text.len() + 1];
+        let mut found = LinePieces::new(&mut pieces);
+        text.chunks(3).for_each(|piece| found.piece(piece));
+        let starts = found.end().expect("a text");
+        assert!(LineIndex::kept(text, starts).is_some_and(|kept| kept.starts() == lines.starts()));
+        assert!(LineIndex::kept(text, &starts[1..]).is_none());
         let places: Vec<u32> = (0..text.len() as u32 + 2).collect();
         let mut found = vec![0; 2 * places.len()];
         let all = lines.locate_all(&places, &mut found).expect("enough memory");
