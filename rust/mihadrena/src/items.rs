@@ -142,6 +142,25 @@ pub(crate) fn text_of<'t>(record: &Record, source: &'t [u8], text: &'t [u8]) -> 
     }
 }
 
+/// Whether a record has a detail only where its kind has one, and a text where its kind always has one. What a detail is, is known to
+/// [`Kind::of`] and [`Error::of`].
+fn has_what_its_kind_has(record: &Record) -> bool {
+    let detail = match record.kind {
+        raw::OPEN_PAREN
+        | raw::CLOSE_PAREN
+        | raw::CHARACTER_LITERAL
+        | raw::UNEXPECTED_CHAR
+        | raw::INVALID_STRING_ESCAPE
+        | raw::UNCLOSED_HEX_ESCAPE
+        | raw::INVALID_HEX_ESCAPE_LITERAL
+        | raw::INVALID_HEX_CODE_POINT => true,
+        raw::BOOLEAN_LITERAL => record.detail <= 1,
+        _ => record.detail == 0,
+    };
+    let text = !matches!(record.kind, raw::IDENTIFIER | raw::KEYWORD | raw::STRING_LITERAL);
+    detail && (text || record.text_source != raw::NO_TEXT)
+}
+
 /// The memory that the items of a text need.
 #[derive(Clone, Copy, Debug, Default, PartialEq, Eq, Hash)]
 pub struct Needed {
@@ -283,6 +302,7 @@ impl<'t, 'r> Items<'t, 'r> {
         let is_item = |record: &Record| {
             part(source, record.start, record.end).is_some()
                 && part(source, record.place_start, record.place_end).is_some()
+                && has_what_its_kind_has(record)
                 && Item::found(record, source, text).is_some()
         };
         records.iter().all(is_item).then(|| Self::of(source, records, text))

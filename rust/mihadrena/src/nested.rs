@@ -65,8 +65,6 @@ pub enum NotNested {
     ErrorItem(usize),
     /// The nodes do not fit. As many as there are items always do.
     FewNodes,
-    /// Of records that were stored or sent, a kind with a detail that no item has.
-    Alien(usize),
 }
 
 impl NotNested {
@@ -80,8 +78,9 @@ impl NotNested {
             raw::TOO_DEEP => Self::TooDeep(item),
             raw::ERROR_ITEM => Self::ErrorItem(item),
             raw::FEW_NODES => Self::FewNodes,
-            raw::ALIEN => Self::Alien(item),
-            _ => unreachable!("the library refuses this call for nothing else"),
+            _ => unreachable!(
+                "the library's own records, and those that are taken as its own, are refused for nothing else"
+            ),
         }
     }
 
@@ -96,7 +95,6 @@ impl NotNested {
             Self::TooDeep(_) => raw::TOO_DEEP,
             Self::ErrorItem(_) => raw::ERROR_ITEM,
             Self::FewNodes => raw::FEW_NODES,
-            Self::Alien(_) => raw::ALIEN,
         }
     }
 
@@ -115,8 +113,7 @@ impl NotNested {
             | Self::MisplacedDot(item)
             | Self::MarkWaits(item)
             | Self::TooDeep(item)
-            | Self::ErrorItem(item)
-            | Self::Alien(item) => Some(item),
+            | Self::ErrorItem(item) => Some(item),
             Self::FewNodes => None,
         }
     }
@@ -132,7 +129,6 @@ impl fmt::Display for NotNested {
             Self::TooDeep(item) => write!(f, "item {item} lies deeper than {} levels", raw::DEEPEST),
             Self::ErrorItem(item) => write!(f, "item {item} is an error"),
             Self::FewNodes => write!(f, "too few nodes"),
-            Self::Alien(item) => write!(f, "item {item} is none that a lexer gives"),
         }
     }
 }

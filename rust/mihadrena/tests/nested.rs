@@ -159,3 +159,34 @@ fn records_that_were_sent() {
     }
     assert!(taken > 1000 && refused > 1000, "{taken} {refused}");
 }
+
+/// What is taken of records that were sent has no kind and no detail that the library finds alien.
+#[test]
+fn nothing_alien_is_taken() {
+    for kind in (0..40).chain(98..120) {
+        for detail in (0..8).chain([0xD800, 0x10_FFFF, 0x11_0000, u32::MAX]) {
+            for text_source in 0..4 {
+                let sent = Record { kind, detail, end: 1, place_end: 1, text_source, ..Record::default() };
+                if Items::stored("1", &[sent], &[]).is_some() {
+                    assert_ne!(nested(&sent), raw::ALIEN, "{sent:?}");
+                }
+            }
+        }
+    }
+}
+
+/// What `mihadrena_nest` answers of one record.
+fn nested(record: &Record) -> u32 {
+    let (mut nodes, mut values) = ([0; raw::NODE_WORDS], [0; raw::NEST_VALUES]);
+    // SAFETY: each pointer and length is those of an array or a record, and the mutable ones are borrowed as such.
+    unsafe {
+        raw::mihadrena_nest(
+            (&raw const *record).cast(),
+            raw::RECORD_WORDS,
+            nodes.as_mut_ptr(),
+            nodes.len(),
+            values.as_mut_ptr(),
+            values.len(),
+        )
+    }
+}
