@@ -34,6 +34,10 @@ typedef struct terminal {
     list in;
     double corner[2];
     size_t coordinates;
+    uint32_t open[MIHADRENA_DEEPEST]; /* the shapes of the brackets that are open */
+    uint32_t waiting; /* how many #; wait for the datum that they drop */
+    bool dropping;    /* whether a list is being dropped, and the depth of its brackets */
+    uint32_t dropped;
 } terminal;
 
 static void fail(const char *what)
@@ -85,10 +89,50 @@ static void coordinate(terminal *t, const mihadrena_record *item, const uint8_t 
     t->coordinates++;
 }
 
+/* Whether an item is part of a datum that #; drops: a stand that was taken out of the plan is none. */
+static bool is_dropped(terminal *t, const mihadrena_record *item)
+{
+    if (t->dropping) {
+        t->dropping = item->kind != MIHADRENA_CLOSE_PAREN || item->depth != t->dropped + 1;
+        return true;
+    }
+    if (item->kind == MIHADRENA_DATUM_COMMENT) {
+        t->waiting++;
+        return true;
+    }
+    if (t->waiting == 0 || item->kind == MIHADRENA_CLOSE_PAREN)
+        return false;
+    if (item->kind < MIHADRENA_QUOTE_TICK || item->kind > MIHADRENA_UNQUOTE_SPLICE_SYNTAX) {
+        t->waiting--;
+        t->dropping = item->kind == MIHADRENA_OPEN_PAREN;
+        t->dropped = item->depth;
+    }
+    return true;
+}
+
+/* A #; that has no datum before a close or the end. */
+static void expect_none_waits(terminal *t, uint64_t place)
+{
+    if (t->waiting > 0)
+        tell(t, place, mihadrena_message(MIHADRENA_MARK_WAITS));
+    t->waiting = 0;
+}
+
+/* A bracket closes one of its shape, which of #( and #u8( is round; they lie as deep as mihadrena_nest lets them. */
+static void heed_bracket(terminal *t, const mihadrena_record *item)
+{
+    uint32_t shape = item->detail % MIHADRENA_VECTOR;
+    if (item->kind == MIHADRENA_OPEN_PAREN && item->depth < MIHADRENA_DEEPEST)
+        t->open[item->depth] = shape;
+    else if (item->kind == MIHADRENA_OPEN_PAREN)
+        tell(t, item->start, mihadrena_message(MIHADRENA_TOO_DEEP));
+    else if (item->depth == 0 || (item->depth <= MIHADRENA_DEEPEST && t->open[item->depth - 1] != shape))
+        tell(t, item->start, mihadrena_message(MIHADRENA_WRONG_CLOSE));
+}
+
 static void close_list(terminal *t, const mihadrena_record *item)
 {
-    if (item->depth == 0)
-        tell(t, item->start, mihadrena_message(MIHADRENA_WRONG_CLOSE));
+    expect_none_waits(t, item->start);
     if (t->in == CORNER && t->coordinates == 2)
         printf("  corner %.2f %.2f\n", t->corner[0], t->corner[1]);
     else if (t->in == CORNER)
@@ -99,14 +143,19 @@ static void close_list(terminal *t, const mihadrena_record *item)
 /* Takes an item with its spelling, in the order of the text. */
 static void take(terminal *t, const mihadrena_record *item, const uint8_t *spelling, size_t length)
 {
+    if (item->kind == MIHADRENA_OPEN_PAREN || item->kind == MIHADRENA_CLOSE_PAREN)
+        heed_bracket(t, item);
     if (mihadrena_is_error(item->kind)) {
         tell(t, item->place_start, mihadrena_message(item->kind));
+    } else if (is_dropped(t, item)) {
+        return;
     } else if (item->kind == MIHADRENA_OPEN_PAREN) {
-        t->in = HEAD;
+        t->in = item->detail <= MIHADRENA_CURLY ? HEAD : OTHER;
     } else if (item->kind == MIHADRENA_CLOSE_PAREN) {
         close_list(t, item);
     } else if (t->in == HEAD) {
-        t->in = is("stand", spelling, length) ? STAND : is("corner", spelling, length) ? CORNER : OTHER;
+        bool named = item->kind == MIHADRENA_IDENTIFIER;
+        t->in = named && is("stand", spelling, length) ? STAND : named && is("corner", spelling, length) ? CORNER : OTHER;
         t->coordinates = 0;
     } else if (t->in == STAND) {
         printf("stand %.*s\n", (int)length, (const char *)spelling);
@@ -119,6 +168,7 @@ static void take(terminal *t, const mihadrena_record *item, const uint8_t *spell
 /* Takes the end of the text, which has this place; `depth` brackets are open before it. */
 static void take_end(terminal *t, uint64_t place, uint32_t depth)
 {
+    expect_none_waits(t, place);
     if (depth > 0)
         tell(t, place, mihadrena_message(MIHADRENA_BRACKET_OPEN));
 }

@@ -3,7 +3,7 @@
 //!
 //!     terminal FILE             the plan is read whole
 //!     terminal --pieces FILE    it comes in pieces of 512 bytes, each forgotten but for as many bytes as an item may have
-use mihadrena::{raw, value, Item, Kind, LineIndex, NotNested, Options, PieceReader, Plan, Position, Refusal};
+use mihadrena::{raw, value, Item, Kind, LineIndex, NotNested, Options, Paren, PieceReader, Plan, Position, Refusal};
 use std::env;
 use std::fmt::Display;
 use std::fs::File;
@@ -31,8 +31,12 @@ struct Terminal {
     out: String,
     list: List,
     corner: Vec<f64>,
-    /// How many brackets are open.
-    depth: usize,
+    /// The shapes of the brackets that are open.
+    open: Vec<Paren>,
+    /// How many `#;` wait for the datum that they drop.
+    waiting: usize,
+    /// The depth of the brackets of a list that is being dropped.
+    dropped: Option<usize>,
 }
 
 impl Terminal {
@@ -44,16 +48,58 @@ impl Terminal {
 
     /// Takes an item, in the order of the text, with its spelling and where it points at.
     fn take(&mut self, item: &Item, spelling: &str, at: Position) {
-        self.depth = item.depth;
+        self.heed_bracket(item, at);
         match item.what {
             Err(error) => self.tell(at, error),
-            Ok(Kind::OpenParen(..)) => {
-                self.depth += 1;
-                self.list = List::Head;
-            }
+            Ok(kind) if self.drops(kind, item.depth) => (),
+            Ok(Kind::OpenParen(_, before)) => self.list = if before.is_none() { List::Head } else { List::Other },
             Ok(Kind::CloseParen(_)) => self.close(at),
             Ok(kind) => self.take_in_list(kind, spelling, at),
         }
+    }
+
+    /// A bracket closes one of its shape; they lie as deep as nested lists may.
+    fn heed_bracket(&mut self, item: &Item, at: Position) {
+        match item.what {
+            Ok(Kind::OpenParen(paren, _)) => {
+                self.open.push(paren);
+                if item.depth >= raw::DEEPEST {
+                    self.tell(at, "lists lie too deep");
+                }
+            }
+            Ok(Kind::CloseParen(paren)) if self.open.pop() != Some(paren) => {
+                self.tell(at, "a bracket closes nothing or another one");
+            }
+            _ => (),
+        }
+    }
+
+    /// Whether an item is part of a datum that `#;` drops: a stand that was taken out of the plan is none.
+    fn drops(&mut self, kind: Kind, depth: usize) -> bool {
+        use Kind::{CloseParen, DatumComment, OpenParen, QuasiQuote, QuasiQuoteSyntax, QuoteSyntax, QuoteTick};
+        use Kind::{Unquote, UnquoteSplice, UnquoteSpliceSyntax, UnquoteSyntax};
+        match (self.dropped, kind) {
+            (Some(list), CloseParen(_)) if depth == list + 1 => self.dropped = None,
+            (Some(_), _) => (),
+            (None, DatumComment) => self.waiting += 1,
+            (None, CloseParen(_)) => return false,
+            (None, _) if self.waiting == 0 => return false,
+            (None, QuoteTick | QuasiQuote | Unquote | UnquoteSplice) => (),
+            (None, QuoteSyntax | QuasiQuoteSyntax | UnquoteSyntax | UnquoteSpliceSyntax) => (),
+            (None, _) => {
+                self.waiting -= 1;
+                self.dropped = matches!(kind, OpenParen(..)).then_some(depth);
+            }
+        }
+        true
+    }
+
+    /// A `#;` that has no datum before a close or the end.
+    fn expect_none_waits(&mut self, at: Position) {
+        if self.waiting > 0 {
+            self.tell(at, "nothing stands after #;");
+        }
+        self.waiting = 0;
     }
 
     fn take_in_list(&mut self, kind: Kind, spelling: &str, at: Position) {
@@ -61,9 +107,9 @@ impl Terminal {
             List::Other => (),
             List::Head => {
                 self.corner.clear();
-                self.list = match spelling {
-                    "stand" => List::Stand,
-                    "corner" => List::Corner,
+                self.list = match kind {
+                    Kind::Identifier("stand") => List::Stand,
+                    Kind::Identifier("corner") => List::Corner,
                     _ => List::Other,
                 };
             }
@@ -82,10 +128,7 @@ impl Terminal {
     }
 
     fn close(&mut self, at: Position) {
-        if self.depth == 0 {
-            self.tell(at, "a bracket closes nothing");
-        }
-        self.depth = self.depth.saturating_sub(1);
+        self.expect_none_waits(at);
         match (self.list, &self.corner[..]) {
             (List::Corner, [north, east]) => self.out += &format!("  corner {north:.2} {east:.2}\n"),
             (List::Corner, _) => self.tell(at, "a corner has two coordinates"),
@@ -96,7 +139,8 @@ impl Terminal {
 
     /// Takes the end of the text.
     fn end(mut self, at: Position) -> String {
-        if self.depth > 0 {
+        self.expect_none_waits(at);
+        if !self.open.is_empty() {
             self.tell(at, NotNested::BracketOpen(0));
         }
         self.out
@@ -208,10 +252,14 @@ fn main() -> io::Result<()> {
 
 #[cfg(test)]
 mod tests {
-    use super::{in_pieces, whole};
+    use super::{in_pieces, whole, OPTIONS};
+    use mihadrena::{Nodes, Plan};
 
     const PLAN: &[u8] = include_bytes!("../../../examples/terminal.scm");
     const LISTED: &str = include_str!("../../../examples/c/terminal.out");
+
+    const WRONG: &str = "a bracket closes nothing or another one";
+    const OPEN: &str = "a bracket is open at the end\n";
 
     /// What both give.
     fn both(plan: &[u8]) -> String {
@@ -229,11 +277,40 @@ mod tests {
         assert!(listed.lines().map(told).eq(LISTED.lines().map(told)));
     }
 
+    /// What the nested lists have: of plans without a slip, the stands that no `#;` dropped.
+    #[test]
+    fn the_stands_are_those_of_the_nested_lists() {
+        fn stands(nodes: Nodes, out: &mut String) {
+            for node in nodes {
+                if node.head() == Some("stand") {
+                    *out += &format!("stand {}\n", node.children().nth(1).expect("a name").spelling());
+                }
+                stands(node.children(), out);
+            }
+        }
+        let plan = include_str!("../../../examples/plan.scm");
+        let dropped = "#;(stand 1) #;'(stand 2) #;#;(stand 3) [stand 4] (stand 5 #;(stand 6 (stand 7)) (stand 8)) \
+                       #(stand 9) (\"stand\" 10) #;a (stand 11 #;12)";
+        for text in [plan, dropped] {
+            let mut expected = String::new();
+            stands(Plan::read(text, OPTIONS).expect("a text").nodes().expect("nested lists"), &mut expected);
+            let listed = both(text.as_bytes());
+            let names: String =
+                listed.lines().filter(|line| line.starts_with("stand")).map(|line| format!("{line}\n")).collect();
+            assert_eq!(names, expected);
+        }
+        assert_eq!(both(b"(a #;) '#;"), "1:6: nothing stands after #;\n1:11: nothing stands after #;\n");
+    }
+
     #[test]
     fn what_is_no_text_and_what_is_too_long_for_pieces() {
         assert_eq!(both(b"\n \xC3\xB8\xFF"), "2:3: invalid UTF-8 at byte 4\n");
         assert_eq!(both(b""), "");
-        assert_eq!(both(b"(a))"), "1:4: a bracket closes nothing\n");
+        assert_eq!(
+            both(b"(a)) #(a] ["),
+            [4, 9].map(|column| format!("1:{column}: {WRONG}\n")).concat() + "1:12: " + OPEN
+        );
+        assert_eq!(both("(".repeat(65).as_bytes()), format!("1:65: lists lie too deep\n1:66: {OPEN}"));
         let open = format!("(a\n  \"{}", "ø".repeat(4096));
         assert_eq!(whole(open.clone().into()), "2:3: incomplete string\n2:4100: a bracket is open at the end\n");
         assert_eq!(in_pieces(&mut open.as_bytes()).expect("bytes"), "2:3: item at byte 5 exceeds 4096 bytes\n");
