@@ -1,4 +1,4 @@
-# Installs the header, the archive for a machine, and what pkg-config and CMake find them by; from the repository, once `.ci/archive` made the
+# Installs the headers, the archive for a machine, and what pkg-config and CMake find them by; from the repository, once `.ci/archive` made the
 # archive, or from the folder that dist/make makes, where it lies already.
 #
 #     make install PREFIX=/usr/local [TARGET=x86_64-linux-gnu|aarch64-linux-gnu] [DESTDIR=]
@@ -20,7 +20,7 @@ to = $(DESTDIR)$(PREFIX)
 install:
 	@test -n "$(archive)" || { echo "no archive for $(TARGET): .ci/archive makes it" >&2; exit 1; }
 	mkdir -p $(to)/include $(to)/lib/pkgconfig $(to)/lib/cmake/mihadrena $(to)/share/doc/mihadrena
-	cp include/mihadrena.h $(to)/include/
+	cp include/mihadrena.h include/mihadrena_plan.h $(to)/include/
 	cp $(archive) $(to)/lib/
 	$(filled) dist/mihadrena.pc.in > $(to)/lib/pkgconfig/mihadrena.pc
 	$(filled) dist/mihadrena-config.cmake.in > $(to)/lib/cmake/mihadrena/mihadrena-config.cmake

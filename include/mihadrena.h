@@ -5,12 +5,13 @@
  * nothing between two calls, and writes only to the memory that a call is lent. Every call ends.
  *
  * Link with libmihadrena.a: `.ci/archive` writes it to target/staticlib, for x86-64 Linux, `.ci/archive --target aarch64-linux-gnu` to
- * target/aarch64-linux-gnu, for Linux on Arm of 64 bits. It needs `memcpy` and `memset` and nothing else.
+ * target/aarch64-linux-gnu, for Linux on Arm of 64 bits. Of the C library it calls `memcpy` and `memset` and nothing else.
  *
- * A new program reads in MIHADRENA_REPORT; MIHADRENA_PLAIN is there to read as Steel does.
+ * A new program reads in MIHADRENA_REPORT; MIHADRENA_PLAIN is there to read as Steel does. examples/c/terminal.c is a program to start from.
+ * mihadrena_plan.h has the calls of many arguments over a struct, and names and words for kinds, errors and refusals.
  *
- * A pointer and the length after it are one slice. A pointer must not be NULL, not even where the length is 0, and memory that a call
- * writes to must overlap with no other memory that the same call is lent.
+ * A pointer and the length after it are one slice. A pointer must not be NULL, not even where the length is 0 (the forms of mihadrena_plan.h
+ * see to that), and memory that a call writes to must overlap with no other memory that the same call is lent.
  */
 #ifndef MIHADRENA_H
 #define MIHADRENA_H
@@ -34,8 +35,11 @@ extern "C" {
 
 /* The version, as CHANGELOG.md and the Rust crate have it. Records, states and the archive are of one version. */
 #define MIHADRENA_VERSION_MAJOR 0
-#define MIHADRENA_VERSION_MINOR 20
+#define MIHADRENA_VERSION_MINOR 21
 #define MIHADRENA_VERSION_PATCH 0
+
+/* The version of the archive that is linked: major * 65536 + minor * 256 + patch. */
+uint32_t mihadrena_version(void);
 
 /* -- The record of an item ------------------------------------------------------------------------------------------------- */
 
@@ -218,12 +222,12 @@ MIHADRENA_ASSERT(sizeof(mihadrena_record) == 4 * MIHADRENA_RECORD_WORDS, "a reco
  *     mihadrena_record records[8];
  *     uint8_t text[16];
  *     uint64_t values[MIHADRENA_READ_VALUES];
- *     uint32_t answer = mihadrena_read(source, sizeof source - 1, MIHADRENA_PLAIN, false,
+ *     uint32_t answer = mihadrena_read(source, sizeof source - 1, MIHADRENA_REPORT, false,
  *                                      (uint32_t *)records, 8 * MIHADRENA_RECORD_WORDS, text, sizeof text,
  *                                      values, MIHADRENA_READ_VALUES);
  *     // answer == MIHADRENA_SERVED, values[0] == 4 (OPEN_PAREN, IDENTIFIER, NUMBER, CLOSE_PAREN), values[1] == 0,
  *     // and the depths are 0, 1, 1, 1
- *     answer = mihadrena_read(source, sizeof source - 1, MIHADRENA_PLAIN, false,
+ *     answer = mihadrena_read(source, sizeof source - 1, MIHADRENA_REPORT, false,
  *                             (uint32_t *)records, 0, text, 0, values, MIHADRENA_READ_VALUES);
  *     // answer == MIHADRENA_TOO_FEW, values[0] == 4, values[1] == 0
  */
@@ -315,14 +319,15 @@ MIHADRENA_ASSERT(sizeof(mihadrena_told) == 8 * MIHADRENA_PIECE_VALUES, "these ar
  * the two slices have not the lengths of a state's.
  *
  *     mihadrena_state state;
- *     mihadrena_open(MIHADRENA_PLAIN, false, state.bytes, MIHADRENA_STATE_BYTES,
+ *     mihadrena_open(MIHADRENA_REPORT, false, state.bytes, MIHADRENA_STATE_BYTES,
  *                    state.words, MIHADRENA_STATE_WORDS);  // MIHADRENA_SERVED
  */
 uint32_t mihadrena_open(uint32_t mode, bool skip_comments, uint8_t *bytes, size_t bytes_length, uint64_t *words, size_t words_length);
 
 /* Reads on in a piece: takes the fewest bytes from its front that make an item ready, or all of them. An item is ready once a character
  * behind it was read. Call it again with what was not taken, until it answers MIHADRENA_MORE. A call costs a fixed part and what the
- * bytes that it takes cost, however long the piece is: a text may be lent whole.
+ * bytes that it takes cost, however long the piece is: a text may be lent whole. Pieces of 64 bytes cost hardly more than those of 4,096,
+ * 97.1 and 93.3 instructions a byte of a plan; byte by byte it is 317.7 (docs/SPEED.md).
  *
  * MIHADRENA_ITEM: the item's record goes to `record`, its text, a number's digits too, to the front of `text` (MIHADRENA_IN_MEMORY); no
  * other byte of `text` changes. MIHADRENA_MORE changes neither. values[0] is 0, values[1] is how many bytes were taken.
@@ -332,7 +337,8 @@ uint32_t mihadrena_open(uint32_t mode, bool skip_comments, uint8_t *bytes, size_
  *       nothing changes; where there are two values they are 1, the records needed, and 0, the bytes taken
  *   MIHADRENA_OUT_OF_BOUNDS (slices of other lengths too), MIHADRENA_LITTLE_TEXT, MIHADRENA_AFTER_END  nothing is taken, nothing changes
  *   MIHADRENA_TOO_LONG, MIHADRENA_NOT_UTF8, MIHADRENA_LONG_ITEM  the reading stops, at the byte that shows it, which is taken; every
- *       later call with a state and memory enough takes nothing and answers the same
+ *       later call with a state and memory enough takes nothing and answers the same. A quote, a vertical line or a #| that is never closed
+ *       makes an item of all that follows: MIHADRENA_LONG_ITEM with its place, or its error at the end, if that comes sooner
  * After MIHADRENA_TOO_FEW they are tried in this order: MIHADRENA_OUT_OF_BOUNDS, MIHADRENA_LITTLE_TEXT, a stop that stands,
  * MIHADRENA_AFTER_END.
  *
@@ -363,7 +369,7 @@ uint32_t mihadrena_end(uint8_t *bytes, size_t bytes_length, uint64_t *words, siz
  *
  *     mihadrena_state state;
  *     mihadrena_told told;
- *     mihadrena_state_open(&state, MIHADRENA_PLAIN, false);                                          // MIHADRENA_SERVED
+ *     mihadrena_state_open(&state, MIHADRENA_REPORT, false);                                          // MIHADRENA_SERVED
  *     mihadrena_state_piece(&state, (const uint8_t *)"(cor", 4, text, sizeof text, &record, &told);  // MIHADRENA_ITEM, told.taken == 2
  *     mihadrena_state_piece(&state, (const uint8_t *)"or", 2, text, sizeof text, &record, &told);    // MIHADRENA_MORE, told.taken == 2
  *     mihadrena_state_end(&state, text, sizeof text, &record, &told);                                // MIHADRENA_ITEM: `cor`, depth 1
@@ -406,7 +412,7 @@ static inline uint32_t mihadrena_state_end(mihadrena_state *state, uint8_t *text
  *     const uint8_t source[] = "(a \"b\\n\")";
  *     uint64_t position[MIHADRENA_READER_WORDS];
  *     uint64_t values[MIHADRENA_READER_VALUES];
- *     uint32_t answer = mihadrena_reader_open(source, sizeof source - 1, MIHADRENA_PLAIN, false,
+ *     uint32_t answer = mihadrena_reader_open(source, sizeof source - 1, MIHADRENA_REPORT, false,
  *                                             position, MIHADRENA_READER_WORDS, values, MIHADRENA_READER_VALUES);
  *     // answer == MIHADRENA_SERVED
  */
@@ -569,6 +575,23 @@ static inline uint32_t mihadrena_coordinate_of(const mihadrena_record *record, c
     return mihadrena_record_coordinate(source, source_length, record->kind, record->start, record->end, value, place);
 }
 
+/* The value of a record's number, a decimal or an integer: a corner is also written 6892014. A decimal has the value of its coordinate, an
+ * integer up to 9,007,199,254,740,992 its own, zero with its sign; any other number and any other kind is MIHADRENA_NO_COORDINATE. All else
+ * is as with mihadrena_record_coordinate.
+ *
+ *     mihadrena_record_value((const uint8_t *)"(corner 6892014)", 16, MIHADRENA_NUMBER, 8, 15, &value, &place);
+ *     // MIHADRENA_SERVED, value == 6892014.0
+ */
+uint32_t mihadrena_record_value(const uint8_t *source, size_t source_length, uint32_t kind, uint32_t start, uint32_t end,
+                                double *value, uint64_t *place);
+
+/* The same with the record itself. */
+static inline uint32_t mihadrena_value_of(const mihadrena_record *record, const uint8_t *source, size_t source_length,
+                                          double *value, uint64_t *place)
+{
+    return mihadrena_record_value(source, source_length, record->kind, record->start, record->end, value, place);
+}
+
 /* -- Characters ------------------------------------------------------------------------------------------------------------ */
 
 /* What mihadrena_code_at answers where no character stands. */
@@ -618,6 +641,9 @@ size_t mihadrena_put_char(uint32_t code, uint8_t *text, size_t text_length);
 /* Builds the index of a whole text: MIHADRENA_SERVED, and values[0] is how many line starts were written; or MIHADRENA_TOO_LONG,
  * MIHADRENA_NOT_UTF8 or MIHADRENA_LINES_NO_ROOM, in this order, and nothing is written. Of the index asked about later pass as many words
  * as were served. A text has at most one line start more than it has bytes.
+ *
+ * Of a text that is not UTF-8, the bytes before the first bad sequence have an index: where a call was refused with MIHADRENA_NOT_UTF8 and
+ * a place, lend as many bytes of the text as that place says, here and to mihadrena_locate; the place is then the end of the text.
  *
  *     uint32_t index[8];
  *     uint64_t values[MIHADRENA_LINES_VALUES];
@@ -716,6 +742,36 @@ MIHADRENA_ASSERT(sizeof(mihadrena_node) == 4 * MIHADRENA_NODE_WORDS, "a node is 
  */
 uint32_t mihadrena_nest(const uint32_t *records, size_t records_length, uint32_t *nodes, size_t nodes_length, uint64_t *values,
                         size_t values_length);
+
+/* The first node that lies beneath a node, and the next one beside it, both directly beneath the node `within`; at the top `within` is how
+ * many nodes there are. Where there is none the answer is how many nodes there are. A node that says that more lie beneath it than there
+ * are ends with the last one.
+ *
+ *     // nodes of (a (b) c): 0 the list, 1 a, 2 the list (b), 3 b, 4 c
+ *     mihadrena_first_child((const uint32_t *)nodes, 5 * MIHADRENA_NODE_WORDS, 0);      // 1
+ *     mihadrena_next_sibling((const uint32_t *)nodes, 5 * MIHADRENA_NODE_WORDS, 0, 2);  // 4
+ *     mihadrena_next_sibling((const uint32_t *)nodes, 5 * MIHADRENA_NODE_WORDS, 2, 3);  // 5: there is none
+ */
+size_t mihadrena_first_child(const uint32_t *nodes, size_t nodes_length, size_t at);
+size_t mihadrena_next_sibling(const uint32_t *nodes, size_t nodes_length, size_t within, size_t at);
+
+/* The bracket in which the record number `at` lies, and of a close the one that it closes: the number of its record. How many records there
+ * are, if it lies in none or there is no such record. It goes by the depths, back from `at`.
+ *
+ *     // records of (a (b)): 0 (, 1 a, 2 (, 3 b, 4 ), 5 )
+ *     mihadrena_opener((const uint32_t *)records, 6 * MIHADRENA_RECORD_WORDS, 4);  // 2
+ *     mihadrena_opener((const uint32_t *)records, 6 * MIHADRENA_RECORD_WORDS, 0);  // 6: it lies in none
+ */
+size_t mihadrena_opener(const uint32_t *records, size_t records_length, size_t at);
+
+/* Whether all records lie in a source and a text memory of these lengths: extents and places in the source, texts where they say. Records
+ * that were stored or sent are tried with it before their places are used.
+ *
+ *     // records of (a), whose source has three bytes
+ *     mihadrena_records_fit((const uint32_t *)records, 3 * MIHADRENA_RECORD_WORDS, 3, 0);  // true
+ *     mihadrena_records_fit((const uint32_t *)records, 3 * MIHADRENA_RECORD_WORDS, 2, 0);  // false
+ */
+bool mihadrena_records_fit(const uint32_t *records, size_t records_length, size_t source_length, size_t text_length);
 
 /* -- Item files ------------------------------------------------------------------------------------------------------------ */
 

@@ -176,6 +176,8 @@ static void call_numbers(void)
     mihadrena_number_by(choice, text, bytes, parts, words);
     mihadrena_coordinate(text, bytes, value, place);
     mihadrena_record_coordinate(text, bytes, kind, start, end, value, place);
+    mihadrena_record_value(text, bytes, kind, start, end, value, place);
+    mihadrena_version();
     mihadrena_text_mark(text, bytes, text, bytes, kind % 4, start, end);
     mihadrena_good_bytes(text, bytes);
     mihadrena_code_at(text, bytes, at);
@@ -217,6 +219,27 @@ static void call_records(void)
     mihadrena_nest(words, records, writable(4 * nodes), nodes, values, 1);
     mihadrena_write(words, records, from, source, memory, text, writable(out), out, values, 1);
     mihadrena_items_write(words, records, writable(stored), stored, values, 1);
+    mihadrena_records_fit(words, records, source, text);
+    if (mihadrena_opener(words, records, records) > records / MIHADRENA_RECORD_WORDS) {
+        fail("an opener that is no record");
+    }
+}
+
+/* Nodes that are forged: what is answered is a node behind the one that was asked about, or how many there are. */
+static void call_nodes(void)
+{
+    size_t words = number_below(256), nodes = words / MIHADRENA_NODE_WORDS, at = number_below(96), within = number_below(96);
+    uint32_t *forged = writable(4 * words);
+    for (size_t i = 0; i < words; i++) {
+        forged[i] = (uint32_t)number_below(number_below(8) == 0 ? (size_t)1 << 24 : 16);
+    }
+    const size_t told[] = {mihadrena_first_child(forged, words, at), mihadrena_next_sibling(forged, words, within, at)};
+    for (size_t i = 0; i < 2; i++) {
+        if (told[i] != nodes && (told[i] > nodes || told[i] <= at)) {
+            fail("a node that does not follow");
+        }
+    }
+    mihadrena_opener(forged, words, at);
 }
 
 static void call_file(void)
@@ -246,7 +269,7 @@ static void call_names(void)
 int LLVMFuzzerTestOneInput(const uint8_t *data, size_t size)
 {
     static void (*const calls[])(void) = {call_read,  call_fields,  call_pieces, call_reader, call_numbers,
-                                          call_lines, call_records, call_file,   call_names};
+                                          call_lines, call_records, call_nodes,  call_file,   call_names};
     input = data;
     left = size < 4096 ? size : 4096;
     used = lent = 0;

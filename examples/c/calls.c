@@ -1,9 +1,9 @@
-/* The worked calls of include/mihadrena.h, each with the answer that the header gives. */
+/* The worked calls of include/mihadrena.h, each with the answer that the header gives, and the forms of include/mihadrena_plan.h. */
 #include <stdio.h>
 #include <stdlib.h>
 #include <string.h>
 
-#include "mihadrena.h"
+#include "mihadrena_plan.h"
 
 static void expect(bool fact, const char *what)
 {
@@ -19,7 +19,7 @@ static void read_and_text(void)
     mihadrena_record records[8];
     uint8_t text[16];
     uint64_t values[MIHADRENA_READ_VALUES];
-    uint32_t answer = mihadrena_read(source, sizeof source - 1, MIHADRENA_PLAIN, false, (uint32_t *)records,
+    uint32_t answer = mihadrena_read(source, sizeof source - 1, MIHADRENA_REPORT, false, (uint32_t *)records,
                                      8 * MIHADRENA_RECORD_WORDS, text, sizeof text, values, MIHADRENA_READ_VALUES);
     expect(answer == MIHADRENA_SERVED && values[0] == 4 && values[1] == 0, "mihadrena_read");
     expect(records[0].kind == MIHADRENA_OPEN_PAREN && records[1].kind == MIHADRENA_IDENTIFIER &&
@@ -29,7 +29,7 @@ static void read_and_text(void)
     const uint8_t *name = mihadrena_text(&records[1], source, sizeof source - 1, text, sizeof text);
     expect(name == source + 1 && records[1].text_end - records[1].text_start == 6, "mihadrena_text");
     expect(mihadrena_text(&records[0], source, sizeof source - 1, text, sizeof text) == NULL, "mihadrena_text, none");
-    answer = mihadrena_read(source, sizeof source - 1, MIHADRENA_PLAIN, false, (uint32_t *)records, 0, text, 0, values,
+    answer = mihadrena_read(source, sizeof source - 1, MIHADRENA_REPORT, false, (uint32_t *)records, 0, text, 0, values,
                             MIHADRENA_READ_VALUES);
     expect(answer == MIHADRENA_TOO_FEW && values[0] == 4 && values[1] == 0, "mihadrena_read, too few");
     answer = mihadrena_read(source, sizeof source - 1, 2, false, (uint32_t *)records, 0, text, 0, values, MIHADRENA_READ_VALUES);
@@ -72,7 +72,7 @@ static void pieces(void)
     mihadrena_record record;
     uint64_t values[MIHADRENA_PIECE_VALUES];
     uint32_t answer =
-        mihadrena_open(MIHADRENA_PLAIN, false, state.bytes, MIHADRENA_STATE_BYTES, state.words, MIHADRENA_STATE_WORDS);
+        mihadrena_open(MIHADRENA_REPORT, false, state.bytes, MIHADRENA_STATE_BYTES, state.words, MIHADRENA_STATE_WORDS);
     expect(answer == MIHADRENA_SERVED, "mihadrena_open");
     answer = mihadrena_end(state.bytes, MIHADRENA_STATE_BYTES, state.words, MIHADRENA_STATE_WORDS, text, sizeof text,
                            (uint32_t *)&record, MIHADRENA_RECORD_WORDS, values, MIHADRENA_PIECE_VALUES);
@@ -96,7 +96,7 @@ static void states(void)
     uint8_t text[MIHADRENA_PIECE_TEXT];
     mihadrena_record record;
     mihadrena_told told;
-    uint32_t answer = mihadrena_state_open(&state, MIHADRENA_PLAIN, false);
+    uint32_t answer = mihadrena_state_open(&state, MIHADRENA_REPORT, false);
     expect(answer == MIHADRENA_SERVED, "mihadrena_state_open");
     answer = mihadrena_state_piece(&state, (const uint8_t *)"(cor", 4, text, sizeof text, &record, &told);
     expect(answer == MIHADRENA_ITEM && told.taken == 2, "mihadrena_state_piece");
@@ -160,7 +160,7 @@ static void nest(void)
     mihadrena_node nodes[3];
     uint8_t text[4];
     uint64_t values[MIHADRENA_READ_VALUES];
-    uint32_t answer = mihadrena_read(source, sizeof source - 1, MIHADRENA_PLAIN, false, (uint32_t *)records,
+    uint32_t answer = mihadrena_read(source, sizeof source - 1, MIHADRENA_REPORT, false, (uint32_t *)records,
                                      3 * MIHADRENA_RECORD_WORDS, text, sizeof text, values, MIHADRENA_READ_VALUES);
     expect(answer == MIHADRENA_SERVED && values[0] == 3, "mihadrena_read, a list");
     answer = mihadrena_nest((const uint32_t *)records, 3 * MIHADRENA_RECORD_WORDS, (uint32_t *)nodes, 3 * MIHADRENA_NODE_WORDS, values,
@@ -185,10 +185,10 @@ static void depths(void)
     mihadrena_record records[ITEMS];
     uint8_t text[1];
     uint64_t values[MIHADRENA_READ_VALUES];
-    uint32_t answer = mihadrena_read(source, sizeof source - 1, MIHADRENA_PLAIN, false, (uint32_t *)records,
+    uint32_t answer = mihadrena_read(source, sizeof source - 1, MIHADRENA_REPORT, false, (uint32_t *)records,
                                      ITEMS * MIHADRENA_RECORD_WORDS - 1, text, 0, values, MIHADRENA_READ_VALUES);
     expect(answer == MIHADRENA_TOO_FEW && values[0] == ITEMS && values[1] == 0, "mihadrena_read, a word too few");
-    answer = mihadrena_read(source, sizeof source - 1, MIHADRENA_PLAIN, false, (uint32_t *)records,
+    answer = mihadrena_read(source, sizeof source - 1, MIHADRENA_REPORT, false, (uint32_t *)records,
                             ITEMS * MIHADRENA_RECORD_WORDS, text, 0, values, MIHADRENA_READ_VALUES);
     expect(answer == MIHADRENA_SERVED && values[0] == ITEMS, "mihadrena_read, just enough words");
     for (size_t i = 0; i < ITEMS; i++)
@@ -207,7 +207,7 @@ static void reader(void)
     uint8_t text[2];
     uint32_t answer = mihadrena_reader_open(source, length, 2, false, position, MIHADRENA_READER_WORDS, values, MIHADRENA_READER_VALUES);
     expect(answer == MIHADRENA_NO_MODE && values[0] == 2 && values[1] == 0, "mihadrena_reader_open, no mode");
-    answer = mihadrena_reader_open(source, length, MIHADRENA_PLAIN, false, position, MIHADRENA_READER_WORDS, values,
+    answer = mihadrena_reader_open(source, length, MIHADRENA_REPORT, false, position, MIHADRENA_READER_WORDS, values,
                                    MIHADRENA_READER_VALUES);
     expect(answer == MIHADRENA_SERVED && values[0] == 0 && values[1] == 0, "mihadrena_reader_open");
     answer = mihadrena_reader_next(source, length, position, MIHADRENA_READER_WORDS, text, 0, words, 9, values, MIHADRENA_READER_VALUES);
@@ -259,6 +259,89 @@ static void write_back(void)
     expect(answer == MIHADRENA_UNWRITTEN && values[0] == 2, "mihadrena_write, a comment");
 }
 
+/* The records and nodes of a short text, in memory of their own. */
+typedef struct short_plan {
+    mihadrena_plan plan;
+    mihadrena_record records[16];
+    uint8_t text[16];
+    mihadrena_node nodes[16];
+} short_plan;
+
+static const mihadrena_plan *short_read(short_plan *memory, const char *source)
+{
+    memory->plan = (mihadrena_plan){.source = (const uint8_t *)source, .source_length = strlen(source), .records = memory->records,
+                                    .records_room = 16, .text = memory->text, .text_room = sizeof memory->text,
+                                    .nodes = memory->nodes, .nodes_room = 16};
+    expect(mihadrena_read_all(&memory->plan, MIHADRENA_REPORT, true) == MIHADRENA_SERVED, "mihadrena_read_all");
+    expect(mihadrena_nest_all(&memory->plan) == MIHADRENA_SERVED, "mihadrena_nest_all");
+    return &memory->plan;
+}
+
+/* Questions about records and nodes. */
+static void questions(void)
+{
+    static short_plan memory;
+    const mihadrena_plan *plan = short_read(&memory, "(a (b))");
+    const uint32_t *records = (const uint32_t *)plan->records, *nodes = (const uint32_t *)plan->nodes;
+    const size_t words = 6 * MIHADRENA_RECORD_WORDS;
+    expect(plan->items == 6 && mihadrena_opener(records, words, 4) == 2 && mihadrena_opener(records, words, 0) == 6, "mihadrena_opener");
+    expect(mihadrena_records_fit(records, words, 7, 0) && !mihadrena_records_fit(records, words, 6, 0), "mihadrena_records_fit");
+    short_read(&memory, "(a (b) c)");
+    expect(plan->tree == 5 && mihadrena_first_child(nodes, 5 * MIHADRENA_NODE_WORDS, 0) == 1, "mihadrena_first_child");
+    expect(mihadrena_next_sibling(nodes, 5 * MIHADRENA_NODE_WORDS, 0, 2) == 4, "mihadrena_next_sibling");
+    expect(mihadrena_next_sibling(nodes, 5 * MIHADRENA_NODE_WORDS, 2, 3) == 5, "mihadrena_next_sibling, none");
+    expect(mihadrena_child(plan, 2) == 3 && mihadrena_sibling(plan, plan->tree, 0) == plan->tree, "mihadrena_child, mihadrena_sibling");
+    expect(mihadrena_version() ==
+               MIHADRENA_VERSION_MAJOR * 65536 + MIHADRENA_VERSION_MINOR * 256 + MIHADRENA_VERSION_PATCH,
+           "mihadrena_version");
+}
+
+/* A stand that is named by a word of Scheme, and a corner that is an integer. */
+static void spellings_and_values(void)
+{
+    static short_plan memory;
+    const mihadrena_plan *plan = short_read(&memory, "(fn |a\\x42;| 6892014 1/6)");
+    size_t length;
+    double value = 0;
+    uint64_t place = 7;
+    expect(mihadrena_spelling(plan, &plan->records[1], &length) == plan->source + 1 && length == 2, "mihadrena_spelling, a word");
+    const uint8_t *name = mihadrena_spelling(plan, &plan->records[2], &length);
+    expect(length == 2 && memcmp(name, "aB", 2) == 0, "mihadrena_spelling, a text");
+    mihadrena_record outside = plan->records[1];
+    outside.end = 99;
+    expect(mihadrena_spelling(plan, &outside, &length) == NULL && length == 0, "mihadrena_spelling, outside");
+    uint32_t answer = mihadrena_value_of(&plan->records[3], plan->source, plan->source_length, &value, &place);
+    expect(answer == MIHADRENA_SERVED && value == 6892014.0 && place == 7, "mihadrena_value_of");
+    answer = mihadrena_value_of(&plan->records[4], plan->source, plan->source_length, &value, &place);
+    expect(answer == MIHADRENA_NO_COORDINATE && value == 6892014.0 && place == 0, "mihadrena_value_of, a fraction");
+    answer = mihadrena_record_value((const uint8_t *)"(corner 6892014)", 16, MIHADRENA_NUMBER, 8, 15, &value, &place);
+    expect(answer == MIHADRENA_SERVED && value == 6892014.0, "mihadrena_record_value");
+}
+
+/* Where a length is 0 the forms take NULL, and a call without memory is told what is needed. */
+static void nothing_lent(void)
+{
+    mihadrena_plan plan = {0};
+    size_t length = 9;
+    expect(mihadrena_read_all(&plan, MIHADRENA_REPORT, false) == MIHADRENA_SERVED && plan.items == 0, "an empty plan");
+    expect(mihadrena_nest_all(&plan) == MIHADRENA_SERVED && plan.tree == 0, "no nodes");
+    mihadrena_record record = {.kind = MIHADRENA_COMMENT};
+    expect(mihadrena_spelling(&plan, &record, &length) != NULL && length == 0, "an empty extent");
+    plan.source = (const uint8_t *)"(\"\\n\")";
+    plan.source_length = 6;
+    uint32_t answer = mihadrena_read_all(&plan, MIHADRENA_REPORT, false);
+    expect(answer == MIHADRENA_TOO_FEW && plan.items == 3 && plan.text_bytes == 1 && plan.place == 0, "what a plan needs");
+    expect(mihadrena_nest_all(&plan) == MIHADRENA_TOO_FEW, "no nodes of records that did not fit");
+    answer = mihadrena_read_all(&plan, 2, false);
+    expect(answer == MIHADRENA_NO_MODE && plan.items == 0 && plan.place == 2, "what a refusal comes with");
+    static mihadrena_reading reading;
+    const uint8_t *piece = NULL;
+    length = 0;
+    expect(mihadrena_reading_open(&reading, MIHADRENA_REPORT, false) == MIHADRENA_SERVED, "mihadrena_reading_open");
+    expect(mihadrena_reading_step(&reading, &piece, &length) == MIHADRENA_MORE && piece == NULL, "an empty piece");
+    expect(mihadrena_reading_end(&reading) == MIHADRENA_FINISHED, "mihadrena_reading_end");
+}
+
 int main(void)
 {
     read_and_text();
@@ -271,6 +354,9 @@ int main(void)
     characters();
     nest();
     write_back();
+    questions();
+    spellings_and_values();
+    nothing_lent();
     puts("the header's calls: ok");
     return EXIT_SUCCESS;
 }

@@ -92,7 +92,8 @@ static void show(const uint8_t *plan, size_t length, const char *path)
     size_t size;
     uint8_t *bytes = file_bytes(path, &size);
     expect(bytes != NULL && size >= HEAD, "the store is not read");
-    expect(number_in(bytes) == length && number_in(bytes + NUMBER_BYTES) == checksum(plan, length), "the plan has changed since it was stored");
+    bool same = number_in(bytes) == length && number_in(bytes + NUMBER_BYTES) == checksum(plan, length);
+    expect(same, "the plan has changed since it was stored");
     uint64_t texts = number_in(bytes + 2 * NUMBER_BYTES);
     expect(texts <= size - HEAD, "the store is cut short");
     const uint8_t *text = bytes + HEAD, *items = text + texts;
@@ -102,13 +103,16 @@ static void show(const uint8_t *plan, size_t length, const char *path)
     size_t most = items_length / MIHADRENA_RECORD_WORDS;
     mihadrena_record *records = room(most, sizeof *records);
     uint64_t values[MIHADRENA_ITEMS_VALUES];
-    uint32_t answer = mihadrena_items_read(items, items_length, (uint32_t *)records, most * MIHADRENA_RECORD_WORDS, values, MIHADRENA_ITEMS_VALUES);
+    uint32_t answer = mihadrena_items_read(items, items_length, (uint32_t *)records, most * MIHADRENA_RECORD_WORDS, values,
+                                           MIHADRENA_ITEMS_VALUES);
     if (answer != MIHADRENA_SERVED) {
         fprintf(stderr, "files: refused %" PRIu32 " at number %" PRIu64 "\n", answer, values[0]);
         exit(EXIT_FAILURE);
     }
+    /* A store may be anyone's: no record is used that lies outside the plan and its text memory. */
+    bool fit = mihadrena_records_fit((const uint32_t *)records, values[0] * MIHADRENA_RECORD_WORDS, length, texts);
+    expect(fit, "the store's records lie outside the plan");
     for (uint64_t i = 0; i < values[0]; i++) {
-        /* No text where the places are not in their slice: a store may be anyone's. */
         const uint8_t *part = mihadrena_text(&records[i], plan, length, text, texts);
         printf("%" PRIu32 " %" PRIu32 " %" PRIu32, records[i].kind, records[i].start, records[i].end);
         if (part != NULL) {

@@ -1,7 +1,7 @@
 /* Prints the items of a plan, a line each: its kind, its extent, and what more it has (a text, a number's parts, an error's place).
  *
- *     items FILE               in plain mode, comments kept
- *     items --report FILE      in report mode
+ *     items FILE               in report mode, comments kept
+ *     items --plain FILE       in plain mode, as Steel reads: to see where the two differ
  *     items --pieces N FILE    the file is read N bytes at a time, and each piece forgotten once it was taken
  */
 #include <inttypes.h>
@@ -10,21 +10,7 @@
 #include <string.h>
 
 #include "file.h"
-#include "mihadrena.h"
-
-static const char *const KINDS[] = {
-    "open",   "close",  "quote-tick", "quasi-quote",  "unquote",       "unquote-splice", "quote-syntax", "quasi-quote-syntax",
-    "unquote-syntax",   "unquote-splice-syntax",      "if",            "define",         "let",          "test-let",
-    "return", "begin",  "lambda",     "quote",        "syntax-rules",  "define-syntax",  "ellipses",     "set",
-    "require",          "character",  "datum-comment", "comment",      "boolean",        "identifier",   "keyword",
-    "number", "string", "dot",
-};
-
-static const char *const ERRORS[] = {
-    "unexpected-char", "incomplete-string", "incomplete-identifier", "incomplete-comment", "invalid-whitespace",
-    "invalid-string-escape", "invalid-character", "zero-denominator", "unclosed-hex-escape", "invalid-char-name",
-    "invalid-hex-escape-literal", "invalid-hex-code-point", "invalid-char-delimiter",
-};
+#include "mihadrena_plan.h"
 
 typedef struct source {
     uint8_t *bytes;
@@ -107,12 +93,12 @@ static void print_number(const uint8_t *text, size_t length)
 /* An item. `from` is the source; read in pieces there is none, and every text, a number's too, lies in the text memory. */
 static void print_item(const mihadrena_record *record, source from, const uint8_t *text, size_t text_length)
 {
-    if (record->kind > MIHADRENA_FIRST_ERROR) {
-        printf("error %s %" PRIu32 "..%" PRIu32, ERRORS[record->kind - MIHADRENA_UNEXPECTED_CHAR], record->start, record->end);
+    if (mihadrena_is_error(record->kind)) {
+        printf("error %s %" PRIu32 "..%" PRIu32, mihadrena_kind_name(record->kind), record->start, record->end);
         printf(" detail %" PRIu32 " place %" PRIu32 "..%" PRIu32 "\n", record->detail, record->place_start, record->place_end);
         return;
     }
-    printf("%s %" PRIu32 "..%" PRIu32, KINDS[record->kind], record->start, record->end);
+    printf("%s %" PRIu32 "..%" PRIu32, mihadrena_kind_name(record->kind), record->start, record->end);
     const uint8_t *part = mihadrena_text(record, from.bytes, from.length, text, text_length);
     if (record->kind == MIHADRENA_NUMBER) {
         print_number(part != NULL ? part : from.bytes + record->start, record->end - record->start);
@@ -125,82 +111,65 @@ static void print_item(const mihadrena_record *record, source from, const uint8_
     putchar('\n');
 }
 
+static void print_refusal(uint32_t answer, uint64_t place)
+{
+    printf("refused %" PRIu32 " %" PRIu64 ": %s\n", answer, place, mihadrena_message(answer));
+}
+
 /* Reads the whole text: a first call without memory says how much the second one needs. */
 static void print_whole(source from, uint32_t mode)
 {
-    uint64_t needed[MIHADRENA_READ_VALUES] = {0, 0};
-    uint32_t none[1];
-    uint8_t no_text[1];
-    uint32_t answer = mihadrena_read(from.bytes, from.length, mode, false, none, 0, no_text, 0, needed, MIHADRENA_READ_VALUES);
+    mihadrena_plan plan = {0};
+    plan.source = from.bytes;
+    plan.source_length = from.length;
+    uint32_t answer = mihadrena_read_all(&plan, mode, false);
     if (answer != MIHADRENA_SERVED && answer != MIHADRENA_TOO_FEW) {
-        printf("refused %" PRIu32 " %" PRIu64 "\n", answer, needed[0]);
+        print_refusal(answer, plan.place);
         return;
     }
-    size_t items = (size_t)needed[0];
-    size_t text_length = (size_t)needed[1];
-    mihadrena_record *records = memory(items, sizeof *records);
-    uint8_t *text = memory(text_length, 1);
-    uint64_t given[MIHADRENA_READ_VALUES] = {0, 0};
-    answer = mihadrena_read(from.bytes, from.length, mode, false, (uint32_t *)records, items * MIHADRENA_RECORD_WORDS, text,
-                            text_length, given, MIHADRENA_READ_VALUES);
-    if (answer != MIHADRENA_SERVED || given[0] != items)
+    plan.records_room = plan.items;
+    plan.text_room = plan.text_bytes;
+    plan.records = memory(plan.records_room, sizeof *plan.records);
+    plan.text = memory(plan.text_room, 1);
+    if (mihadrena_read_all(&plan, mode, false) != MIHADRENA_SERVED)
         fail("the memory that was asked for is enough");
-    for (size_t i = 0; i < items; i++)
-        print_item(&records[i], from, text, text_length);
-    printf("end %zu\n", items);
-    free(records);
-    free(text);
+    for (size_t i = 0; i < plan.items; i++)
+        print_item(&plan.records[i], from, plan.text, plan.text_bytes);
+    printf("end %zu\n", plan.items);
+    free(plan.records);
+    free(plan.text);
 }
 
-/* A reading in pieces: the state, and what the calls write. */
-typedef struct reading {
-    mihadrena_state state;
-    uint8_t text[MIHADRENA_PIECE_TEXT];
-    mihadrena_record record;
-    mihadrena_told told;
-    size_t items;
-} reading;
-
-/* Prints what a call gave; whether it was an item. A refusal ends the listing. */
-static bool print_given(reading *now, uint32_t answer)
+/* Prints the items that steps give, until they give none; a refusal ends the listing. `piece` is NULL at the end of the text. */
+static void print_steps(mihadrena_reading *now, const uint8_t *piece, size_t length, size_t *items)
 {
     static uint8_t nothing[1];
     static const source NO_SOURCE = {nothing, 0};
-    if (answer == MIHADRENA_ITEM) {
+    for (;;) {
+        uint32_t answer = piece != NULL ? mihadrena_reading_step(now, &piece, &length) : mihadrena_reading_end(now);
+        if (answer == MIHADRENA_MORE || answer == MIHADRENA_FINISHED)
+            return;
+        if (answer != MIHADRENA_ITEM) {
+            print_refusal(answer, now->place);
+            exit(EXIT_SUCCESS);
+        }
         print_item(&now->record, NO_SOURCE, now->text, sizeof now->text);
-        now->items++;
-        return true;
-    }
-    if (answer != MIHADRENA_MORE && answer != MIHADRENA_FINISHED) {
-        printf("refused %" PRIu32 " %" PRIu64 "\n", answer, now->told.place);
-        exit(EXIT_SUCCESS);
-    }
-    return false;
-}
-
-/* Hands a piece over until all of it is taken. */
-static void print_piece(reading *now, const uint8_t *piece, size_t length)
-{
-    bool given = true;
-    while (given) {
-        uint32_t answer = mihadrena_state_piece(&now->state, piece, length, now->text, sizeof now->text, &now->record, &now->told);
-        piece += now->told.taken;
-        length -= (size_t)now->told.taken;
-        given = print_given(now, answer);
+        ++*items;
     }
 }
 
 /* Reads the file `size` bytes at a time. */
 static void print_pieces(const char *path, uint32_t mode, size_t size)
 {
-    reading now = {.items = 0};
-    if (mihadrena_state_open(&now.state, mode, false) != MIHADRENA_SERVED)
+    static mihadrena_reading now;
+    size_t items = 0;
+    if (mihadrena_reading_open(&now, mode, false) != MIHADRENA_SERVED)
         fail("both modes open a state");
     uint8_t *piece = memory(size, 1);
     FILE *file = opened(path);
     size_t got = fread(piece, 1, size, file);
     while (got > 0) {
-        print_piece(&now, piece, got);
+        print_steps(&now, piece, got, &items);
         got = fread(piece, 1, size, file);
     }
     /* a read that fails is not the end of the text */
@@ -208,18 +177,17 @@ static void print_pieces(const char *path, uint32_t mode, size_t size)
         fail("cannot read the file");
     fclose(file);
     free(piece);
-    while (print_given(&now, mihadrena_state_end(&now.state, now.text, sizeof now.text, &now.record, &now.told)))
-        ;
-    printf("end %zu\n", now.items);
+    print_steps(&now, NULL, 0, &items);
+    printf("end %zu\n", items);
 }
 
 int main(int count, char **words)
 {
-    uint32_t mode = MIHADRENA_PLAIN;
+    uint32_t mode = MIHADRENA_REPORT;
     size_t size = 0;
     int at = 1;
-    if (at < count && strcmp(words[at], "--report") == 0) {
-        mode = MIHADRENA_REPORT;
+    if (at < count && strcmp(words[at], "--plain") == 0) {
+        mode = MIHADRENA_PLAIN;
         at++;
     }
     if (at + 1 < count && strcmp(words[at], "--pieces") == 0) {
@@ -227,7 +195,7 @@ int main(int count, char **words)
         at += 2;
     }
     if (at + 1 != count) {
-        fprintf(stderr, "usage: items [--report] [--pieces N] FILE\n");
+        fprintf(stderr, "usage: items [--plain] [--pieces N] FILE\n");
         return EXIT_FAILURE;
     }
     if (size > 0) {

@@ -1,7 +1,8 @@
 /* Gives each identifier of a plan its number in one table for planner and contractor: the header's worked calls first, then a line for each
  * new number, with its name.
  *
- *     names FILE    the planner asks for the identifiers of the first half of the file's items, the contractor for those of all
+ *     names FILE    the planner asks for the identifiers of the first half of the file's items, the contractor for those of all; in report
+ *                   mode, comments left out
  */
 #include <inttypes.h>
 #include <stdio.h>
@@ -93,7 +94,7 @@ int main(int count, char **arguments)
     expect(!ferror(file), "cannot read the file");
     expect(length < sizeof source, "the file is too long");
     fclose(file);
-    uint32_t mark = mihadrena_read(source, length, MIHADRENA_PLAIN, true, (uint32_t *)records,
+    uint32_t mark = mihadrena_read(source, length, MIHADRENA_REPORT, true, (uint32_t *)records,
                                    LONGEST_PLAN * MIHADRENA_RECORD_WORDS, text, sizeof text, values, MIHADRENA_READ_VALUES);
     expect(mark == MIHADRENA_SERVED, "mihadrena_read");
     expect(open_table() == MIHADRENA_SERVED, "mihadrena_names_open");

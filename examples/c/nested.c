@@ -1,4 +1,5 @@
-/* Walks the nested lists of a plan: prints the plan, its stands, the outlines of each, and the corners of each of these.
+/* Walks the nested lists of a plan: prints the plan, its stands, the outlines of each, and the corners of each of these. Report mode,
+ * comments left out.
  *
  *     nested FILE
  */
@@ -8,16 +9,7 @@
 #include <string.h>
 
 #include "file.h"
-#include "mihadrena.h"
-
-typedef struct plan {
-    const uint8_t *source;
-    size_t length;
-    uint8_t *text;
-    mihadrena_record *records;
-    mihadrena_node *nodes;
-    size_t count;
-} plan;
+#include "mihadrena_plan.h"
 
 static void fail(const char *what, uint64_t value)
 {
@@ -25,7 +17,6 @@ static void fail(const char *what, uint64_t value)
     exit(EXIT_FAILURE);
 }
 
-/* Memory for `count` things, at least one: a slice's pointer must not be NULL. */
 static void *memory(size_t count, size_t size)
 {
     void *got = calloc(count + 1, size);
@@ -34,83 +25,73 @@ static void *memory(size_t count, size_t size)
     return got;
 }
 
-static void load(plan *p, const char *path)
+/* There are never more records than bytes, nor more nodes than records. */
+static void read_plan(mihadrena_plan *p, const char *path)
 {
-    p->source = file_bytes(path, &p->length);
+    p->source = file_bytes(path, &p->source_length);
     if (p->source == NULL)
         fail("cannot read the file", 0);
-}
-
-/* There are never more records than bytes, nor more nodes than records. */
-static void nest(plan *p)
-{
-    uint64_t values[MIHADRENA_READ_VALUES];
-    p->records = memory(p->length, sizeof *p->records);
-    p->text = memory(p->length, 1);
-    uint32_t answer = mihadrena_read(p->source, p->length, MIHADRENA_PLAIN, true, (uint32_t *)p->records,
-                                     p->length * MIHADRENA_RECORD_WORDS, p->text, p->length, values, MIHADRENA_READ_VALUES);
+    p->records_room = p->text_room = p->nodes_room = p->source_length;
+    p->records = memory(p->records_room, sizeof *p->records);
+    p->text = memory(p->text_room, 1);
+    p->nodes = memory(p->nodes_room, sizeof *p->nodes);
+    uint32_t answer = mihadrena_read_all(p, MIHADRENA_REPORT, true);
     if (answer != MIHADRENA_SERVED)
-        fail("refusal", answer);
-    size_t items = values[0];
-    p->nodes = memory(items, sizeof *p->nodes);
-    answer = mihadrena_nest((const uint32_t *)p->records, items * MIHADRENA_RECORD_WORDS, (uint32_t *)p->nodes,
-                            items * MIHADRENA_NODE_WORDS, values, MIHADRENA_NEST_VALUES);
-    if (answer != MIHADRENA_SERVED) {
-        fprintf(stderr, "refusal %" PRIu32 ", ", answer);
-        fail("record", values[0]);
-    }
-    p->count = values[0];
+        fail(mihadrena_message(answer), p->place);
+    answer = mihadrena_nest_all(p);
+    if (answer != MIHADRENA_SERVED)
+        fail(mihadrena_message(answer), p->place);
 }
 
-/* The node's first child is the node after it; its next sibling stands behind all that lies beneath it. */
-static size_t past(const plan *p, size_t node)
+static const uint8_t *spelling(const mihadrena_plan *p, size_t node, size_t *length)
 {
-    return node + 1 + p->nodes[node].beneath;
+    return mihadrena_spelling(p, &p->records[p->nodes[node].item], length);
 }
 
 /* Whether a node is a list that starts with this name. */
-static bool is_list_of(const plan *p, size_t node, const char *name)
+static bool is_list_of(const mihadrena_plan *p, size_t node, const char *name)
 {
-    if (p->nodes[node].kind != MIHADRENA_NODE_LIST || p->nodes[node].beneath == 0 || p->nodes[node + 1].kind != MIHADRENA_NODE_SYMBOL)
+    size_t first = mihadrena_child(p, node), length;
+    if (p->nodes[node].kind != MIHADRENA_NODE_LIST || first == p->tree || p->nodes[first].kind != MIHADRENA_NODE_SYMBOL)
         return false;
-    const mihadrena_record *record = &p->records[p->nodes[node + 1].item];
-    const uint8_t *text = mihadrena_text(record, p->source, p->length, p->text, p->length);
-    size_t length = record->text_end - record->text_start;
-    return text != NULL && length == strlen(name) && memcmp(text, name, length) == 0;
+    const uint8_t *own = spelling(p, first, &length);
+    return length == strlen(name) && memcmp(own, name, length) == 0;
 }
 
 /* Prints a list's name and those of its data that are no lists, as they stand in the source. */
-static void print_list(const plan *p, size_t list, int indent, const char *name)
+static void print_list(const mihadrena_plan *p, size_t list, int indent)
 {
-    printf("%*s%s", indent, "", name);
-    for (size_t node = list + 2; node < past(p, list); node = past(p, node)) {
+    printf("%*s", indent, "");
+    for (size_t node = mihadrena_child(p, list); node < p->tree; node = mihadrena_sibling(p, list, node)) {
         const mihadrena_record *record = &p->records[p->nodes[node].item];
         if (p->nodes[node].kind <= MIHADRENA_NODE_SYMBOL)
-            printf(" %.*s", (int)(record->end - record->start), (const char *)p->source + record->start);
+            printf("%s%.*s", node == mihadrena_child(p, list) ? "" : " ", (int)(record->end - record->start),
+                   (const char *)p->source + record->start);
     }
     printf("\n");
 }
 
 /* Prints the stands of a plan, the outlines of a stand and the corners of an outline: the lists of the first name among the nodes from one
- * place to another, and beneath each those of the next name. */
-static void walk(const plan *p, size_t from, size_t to, int indent, const char *const *names)
+ * on, directly beneath `within`, and beneath each those of the next name. */
+static void walk(const mihadrena_plan *p, size_t within, size_t first, int indent, const char *const *names)
 {
-    for (size_t node = from; node < to && *names != NULL; node = past(p, node)) {
+    if (*names == NULL)
+        return;
+    for (size_t node = first; node < p->tree; node = mihadrena_sibling(p, within, node)) {
         if (!is_list_of(p, node, *names))
             continue;
-        print_list(p, node, indent, *names);
-        walk(p, node + 1, past(p, node), indent + 2, names + 1);
+        print_list(p, node, indent);
+        walk(p, node, mihadrena_child(p, node), indent + 2, names + 1);
     }
 }
 
 int main(int count, char **words)
 {
     static const char *const NAMES[] = {"plan", "stand", "outline", "corner", NULL};
-    plan p;
+    mihadrena_plan p = {0};
     if (count != 2)
         fail("usage: nested FILE, not words", (uint64_t)count);
-    load(&p, words[1]);
-    nest(&p);
-    walk(&p, 0, p.count, 0, NAMES);
+    read_plan(&p, words[1]);
+    walk(&p, p.tree, 0, 0, NAMES);
     return EXIT_SUCCESS;
 }

@@ -1,5 +1,5 @@
 /* Prints an outline of a plan: a line for each list, indented by its depth, with what stands in it up to the next bracket. What stands
- * behind a list that is closed has a line of its own, as deep as that list.
+ * behind a list that is closed has a line of its own, as deep as that list. Report mode, comments left out.
  *
  *     outline FILE
  */
@@ -58,7 +58,7 @@ int main(int count, char **words)
     expect(!ferror(file), "cannot read the file");
     expect(length < sizeof source, "the file is too long");
     fclose(file);
-    uint32_t answer = mihadrena_read(source, length, MIHADRENA_PLAIN, true, (uint32_t *)records, LONGEST_PLAN * MIHADRENA_RECORD_WORDS,
+    uint32_t answer = mihadrena_read(source, length, MIHADRENA_REPORT, true, (uint32_t *)records, LONGEST_PLAN * MIHADRENA_RECORD_WORDS,
                                      text, sizeof text, values, MIHADRENA_READ_VALUES);
     expect(answer == MIHADRENA_SERVED, "mihadrena_read");
     print_outline(records, (size_t)values[0], source);

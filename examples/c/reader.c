@@ -1,5 +1,5 @@
 /* Lists the items of a plan one by one, with memory for one item: its kind, its extent and its text, indented by its depth. Text memory
- * grows where an item needs more: the reader stays at that item until its text fits.
+ * grows where an item needs more: the reader stays at that item until its text fits. Report mode, comments kept.
  *
  *     reader FILE
  */
@@ -38,7 +38,7 @@ int main(int count, char **words)
         fail("cannot read the file");
     uint64_t position[MIHADRENA_READER_WORDS];
     uint64_t values[MIHADRENA_READER_VALUES];
-    uint32_t answer = mihadrena_reader_open(source, length, MIHADRENA_PLAIN, false, position, MIHADRENA_READER_WORDS, values,
+    uint32_t answer = mihadrena_reader_open(source, length, MIHADRENA_REPORT, false, position, MIHADRENA_READER_WORDS, values,
                                             MIHADRENA_READER_VALUES);
     mihadrena_record record;
     size_t text_length = 0;

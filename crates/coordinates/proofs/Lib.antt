@@ -8,3 +8,4 @@ pub mod Means
 pub mod Outside
 pub mod Ascii
 pub mod Calls
+pub mod Wholes

@@ -11,6 +11,10 @@ ghost use Rattle.coordinates.specs.Coordinate.{outside, judged, coordina
 
 mod amounts;
 mod scaling;
+mod values;
+
+pub use values::record_value;
+pub use values::value;
 
 // What the calls answer: specs/Answers gives the number and what comes with it for each case.
 pub enum CoordinateAnswer {

@@ -9,6 +9,7 @@ use refusal::TOO_LONG;
 ghost use mathlib.Core.Path.{_≡_};
 ghost use Rattle.coordinates.specs.Answers.{answered};
 ghost use Rattle.coordinates.specs.Coordinate.{coordinate, recordCoordinate};
+ghost use Rattle.coordinates.specs.Values.{recordValue};
 ghost use Rattle.coordinates_exports.specs.Told.{numberOf, valueOr, placeOr};
 
 // A value goes to `value`, what a refusal comes with to `place`; the other keeps what it has. The result is the answer's number.
@@ -61,6 +62,25 @@ pub extern "C" fn mihadrena_record_coordinate(
 {
     tell(
         coordinates::record_coordinate(source, kind, start, end),
+        value,
+        place,
+    )
+}
+
+// The value of a record's extent that is a decimal or an integer, told in the same way.
+#[no_mangle]
+pub extern "C" fn mihadrena_record_value(
+    source: &[u8],
+    kind: u32,
+    start: u32,
+    end: u32,
+    value: &mut f64,
+    place: &mut u64,
+) -> u32
+    ensures { λ r. ⌜ (r ≡ numberOf (recordValue (now (source .entry)) kind start end)) × (now (value .exit) ≡ valueOr (now (value .entry)) (recordValue (now (source .entry)) kind start end)) × (now (place .exit) ≡ placeOr (now (place .entry)) (recordValue (now (source .entry)) kind start end)) ⌝ }
+{
+    tell(
+        coordinates::record_value(source, kind, start, end),
         value,
         place,
     )

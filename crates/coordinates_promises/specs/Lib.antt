@@ -1,4 +1,5 @@
 pub mod Text
 pub mod Record
+pub mod Value
 pub mod Told
 pub mod Rounded

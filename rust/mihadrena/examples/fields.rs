@@ -1,6 +1,6 @@
 //! Reads a table of stand cards in one call: a line is a card, and its fields have tabs between them. Prints each field under the name that
 //! the first line gives it: what its items are, or what is wrong with it. Report mode, comments left out.
-use mihadrena::{raw, Fields, Item, Items, Kind, Mode, NoFields, Options, Record, Refusal};
+use mihadrena::{Fields, Item, Items, Kind, NoFields, Options, Record, Refusal, Row};
 
 const CARDS: &[u8] = include_bytes!("../../../examples/cards.tsv");
 
@@ -28,8 +28,8 @@ fn field(read: Result<Items, Refusal>, part: &[u8]) -> String {
 
 fn listed(cards: &[u8]) -> Result<String, NoFields> {
     let ends = ends(cards);
-    let options = Options { mode: Mode::Report, skip_comments: true };
-    let mut rows = vec![raw::Row::default(); ends.len()];
+    let options = Options::report().without_comments();
+    let mut rows = vec![Row::default(); ends.len()];
     let mut records = vec![Record::default(); cards.len()];
     let mut text = vec![0; cards.len()];
     let fields = Fields::new(cards, &ends, options, &mut rows, &mut records, &mut text)?;

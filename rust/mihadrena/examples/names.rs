@@ -1,21 +1,21 @@
 //! Gives each identifier of the example plan its number in one table for planner and contractor: the planner asks for those of the first
-//! half of the plan's items, the contractor for those of all. It prints a line for each number, with its name.
+//! half of the plan's items, the contractor for those of all. It prints a line for each number, with its name. Report mode.
 use mihadrena::{raw, Items, Kind, Names, NoName, Options, Party, Record};
 
 const PLAN: &str = include_str!("../../../examples/plan.scm");
 
 /// The lines.
 fn listed(plan: &str) -> Result<String, NoName> {
-    let options = Options { skip_comments: true, ..Options::default() };
+    let options = Options::report().without_comments();
     let mut records = vec![Record::default(); plan.len()];
     let mut text = vec![0; plan.len()];
     let items: Vec<_> = Items::new(plan, options, &mut records, &mut text).expect("a plan").collect();
-    let (mut words, mut bytes) = (vec![0; raw::NAMES_WORDS], vec![0; raw::NAMES_BYTES]);
+    let (mut words, mut bytes) = (vec![0; Names::WORDS], vec![0; Names::BYTES]);
     let mut names = Names::open(&mut words, &mut bytes)?;
     for (party, asked) in [(Party::Planner, &items[..items.len() / 2]), (Party::Contractor, &items[..])] {
         for item in asked {
             if let Ok(Kind::Identifier(name)) = item.what {
-                names.enter(party, name.as_bytes())?;
+                names.enter(party, name)?;
             }
         }
     }
@@ -25,8 +25,8 @@ fn listed(plan: &str) -> Result<String, NoName> {
 /// The names of a party, in the order of their numbers.
 fn lines(names: &Names<'_>, party: &str, first: u32) -> String {
     let numbers = first..first + raw::CONTRACTORS_FIRST;
-    let found = numbers.map_while(|number| Some((number, names.name(number).ok()?)));
-    found.map(|(number, name)| format!("{party} {number} {}\n", String::from_utf8_lossy(name))).collect()
+    let found = numbers.map_while(|number| names.name_str(number).ok()?.map(|name| (number, name)));
+    found.map(|(number, name)| format!("{party} {number} {name}\n")).collect()
 }
 
 fn main() -> Result<(), NoName> {

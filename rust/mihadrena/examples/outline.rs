@@ -1,5 +1,5 @@
 //! Prints an outline of the example plan: a line for each list, indented by its depth, with what stands in it up to the next bracket. What
-//! stands behind a list that is closed has a line of its own, as deep as that list.
+//! stands behind a list that is closed has a line of its own, as deep as that list. Report mode, comments left out.
 use mihadrena::{Items, Kind, Options, Record, Refusal};
 
 const PLAN: &str = include_str!("../../../examples/plan.scm");
@@ -8,7 +8,7 @@ const PLAN: &str = include_str!("../../../examples/plan.scm");
 const INDENT: usize = 2;
 
 fn outline(plan: &str) -> Result<String, Refusal> {
-    let options = Options { skip_comments: true, ..Options::default() };
+    let options = Options::report().without_comments();
     let mut records = vec![Record::default(); plan.len()];
     let mut text = vec![0; plan.len()];
     let mut lines: Vec<String> = Vec::new();

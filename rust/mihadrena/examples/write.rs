@@ -2,7 +2,7 @@
 //!
 //! First the plan is written back whole, without its comments. Then only what changed is written, each item by itself, and put between the
 //! parts of the old plan, so that every comment and blank stays: the lines that differ are printed, the old one and the new one.
-use mihadrena::{raw, write, Items, Mode, NotWritten, Options, Record, Refusal};
+use mihadrena::{raw, write, Items, NotWritten, Options, Record, Refusal};
 
 const PLAN: &str = include_str!("../../../examples/office.scm");
 
@@ -21,7 +21,7 @@ struct Plan {
 
 impl Plan {
     fn read(source: &str) -> Result<Self, Refusal> {
-        let options = Options { mode: Mode::Report, skip_comments: true };
+        let options = Options::report().without_comments();
         let (mut records, mut text) = (vec![Record::default(); source.len()], vec![0; source.len()]);
         let count = Items::new(source, options, &mut records, &mut text)?.len();
         records.truncate(count);

@@ -5,6 +5,7 @@ use core::fmt;
 
 /// Why there is no coordinate.
 #[derive(Clone, Copy, Debug, PartialEq, Eq, Hash)]
+#[non_exhaustive]
 pub enum NoCoordinate {
     /// The text is no decimal, or it has too many digits or too large an exponent; or the record is no number.
     Outside,
@@ -36,7 +37,14 @@ impl fmt::Display for NoCoordinate {
     }
 }
 
-impl core::error::Error for NoCoordinate {}
+impl core::error::Error for NoCoordinate {
+    fn source(&self) -> Option<&(dyn core::error::Error + 'static)> {
+        match self {
+            Self::Refused(refusal) => Some(refusal),
+            _ => None,
+        }
+    }
+}
 
 /// What a call told, by its answer.
 fn told(answer: u32, value: f64, place: u64) -> Result<f64, NoCoordinate> {
@@ -79,7 +87,7 @@ pub fn coordinate<S: AsRef<[u8]> + ?Sized>(text: &S) -> Result<f64, NoCoordinate
 ///
 /// let plan = "(corner 6892014.7 611208.2)";
 /// let mut records = [Record::default(); 8];
-/// Items::new(plan, Options::default(), &mut records, &mut [])?;
+/// Items::new(plan, Options::report(), &mut records, &mut [])?;
 /// assert_eq!(record_coordinate(plan, &records[2]), Ok(6892014.7));
 /// assert_eq!(record_coordinate(plan, &records[1]), Err(NoCoordinate::Outside));
 /// assert_eq!(record_coordinate("(corner", &records[2]), Err(NoCoordinate::NoExtent));
@@ -103,6 +111,51 @@ pub fn record_coordinate<S: AsRef<[u8]> + ?Sized>(source: &S, record: &Record) -
             &raw mut value,
             &raw mut place,
         )
+    };
+    told(answer, value, place)
+}
+
+/// The value of a text that is one decimal or one integer, as [`record_value`] has it: for the digits of a [`Kind::Number`](crate::Kind).
+///
+/// ```
+/// use mihadrena::{value, NoCoordinate};
+///
+/// assert_eq!((value("6892014"), value("611208.2")), (Ok(6892014.0), Ok(611208.2)));
+/// assert_eq!(value("1/6"), Err(NoCoordinate::Outside));
+/// ```
+///
+/// # Errors
+/// A [`NoCoordinate`], as [`record_value`].
+pub fn value<S: AsRef<[u8]> + ?Sized>(text: &S) -> Result<f64, NoCoordinate> {
+    let text = text.as_ref();
+    let end = u32::try_from(text.len()).map_err(|_| NoCoordinate::Refused(Refusal::TooLong))?;
+    record_value(text, &Record { kind: raw::NUMBER, end, ..Record::default() })
+}
+
+/// The value of a record's number in its source, a decimal or an integer: a corner is also written `6892014`. A decimal has the value of
+/// its coordinate, an integer up to 9,007,199,254,740,992 its own.
+///
+/// ```
+/// use mihadrena::{record_value, Items, NoCoordinate, Options, Record};
+///
+/// let plan = "(corner 6892014 611208.2)";
+/// let mut records = [Record::default(); 8];
+/// Items::new(plan, Options::report(), &mut records, &mut [])?;
+/// assert_eq!(record_value(plan, &records[2]), Ok(6892014.0));
+/// assert_eq!(record_value(plan, &records[3]), Ok(611208.2));
+/// assert_eq!(record_value(plan, &records[1]), Err(NoCoordinate::Outside));
+/// # Ok::<(), mihadrena::Refusal>(())
+/// ```
+///
+/// # Errors
+/// A [`NoCoordinate`], as [`record_coordinate`], and for a number that is neither, or an integer that is larger.
+pub fn record_value<S: AsRef<[u8]> + ?Sized>(source: &S, record: &Record) -> Result<f64, NoCoordinate> {
+    let source = source.as_ref();
+    let Record { kind, start, end, .. } = *record;
+    let (mut value, mut place) = (0.0, 0);
+    // SAFETY: the pointer and the length are those of a slice, and both places are lent for the call.
+    let answer = unsafe {
+        raw::mihadrena_record_value(source.as_ptr(), source.len(), kind, start, end, &raw mut value, &raw mut place)
     };
     told(answer, value, place)
 }

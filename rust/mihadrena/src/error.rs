@@ -1,5 +1,4 @@
 //! What is wrong with a text, a number or a call.
-use crate::kind::character;
 use crate::raw::{self, Record};
 use core::fmt;
 
@@ -17,6 +16,7 @@ pub enum HexError {
 /// An item that is an error, in the order and by the names of the Rust's `TokenError`. It prints as the Rust's does; the last one is not
 /// the Rust's.
 #[derive(Clone, Copy, Debug, PartialEq, Eq, Hash)]
+#[non_exhaustive]
 pub enum Error {
     /// `##`, or a blank in a here-string's first line: `#<<a b`
     UnexpectedChar(char),
@@ -48,21 +48,21 @@ pub enum Error {
 }
 
 impl Error {
-    /// The error of a record; none if it is no error.
+    /// The error of a record; none if it is no error, or has a detail that its kind never has.
     pub(crate) fn of(record: &Record) -> Option<Self> {
         let detail = record.detail;
         Some(match record.kind {
-            raw::UNEXPECTED_CHAR => Self::UnexpectedChar(character(detail)),
+            raw::UNEXPECTED_CHAR => Self::UnexpectedChar(char::from_u32(detail)?),
             raw::INCOMPLETE_STRING => Self::IncompleteString,
             raw::INCOMPLETE_IDENTIFIER => Self::IncompleteIdentifier,
             raw::INCOMPLETE_COMMENT => Self::IncompleteComment,
             raw::INVALID_WHITESPACE => Self::InvalidWhitespace,
-            raw::INVALID_STRING_ESCAPE => Self::InvalidStringEscape(character(detail)),
+            raw::INVALID_STRING_ESCAPE => Self::InvalidStringEscape(char::from_u32(detail)?),
             raw::INVALID_CHARACTER => Self::InvalidCharacter,
             raw::ZERO_DENOMINATOR => Self::ZeroDenominator,
-            raw::UNCLOSED_HEX_ESCAPE => Self::UnclosedHexEscape(character(detail)),
+            raw::UNCLOSED_HEX_ESCAPE => Self::UnclosedHexEscape(char::from_u32(detail)?),
             raw::INVALID_CHAR_NAME => Self::InvalidCharName,
-            raw::INVALID_HEX_ESCAPE_LITERAL => Self::InvalidHexEscapeLiteral(HexError::of(detail)),
+            raw::INVALID_HEX_ESCAPE_LITERAL => Self::InvalidHexEscapeLiteral(HexError::of(detail)?),
             raw::INVALID_HEX_CODE_POINT => Self::InvalidHexCodePoint(detail),
             raw::INVALID_CHAR_DELIMITER => Self::InvalidCharDelimiter,
             _ => return None,
@@ -71,12 +71,12 @@ impl Error {
 }
 
 impl HexError {
-    fn of(detail: u32) -> Self {
+    fn of(detail: u32) -> Option<Self> {
         match detail {
-            raw::HEX_EMPTY => Self::Empty,
-            raw::HEX_INVALID_DIGIT => Self::InvalidDigit,
-            raw::HEX_OVERFLOW => Self::PosOverflow,
-            _ => unreachable!("the library writes no other detail"),
+            raw::HEX_EMPTY => Some(Self::Empty),
+            raw::HEX_INVALID_DIGIT => Some(Self::InvalidDigit),
+            raw::HEX_OVERFLOW => Some(Self::PosOverflow),
+            _ => None,
         }
     }
 }
@@ -111,13 +111,29 @@ impl fmt::Display for Error {
     }
 }
 
-impl core::error::Error for Error {}
+/// ```
+/// use mihadrena::{Error, HexError};
+/// use std::error::Error as _;
+///
+/// let error = Error::InvalidHexEscapeLiteral(HexError::Empty);
+/// assert_eq!(error.source().map(ToString::to_string), Some(HexError::Empty.to_string()));
+/// assert!(Error::ZeroDenominator.source().is_none());
+/// ```
+impl core::error::Error for Error {
+    fn source(&self) -> Option<&(dyn core::error::Error + 'static)> {
+        match self {
+            Self::InvalidHexEscapeLiteral(error) => Some(error),
+            _ => None,
+        }
+    }
+}
 
 impl core::error::Error for HexError {}
 
 /// A call that was refused. Of a whole text it has changed nothing that it was lent. Reading in pieces, [`Refusal::TooLong`],
 /// [`Refusal::NotUtf8`] and [`Refusal::LongItem`] stop the reading: every later call is refused the same way.
 #[derive(Clone, Copy, Debug, PartialEq, Eq, Hash)]
+#[non_exhaustive]
 pub enum Refusal {
     /// The text exceeds 4,294,967,295 bytes.
     TooLong,
@@ -134,6 +150,8 @@ pub enum Refusal {
     LongItem(usize),
     /// A piece after the declared end.
     AfterEnd,
+    /// Words that are no state of a reading in pieces: they were not all kept, or were changed.
+    OutOfBounds,
 }
 
 impl Refusal {
@@ -146,6 +164,7 @@ impl Refusal {
             raw::TOO_FEW => Self::TooFew { records: first, text: second },
             raw::LONG_ITEM => Self::LongItem(first),
             raw::AFTER_END => Self::AfterEnd,
+            raw::OUT_OF_BOUNDS => Self::OutOfBounds,
             _ => unreachable!("the library refuses these calls for nothing else"),
         }
     }
@@ -159,6 +178,7 @@ impl Refusal {
             Self::TooFew { .. } => raw::TOO_FEW,
             Self::LongItem(_) => raw::LONG_ITEM,
             Self::AfterEnd => raw::AFTER_END,
+            Self::OutOfBounds => raw::OUT_OF_BOUNDS,
         }
     }
 }
@@ -173,6 +193,7 @@ impl fmt::Display for Refusal {
             }
             Self::LongItem(start) => write!(f, "item at byte {start} exceeds {} bytes", raw::STATE_BYTES),
             Self::AfterEnd => write!(f, "piece after the end of the text"),
+            Self::OutOfBounds => write!(f, "words that are no state of a reading"),
         }
     }
 }

@@ -6,6 +6,7 @@ use core::iter::FusedIterator;
 
 /// Why no part was read. A refused call has changed nothing that it was lent.
 #[derive(Clone, Copy, Debug, PartialEq, Eq, Hash)]
+#[non_exhaustive]
 pub enum NoFields {
     /// The ends go back or pass the source.
     BadEnds,
@@ -61,16 +62,17 @@ impl core::error::Error for NoFields {}
 
 /// The parts of a source, in its order, each read as a text of its own: its items, or why it has none, which is [`Refusal::NotUtf8`] with
 /// the place from the part's start. What an item has is what [`Items::new`] on the part alone gives: extents and places count from the
-/// part's start, and nothing that was read in one part tells in the next.
+/// part's start, and nothing that was read in one part tells in the next. Ends, rows and records are lent as long as the parts live (`'r`),
+/// the source and the text memory as long as what is taken from them (`'t`).
 ///
 /// ```
-/// use mihadrena::{raw, Fields, Kind, Mode, Options, Record, Refusal};
+/// use mihadrena::{Fields, Kind, Options, Record, Refusal, Row};
 ///
 /// // A stand card: fields with tabs between them. A part is a field with the tab behind it.
 /// let card = b"101\tspruce\t412.5;est\t\xFF\t";
 /// let ends: Vec<u32> = (1..=card.len()).filter(|&end| card[end - 1] == b'\t').map(|end| end as u32).collect();
-/// let report = Options { mode: Mode::Report, skip_comments: true };
-/// let mut rows = vec![raw::Row::default(); ends.len()];
+/// let report = Options::report().without_comments();
+/// let mut rows = vec![Row::default(); ends.len()];
 /// let mut records = vec![Record::default(); card.len()];
 /// let mut text = vec![0; card.len()];
 /// let mut fields = Fields::new(card, &ends, report, &mut rows, &mut records, &mut text)?;
@@ -89,27 +91,27 @@ impl core::error::Error for NoFields {}
 /// ```
 #[derive(Clone, Debug)]
 #[must_use = "parts are read when the iterator is made, and lost if it is dropped"]
-pub struct Fields<'a> {
-    source: &'a [u8],
-    ends: &'a [u32],
-    rows: &'a [Row],
-    records: &'a [Record],
-    text: &'a [u8],
+pub struct Fields<'t, 'r> {
+    source: &'t [u8],
+    ends: &'r [u32],
+    rows: &'r [Row],
+    records: &'r [Record],
+    text: &'t [u8],
     /// The part that is next.
     part: usize,
 }
 
-impl<'a> Fields<'a> {
+impl<'t, 'r> Fields<'t, 'r> {
     /// Reads the parts of a source: part `i` goes from the end before it, the first from 0, to `ends[i]`. Bytes past the last end belong to
     /// no part, and a part may be empty. As many rows as there are ends, and as many records and as much text memory as the source has
     /// bytes, are always enough; what is behind them stays as it was.
     ///
     /// ```
-    /// use mihadrena::{raw, Fields, NoFields, Options, Record};
+    /// use mihadrena::{Fields, NoFields, Options, Record, Row};
     ///
-    /// let mut rows = [raw::Row::default(); 2];
+    /// let mut rows = [Row::default(); 2];
     /// let mut records = [Record::default(); 2];
-    /// let mut refused = |ends: &[u32]| Fields::new("ab", ends, Options::default(), &mut rows, &mut records, &mut []).err();
+    /// let mut refused = |ends: &[u32]| Fields::new("ab", ends, Options::report(), &mut rows, &mut records, &mut []).err();
     /// assert_eq!(refused(&[2, 1]), Some(NoFields::BadEnds));
     /// assert_eq!(refused(&[1, 3]), Some(NoFields::BadEnds));
     /// assert_eq!(refused(&[1, 2, 2]), Some(NoFields::TooFew { rows: 3, records: 2, text: 0 }));
@@ -119,12 +121,12 @@ impl<'a> Fields<'a> {
     /// # Errors
     /// [`NoFields::BadEnds`], [`NoFields::TooLong`] and [`NoFields::TooFew`], in this order.
     pub fn new<S: AsRef<[u8]> + ?Sized>(
-        source: &'a S,
-        ends: &'a [u32],
+        source: &'t S,
+        ends: &'r [u32],
         options: Options,
-        rows: &'a mut [Row],
-        records: &'a mut [Record],
-        text: &'a mut [u8],
+        rows: &'r mut [Row],
+        records: &'r mut [Record],
+        text: &'t mut [u8],
     ) -> Result<Self, NoFields> {
         let source = source.as_ref();
         let mut values = [0; raw::FIELDS_VALUES];
@@ -164,7 +166,7 @@ impl<'a> Fields<'a> {
 
     /// The rows of all parts.
     #[must_use]
-    pub fn rows(&self) -> &'a [Row] {
+    pub fn rows(&self) -> &'r [Row] {
         self.rows
     }
 
@@ -176,7 +178,7 @@ impl<'a> Fields<'a> {
     }
 
     /// What a part gave.
-    fn read(&self, part: usize) -> Result<Items<'a>, Refusal> {
+    fn read(&self, part: usize) -> Result<Items<'t, 'r>, Refusal> {
         let row = self.rows[part];
         if row.mark == raw::NOT_UTF8 {
             return Err(Refusal::NotUtf8(row.place as usize));
@@ -188,8 +190,8 @@ impl<'a> Fields<'a> {
     }
 }
 
-impl<'a> Iterator for Fields<'a> {
-    type Item = Result<Items<'a>, Refusal>;
+impl<'t, 'r> Iterator for Fields<'t, 'r> {
+    type Item = Result<Items<'t, 'r>, Refusal>;
 
     fn next(&mut self) -> Option<Self::Item> {
         let part = self.part;
@@ -206,6 +208,6 @@ impl<'a> Iterator for Fields<'a> {
     }
 }
 
-impl ExactSizeIterator for Fields<'_> {}
+impl ExactSizeIterator for Fields<'_, '_> {}
 
-impl FusedIterator for Fields<'_> {}
+impl FusedIterator for Fields<'_, '_> {}

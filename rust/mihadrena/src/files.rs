@@ -4,6 +4,7 @@ use core::fmt;
 
 /// An item file that was not written or not read; nothing that was lent has changed.
 #[derive(Clone, Copy, Debug, PartialEq, Eq, Hash)]
+#[non_exhaustive]
 pub enum FileRefusal {
     /// A number of the file, or the item that it belongs to, is cut short; which number, from 0.
     CutShort(usize),
@@ -70,11 +71,10 @@ fn told(answer: u32, value: u64) -> Result<usize, FileRefusal> {
 /// record always suffice.
 ///
 /// ```
-/// use mihadrena::{read_items, write_items, Items, Mode, Options, Record};
+/// use mihadrena::{read_items, write_items, Items, Options, Record};
 ///
-/// let report = Options { mode: Mode::Report, skip_comments: false };
 /// let mut records = [Record::default(); 2];
-/// Items::new("(a", report, &mut records, &mut [])?;
+/// Items::new("(a", Options::report(), &mut records, &mut [])?;
 /// let mut file = [0; 100];
 /// let bytes = write_items(&records, &mut file)?;
 /// assert_eq!(file[..bytes], [0, 0, 0, 1, 0, 1, 0, 0, 0, 0, 27, 0, 1, 1, 1, 1, 1, 1, 1, 1]);
@@ -104,7 +104,8 @@ pub fn write_items(records: &[Record], out: &mut [u8]) -> Result<usize, FileRefu
 }
 
 /// Reads an item file, which may be any bytes, into records from the front on, and answers how many items it has. What the records point
-/// at, and whether a lexer could have given them, is not known of a file that someone else wrote.
+/// at, and whether a lexer could have given them, is not known of a file that someone else wrote:
+/// [`Items::stored`](crate::Items::stored) looks at both, [`records_fit`](crate::records_fit) at the first.
 ///
 /// ```
 /// use mihadrena::{read_items, FileRefusal, Record};

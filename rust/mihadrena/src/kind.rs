@@ -21,7 +21,8 @@ pub enum ParenMod {
     Bytes,
 }
 
-/// What an item is, in the order and by the names of the Rust's `TokenType`. Text is lent: it lies in the source or in the text memory.
+/// What an item is, in the order and by the names of the Rust's `TokenType`. Text is lent: it lies in the source or in the text memory, and
+/// outlives the records. There are no other kinds, so that a `match` may name them all.
 #[derive(Clone, Copy, Debug, PartialEq, Eq, Hash)]
 pub enum Kind<'a> {
     /// `(`, `[`, `{`, `#(`, `#u8(`
@@ -91,11 +92,11 @@ pub enum Kind<'a> {
 }
 
 impl<'a> Kind<'a> {
-    /// The kind of a record that is no error. `text` is its text; of a number, the extent.
-    pub(crate) fn of(record: &Record, text: &'a str) -> Self {
-        match record.kind {
-            raw::OPEN_PAREN => open(record.detail),
-            raw::CLOSE_PAREN => Self::CloseParen(paren(record.detail)),
+    /// The kind of a record that is no error; none if a lexer gives no such kind or detail. `text` is its text; of a number, the extent.
+    pub(crate) fn of(record: &Record, text: &'a str) -> Option<Self> {
+        Some(match record.kind {
+            raw::OPEN_PAREN => open(record.detail)?,
+            raw::CLOSE_PAREN => Self::CloseParen(paren(record.detail)?),
             raw::QUOTE_TICK => Self::QuoteTick,
             raw::QUASI_QUOTE => Self::QuasiQuote,
             raw::UNQUOTE => Self::Unquote,
@@ -104,7 +105,7 @@ impl<'a> Kind<'a> {
             raw::QUASI_QUOTE_SYNTAX => Self::QuasiQuoteSyntax,
             raw::UNQUOTE_SYNTAX => Self::UnquoteSyntax,
             raw::UNQUOTE_SPLICE_SYNTAX => Self::UnquoteSpliceSyntax,
-            raw::CHARACTER_LITERAL => Self::CharacterLiteral(character(record.detail)),
+            raw::CHARACTER_LITERAL => Self::CharacterLiteral(char::from_u32(record.detail)?),
             raw::DATUM_COMMENT => Self::DatumComment,
             raw::COMMENT => Self::Comment,
             raw::BOOLEAN_LITERAL => Self::BooleanLiteral(record.detail == 1),
@@ -113,13 +114,13 @@ impl<'a> Kind<'a> {
             raw::NUMBER => Self::Number(text),
             raw::STRING_LITERAL => Self::StringLiteral(text),
             raw::DOT => Self::Dot,
-            word => Self::reserved(word),
-        }
+            word => Self::reserved(word)?,
+        })
     }
 
     /// The kinds of words that stand for themselves.
-    fn reserved(kind: u32) -> Self {
-        match kind {
+    fn reserved(kind: u32) -> Option<Self> {
+        Some(match kind {
             raw::IF => Self::If,
             raw::DEFINE => Self::Define,
             raw::LET => Self::Let,
@@ -133,29 +134,24 @@ impl<'a> Kind<'a> {
             raw::ELLIPSES => Self::Ellipses,
             raw::SET => Self::Set,
             raw::REQUIRE => Self::Require,
-            _ => unreachable!("the library writes no other kind"),
-        }
+            _ => return None,
+        })
     }
 }
 
-fn open(detail: u32) -> Kind<'static> {
+fn open(detail: u32) -> Option<Kind<'static>> {
     match detail {
-        raw::VECTOR => Kind::OpenParen(Paren::Round, Some(ParenMod::Vector)),
-        raw::BYTES => Kind::OpenParen(Paren::Round, Some(ParenMod::Bytes)),
-        bracket => Kind::OpenParen(paren(bracket), None),
+        raw::VECTOR => Some(Kind::OpenParen(Paren::Round, Some(ParenMod::Vector))),
+        raw::BYTES => Some(Kind::OpenParen(Paren::Round, Some(ParenMod::Bytes))),
+        bracket => Some(Kind::OpenParen(paren(bracket)?, None)),
     }
 }
 
-fn paren(detail: u32) -> Paren {
+fn paren(detail: u32) -> Option<Paren> {
     match detail {
-        raw::ROUND => Paren::Round,
-        raw::SQUARE => Paren::Square,
-        raw::CURLY => Paren::Curly,
-        _ => unreachable!("the library writes no other bracket"),
+        raw::ROUND => Some(Paren::Round),
+        raw::SQUARE => Some(Paren::Square),
+        raw::CURLY => Some(Paren::Curly),
+        _ => None,
     }
-}
-
-/// The character of a detail that the library wrote for one.
-pub(crate) fn character(code: u32) -> char {
-    char::from_u32(code).expect("the library writes code points of characters")
 }

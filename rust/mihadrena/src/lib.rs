@@ -3,17 +3,23 @@
 //! The functions behind this crate are proved (crates/ of the repository): every call ends, touches only the memory that it is lent, and
 //! answers what the definitions say. This crate makes a safe interface of them: [`Items`] reads a whole text, [`Reader`] one item of it a
 //! call, [`Fields`] many short texts in one call, [`PieceReader`] a text that comes in pieces, [`number`] and [`number_by`] take a number
-//! apart, [`coordinate`] makes a float of a decimal, [`nest`] makes nested lists of items, [`write()`] writes items back, [`LineIndex`] and
-//! [`LinePieces`] tell line and column, [`Names`] numbers names for two parties, and [`write_items`] and [`read_items`] store records as
-//! item files. It allocates nothing and depends on nothing but the archive that `.ci/archive` writes; `build.rs` looks for it in the
-//! repository's target folder, or in the folder that the environment variable `MIHADRENA_ARCHIVE` names. There are archives for x86-64
-//! Linux and for Linux on Arm of 64 bits (`.ci/archive --target aarch64-linux-gnu`).
+//! apart, [`value`] and [`coordinate`] make a float of one, [`nest`] makes nested lists of items, [`write()`] writes items back,
+//! [`LineIndex`] and [`LinePieces`] tell line and column, [`Names`] numbers names for two parties, [`write_items`] and [`read_items`] store
+//! records as item files, and [`opener`] and [`records_fit`] answer questions about records. A new program reads in report mode
+//! ([`Options::report`]); plain mode is there to read as Steel does. The example `terminal` is a program to start from.
+//!
+//! It allocates nothing and depends on nothing but the archive that `.ci/archive` writes; `build.rs` looks for it in the repository's target
+//! folder, or in the folder that the environment variable `MIHADRENA_ARCHIVE` names. Only linking needs it. There are archives for x86-64
+//! Linux and for Linux on Arm of 64 bits (`.ci/archive --target aarch64-linux-gnu`). With the feature `alloc` there is also `Plan`, which
+//! owns a plan's text, items, nested lists and lines.
+//!
+//! Refusals and errors are `#[non_exhaustive]`: a later version may have more.
 //!
 //! ```
 //! use mihadrena::{number, Int, Items, Kind, Number, Options, Real, Record};
 //!
 //! let plan = "(stand 101 (volume 412.5)) ; solid cubic metres";
-//! let options = Options { skip_comments: true, ..Options::default() };
+//! let options = Options::report().without_comments();
 //! let mut records = vec![Record::default(); plan.len()];
 //! let mut text = vec![0; plan.len()];
 //! for item in Items::new(plan, options, &mut records, &mut text)? {
@@ -35,6 +41,9 @@ compile_error!(
     "there are archives for x86-64 Linux and for Linux on Arm of 64 bits (aarch64), and for no other target"
 );
 
+#[cfg(feature = "alloc")]
+extern crate alloc;
+
 mod coordinate;
 mod error;
 mod fields;
@@ -47,12 +56,15 @@ mod nested;
 mod number;
 mod number_by;
 mod pieces;
+#[cfg(feature = "alloc")]
+mod plan;
 #[allow(missing_docs, clippy::unreadable_literal)]
 pub mod raw;
 mod reader;
+mod records;
 mod write;
 
-pub use coordinate::{coordinate, record_coordinate, NoCoordinate};
+pub use coordinate::{coordinate, record_coordinate, record_value, value, NoCoordinate};
 pub use error::{Error, HexError, Refusal};
 pub use fields::{Fields, NoFields};
 pub use files::{read_items, write_items, FileRefusal};
@@ -64,6 +76,21 @@ pub use nested::{nest, Node, NodeKind, Nodes, NotNested};
 pub use number::{number, Decimal, Int, NotNumber, Number, Real, Sign};
 pub use number_by::{number_by, NumberReader};
 pub use pieces::PieceReader;
-pub use raw::Record;
+#[cfg(feature = "alloc")]
+pub use plan::{Found, Plan};
+#[doc(inline)]
+pub use raw::{Node as NodeRecord, Record, Row};
 pub use reader::Reader;
+pub use records::{opener, records_fit};
 pub use write::{write, NotWritten};
+
+/// The version of the archive that is linked: major times 65536, minor times 256, patch.
+///
+/// ```
+/// assert!(mihadrena::version() >= 21 * 256);
+/// ```
+#[must_use]
+pub fn version() -> u32 {
+    // SAFETY: the call takes nothing.
+    unsafe { raw::mihadrena_version() }
+}

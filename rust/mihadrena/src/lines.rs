@@ -19,6 +19,7 @@ impl fmt::Display for Position {
 
 /// A call about lines that was refused. It has changed nothing that it was lent.
 #[derive(Clone, Copy, Debug, PartialEq, Eq, Hash)]
+#[non_exhaustive]
 pub enum LineRefusal {
     /// The text exceeds 4,294,967,295 bytes.
     TooLong,
@@ -80,6 +81,18 @@ impl core::error::Error for LineRefusal {}
 /// assert_eq!(lines.starts(), [0, 11, 32]);
 /// # Ok::<(), mihadrena::LineRefusal>(())
 /// ```
+///
+/// Where a text is not UTF-8, the bytes before the first bad sequence are a text, and its end is a place:
+///
+/// ```
+/// use mihadrena::{needed, LineIndex, Options, Refusal};
+///
+/// let plan = b"(stand 101\n  (owner \xFF))";
+/// let Err(Refusal::NotUtf8(place)) = needed(plan, Options::report()) else { panic!() };
+/// let mut memory = [0; 8];
+/// assert_eq!(LineIndex::new(&plan[..place], &mut memory)?.locate(place)?.to_string(), "2:10");
+/// # Ok::<(), mihadrena::LineRefusal>(())
+/// ```
 #[derive(Clone, Copy, Debug)]
 pub struct LineIndex<'a> {
     text: &'a [u8],
@@ -111,35 +124,64 @@ impl<'a> LineIndex<'a> {
         }
     }
 
+    /// The index of a text from line starts that were kept, or that [`LinePieces`] found; none if they are not the text's. The library looks
+    /// once, with one pass over the text.
+    ///
+    /// ```
+    /// use mihadrena::LineIndex;
+    ///
+    /// let lines = LineIndex::kept("a\nλb\n", &[0, 2, 6]).expect("its own");
+    /// assert_eq!(lines.locate(4)?.to_string(), "2:2");
+    /// assert!(LineIndex::kept("a\nλb\n", &[0, 3, 6]).is_none());
+    /// # Ok::<(), mihadrena::LineRefusal>(())
+    /// ```
+    #[must_use]
+    pub fn kept<S: AsRef<[u8]> + ?Sized>(text: &'a S, starts: &'a [u32]) -> Option<Self> {
+        let text = text.as_ref();
+        let mut values = [0; raw::LINES_VALUES];
+        // SAFETY: each pointer and length is those of a slice, and the mutable one is borrowed as such.
+        let answer = unsafe {
+            raw::mihadrena_locate(
+                text.as_ptr(),
+                text.len(),
+                starts.as_ptr(),
+                starts.len(),
+                0,
+                values.as_mut_ptr(),
+                values.len(),
+            )
+        };
+        (answer == raw::SERVED).then_some(Self { text, starts })
+    }
+
+    /// The index that was built of this text before.
+    #[cfg(feature = "alloc")]
+    pub(crate) const fn of(text: &'a [u8], starts: &'a [u32]) -> Self {
+        Self { text, starts }
+    }
+
     /// The byte place of each line start.
     #[must_use]
     pub const fn starts(&self) -> &'a [u32] {
         self.starts
     }
 
-    /// Line and column of a byte place; the end of the text is a place. It holds the index against the text, one pass over it: for many
-    /// places take [`LineIndex::locate_all`].
+    /// Line and column of a byte place; the end of the text is a place.
+    ///
+    /// The line is searched for in the index, and the characters of the line before the place are counted: the text is not passed over. The
+    /// library's `mihadrena_locate` holds the index against the text at each call; here index and text are kept together, so that this was
+    /// done once. This search is no proved function: a test holds it against `mihadrena_locate` on all places of the example plans, and
+    /// [`LineIndex::locate_all`] asks the library.
     ///
     /// # Errors
     /// [`LineRefusal::NoPlace`].
     pub fn locate(&self, place: usize) -> Result<Position, LineRefusal> {
-        let mut values = [0; raw::LINES_VALUES];
-        // SAFETY: each pointer and length is those of a slice, and the mutable one is borrowed as such.
-        let answer = unsafe {
-            raw::mihadrena_locate(
-                self.text.as_ptr(),
-                self.text.len(),
-                self.starts.as_ptr(),
-                self.starts.len(),
-                place,
-                values.as_mut_ptr(),
-                values.len(),
-            )
-        };
-        match answer {
-            raw::SERVED => Ok(Position { line: values[0] as usize, column: values[1] as usize }),
-            _ => Err(LineRefusal::of(answer, values[0])),
+        if place > self.text.len() || self.text.get(place).copied().is_some_and(goes_on) {
+            return Err(LineRefusal::NoPlace(place));
         }
+        let line = self.starts.partition_point(|&start| start as usize <= place);
+        let before = &self.text[self.starts[line - 1] as usize..place];
+        Ok(Position { line, column: 1 + before.iter().filter(|&&byte| !goes_on(byte)).count() })
     }
 
     /// Line and column of many byte places, in any order, with one pass over the text: two numbers of the lent memory for each.
@@ -185,6 +227,11 @@ impl<'a> LineIndex<'a> {
             _ => Err(LineRefusal::of(answer, values[0])),
         }
     }
+}
+
+/// Whether a byte of UTF-8 goes on with a character.
+const fn goes_on(byte: u8) -> bool {
+    byte & 0b1100_0000 == 0b1000_0000
 }
 
 /// The line starts of a text that comes in pieces, in lent memory. No piece is refused; the end says whether the index is built.

@@ -1,6 +1,6 @@
 //! One table of names for two parties.
 use crate::raw;
-use core::fmt;
+use core::{fmt, str};
 
 /// Who asks for a name's number.
 #[derive(Clone, Copy, Debug, PartialEq, Eq, Hash)]
@@ -22,6 +22,7 @@ impl Party {
 
 /// Why a table gave no number or no name. It stays as it was.
 #[derive(Clone, Copy, Debug, PartialEq, Eq, Hash)]
+#[non_exhaustive]
 pub enum NoName {
     /// The lent memory is too little, or was changed from outside: docs/NAMES.md lists its bounds.
     Outside,
@@ -64,20 +65,22 @@ impl fmt::Display for NoName {
 
 impl core::error::Error for NoName {}
 
-/// A table of names in lent memory: [`raw::NAMES_WORDS`] words and [`raw::NAMES_BYTES`] bytes, or more. Equal names have equal numbers,
+/// A table of names in lent memory: [`Names::WORDS`] words and [`Names::BYTES`] bytes, or more. Equal names have equal numbers,
 /// whoever asks, and a number once given always gives the same name back.
 ///
 /// ```
-/// use mihadrena::{raw, Names, NoName, Party};
+/// use mihadrena::{Names, NoName, Party};
 ///
-/// let mut words = vec![0; raw::NAMES_WORDS];
-/// let mut bytes = vec![0; raw::NAMES_BYTES];
+/// let mut words = vec![0; Names::WORDS];
+/// let mut bytes = vec![0; Names::BYTES];
 /// let mut names = Names::open(&mut words, &mut bytes)?;
-/// assert_eq!(names.enter(Party::Planner, b"Betula"), Ok(0));
-/// assert_eq!(names.enter(Party::Contractor, b"Fagus"), Ok(512));
-/// assert_eq!(names.enter(Party::Planner, b"Fagus"), Ok(512));
-/// assert_eq!(names.name(512), Ok(&b"Fagus"[..]));
-/// assert_eq!(names.name(1), Err(NoName::NoNumber));
+/// assert_eq!(names.enter(Party::Planner, "Betula"), Ok(0));
+/// assert_eq!(names.enter(Party::Contractor, "Fagus"), Ok(512));
+/// assert_eq!(names.enter(Party::Planner, "Fagus"), Ok(512));
+/// assert_eq!(names.name_str(512), Ok(Some("Fagus")));
+/// assert_eq!(names.enter(Party::Planner, b"\xFF"), Ok(1));
+/// assert_eq!((names.name(1), names.name_str(1)), (Ok(&b"\xFF"[..]), Ok(None)));
+/// assert_eq!(names.name(2), Err(NoName::NoNumber));
 /// # Ok::<(), NoName>(())
 /// ```
 #[derive(Debug)]
@@ -87,6 +90,11 @@ pub struct Names<'a> {
 }
 
 impl<'a> Names<'a> {
+    /// How many words a table takes.
+    pub const WORDS: usize = raw::NAMES_WORDS;
+    /// How many bytes it takes.
+    pub const BYTES: usize = raw::NAMES_BYTES;
+
     /// An empty table.
     ///
     /// # Errors
@@ -102,11 +110,12 @@ impl<'a> Names<'a> {
         Self { words, bytes }
     }
 
-    /// The number of a name; a name that neither party has entered is entered in the party's half.
+    /// The number of a name, a `str` or any bytes; a name that neither party has entered is entered in the party's half.
     ///
     /// # Errors
     /// [`NoName::NoRoom`], and [`NoName::Outside`] for memory that was changed from outside.
-    pub fn enter(&mut self, party: Party, name: &[u8]) -> Result<u32, NoName> {
+    pub fn enter<S: AsRef<[u8]> + ?Sized>(&mut self, party: Party, name: &S) -> Result<u32, NoName> {
+        let name = name.as_ref();
         let mut number = 0;
         // SAFETY: the slices are valid, and what is written overlaps with nothing else.
         let mark = unsafe {
@@ -118,7 +127,7 @@ impl<'a> Names<'a> {
                 party.number(),
                 name.as_ptr(),
                 name.len(),
-                &mut number,
+                &raw mut number,
             )
         };
         served(mark).map(|()| number)
@@ -138,11 +147,19 @@ impl<'a> Names<'a> {
                 self.bytes.as_ptr(),
                 self.bytes.len(),
                 number,
-                &mut start,
-                &mut end,
+                &raw mut start,
+                &raw mut end,
             )
         };
         served(mark).map(|()| &self.bytes[start..end])
+    }
+
+    /// The name that has a number as a `str`; none where it is none.
+    ///
+    /// # Errors
+    /// As [`Names::name`].
+    pub fn name_str(&self, number: u32) -> Result<Option<&str>, NoName> {
+        self.name(number).map(|name| str::from_utf8(name).ok())
     }
 }
 

@@ -1,6 +1,6 @@
 //! The nested lists of a text, as a tree over lent nodes.
 use crate::raw;
-use crate::{Item, Items};
+use crate::{record_value, Item, Items, NoCoordinate, NodeRecord, Record};
 use core::fmt;
 use core::iter::FusedIterator;
 
@@ -49,6 +49,7 @@ impl NodeKind {
 
 /// Items that are no sequence of data, at the first one that rules a reading out; at the end, how many items there are.
 #[derive(Clone, Copy, Debug, PartialEq, Eq, Hash)]
+#[non_exhaustive]
 pub enum NotNested {
     /// The end with a bracket open: `(`
     BracketOpen(usize),
@@ -77,7 +78,9 @@ impl NotNested {
             raw::TOO_DEEP => Self::TooDeep(item),
             raw::ERROR_ITEM => Self::ErrorItem(item),
             raw::FEW_NODES => Self::FewNodes,
-            _ => unreachable!("the library's own records are refused for nothing else"),
+            _ => unreachable!(
+                "the library's own records, and those that are taken as its own, are refused for nothing else"
+            ),
         }
     }
 
@@ -92,6 +95,26 @@ impl NotNested {
             Self::TooDeep(_) => raw::TOO_DEEP,
             Self::ErrorItem(_) => raw::ERROR_ITEM,
             Self::FewNodes => raw::FEW_NODES,
+        }
+    }
+
+    /// The item at which it is refused, at the end how many items there are; none of [`NotNested::FewNodes`].
+    ///
+    /// ```
+    /// use mihadrena::NotNested;
+    ///
+    /// assert_eq!((NotNested::WrongClose(3).item(), NotNested::FewNodes.item()), (Some(3), None));
+    /// ```
+    #[must_use]
+    pub const fn item(self) -> Option<usize> {
+        match self {
+            Self::BracketOpen(item)
+            | Self::WrongClose(item)
+            | Self::MisplacedDot(item)
+            | Self::MarkWaits(item)
+            | Self::TooDeep(item)
+            | Self::ErrorItem(item) => Some(item),
+            Self::FewNodes => None,
         }
     }
 }
@@ -112,31 +135,27 @@ impl fmt::Display for NotNested {
 
 impl core::error::Error for NotNested {}
 
-/// The data of a text, from items of which none was taken yet. As many nodes as there are items are always enough.
+/// The data of a text, from items of which none was taken yet. As many nodes as there are items are always enough. The nodes are lent as
+/// long as the data live, with the records (`'r`); a name that is taken from them lives as long as the source and the text memory (`'t`).
 ///
 /// ```
-/// use mihadrena::{nest, raw, Items, Kind, Node, NodeKind, Options, Record};
+/// use mihadrena::{nest, Items, Node, NodeRecord, Options, Record};
 ///
 /// /// The names of the lists, each beneath the one that it lies in.
 /// fn outline(node: &Node, indent: usize, out: &mut String) {
-///     if node.kind() != NodeKind::List {
-///         return;
-///     }
-///     let mut children = node.children();
-///     if let Some(Ok(Kind::Identifier(name))) = children.next().map(|child| child.item().what) {
+///     if let Some(name) = node.head() {
 ///         *out += &format!("{:indent$}{name}\n", "");
 ///     }
-///     children.for_each(|child| outline(&child, indent + 2, out));
+///     node.children().for_each(|child| outline(&child, indent + 2, out));
 /// }
 ///
 /// let plan = std::fs::read("../../examples/plan.scm")?;
 /// let mut records = vec![Record::default(); plan.len()];
 /// let mut text = vec![0; plan.len()];
-/// let items = Items::new(&plan, Options::default(), &mut records, &mut text)?;
-/// let mut nodes = vec![raw::Node::default(); items.len()];
+/// let items = Items::new(&plan, Options::report(), &mut records, &mut text)?;
+/// let mut nodes = vec![NodeRecord::default(); items.len()];
 /// let mut out = String::new();
 /// nest(&items, &mut nodes)?.for_each(|node| outline(&node, 0, &mut out));
-/// print!("{out}");
 /// assert!(out.starts_with(
 ///     "plan
 ///   owner
@@ -158,8 +177,13 @@ impl core::error::Error for NotNested {}
 ///
 /// # Errors
 /// What rules a reading out, at its first item; last [`NotNested::FewNodes`].
-pub fn nest<'a>(items: &'a Items<'a>, nodes: &'a mut [raw::Node]) -> Result<Nodes<'a>, NotNested> {
-    let records = items.records();
+pub fn nest<'t, 'r>(items: &Items<'t, 'r>, nodes: &'r mut [NodeRecord]) -> Result<Nodes<'t, 'r>, NotNested> {
+    let count = build(items.records(), nodes)?;
+    Ok(Nodes::of(items.clone(), &nodes[..count]))
+}
+
+/// Writes the nodes of records; answers how many.
+pub(crate) fn build(records: &[Record], nodes: &mut [NodeRecord]) -> Result<usize, NotNested> {
     let mut values = [0; raw::NEST_VALUES];
     // SAFETY: each pointer and length is those of a slice, the mutable ones are borrowed as such, a record is RECORD_WORDS words and a node
     // NODE_WORDS.
@@ -175,55 +199,125 @@ pub fn nest<'a>(items: &'a Items<'a>, nodes: &'a mut [raw::Node]) -> Result<Node
     };
     let value = values[0] as usize;
     match answer {
-        raw::SERVED => Ok(Nodes { items, nodes: &nodes[..value] }),
+        raw::SERVED => Ok(value),
         _ => Err(NotNested::of(answer, value)),
     }
 }
 
-/// Data that stand side by side: those of a text, or the children of a node.
+/// Data that stand side by side: those of a text, the children of a node, or those behind it.
 #[derive(Clone, Debug)]
-pub struct Nodes<'a> {
-    items: &'a Items<'a>,
-    nodes: &'a [raw::Node],
+pub struct Nodes<'t, 'r> {
+    items: Items<'t, 'r>,
+    nodes: &'r [NodeRecord],
 }
 
-impl<'a> Iterator for Nodes<'a> {
-    type Item = Node<'a>;
+impl<'t, 'r> Nodes<'t, 'r> {
+    /// The data of nodes that the library wrote of these items.
+    pub(crate) fn of(items: Items<'t, 'r>, nodes: &'r [NodeRecord]) -> Self {
+        Self { items, nodes }
+    }
+
+    /// Other nodes of the same items.
+    fn among(&self, nodes: &'r [NodeRecord]) -> Self {
+        Self { items: self.items.clone(), nodes }
+    }
+}
+
+impl<'t, 'r> Iterator for Nodes<'t, 'r> {
+    type Item = Node<'t, 'r>;
 
     fn next(&mut self) -> Option<Self::Item> {
         let (first, rest) = self.nodes.split_first()?;
         let (beneath, after) = rest.split_at(first.beneath as usize);
         self.nodes = after;
-        Some(Node { node: *first, below: Nodes { items: self.items, nodes: beneath } })
+        Some(Node { own: *first, below: self.among(beneath), after })
     }
 }
 
-impl FusedIterator for Nodes<'_> {}
+impl FusedIterator for Nodes<'_, '_> {}
 
 /// A datum of a text.
+///
+/// ```
+/// use mihadrena::{nest, Items, NodeRecord, Options, Record};
+///
+/// let plan = "(stand fn (corner 6892014 611208.2))";
+/// let mut records = [Record::default(); 16];
+/// let items = Items::new(plan, Options::report(), &mut records, &mut [])?;
+/// let mut nodes = [NodeRecord::default(); 16];
+/// let stand = nest(&items, &mut nodes)?.next().expect("a list");
+/// assert_eq!(stand.head(), Some("stand"));
+///
+/// // A stand may be named by a word of Scheme: it has a name all the same.
+/// let name = stand.children().nth(1).expect("a name");
+/// assert_eq!(name.name(), Some("fn"));
+/// let corner = name.siblings().next().expect("a list");
+/// let coordinates: Result<Vec<f64>, _> = corner.children().skip(1).map(|node| node.number()).collect();
+/// assert_eq!(coordinates?, [6892014.0, 611208.2]);
+/// # Ok::<(), Box<dyn std::error::Error>>(())
+/// ```
 #[derive(Clone, Debug)]
-pub struct Node<'a> {
-    node: raw::Node,
-    below: Nodes<'a>,
+pub struct Node<'t, 'r> {
+    own: NodeRecord,
+    below: Nodes<'t, 'r>,
+    after: &'r [NodeRecord],
 }
 
-impl<'a> Node<'a> {
+impl<'t, 'r> Node<'t, 'r> {
     /// What it is.
     #[must_use]
     pub fn kind(&self) -> NodeKind {
-        NodeKind::of(self.node.kind)
+        NodeKind::of(self.own.kind)
     }
 
     /// The item that it starts with: a bracket, a mark, or the datum itself.
     #[must_use]
-    pub fn item(&self) -> Item<'a> {
-        let items = self.below.items;
-        items.item(&items.records()[self.node.item as usize])
+    pub fn item(&self) -> Item<'t> {
+        self.below.items.item(self.record())
+    }
+
+    /// The record of that item.
+    #[must_use]
+    pub fn record(&self) -> &'r Record {
+        &self.below.items.records()[self.own.item as usize]
+    }
+
+    /// The spelling of that item: its text if it has one, else the bytes of its extent.
+    #[must_use]
+    pub fn spelling(&self) -> &'t str {
+        self.below.items.spelling(self.record())
+    }
+
+    /// The spelling of a symbol, which may be a word of Scheme such as `fn`; none of any other datum.
+    #[must_use]
+    pub fn name(&self) -> Option<&'t str> {
+        (self.kind() == NodeKind::Symbol).then(|| self.spelling())
+    }
+
+    /// The name that a list starts with; none of a list that starts with anything else, and of any other datum.
+    #[must_use]
+    pub fn head(&self) -> Option<&'t str> {
+        let first = (self.kind() == NodeKind::List).then(|| self.children().next());
+        first.flatten()?.name()
+    }
+
+    /// The value of a number, a decimal or an integer, as [`record_value`] has it.
+    ///
+    /// # Errors
+    /// [`NoCoordinate::Outside`], if it is no number, or one that no exact step makes.
+    pub fn number(&self) -> Result<f64, NoCoordinate> {
+        record_value(self.below.items.source(), self.record())
     }
 
     /// The data that lie directly beneath it.
     #[must_use]
-    pub fn children(&self) -> Nodes<'a> {
+    pub fn children(&self) -> Nodes<'t, 'r> {
         self.below.clone()
+    }
+
+    /// The data that stand behind it, beneath the same datum or at the top of the text.
+    #[must_use]
+    pub fn siblings(&self) -> Nodes<'t, 'r> {
+        self.below.among(self.after)
     }
 }

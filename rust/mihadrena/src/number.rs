@@ -68,6 +68,7 @@ pub enum Number<'a> {
 
 /// Why a text is no number.
 #[derive(Clone, Copy, Debug, PartialEq, Eq, Hash)]
+#[non_exhaustive]
 pub enum NotNumber {
     /// It isn't written like one.
     NoNumber,
@@ -87,7 +88,14 @@ impl fmt::Display for NotNumber {
     }
 }
 
-impl core::error::Error for NotNumber {}
+impl core::error::Error for NotNumber {
+    fn source(&self) -> Option<&(dyn core::error::Error + 'static)> {
+        match self {
+            Self::Refused(refusal) => Some(refusal),
+            _ => None,
+        }
+    }
+}
 
 /// What a text is as a number.
 ///

@@ -5,6 +5,7 @@ use crate::{NotNumber, Number};
 
 /// Who takes a number apart. The two differ on the texts of docs/DIFFERENCES.md's three conditions alone.
 #[derive(Clone, Copy, Debug, Default, PartialEq, Eq, Hash)]
+#[non_exhaustive]
 pub enum NumberReader {
     /// Steel's reader, as [`number`](crate::number) and the items have it: `1@1/-2` is a number, `+I` and `#xe+1i` are none.
     #[default]

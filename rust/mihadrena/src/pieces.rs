@@ -1,17 +1,22 @@
 //! Reading a text that comes in pieces.
+use crate::items::text_of;
 use crate::raw::{self, Record, State, Told};
 use crate::{Item, Options, Refusal};
-use core::str;
+
+/// How many words the bytes of a state are.
+const BYTE_WORDS: usize = raw::STATE_BYTES / size_of::<u64>();
 
 /// Reads a text that comes in pieces, item by item: push bytes, get items. However the text is cut, within a character too, the items
 /// are those of the whole text. It holds 8 KiB of its own: no item may be longer than 4,096 bytes.
 ///
-/// An item is given once a character behind it was pushed, or the end was declared.
+/// An item is given once a character behind it was pushed, or the end was declared. A quote that is never closed is an item up to the end
+/// of the text: [`Refusal::LongItem`] with the quote's place, once it has more bytes than an item may. A piece of 64 bytes costs hardly more
+/// a byte than one of 4,096; byte by byte it is about three times as much (docs/SPEED.md).
 ///
 /// ```
 /// use mihadrena::{Kind, Options, Paren, PieceReader};
 ///
-/// let mut reader = PieceReader::new(Options::default());
+/// let mut reader = PieceReader::new(Options::report());
 /// let mut numbers = 0;
 /// for piece in ["(corner 68920", "14.7 6112", "08.2)"] {
 ///     let mut left = piece.as_bytes();
@@ -41,6 +46,9 @@ pub struct PieceReader {
 }
 
 impl PieceReader {
+    /// How many words [`PieceReader::into_words`] gives.
+    pub const WORDS: usize = BYTE_WORDS + raw::STATE_WORDS;
+
     /// A reader at the start of a text.
     pub fn new(options: Options) -> Self {
         let mut state = State { bytes: [0; raw::STATE_BYTES], words: [0; raw::STATE_WORDS] };
@@ -66,7 +74,7 @@ impl PieceReader {
     /// ```
     /// use mihadrena::{Kind, Options, PieceReader};
     ///
-    /// let mut reader = PieceReader::new(Options::default());
+    /// let mut reader = PieceReader::new(Options::report());
     /// let mut left: &[u8] = b"ab cd";
     /// let item = reader.push(&mut left)?.expect("the blank shows where it ends");
     /// assert_eq!((item.what, item.extent), (Ok(Kind::Identifier("ab")), 0..2));
@@ -106,7 +114,7 @@ impl PieceReader {
     /// ```
     /// use mihadrena::{Options, PieceReader, Refusal};
     ///
-    /// let mut reader = PieceReader::new(Options::default());
+    /// let mut reader = PieceReader::new(Options::report());
     /// assert_eq!(reader.push(&mut &b"caf\xC3"[..])?, None);
     /// assert_eq!(reader.end(), Err(Refusal::NotUtf8(3)));
     /// # Ok::<(), mihadrena::Refusal>(())
@@ -134,21 +142,71 @@ impl PieceReader {
         self.given(answer, told)
     }
 
+    /// The words of a reader that is put aside: those of its state as docs/STATE.md lists them, behind its bytes, eight a word, the first
+    /// one lowest. They may be stored or sent; [`PieceReader::from_words`] reads on, in another program too.
+    ///
+    /// ```
+    /// use mihadrena::{Kind, Options, PieceReader, Refusal};
+    ///
+    /// let mut reader = PieceReader::new(Options::report());
+    /// assert_eq!(reader.push(&mut &b"bjerke"[..])?, None);
+    /// let words = reader.into_words();
+    ///
+    /// let mut reader = PieceReader::from_words(&words)?;
+    /// let item = reader.push(&mut &b"furu "[..])?.expect("the blank shows where it ends");
+    /// assert_eq!((item.what, item.extent), (Ok(Kind::Identifier("bjerkefuru")), 0..10));
+    ///
+    /// let mut other = words;
+    /// other[PieceReader::WORDS - 1] = 99;
+    /// assert_eq!(PieceReader::from_words(&other).err(), Some(Refusal::OutOfBounds));
+    /// # Ok::<(), Refusal>(())
+    /// ```
+    #[must_use]
+    pub fn into_words(self) -> [u64; Self::WORDS] {
+        let mut words = [0; Self::WORDS];
+        let (front, back) = words.split_at_mut(BYTE_WORDS);
+        for (word, bytes) in front.iter_mut().zip(self.state.bytes.chunks_exact(size_of::<u64>())) {
+            *word = bytes.iter().rev().fold(0, |word, &byte| word << 8 | u64::from(byte));
+        }
+        back.copy_from_slice(&self.state.words);
+        words
+    }
+
+    /// A reader that goes on where [`PieceReader::into_words`] left one. The library looks whether the words lie in a state's bounds. Words
+    /// that do and that no reader left are read on as they say; once they lead to no item, the call is [`Refusal::OutOfBounds`].
+    ///
+    /// # Errors
+    /// [`Refusal::OutOfBounds`].
+    pub fn from_words(words: &[u64; Self::WORDS]) -> Result<Self, Refusal> {
+        let mut state = State { bytes: [0; raw::STATE_BYTES], words: [0; raw::STATE_WORDS] };
+        let (front, back) = words.split_at(BYTE_WORDS);
+        for (bytes, word) in state.bytes.chunks_exact_mut(size_of::<u64>()).zip(front) {
+            bytes.copy_from_slice(&word.to_le_bytes());
+        }
+        state.words.copy_from_slice(back);
+        let reader = Self { state, record: Record::default(), text: [0; raw::PIECE_TEXT] };
+        // A call on a copy, with no byte: only whether it is refused is looked at.
+        match reader.clone().push(&mut &[][..]) {
+            Err(Refusal::OutOfBounds) => Err(Refusal::OutOfBounds),
+            _ => Ok(reader),
+        }
+    }
+
     /// What a call gave.
     fn given(&self, answer: u32, told: Told) -> Result<Option<Item<'_>>, Refusal> {
         match answer {
-            raw::ITEM => Ok(Some(self.item())),
+            raw::ITEM => self.item().map(Some).ok_or(Refusal::OutOfBounds),
             raw::MORE | raw::FINISHED => Ok(None),
             _ => Err(Refusal::of(answer, [told.place, 0])),
         }
     }
 
-    /// The item that was given last.
-    fn item(&self) -> Item<'_> {
+    /// The item that was given last; none if the reader goes on from words that no reader left, and these lead to none.
+    fn item(&self) -> Option<Item<'_>> {
         let text = match self.record.text_source {
-            raw::IN_MEMORY => &self.text[self.record.text_start as usize..self.record.text_end as usize],
-            _ => &[],
+            raw::NO_TEXT => "",
+            _ => text_of(&self.record, &[], &self.text)?,
         };
-        Item::of(&self.record, str::from_utf8(text).expect("the library writes UTF-8"))
+        Item::of(&self.record, text)
     }
 }

@@ -6,7 +6,7 @@
 
 // The version, as the header has it.
 pub const VERSION_MAJOR: u32 = 0;
-pub const VERSION_MINOR: u32 = 20;
+pub const VERSION_MINOR: u32 = 21;
 pub const VERSION_PATCH: u32 = 0;
 
 /// How many words a record has.
@@ -443,6 +443,16 @@ extern "C" {
         values: *mut u64,
         values_length: usize,
     ) -> u32;
+    pub fn mihadrena_first_child(nodes: *const u32, nodes_length: usize, at: usize) -> usize;
+    pub fn mihadrena_next_sibling(nodes: *const u32, nodes_length: usize, within: usize, at: usize) -> usize;
+    pub fn mihadrena_opener(records: *const u32, records_length: usize, at: usize) -> usize;
+    pub fn mihadrena_records_fit(
+        records: *const u32,
+        records_length: usize,
+        source_length: usize,
+        text_length: usize,
+    ) -> bool;
+    pub fn mihadrena_version() -> u32;
     pub fn mihadrena_write(
         records: *const u32,
         records_length: usize,
@@ -509,6 +519,15 @@ extern "C" {
         values_length: usize,
     ) -> u32;
     pub fn mihadrena_coordinate(text: *const u8, text_length: usize, value: *mut f64, place: *mut u64) -> u32;
+    pub fn mihadrena_record_value(
+        source: *const u8,
+        source_length: usize,
+        kind: u32,
+        start: u32,
+        end: u32,
+        value: *mut f64,
+        place: *mut u64,
+    ) -> u32;
     pub fn mihadrena_record_coordinate(
         source: *const u8,
         source_length: usize,

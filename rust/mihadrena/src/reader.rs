@@ -8,7 +8,7 @@ use crate::{Item, Options, Refusal};
 /// ```
 /// use mihadrena::{Kind, Options, Paren, Reader};
 ///
-/// let mut reader = Reader::new(r#"(owner "\u{D8}yvind")"#, Options::default())?;
+/// let mut reader = Reader::new(r#"(owner "\u{D8}yvind")"#, Options::report())?;
 /// let mut text = [0; 16];
 /// let mut names = 0;
 /// while let Some(item) = reader.next(&mut text)? {
@@ -36,7 +36,7 @@ impl<'a> Reader<'a> {
     /// ```
     /// use mihadrena::{Options, Reader, Refusal};
     ///
-    /// assert_eq!(Reader::new(b"(a \xFF)", Options::default()).err(), Some(Refusal::NotUtf8(3)));
+    /// assert_eq!(Reader::new(b"(a \xFF)", Options::report()).err(), Some(Refusal::NotUtf8(3)));
     /// ```
     ///
     /// # Errors
@@ -70,7 +70,7 @@ impl<'a> Reader<'a> {
     /// ```
     /// use mihadrena::{Kind, Options, Reader, Refusal};
     ///
-    /// let mut reader = Reader::new(r#""rain\n""#, Options::default())?;
+    /// let mut reader = Reader::new(r#""rain\n""#, Options::report())?;
     /// assert_eq!(reader.next(&mut []), Err(Refusal::TooFew { records: 1, text: 5 }));
     /// let mut text = [0; 5];
     /// let item = reader.next(&mut text)?.expect("an item");

@@ -4,6 +4,7 @@ use core::{fmt, str};
 
 /// Records that were not written. The memory is as it was.
 #[derive(Clone, Copy, Debug, PartialEq, Eq, Hash)]
+#[non_exhaustive]
 pub enum NotWritten {
     /// A record's kind is none, or its extent or its text is not whole characters of what is lent; its number, counted from 0.
     Alien(usize),
@@ -61,10 +62,10 @@ impl core::error::Error for NotWritten {}
 /// result in report mode again: the same kinds, details, texts, depths and numbers, also where identifiers and strings got other texts.
 ///
 /// ```
-/// use mihadrena::{raw, write, Items, Mode, Options, Record};
+/// use mihadrena::{raw, write, Items, Options, Record};
 ///
 /// let plan = "(species spruce) ; second thinning";
-/// let options = Options { mode: Mode::Report, skip_comments: true };
+/// let options = Options::report().without_comments();
 /// let mut records = [Record::default(); 8];
 /// let count = Items::new(plan, options, &mut records, &mut [])?.len();
 /// let records = &mut records[..count];
@@ -86,10 +87,10 @@ impl core::error::Error for NotWritten {}
 /// A number is the bytes of its extent, so that a new one needs a source that has it:
 ///
 /// ```
-/// use mihadrena::{write, Items, Mode, Options, Record};
+/// use mihadrena::{write, Items, Options, Record};
 ///
 /// let plan = "(volume 412.5)".to_string();
-/// let options = Options { mode: Mode::Report, skip_comments: true };
+/// let options = Options::report().without_comments();
 /// let mut records = [Record::default(); 4];
 /// Items::new(&plan, options, &mut records, &mut [])?;
 /// let source = plan + "398.0";

@@ -52,13 +52,15 @@ fn raw_constants() -> BTreeMap<String, u64> {
         .collect()
 }
 
-/// The header's version, which is that of `raw` too, is the crate's and the newest that CHANGELOG.md has.
+/// The header's version, which is that of `raw` too, is the crate's, the archive's and the newest that CHANGELOG.md has.
 #[test]
 fn one_version() {
     let version = format!("{}.{}.{}", raw::VERSION_MAJOR, raw::VERSION_MINOR, raw::VERSION_PATCH);
     let newest = CHANGES.lines().find_map(|line| line.strip_prefix("## ")).and_then(|line| line.split_once(':'));
     assert_eq!(newest.map(|(number, _)| number), Some(version.as_str()));
     assert_eq!(env!("CARGO_PKG_VERSION"), version);
+    let [major, minor, patch] = [raw::VERSION_MAJOR, raw::VERSION_MINOR, raw::VERSION_PATCH];
+    assert_eq!(mihadrena::version(), major * 65536 + minor * 256 + patch);
 }
 
 #[test]
@@ -147,16 +149,17 @@ fn without_inline(code: &str) -> String {
 
 fn header_functions() -> Declared {
     let declarations = without_inline(&code(HEADER));
+    let declarations: Vec<&str> = declarations.lines().filter(|line| !line.starts_with('#')).collect();
+    let declarations = declarations.join("\n");
     let mut functions = Declared::new();
     for declaration in declarations.split(';') {
         let Some(paren) = declaration.find('(').filter(|_| declaration.ends_with(')')) else { continue };
-        let head = declaration[..paren].trim_start();
-        let head = head.lines().last().expect("a line");
+        let head = declaration[..paren].lines().last().expect("a line");
         let Some((result, name)) = head.rsplit_once(' ').filter(|(_, name)| name.starts_with("mihadrena_")) else {
             continue;
         };
         let inside = &declaration[paren + 1..declaration.len() - 1];
-        let parameters: Vec<String> = inside.split(',').map(rust_parameter).collect();
+        let parameters: Vec<String> = inside.split(',').filter(|one| *one != "void").map(rust_parameter).collect();
         let answers = if result == "void" { String::new() } else { format!(" -> {}", rust_type(result)) };
         functions.insert(name.to_string(), format!("({}){answers}", parameters.join(", ")));
     }

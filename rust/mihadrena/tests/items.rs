@@ -135,15 +135,19 @@ fn nodes_are_the_same_whatever_the_depths() {
     }
 }
 
+/// The second error sets no place: in plain mode it points at the first one's, as the Rust's does, in report mode at its own extent.
 #[test]
-fn an_errors_place_is_its_own() {
-    let mut records = [Record::default(); 2];
-    let items = Items::new("\"\\xD800;\"", PLAIN, &mut records, &mut []).expect("two records are enough");
-    let found: Vec<_> = items.map(|item| (item.what, item.extent, item.place)).collect();
-    assert_eq!(
-        found,
-        [(Err(Error::InvalidHexCodePoint(0xD800)), 0..8, 1..8), (Err(Error::IncompleteString), 8..9, 1..8)]
-    );
+fn an_error_that_sets_no_place() {
+    for (options, second) in [(PLAIN, 1..8), (REPORT, 8..9)] {
+        let mut records = [Record::default(); 2];
+        let items = Items::new("\"\\xD800;\"", options, &mut records, &mut []).expect("two records are enough");
+        let found: Vec<_> = items.map(|item| (item.what, item.extent, item.place)).collect();
+        assert_eq!(
+            found,
+            [(Err(Error::InvalidHexCodePoint(0xD800)), 0..8, 1..8), (Err(Error::IncompleteString), 8..9, second)],
+            "{options:?}"
+        );
+    }
 }
 
 /// The first item of a text, an error, and what it points at.

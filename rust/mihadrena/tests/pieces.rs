@@ -157,6 +157,65 @@ fn the_longest_item() {
     assert_eq!(Refusal::LongItem(1).to_string(), "item at byte 1 exceeds 4096 bytes");
 }
 
+/// Put aside after each byte, in the middle of characters too, and taken up from its words.
+#[test]
+fn a_reader_put_aside() {
+    for text in TEXTS.into_iter().chain([PLAN]) {
+        let options = Options { mode: Mode::Report, skip_comments: false };
+        let mut items = Vec::new();
+        let mut reader = PieceReader::new(options);
+        for mut left in text.as_bytes().chunks(1) {
+            while let Some(item) = reader.push(&mut left).expect("a text") {
+                items.push(owned(&item));
+            }
+            reader = PieceReader::from_words(&reader.into_words()).expect("its own words");
+        }
+        while let Some(item) = reader.end().expect("a text") {
+            items.push(owned(&item));
+            reader = PieceReader::from_words(&reader.into_words()).expect("its own words");
+        }
+        assert_eq!(items, whole(text, options), "{text}");
+    }
+}
+
+/// The words are those of the state in memory, as C has it, and each that is too large is refused.
+#[test]
+fn the_words_of_a_reader() {
+    let mut reader = PieceReader::new(PLAIN);
+    assert_eq!(reader.push(&mut &b"abcdefghij"[..]), Ok(None));
+    let words = reader.into_words();
+    assert_eq!(words.len() * size_of::<u64>(), raw::STATE_SIZE);
+    assert_eq!((&words[0].to_ne_bytes(), &words[1].to_ne_bytes()[..2]), (b"abcdefgh", &b"ij"[..]));
+    for word in PieceReader::WORDS - raw::STATE_WORDS..PieceReader::WORDS {
+        let mut other = words;
+        other[word] = u64::MAX;
+        assert_eq!(PieceReader::from_words(&other).err(), Some(Refusal::OutOfBounds), "{word}");
+    }
+    assert_eq!(Refusal::OutOfBounds.number(), raw::OUT_OF_BOUNDS);
+}
+
+/// Words within the bounds that no reader left end in an item or a refusal too: bytes that are no text, a kind that there is not.
+#[test]
+fn words_that_no_reader_left() {
+    let mut reader = PieceReader::new(PLAIN);
+    assert_eq!(reader.push(&mut &b"ab"[..]), Ok(None));
+    let words = reader.into_words();
+    let mut no_text = words;
+    no_text[0] = 0xFFFF;
+    let mut reader = PieceReader::from_words(&no_text).expect("within the bounds");
+    assert_eq!(reader.push(&mut &b" "[..]), Err(Refusal::OutOfBounds));
+    for value in 0..64 {
+        for word in PieceReader::WORDS - raw::STATE_WORDS..PieceReader::WORDS {
+            let mut other = words;
+            other[word] = value;
+            let Ok(mut reader) = PieceReader::from_words(&other) else { continue };
+            let mut left: &[u8] = b" \"c\" (";
+            while let Ok(Some(_)) = reader.push(&mut left) {}
+            while let Ok(Some(_)) = reader.end() {}
+        }
+    }
+}
+
 /// All memory that a raw piece or end call is lent.
 #[derive(Clone, Debug, PartialEq)]
 struct Lent {

@@ -1,7 +1,8 @@
 //! Each refusal of a call in Rust tells the number that C is told.
 use mihadrena::{
     coordinate, nest, raw, read_items, record_coordinate, write, write_items, Fields, FileRefusal, Items, LineIndex,
-    LineRefusal, Names, NoCoordinate, NoFields, NoName, NotNested, NotWritten, Options, Party, Record, Refusal,
+    LineRefusal, Names, NoCoordinate, NoFields, NoName, NodeRecord, NotNested, NotWritten, Options, Party, Record,
+    Refusal,
 };
 
 /// How `nest` refuses a text, with room for so many nodes.
@@ -9,7 +10,7 @@ fn not_nested(text: &str, nodes: usize) -> Option<NotNested> {
     let mut records = vec![Record::default(); text.len()];
     let mut memory = vec![0; text.len()];
     let items = Items::new(text, Options::default(), &mut records, &mut memory).expect("a text");
-    let mut nodes = vec![raw::Node::default(); nodes];
+    let mut nodes = vec![NodeRecord::default(); nodes];
     nest(&items, &mut nodes).err()
 }
 

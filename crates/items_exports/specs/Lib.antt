@@ -1,0 +1,4 @@
+pub mod Records
+pub mod Nodes
+pub mod Version
+pub mod Examples
