@@ -68,3 +68,23 @@ module _ (stage start which detail at len : ℕ) where
         calm = rw k;
         bounds = λ m e f. rw (k, e, f, eq-eqb (start + len) at held, le-leb 1 len some);
       }
+
+      pub sign-known : stage ≡ 9 → Known stage start which detail at len
+      unfolding stageOf
+      sign-known k = record {
+        rows = rw (k, w, d);
+        narrow = omega (arith, w);
+        slim = omega (arith, d);
+        calm = rw k;
+        bounds = λ m e f. rw (k, e, f, eq-eqb (start + len) at held, le-leb 1 len some);
+      }
+
+      pub hash-known : stage ≡ 17 → Known stage start which detail at len
+      unfolding stageOf
+      hash-known k = record {
+        rows = rw (k, w, d);
+        narrow = omega (arith, w);
+        slim = omega (arith, d);
+        calm = rw k;
+        bounds = λ m e f. rw (k, e, f, eq-eqb (start + len) at held, le-leb 1 len some);
+      }

@@ -1,7 +1,7 @@
 // The piece call of the crate `lent`, quick where most calls are made: between two characters, between items, in a word, a number run, a
-// string or a comment to the end of its line, or past a token, on bytes of ASCII. It goes from spot to spot (crate `pieces_spots`) to an item
-// or to the end of the piece (`quickly`). Where it stops short (`slow`), and for words that it does not know (`otherwise`), the crate `lent`
-// goes on. The crate `flat` puts the answers into the words that are lent.
+// string or a comment to the end of its line, past a number sign or past a token, on bytes of ASCII. It goes from spot to spot (crate
+// `pieces_spots`) to an item or to the end of the piece (`quickly`). Where it stops short (`slow`), and for words that it does not know
+// (`otherwise`), the crate `lent` goes on. The crate `flat` puts the answers into the words that are lent.
 use finishing::finish;
 use items::Record;
 use lent::Told;

@@ -180,7 +180,7 @@ module _ (s : PieceSpot) (buf piece : List ℕ) (fits : Fits s buf piece) (n k :
 -- ---- past a byte that closes an item
 
 module _ (s : PieceSpot) (buf piece : List ℕ) (fits : Fits s buf piece) (f : ℕ) (inside : s .i < length piece) (room : s .len < longest)
-    (told : Closes (s .stage) (s .which) (getD piece (s .i) 0) f) where
+    (told : Closes (s .stage) (s .which) (getD piece (s .i) 0) f (take (s .len) buf)) where
   abbrev closed : PieceSpot
   closed = record { stage = f % 64; start = s .start; which = f / 64 % 32; detail = f / 2048; at = s .at + 1; len = s .len + 1; i = s .i + 1 }
 
@@ -203,6 +203,6 @@ module _ (s : PieceSpot) (buf piece : List ℕ) (fits : Fits s buf piece) (f : �
       let laid : laidAt (s .len) (d ∷ []) buf ≡ set buf (s .len) d = sym (laid-sets (s .len) (d ∷ []) buf (omega (arith, fits .full))) in
       turn-goes m text piece s buf closed (set buf (s .len) d) h inside refl
       (turned-eaten (stateAt m s buf) (record { count = refl; need = refl; far = omega (arith, fits .far) }) (s .start) (told .phase) (told .next)
-      (told .stands (s .start) (s .detail)) d (told .small) (omega arith) (told .eats _ _)
+      (told .stands (s .start) (s .detail)) d (told .small) (omega arith) (told .eats _ _ refl)
       ∙ ap (λ (l : List ℕ). on (stateOf (marks m (Busy (s .start) (told .next)) (s .at + 1) (s .len + 1) (range (m .from) (m .to))) l)) laid
       ∙ ap (λ (g : Stage). on (stateOf (marks m g (s .at + 1) (s .len + 1) (range (m .from) (m .to))) (set buf (s .len) d))) (sym (told .then (s .start))))
