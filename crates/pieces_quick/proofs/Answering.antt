@@ -90,13 +90,6 @@ module _ (w : Words) (left : ℕ) (R : Ready w left) (s : PieceSpot) (buf text p
     taken = k;
   }
 
--- one spot after the other
-pub along : (piece : List ℕ) (s : PieceSpot) (buf : List ℕ) (r : PieceSpot) (now : List ℕ) (q : PieceSpot) (then : List ℕ)
-    → Onward s buf r now piece → Onward r now q then piece → Onward s buf q then piece
-along piece s buf r now q then f g m text h =
-    let a = f m text h in
-    let b = g m text (a .sound) in record { sound = b .sound; feeds = b .feeds ∙ a .feeds }
-
 -- from the words that were lent to the last spot
 module _ (w : Words) (buf text piece : List ℕ) (full : length buf ≡ longest) (room : longest ≤ length text) (R : Ready w (length piece))
     (s : PieceSpot) (now : List ℕ) (on : Onward (spotOf w) buf s now piece) where

@@ -13,7 +13,7 @@ use pieces_spots::PieceSpot;
 use pieces_spots::begin;
 use pieces_spots::close;
 use pieces_spots::past;
-use pieces_spots::run;
+use pieces_spots::run_on;
 use ready::is_ready;
 use ready::stand;
 ghost use mathlib.Core.Path.{_≡_};
@@ -76,7 +76,7 @@ fn through(s: PieceSpot, buf: &mut [u8], piece: &[u8]) -> PieceSpot
     if begun.stage == DONE_TOKEN {
         return begun;
     }
-    let ran = run(begun, buf, piece);
+    let ran = run_on(begun, buf, piece);
     close(ran, buf, piece)
 }
 

@@ -31,6 +31,13 @@ use Rattle.pieces_spots.proofs.Turning.{turned-begun, turned-eaten}
 pub stay : (s : PieceSpot) (buf piece : List ℕ) → Onward s buf s buf piece
 stay s buf piece m text h = record { sound = h; feeds = refl }
 
+-- one spot after the other
+pub along : (piece : List ℕ) (s : PieceSpot) (buf : List ℕ) (r : PieceSpot) (now : List ℕ) (q : PieceSpot) (then : List ℕ)
+    → Onward s buf r now piece → Onward r now q then piece → Onward s buf q then piece
+along piece s buf r now q then f g m text h =
+    let a = f m text h in
+    let b = g m text (a .sound) in record { sound = b .sound; feeds = b .feeds ∙ a .feeds }
+
 -- ---- a byte by its turn
 
 module _ (m : Marks) (text piece : List ℕ) (s : PieceSpot) (buf : List ℕ) (r : PieceSpot) (now : List ℕ) (h : Sound (marksAt m s) buf text)
@@ -53,7 +60,7 @@ module _ (m : Marks) (text piece : List ℕ) (s : PieceSpot) (buf : List ℕ) (r
 
 -- ---- past blanks
 
-idle-stage : (s : PieceSpot) → s .stage ≡ 3 → stageOf (rowAt s) ≡ Idle
+pub idle-stage : (s : PieceSpot) → s .stage ≡ 3 → stageOf (rowAt s) ≡ Idle
 unfolding stageOf
 idle-stage s e = rw e
 

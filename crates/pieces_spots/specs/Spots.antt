@@ -4,7 +4,7 @@ use Prim.Native.Nat.{ℕ, _+_, _/_, _%_, _^_, _≤_, _<_}
 use mathlib.Core.Path.{_≡_}
 use mathlib.Core.Bool.{Bool, true, false}
 use mathlib.Core.List.{List, [], _∷_}
-use lib.ListN.{length, drop}
+use lib.ListN.{length, getD, drop}
 use Rattle.laws.specs.Texts.{span}
 use Rattle.steps.specs.Runs.{keeps}
 use Rattle.items.specs.Readers.{SoFar, hashKind}
@@ -97,6 +97,26 @@ pub record Closes (stage which c r : ℕ) (raw : List ℕ) : Type 0 where
   pub then : (start : ℕ) → stageOf (row (r % 64) start (r / 64 % 32) (r / 2048) 0 0) ≡ Busy start next
   pub rows : (start : ℕ) → stageRow (Busy start next) ≡ row (r % 64) start (r / 64 % 32) (r / 2048) 0 0
   pub few : r < 2 ^ 16
+
+-- the two bytes of a letter past ASCII: U+00C0 to U+07FF, of which none is a blank
+pub record Letter (x y : ℕ) : Type 0 where
+  pub first : 0xC3 ≤ x
+  pub few : x < 0xE0
+  pub next : 0x80 ≤ y
+  pub last : y ≤ 0xBF
+
+-- an item of the stage goes on with any such letter
+pub record Carries (stage which : ℕ) : Type 0 where
+  pub phase : Phase
+  pub stands : (start detail : ℕ) → stageOf (row stage start which detail 0 0) ≡ Busy start phase
+  pub eats : (c : ℕ) → 0xC0 ≤ c → c < 0x800 → (report : Bool) (i : SoFar) → stepOf report phase i c ≡ Eat phase
+
+-- one stands at a spot, and the item goes on with it
+pub record Lettered (s : PieceSpot) (piece : List ℕ) : Type 0 where
+  pub inside : s .i + 2 ≤ length piece
+  pub room : s .len + 2 ≤ longest
+  pub letter : Letter (getD piece (s .i) 0) (getD piece (s .i + 1) 0)
+  pub carries : Carries (s .stage) (s .which)
 
 -- a byte ends a word
 abbrev pub StopsWord : ℕ → Type 0

@@ -7,6 +7,7 @@ use crate::first_byte::LINE_DONE;
 use crate::first_byte::NOT_TOLD;
 use crate::first_byte::VECTOR_DONE;
 use crate::first_byte::first;
+use crate::letters::begin_letter;
 use giving::give::copy_all;
 use items::Phase;
 use items::Quotes;
@@ -81,7 +82,7 @@ pub fn begin(s: PieceSpot, buf: &mut [u8], piece: &[u8]) -> PieceSpot
     let b = piece[i];
     let f = first(b);
     if f <= IDLE {
-        return s;
+        return begin_letter(s, buf, piece);
     }
     buf[0] = b;
     PieceSpot {
@@ -120,7 +121,7 @@ fn kept_count(stage: u64, which: u64, bytes: &[u8]) -> usize
 // Past the bytes that leave an item in its phase.
 pub fn run(s: PieceSpot, buf: &mut [u8], piece: &[u8]) -> PieceSpot
     requires { ⌜ Fits s (now buf) (now piece) ⌝ }
-    ensures { λ r. ⌜ Fits r (now (buf .exit)) (now (piece .entry)) × Onward s (now (buf .entry)) r (now (buf .exit)) (now (piece .entry)) ⌝ }
+    ensures { λ r. ⌜ Fits r (now (buf .exit)) (now (piece .entry)) × Onward s (now (buf .entry)) r (now (buf .exit)) (now (piece .entry)) × (s .i ≤ r .i) ⌝ }
 {
     let i = s.i;
     let len = s.len;

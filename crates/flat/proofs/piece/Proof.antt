@@ -1,15 +1,5 @@
 -- 22 and 27 leave all but the values; else the call of `lent` fixes the state and the text memory, and `tell` the rest.
 use borrow.Author.Needs.{needs}
-use Rattle.flat.proofs.piece.Reads as reads
-use Rattle.flat.proofs.piece.Lts as lts
-use Rattle.flat.proofs.is_room.Reads as is-room-reads
-use Rattle.flat.proofs.is_state.Reads as is-state-reads
-use Rattle.flat.proofs.put_values.Reads as put-values-reads
-use Rattle.flat.proofs.read_on.Reads as read-on-reads
-use Rattle.flat.proofs.tell.Reads as tell-reads
-use Rattle.flat.proofs.words_in.Reads as words-in-reads
-use Rattle.pieces_quick.proofs.is_served.Reads as is-served-reads
-use Rattle.pieces_quick.proofs.otherwise.Reads as otherwise-reads
 use mathlib.Core.Path.{sym, _∙_}
 use borrow.Author.Tests.{not-true, not-false}
 use lib.ListN.{length}

@@ -1,12 +1,5 @@
 -- What the moves answer is what the call of `lent` says, and so is what is told of it (Spotted).
 use borrow.Author.Needs.{needs}
-use Rattle.flat.proofs.read_on.Reads as reads
-use Rattle.flat.proofs.read_on.Lts as lts
-use Rattle.flat.proofs.quick.tell_item.Reads as tell-item-reads
-use Rattle.flat.proofs.quick.tell_more.Reads as tell-more-reads
-use Rattle.flat.proofs.tell.Reads as tell-reads
-use Rattle.pieces_quick.proofs.quickly.Reads as quickly-reads
-use Rattle.pieces_quick.proofs.slow.Reads as slow-reads
 use denote.Ref.{now}
 use mathlib.Core.Path.{subst}
 use lib.ListN.{length}

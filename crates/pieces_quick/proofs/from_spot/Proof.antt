@@ -1,8 +1,5 @@
 -- At the end of the piece nothing is left to feed. Before it the item is given, or the reader stands as before (Answering).
 use borrow.Author.Needs.{needs}
-use Rattle.pieces_quick.proofs.from_spot.Reads as reads
-use Rattle.pieces_quick.proofs.from_spot.Lts as lts
-use Rattle.pieces_quick.proofs.finishing.finish.Reads as finish-reads
 use native.Mathlib.Omega.{arith}
 use denote.Ref.{now}
 use mathlib.Core.Path.{refl, subst}

@@ -1,9 +1,5 @@
 -- The moves lead from the words to the last spot, so the answer from there is theirs (Answering: answers).
 use borrow.Author.Needs.{needs}
-use Rattle.pieces_quick.proofs.quickly.Reads as reads
-use Rattle.pieces_quick.proofs.quickly.Lts as lts
-use Rattle.pieces_quick.proofs.from_spot.Reads as from-spot-reads
-use Rattle.pieces_quick.proofs.through.Reads as through-reads
 use denote.Ref.{now}
 use Rattle.pieces_quick.proofs.Answering.{last-reached, answers}
 use Rattle.pieces_quick.proofs.quickly.Statement.{statement}

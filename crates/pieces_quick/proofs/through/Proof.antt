@@ -1,13 +1,7 @@
--- Each move feeds on as the spot before (Answering: along).
+-- Each move feeds on as the spot before (pieces_spots/proofs/Moves: along).
 use borrow.Author.Needs.{needs}
-use Rattle.pieces_quick.proofs.through.Reads as reads
-use Rattle.pieces_quick.proofs.through.Lts as lts
-use Rattle.pieces_spots.proofs.begin.Reads as begin-reads
-use Rattle.pieces_spots.proofs.close.Reads as close-reads
-use Rattle.pieces_spots.proofs.past.Reads as past-reads
-use Rattle.pieces_spots.proofs.run.Reads as run-reads
 use denote.Ref.{now}
-use Rattle.pieces_quick.proofs.Answering.{along}
+use Rattle.pieces_spots.proofs.Moves.{along}
 use Rattle.pieces_quick.proofs.through.Statement.{statement}
 use Rattle.pieces_quick.proofs.through.Tie as tie
 
@@ -26,8 +20,8 @@ returns c =
     let one = c .before .before .before .before .begin in
     (one .ensures .0, along piece _ _ _ _ _ _ (c .before .before .before .before .before .before .past .ensures .1) (one .ensures .1))
 
-run-requires : tie.Need-run-requires
-run-requires c κs = search needs
+run-on-requires : tie.Need-run-on-requires
+run-on-requires c κs = search needs
 
 close-requires : tie.Need-close-requires
 close-requires c κs = search needs
@@ -39,7 +33,7 @@ returns-2 : tie.Need-returns-2
 returns-2 c =
     let piece = now (c .before .before .before .before .before .before .before .before .before .before .before .before .before .before .before .before .before .before .args .piece) in
     let begun = along piece _ _ _ _ _ _ (c .before .before .before .before .before .before .before .before .before .before .before .before .before .before .past .ensures .1) (c .before .before .before .before .before .before .before .before .before .before .before .before .begin .ensures .1) in
-    let ran = along piece _ _ _ _ _ _ begun (c .before .before .before .before .before .before .run .ensures .1) in
+    let ran = along piece _ _ _ _ _ _ begun (c .before .before .before .before .before .before .run-on .ensures .1) in
     let last = c .before .before .close in
     (last .ensures .0, along piece _ _ _ _ _ _ ran (last .ensures .1))
 
@@ -51,7 +45,7 @@ through-spec =
     begin-requires
     same-length
     returns
-    run-requires
+    run-on-requires
     close-requires
     same-length-2
     returns-2)

@@ -1,7 +1,5 @@
 -- Seven stores put the spot in place of that before (Spotted).
 use borrow.Author.Needs.{needs}
-use Rattle.flat.proofs.quick.put_spot.Reads as reads
-use Rattle.flat.proofs.quick.put_spot.Lts as lts
 use native.Mathlib.Omega.{arith}
 use denote.Ref.{now}
 use lib.ListN.{length-set}

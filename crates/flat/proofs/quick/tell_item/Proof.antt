@@ -1,10 +1,5 @@
 -- The spot stands in the words and the record in its place; no place comes with it (Spotted).
 use borrow.Author.Needs.{needs}
-use Rattle.flat.proofs.quick.tell_item.Reads as reads
-use Rattle.flat.proofs.quick.tell_item.Lts as lts
-use Rattle.flat.proofs.put_values.Reads as put-values-reads
-use Rattle.flat.proofs.quick.put_spot.Reads as put-spot-reads
-use Rattle.meaning.proofs.records.put.Reads as put-reads
 use denote.Ref.{now}
 use mathlib.Core.Path.{refl}
 use Rattle.pieces.specs.declared.Got.the-variants.{Item}

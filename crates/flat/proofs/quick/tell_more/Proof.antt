@@ -1,9 +1,5 @@
 -- The spot stands in the words; no record is written, and no place comes with it (Spotted).
 use borrow.Author.Needs.{needs}
-use Rattle.flat.proofs.quick.tell_more.Reads as reads
-use Rattle.flat.proofs.quick.tell_more.Lts as lts
-use Rattle.flat.proofs.put_values.Reads as put-values-reads
-use Rattle.flat.proofs.quick.put_spot.Reads as put-spot-reads
 use denote.Ref.{now}
 use mathlib.Core.Path.{refl}
 use Rattle.pieces.specs.declared.Got.the-variants.{More}

@@ -1,7 +1,5 @@
 -- A blank leaves the reader between items, any other byte begins one (Giving).
 use borrow.Author.Needs.{needs}
-use Rattle.pieces_quick.proofs.finishing.after.Reads as reads
-use Rattle.pieces_quick.proofs.finishing.after.Lts as lts
 use native.Mathlib.Omega.{arith}
 use denote.Ref.{now}
 use mathlib.Core.Path.{refl}

@@ -1,9 +1,5 @@
 -- A number's text is its extent, any other item has none (Giving).
 use borrow.Author.Needs.{needs}
-use Rattle.pieces_quick.proofs.finishing.bare_record.Reads as reads
-use Rattle.pieces_quick.proofs.finishing.bare_record.Lts as lts
-use Rattle.giving.proofs.give.copy_all.Reads as copy-all-reads
-use Rattle.pieces_quick.proofs.finishing.record_of.Reads as record-of-reads
 use native.Mathlib.Omega.{arith}
 use denote.Ref.{now}
 use borrow.Author.Tests.{eq-eqb, ne-eqb}

@@ -1,11 +1,5 @@
 -- Record, text, spot and buffer are the definition's for an item that ends before the byte (Giving: gives-item).
 use borrow.Author.Needs.{needs}
-use Rattle.pieces_quick.proofs.finishing.given.Reads as reads
-use Rattle.pieces_quick.proofs.finishing.given.Lts as lts
-use Rattle.meaning.proofs.records.depth_after.Reads as depth-after-reads
-use Rattle.pieces_quick.proofs.finishing.after.Reads as after-reads
-use Rattle.pieces_quick.proofs.finishing.copied.Reads as copied-reads
-use Rattle.pieces_quick.proofs.finishing.skips.Reads as skips-reads
 use native.Mathlib.Omega.{arith}
 use denote.Ref.{now}
 use mathlib.Core.Path.{refl, sym, _∙_, subst}

@@ -1,9 +1,5 @@
 -- The text is the part of the extent that was copied (Giving: part-copied).
 use borrow.Author.Needs.{needs}
-use Rattle.pieces_quick.proofs.finishing.part_record.Reads as reads
-use Rattle.pieces_quick.proofs.finishing.part_record.Lts as lts
-use Rattle.giving.proofs.give.copy_all.Reads as copy-all-reads
-use Rattle.pieces_quick.proofs.finishing.record_of.Reads as record-of-reads
 use native.Mathlib.Omega.{arith}
 use denote.Ref.{now}
 use Rattle.pieces_quick.proofs.Giving.{part-copied}

@@ -1,14 +1,5 @@
 -- A token that is whole and a string that is closed end before any byte; a word, a number run and a boolean before those that end them (Ends).
 use borrow.Author.Needs.{needs}
-use Rattle.pieces_spots.proofs.ending.tell.Reads as reads
-use Rattle.pieces_spots.proofs.ending.tell.Lts as lts
-use Rattle.pieces_spots.proofs.ending.ends_word.Reads as ends-word-reads
-use Rattle.pieces_spots.proofs.ending.is_stop.Reads as is-stop-reads
-use Rattle.pieces_spots.proofs.ending.tell_boolean.Reads as tell-boolean-reads
-use Rattle.telling.proofs.bare.Reads as bare-reads
-use Rattle.telling.proofs.tell_run.Reads as tell-run-reads
-use Rattle.telling.proofs.tell_string.Reads as tell-string-reads
-use Rattle.telling.proofs.tell_word.Reads as tell-word-reads
 use native.Mathlib.Omega.{arith}
 use denote.Ref.{now}
 use borrow.Author.Tests.{not-false}

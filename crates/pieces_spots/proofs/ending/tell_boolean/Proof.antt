@@ -1,8 +1,5 @@
 -- Its two bytes spell it (Ends).
 use borrow.Author.Needs.{needs}
-use Rattle.pieces_spots.proofs.ending.tell_boolean.Reads as reads
-use Rattle.pieces_spots.proofs.ending.tell_boolean.Lts as lts
-use Rattle.telling.proofs.bare.Reads as bare-reads
 use native.Mathlib.Omega.{arith}
 use denote.Ref.{now}
 use mathlib.Core.Path.{refl, sym, subst}

@@ -1,7 +1,5 @@
 -- Each letter leads on by computation (Runs).
 use borrow.Author.Needs.{needs}
-use Rattle.pieces_spots.proofs.moving.after_sign.Reads as reads
-use Rattle.pieces_spots.proofs.moving.after_sign.Lts as lts
 use native.Mathlib.Omega.{arith}
 use denote.Ref.{now}
 use Rattle.pieces_spots.proofs.Runs as runs

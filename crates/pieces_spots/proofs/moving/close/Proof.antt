@@ -1,8 +1,5 @@
 -- The turn of the byte leads the item to its next phase (Moves: closed-on).
 use borrow.Author.Needs.{needs}
-use Rattle.pieces_spots.proofs.moving.close.Reads as reads
-use Rattle.pieces_spots.proofs.moving.close.Lts as lts
-use Rattle.pieces_spots.proofs.moving.closes.Reads as closes-reads
 use native.Mathlib.Omega.{arith}
 use denote.Ref.{now}
 use mathlib.Core.Path.{sym}

@@ -1,8 +1,5 @@
 -- A quote closes a string, a newline a comment; after a number sign the byte tells (Runs).
 use borrow.Author.Needs.{needs}
-use Rattle.pieces_spots.proofs.moving.closes.Reads as reads
-use Rattle.pieces_spots.proofs.moving.closes.Lts as lts
-use Rattle.pieces_spots.proofs.moving.after_sign.Reads as after-sign-reads
 use native.Mathlib.Omega.{arith}
 use mathlib.Core.Path.{sym, subst}
 use Prim.Native.Nat.{ℕ}
