@@ -233,7 +233,7 @@ fn read_on(
         Reached::More(s) => tell_more(s, state.depth, words, values),
         Reached::Item(s, depth, record) => tell_item(s, depth, record, words, item, values),
         Reached::Before(s) => {
-            let told = slow(state, s, buf, piece, text);
+            let told = slow(words_in(words), s, buf, piece, text);
             tell(told, words, item, values)
         }
     }

@@ -84,6 +84,7 @@ module _ (w : Words) (left : ℕ) (R : Ready w left) (s : PieceSpot) (buf text p
     ready = R;
     sound = sound;
     far = omega (arith, fits .far);
+    held = fits .held;
     small = fits .small;
     which = fits .which;
     detail = fits .detail;

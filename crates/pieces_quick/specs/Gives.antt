@@ -63,6 +63,7 @@ pub record Held (w : Words) (s : PieceSpot) (buf text : List ℕ) : Type 0 where
   pub ready : Ready w left
   pub sound : Sound (marksAt (base w) s) buf text
   pub far : s .at + 1 ≤ limit
+  pub held : 3 < s .stage → (s .start + s .len ≡ s .at) × (1 ≤ s .len)
   pub small : s .len ≤ longest
   pub which : s .which < 2 ^ 32
   pub detail : s .detail < 2 ^ 32

@@ -173,13 +173,7 @@ pub fn finish(w: Words, s: PieceSpot, b: u8, buf: &mut [u8], text: &mut [u8]) ->
     ensures { λ r. ⌜ Finished w s b (now (buf .entry)) (now (buf .exit)) (now (text .entry)) (now (text .exit)) r ⌝ }
 {
     let len = s.len;
-    if len == 0 {
-        return Offer::Not;
-    }
-    if s.at < len as u64 {
-        return Offer::Not;
-    }
-    if s.start != s.at - len as u64 {
+    if s.stage <= IDLE {
         return Offer::Not;
     }
     let f = first(b);

@@ -79,6 +79,7 @@ module _ (s : PieceSpot) (buf piece : List ℕ) (fits : Fits s buf piece) (idle 
     inside = past-inside;
     far = omega (arith, fits .far);
     small = omega arith;
+    held = λ h. absurd (omega arith);
     rows = refl;
     which = omega arith;
     detail = omega arith;
@@ -126,6 +127,7 @@ module _ (s : PieceSpot) (buf piece : List ℕ) (fits : Fits s buf piece) (idle 
     inside = omega arith;
     far = omega (arith, fits .far);
     small = omega arith;
+    held = λ h. (refl, omega arith);
     rows = ap stageRow (told .stands (s .at)) ∙ told .rows (s .at);
     which = omega arith;
     detail = omega arith;
@@ -164,6 +166,7 @@ module _ (s : PieceSpot) (buf piece : List ℕ) (fits : Fits s buf piece) (n k :
     inside = ran-inside;
     far = omega (arith, fits .far);
     small = omega (arith, ran-all .1);
+    held = λ h. let k = fits .held h in (omega (arith, k .0), omega (arith, k .1));
     rows = fits .rows;
     which = fits .which;
     detail = fits .detail;
@@ -200,6 +203,7 @@ module _ (s : PieceSpot) (buf piece : List ℕ) (fits : Fits s buf piece) (f : �
     inside = omega arith;
     far = omega (arith, fits .far);
     small = omega arith;
+    held = λ h. let k = fits .held (told .item) in (omega (arith, k .0), omega arith);
     rows = ap stageRow (told .then (s .start)) ∙ told .rows (s .start);
     which = omega arith;
     detail = omega (arith, told .few);

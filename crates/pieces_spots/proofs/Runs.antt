@@ -55,6 +55,7 @@ module _ (stage which c : ℕ) (raw : List ℕ) where
   pub quote-closes : stage ≡ 24 → which ≡ 0 → c ≡ code "\"" → Closes stage which c 25 raw
   unfolding stageOf inQuotes
   quote-closes k w e = record {
+    item = omega (arith, k);
     small = omega (arith, e);
     phase = ph.Quoted Double;
     next = ph.Closed Double;
@@ -68,6 +69,7 @@ module _ (stage which c : ℕ) (raw : List ℕ) where
   pub newline-closes : stage ≡ 7 → c ≡ code "\n" → Closes stage which c 1631 raw
   unfolding stageOf
   newline-closes k e = record {
+    item = omega (arith, k);
     small = omega (arith, e);
     phase = ph.InLine;
     next = ph.Done comment;
@@ -99,6 +101,7 @@ module _ (which c : ℕ) (raw : List ℕ) where
   pub vector-closes : raw ≡ code "#" ∷ [] → c ≡ code "(" → Closes 9 which c 6175 raw
   unfolding stageOf afterHash inHash endsHash
   vector-closes sign e = record {
+    item = omega arith;
     small = omega (arith, e);
     phase = ph.AfterHash;
     next = ph.Done (Token kind.OpenParen kind.Vector);
@@ -112,6 +115,7 @@ module _ (which c : ℕ) (raw : List ℕ) where
   letter-closes : (d : ℕ) → d < 0x80 → ((raw : List ℕ) → onAfterHash (afterHash d) raw d ≡ Eat ph.InHash) → c ≡ d → Closes 9 which c 17 raw
   unfolding stageOf
   letter-closes d small goes e = record {
+    item = omega arith;
     small = omega (arith, e);
     phase = ph.AfterHash;
     next = ph.InHash;

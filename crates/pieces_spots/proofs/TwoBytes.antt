@@ -213,6 +213,7 @@ module _ (s : PieceSpot) (buf piece : List ℕ) (fits : Fits s buf piece) where
       inside = L .inside;
       far = omega (arith, fits .far);
       small = L .room;
+      held = λ h. let k = fits .held h in (omega (arith, k .0), omega (arith, k .1));
       rows = fits .rows;
       which = fits .which;
       detail = fits .detail;
@@ -247,6 +248,7 @@ module _ (s : PieceSpot) (buf piece : List ℕ) (fits : Fits s buf piece) where
       inside = inside;
       far = omega (arith, fits .far);
       small = omega arith;
+      held = λ h. (refl, omega arith);
       rows = refl;
       which = omega arith;
       detail = omega arith;

@@ -47,12 +47,13 @@ marksAt m s = marks m (stageOf (rowAt s)) (s .at) (s .len) (range (m .from) (m .
 abbrev pub stateAt : Marks → PieceSpot → List ℕ → State
 stateAt m s buf = stateOf (marksAt m s) buf
 
--- a spot within the piece and within the longest text, whose stage has its row
+-- a spot within the piece and within the longest text, whose stage has its row; past the stage between items an item is held
 pub record Fits (s : PieceSpot) (buf piece : List ℕ) : Type 0 where
   pub full : length buf ≡ longest
   pub inside : s .i ≤ length piece
   pub far : s .at + length piece ≤ limit + s .i
   pub small : s .len ≤ longest
+  pub held : 3 < s .stage → (s .start + s .len ≡ s .at) × (1 ≤ s .len)
   pub rows : stageRow (stageOf (rowAt s)) ≡ rowAt s
   pub which : s .which < 2 ^ 32
   pub detail : s .detail < 2 ^ 32
@@ -89,6 +90,7 @@ pub record Keeps (stage which n : ℕ) (bytes : List ℕ) : Type 0 where
 
 -- a byte leads an item, whose bytes so far are `raw`, from the phase of the stage to another
 pub record Closes (stage which c r : ℕ) (raw : List ℕ) : Type 0 where
+  pub item : 3 < stage
   pub small : c < 0x80
   pub phase : Phase
   pub next : Phase
