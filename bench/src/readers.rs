@@ -26,6 +26,7 @@ pub const READERS: &[Reader] = &[
     Reader { name: "ample", title: "ample", inside: READ, ready: ample },
     Reader { name: "counted", title: "counted", inside: READ, ready: counted },
     Reader { name: "pieces-4096", title: "pieces of 4,096", inside: PIECES, ready: |text| pieces(text, 4096) },
+    Reader { name: "pieces-512", title: "of 512", inside: PIECES, ready: |text| pieces(text, 512) },
     Reader { name: "pieces-64", title: "of 64", inside: PIECES, ready: |text| pieces(text, 64) },
     Reader { name: "pieces-1", title: "of 1", inside: PIECES, ready: |text| pieces(text, 1) },
     Reader {

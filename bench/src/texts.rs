@@ -20,12 +20,20 @@ pub const TEXTS: &[Text] = &[
     text("nested-comments", |n| format!("#|{}#|{}|#|#", "a".repeat(n / 2 - 4), "b".repeat(n / 2 - 4))),
     text("brackets", |n| "()".repeat(n / 2)),
     text("words", |n| "abc ".repeat(n / 4)),
+    text("northern-words", |n| repeated("skjønn ås bjørk på ", n)),
+    text("northern-strings", |n| repeated("\"Kjør på åsen, ikke på myra.\" ", n)),
+    text("northern-comments", |n| repeated("; kubikkmeter på åsen, målt\n", n)),
     text("integers", |n| (0..n / 8).map(|i| format!("{} ", 1_000_000 + i)).collect()),
     text("decimals", |n| (0..n / 11).map(|i| format!("{:.2} ", 6_892_000.0 + 1.37 * i as f64)).collect()),
     text("blanks", |n| " ".repeat(n)),
     text("errors", |n| "\"\\q".repeat(n / 3)),
     text("letters-of-two-bytes", |n| format!("\"{}\"", "é".repeat(n / 2 - 1))),
 ];
+
+/// A text over and over, in at most so many bytes.
+fn repeated(text: &str, bytes: usize) -> String {
+    text.repeat(bytes / text.len())
+}
 
 /// A first line that is passed over.
 const FIRST_LINE: &Text = &text("first-line", |n| format!("#!{}\n", "x".repeat(n - 3)));

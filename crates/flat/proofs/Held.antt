@@ -20,7 +20,7 @@ use Rattle.flat.specs.Piece.{listed, wordsIn, stateWords, isState, Opene
 use Rattle.flat.specs.Held.{Holds}
 
 -- the words of a state, written over as many, are all that is there
-over : (w : Words) (old : List ℕ) → length old ≡ stateWords → written (listed w) old ≡ listed w
+pub over : (w : Words) (old : List ℕ) → length old ≡ stateWords → written (listed w) old ≡ listed w
 over w old h =
     let all : length old ≤ stateWords = omega (arith, h) in
     rw (drop-of-length-le old all) (append-nil (listed w))

@@ -20,7 +20,7 @@ use Rattle.lent.specs.declared.Words.{Words}
 use Rattle.lent.specs.declared.State.{State}
 use Rattle.lent.specs.declared.Told.{Told}
 use Rattle.lent.specs.Calls.{Said, lent, said, openFor}
-use Rattle.flat.specs.Piece.{listed, wordsIn, stateWords, isState, opened, startNumber, opens, openLeft, Memory, left, gives, isRoom, called, memory}
+use Rattle.flat.specs.Piece.{listed, wordsIn, stateWords, isState, opened, startNumber, opens, openLeft, Memory, Left, left, gives, isRoom, called, memory}
 
 -- what the tests say of the slices
 pub room-record : (i v : ℕ) → isRoom i v ≡ true → recordWords ≤ i
@@ -88,6 +88,11 @@ module _ (m : Memory) (call : State → Said) where
   -- `w` is what was read of the words
   abbrev answer : Words → Said
   answer w = call (lent w (m .buf))
+
+  -- a call that is served
+  pub served : {l : Left} {w : Words} → room ≡ true → state ≡ true → w ≡ wordsIn (m .words) → l ≡ gives m (answer w) → l ≡ called m call
+  unfolding called
+  served h g q e = if-yes room _ _ h (if-yes state _ _ g (e ∙ ap (λ (x : Words). gives m (answer x)) q))
 
   pub told-on : (t : Told) {w : Words} {n : ℕ} {buf words text i v : List ℕ} → room ≡ true → state ≡ true → w ≡ wordsIn (m .words)
       → said t buf text ≡ answer w → text ≡ textAfter (answer w .what) (m .text)

@@ -9,7 +9,13 @@ use meaning::records::WORDS;
 use meaning::records::put;
 use pieces::Got;
 use pieces::LONGEST;
-use pieces_quick::piece_words;
+use pieces_quick::Reached;
+use pieces_quick::is_served;
+use pieces_quick::otherwise;
+use pieces_quick::quickly;
+use pieces_quick::slow;
+use quick::tell_item;
+use quick::tell_more;
 use refusal::FINISHED;
 use refusal::ITEM;
 use refusal::MORE;
@@ -24,9 +30,13 @@ ghost use Rattle.laws.specs.Lent.{written};
 ghost use Rattle.chars.specs.Encode.{lay};
 ghost use Rattle.items.specs.Items.{recordWords};
 ghost use Rattle.pieces.specs.Calls.{textAfter};
+ghost use Rattle.pieces.specs.Expected.{longest};
 ghost use Rattle.piecewise.specs.Answers.{whatOf};
-ghost use Rattle.lent.specs.Calls.{said};
+ghost use Rattle.lent.specs.Calls.{lent, said, pieceFor};
+ghost use Rattle.pieces_quick.specs.Words.{Ready};
 ghost use Rattle.flat.specs.Piece.{listed, wordsIn, stateWords, isState, opened, startNumber, openLeft, left, gives, whatNumber, whatPlace, recordAfter, isRoom, pieceLeft, endLeft, memory};
+
+mod quick;
 
 // What a state has: the bytes of an item, and its words.
 const STATE_BYTES: usize = LONGEST;
@@ -202,6 +212,33 @@ pub fn open(mode: u32, skip: bool, buf: &mut [u8], words: &mut [u64]) -> u32
     start_number(got)
 }
 
+// Reads on in a piece from a state that the quick path knows: what it tells goes straight to where it belongs. Where it stops short the
+// crate `lent` goes on.
+fn read_on(
+    state: Words,
+    buf: &mut [u8],
+    words: &mut [u64],
+    piece: &[u8],
+    text: &mut [u8],
+    item: &mut [u32],
+    values: &mut [u64],
+) -> u32
+    requires { ⌜ (length (now words) ≡ stateWords) × (recordWords ≤ length (now item)) × (state ≡ wordsIn (now words))
+        × (length (now buf) ≡ longest) × (longest ≤ length (now text)) × Ready state (length (now piece)) ⌝ }
+    ensures { λ r. ⌜ left r (memory (now (buf .exit)) (now (words .exit)) (now (text .exit)) (now (item .exit)) (now (values .exit)))
+        ≡ gives (memory (now (buf .entry)) (now (words .entry)) (now (text .entry)) (now (item .entry)) (now (values .entry)))
+        (pieceFor (lent state (now (buf .entry))) (now (piece .entry)) (length (now (text .entry)))) ⌝ }
+{
+    match quickly(state, buf, piece, text) {
+        Reached::More(s) => tell_more(s, state.depth, words, values),
+        Reached::Item(s, depth, record) => tell_item(s, depth, record, words, item, values),
+        Reached::Before(s) => {
+            let told = slow(words_in(words), s, buf, piece, text);
+            tell(told, words, item, values)
+        }
+    }
+}
+
 // Reads on in a piece: takes the fewest bytes of it that make an item ready, or all of them. `values` gets what a refusal comes with, or
 // 0, and how many bytes were taken. An item's record goes to `item`, its text to the front of `text`; nothing else is written there.
 // TOO_FEW with ONE_RECORD and 0 if `item` or `values` are too few, and OUT_OF_BOUNDS if these are not the bytes and words of a state: then
@@ -225,7 +262,11 @@ pub fn piece(
         put_values(values, 0, 0);
         return OUT_OF_BOUNDS;
     }
-    let told = piece_words(words_in(words), buf, piece, text);
+    let state = words_in(words);
+    if is_served(state, buf.len(), text.len(), piece.len()) {
+        return read_on(state, buf, words, piece, text, item, values);
+    }
+    let told = otherwise(state, buf, piece, text);
     tell(told, words, item, values)
 }
 

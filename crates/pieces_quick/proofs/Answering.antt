@@ -16,10 +16,13 @@ use Rattle.lent.specs.declared.Told.{Told}
 use Rattle.lent.specs.Coding.{coded}
 use Rattle.lent.specs.Calls.{Said, lent, said, worded, pieceFor}
 use Rattle.pieces_spots.specs.declared.PieceSpot.{PieceSpot}
-use Rattle.pieces_quick.specs.declared.Offer.the-variants.{Given, Not}
+use Rattle.pieces_quick.specs.declared.Offer.the-variants.{Given}
+use Rattle.pieces_quick.specs.declared.Reached.{Reached}
+use Rattle.pieces_quick.specs.declared.Reached.the-variants.{More, Item, Before}
+use Rattle.items.specs.declared.Record.{Record}
 use Rattle.pieces_spots.specs.Spots.{marksAt, stateAt, Fits, Goes, Onward}
 use Rattle.pieces_quick.specs.Words.{Ready, base, spotOf, stood}
-use Rattle.pieces_quick.specs.Gives.{Held, Finished, Feeds, Reaches}
+use Rattle.pieces_quick.specs.Gives.{toldAt, Held, Finished, Feeds, Reaches, Comes, Says, Awaits, Answers}
 use Rattle.pieces_quick.proofs.Worded.{stood-coded, spot-code, first-words, first-sound, call-feeds, later, feed-later, feed-most}
 
 module _ (w : Words) (left : ℕ) (R : Ready w left) (s : PieceSpot) (buf text piece : List ℕ) (fits : Fits s buf piece) (sound : Sound (marksAt (base w) s) buf text) where
@@ -55,19 +58,19 @@ module _ (w : Words) (left : ℕ) (R : Ready w left) (s : PieceSpot) (buf text p
         )
 
   -- all bytes were taken
-  pub more-feeds : length piece ≤ s .i → (r : Words) → r ≡ stood w s (w .depth) → Feeds w s piece buf buf text text (record { words = r; taken = s .i; got = got.More })
+  pub more-feeds : length piece ≤ s .i → Comes w s piece buf buf text text (More s)
   unfolding feedOf
-  more-feeds h r e =
+  more-feeds h =
       let none : drop (s .i) piece ≡ [] = drop-of-length-le piece h in (
-        ap (λ (x : Words). said (record { words = x; taken = s .i; got = got.More }) buf text) (spot-words r e)
+        ap (λ (x : Words). said (record { words = x; taken = s .i; got = got.More }) buf text) (spot-words (stood w s (w .depth)) refl)
             ∙ ap (λ (l : List ℕ). worded (feedOf S l (s .i))) (sym none),
         ap (λ (l : List ℕ). textAfter (feedOf S l (s .i) .what) text) (sym none),
       )
 
   -- an item
-  pub item-feeds : s .i < length piece → (t : Told) (now then : List ℕ) → Finished w s (getD piece (s .i) 0) buf now text then (Given t)
-      → Feeds w s piece buf now text then t
-  item-feeds h t now then f =
+  pub item-feeds : s .i < length piece → (p : PieceSpot) (d : ℕ) (r : Record) (now then : List ℕ)
+      → Finished w s (getD piece (s .i) 0) buf now text then (Given p d r) → Comes w s piece buf now text then (Item p d r)
+  item-feeds h p d r now then f =
       let front : getD piece (s .i) 0 ∷ drop (suc (s .i)) piece ≡ drop (s .i) piece = sym (drop-cons piece (s .i) 0 h) in
       let g = f (drop (suc (s .i)) piece) in (
         g .0 ∙ ap (λ (l : List ℕ). worded (feedOf S l (s .i))) front,
@@ -81,18 +84,12 @@ module _ (w : Words) (left : ℕ) (R : Ready w left) (s : PieceSpot) (buf text p
     ready = R;
     sound = sound;
     far = omega (arith, fits .far);
+    held = fits .held;
     small = fits .small;
     which = fits .which;
     detail = fits .detail;
     taken = k;
   }
-
--- one spot after the other
-pub along : (piece : List ℕ) (s : PieceSpot) (buf : List ℕ) (r : PieceSpot) (now : List ℕ) (q : PieceSpot) (then : List ℕ)
-    → Onward s buf r now piece → Onward r now q then piece → Onward s buf q then piece
-along piece s buf r now q then f g m text h =
-    let a = f m text h in
-    let b = g m text (a .sound) in record { sound = b .sound; feeds = b .feeds ∙ a .feeds }
 
 -- from the words that were lent to the last spot
 module _ (w : Words) (buf text piece : List ℕ) (full : length buf ≡ longest) (room : longest ≤ length text) (R : Ready w (length piece))
@@ -103,9 +100,8 @@ module _ (w : Words) (buf text piece : List ℕ) (full : length buf ≡ longest)
   pub last-reached : Reaches w s now text
   last-reached = record { left = length piece; ready = R; sound = goes .sound }
 
-  pub answers : (t : Told) (end then : List ℕ) → Feeds w s piece now end text then t
-      → (said t end then ≡ pieceFor (lent w buf) piece (length text)) × (then ≡ textAfter (pieceFor (lent w buf) piece (length text) .what) text)
-  answers t end then f =
+  says : (t : Told) (end then : List ℕ) → Feeds w s piece now end text then t → Says w piece buf end text then t
+  says t end then f =
       let start = first-sound w (length piece) R buf text full room in
       let coded-so : coded (marksAt (base w) (spotOf w)) ≡ w = stood-coded w (length piece) R (spotOf w) (w .depth) (R .known .rows) ∙ first-words w (length piece) R in
       let whole : worded (feedOf (stateAt (base w) s now) (drop (s .i) piece) (s .i)) ≡ pieceFor (lent w buf) piece (length text) =
@@ -116,13 +112,15 @@ module _ (w : Words) (buf text piece : List ℕ) (full : length buf ≡ longest)
         f .1 ∙ ap (λ (x : Said). textAfter (x .what) text) whole,
       )
 
--- where nothing was given, all stands as before
-module _ (w : Words) (s : PieceSpot) (c : ℕ) (buf now text then : List ℕ) (same : Finished w s c buf now text then Not) where
-  pub still-fits : (piece : List ℕ) → Fits s buf piece → Fits s now piece
-  still-fits piece f = subst (λ (l : List ℕ). Fits s l piece) (sym (same .0)) f
+  -- from the last spot the plain call goes on
+  awaits : Fits s now piece → s .i < length piece → s .i + 1 < 2 ^ 64 → Awaits w piece buf now text text s
+  awaits fits inside few =
+      record { fits = fits; held = before-byte w (length piece) R s now text piece fits (goes .sound) inside few; on = says }
 
-  pub still-held : Held w s buf text → Held w s now then
-  still-held h = subst (λ (l : List ℕ). Held w s l then) (sym (same .0)) (subst (λ (l : List ℕ). Held w s buf l) (sym (same .1)) h)
-
-  pub still-feeds : (piece end last : List ℕ) (t : Told) → Feeds w s piece now end then last t → Feeds w s piece buf end text last t
-  still-feeds piece end last t f = subst (λ (l : List ℕ). Feeds w s piece l end text last t) (same .0) (subst (λ (l : List ℕ). Feeds w s piece now end l last t) (same .1) f)
+  pub answers : Fits s now piece → (r : Reached) (end then : List ℕ) → Comes w s piece now end text then r → Answers w piece buf end text then r
+  answers fits (More p) end then f = says (toldAt w p (w .depth) got.More) end then f
+  answers fits (Item p d r) end then f = says (toldAt w p d (got.Item r)) end then f
+  answers fits (Before p) end then f =
+      subst (λ (x : PieceSpot). Awaits w piece buf end text then x) (sym (f .0))
+      (subst (λ (l : List ℕ). Awaits w piece buf l text then s) (sym (f .3))
+      (subst (λ (l : List ℕ). Awaits w piece buf now text l s) (sym (f .4)) (awaits fits (f .1) (f .2))))

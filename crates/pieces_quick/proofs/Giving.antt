@@ -1,9 +1,9 @@
 -- The item that is given here is the one that its byte's turn gives, and the words after it are those of the state after that turn.
-use Prim.Native.Nat.{ℕ, _+_, _/_, _%_, _<_}
+use Prim.Native.Nat.{ℕ, _+_, _-_, _/_, _%_, _≤_, _<_}
 use mathlib.Core.Path.{_≡_, refl, sym, ap, _∙_}
 use mathlib.Core.Bool.{Bool, true, false, _&&_}
 use mathlib.Core.List.{List, [], _∷_}
-use lib.ListN.{length, take, set}
+use lib.ListN.{length, take, drop, set, length-drop}
 use lib.Seq.{length-take-le}
 use lib.Dec.{eqb}
 use native.Mathlib.Omega.{arith}
@@ -16,45 +16,74 @@ use Rattle.items.specs.Kinds as kind
 use Rattle.items.specs.Whole.{inReport}
 use Rattle.items.specs.Items.{Place, range, placeOf, standing, depthAfter}
 use Rattle.meaning.specs.declared.Means.{Means}
+use Rattle.meaning.specs.declared.Text.the-variants.{Nowhere, Source}
 use Rattle.meaning.specs.Meant.{sizedAll}
 use Rattle.items.specs.Meaning.{meaningOf}
 use Rattle.pieces.specs.declared.Stage.{Stage}
 use Rattle.pieces.specs.declared.State.{State}
-use Rattle.pieces.specs.declared.Got.{Got}
 use Rattle.pieces.specs.declared.Got.the-variants as got
 use Rattle.items.specs.declared.Record.{Record}
 use Rattle.pieces.specs.Expected.{longest}
 use Rattle.pieces.specs.Calls.{item, What, Reply, reply, textAfter, marks, withDepth, lastOf, itemSoFar, laidAt, begin, deeper, report, feedOf}
 use Rattle.giving.specs.Answers.{whatOf}
 use Rattle.giving.specs.Copied.{copiedBy, hasText, givenBy}
-use Rattle.giving.proofs.Gives.{no-text, given-without}
+use Rattle.giving.proofs.Gives.{no-text, given-with, given-without}
 use Rattle.meaning.specs.declared.Range.{Range}
 use Rattle.meaning.specs.Places.{rangeOf}
-use Rattle.meaning.specs.Records.{nineWith}
 use Rattle.giving.proofs.Laid.{laid-sets}
 use Rattle.lent.specs.declared.State.{State as Lent}
 use Rattle.lent.specs.declared.Words.{Words}
-use Rattle.lent.specs.declared.Told.{Told}
-use Rattle.pieces.specs.Given.{Given}
+use Rattle.pieces.specs.Given.{Given as Gave}
 use Rattle.lent.specs.Coding.{stageOf, stageRow, coded}
 use Rattle.lent.specs.Calls.{Said, lent, lend, said, worded}
 use Rattle.pieces_spots.specs.declared.PieceSpot.{PieceSpot}
 use Rattle.pieces_spots.specs.Spots.{stateAt, Solid}
 use Rattle.pieces_quick.specs.Words.{Ready, base, stood}
-use Rattle.pieces_quick.specs.Gives.{Held, Next, Finishes}
+use Rattle.pieces_quick.specs.declared.Gift.the-variants.{Of}
+use Rattle.pieces_quick.specs.declared.Offer.the-variants.{Given}
+use Rattle.pieces_quick.specs.Gives.{recorded, Copied, Held, Next, Finishes, Finished}
 use Rattle.pieces_spots.proofs.Turning.{width-ascii, fed-ended}
 use Rattle.pieces_quick.proofs.Worded.{stood-coded}
 
--- an item without text that is no error
-pub bare-gives : (depth : ℕ) (report : Bool) (m : Means) (last : Place) (s e : ℕ) (raw text : List ℕ) (r : Record) → hasText (m .kind) (m .text) ≡ false → m .kind < kind.firstError
-    → r ≡ record { nine = nineWith (m .kind ∷ m .detail ∷ s ∷ e ∷ s ∷ e ∷ 0 ∷ 0 ∷ 0 ∷ []); depth = depth }
-    → (whatOf (got.Item r) text ≡ item (givenBy depth report m last s e raw)) × (text ≡ written (givenBy depth report m last s e raw .text) text)
-bare-gives depth report m last s e raw text r h fine is =
-    let none : copiedBy (m .kind) s raw (m .text) ≡ [] = no-text (m .kind) s raw (m .text) h in
-    let laid : text ≡ written (copiedBy (m .kind) s raw (m .text)) text = sym (ap (λ (l : List ℕ). written l text) none) in
-    let place : Range = rangeOf (range s e) in
-    let put : place ≡ rangeOf (placeOf report (m .kind) last (range s e)) = sym (rw (lt-leb kind.firstError (m .kind) fine)) in
-    (given-without depth report m last s e raw text text place r put laid h is, laid)
+-- an item that is no error, by its record: without text, and with text
+module _ (depth : ℕ) (m : Means) (s : PieceSpot) (raw old then : List ℕ) (r : Record) (fine : m .kind < kind.firstError) where
+  abbrev place : Range
+  place = rangeOf (range (s .start) (s .at))
+
+  put : (report : Bool) (last : Place) → place ≡ rangeOf (placeOf report (m .kind) last (range (s .start) (s .at)))
+  put report last = sym (rw (lt-leb kind.firstError (m .kind) fine))
+
+  pub bare-copied : hasText (m .kind) (m .text) ≡ false → then ≡ old → r ≡ recorded (m .kind) (m .detail) (s .start) (s .at) 0 0 depth
+      → Copied s m depth raw old then (Of r)
+  bare-copied h same is report last =
+      let none : copiedBy (m .kind) (s .start) raw (m .text) ≡ [] = no-text (m .kind) (s .start) raw (m .text) h in
+      let laid : then ≡ written (copiedBy (m .kind) (s .start) raw (m .text)) old = same ∙ sym (ap (λ (l : List ℕ). written l old) none) in
+      (given-without depth report m last (s .start) (s .at) raw old then place r (put report last) laid h is, laid)
+
+  pub text-copied : (n : ℕ) → hasText (m .kind) (m .text) ≡ true → n ≡ length (copiedBy (m .kind) (s .start) raw (m .text))
+      → then ≡ written (copiedBy (m .kind) (s .start) raw (m .text)) old → r ≡ recorded (m .kind) (m .detail) (s .start) (s .at) 2 n depth
+      → Copied s m depth raw old then (Of r)
+  text-copied n h size laid is report last =
+      (given-with depth report m last (s .start) (s .at) raw old then place r (put report last) laid n h size is, laid)
+
+  -- a number, any other item without text of its own, and a part of the extent
+  pub number-copied : m .text ≡ Nowhere → eqb (m .kind) kind.Number ≡ true → then ≡ written raw old
+      → r ≡ recorded (m .kind) (m .detail) (s .start) (s .at) 2 (length raw) depth → Copied s m depth raw old then (Of r)
+  number-copied none e laid is = text-copied (length raw) (rw none e) (rw (none, e)) (rw (none, e) laid) is
+
+  pub nothing-copied : m .text ≡ Nowhere → eqb (m .kind) kind.Number ≡ false → then ≡ old
+      → r ≡ recorded (m .kind) (m .detail) (s .start) (s .at) 0 0 depth → Copied s m depth raw old then (Of r)
+  nothing-copied none e same is = bare-copied (rw none e) same is
+
+  pub part-copied : (a b : ℕ) → m .text ≡ Source a b → s .start ≤ a → a ≤ b → b ≤ s .start + length raw
+      → then ≡ written (take (b - s .start - (a - s .start)) (drop (a - s .start) raw)) old
+      → r ≡ recorded (m .kind) (m .detail) (s .start) (s .at) 2 (b - a) depth → Copied s m depth raw old then (Of r)
+  part-copied a b is-part h k l laid is =
+      let n : b - s .start - (a - s .start) ≡ b - a = omega arith in
+      let size : b - a ≡ length (take (b - a) (drop (a - s .start) raw)) =
+      sym (length-take-le (b - a) (drop (a - s .start) raw) (omega (arith, length-drop (a - s .start) raw))) in
+      text-copied (b - a) (rw is-part) (rw is-part size)
+      (rw is-part (laid ∙ ap (λ (x : ℕ). written (take x (drop (a - s .start) raw)) old) n)) is
 
 -- the place of an item that is no error is its extent, whatever range stands
 place-free : (depth : ℕ) (r : Bool) (m : Means) (a b : Place) (s e : ℕ) (raw : List ℕ) → m .kind < kind.firstError
@@ -109,14 +138,13 @@ module _ (w : Words) (s : PieceSpot) (buf text : List ℕ) (H : Held w s buf tex
         let E = F .ended in
         let l : s .start + length (take (s .len) buf) ≡ s .at = omega (arith, F .held, length-take-le (s .len) buf (omega (arith, H .sound .full, H .small))) in
         fed-ended S (record { count = refl; need = refl; far = H .far }) (s .start) (E .phase) (E .what) (E .stands (s .start)) c small-byte
-        (E .stops (inReport (w .mode)) (itemSoFar S)) (λ p. E .quiet (inReport (w .mode)) p (itemSoFar S)) m (E .means (inReport (w .mode)) ∙ ap (λ (x : ℕ). sizedAll (meaningOf (inReport (w .mode)) (E .what) (s .start) x (take (s .len) buf))) l) kept rest (s .i)
+        (E .stops (inReport (w .mode)) (itemSoFar S) refl) (λ p. E .quiet (inReport (w .mode)) p (itemSoFar S)) m (E .means (inReport (w .mode)) ∙ ap (λ (x : ℕ). sizedAll (meaningOf (inReport (w .mode)) (E .what) (s .start) x (take (s .len) buf))) l) kept rest (s .i)
 
-    pub gives-item : (t : Told) (now : List ℕ) → t .got ≡ got.Item r → t .taken ≡ s .i + 1 → lent (t .words) now ≡ lend next → (rest : List ℕ)
-        → (said t now then ≡ worded (feedOf S (c ∷ rest) (s .i))) × (then ≡ textAfter (feedOf S (c ∷ rest) (s .i) .what) text)
-    gives-item t now e taken state rest =
+    pub gives-item : (p : PieceSpot) (d : ℕ) (now : List ℕ) → p .i ≡ s .i + 1 → lent (stood w p d) now ≡ lend next
+        → Finished w s c buf now text then (Given p d r)
+    gives-item p d now taken state rest =
         let g = place-free (w .depth) (inReport (w .mode)) m last (standing (inReport (w .mode)) (lastOf S)) (s .start) (s .at) (take (s .len) buf) (F .ended .fine) in
-        let what : whatOf (t .got) then ≡ item (givenBy (w .depth) (inReport (w .mode)) m (standing (inReport (w .mode)) (lastOf S)) (s .start) (s .at) (take (s .len) buf)) =
-        ap (λ (x : Got). whatOf x then) e ∙ gave ∙ ap item g in (
+        let what = gave ∙ ap item g in (
           said-are taken what state ∙ ap worded (sym (fed rest)),
-          wrote ∙ ap (λ (x : Given). written (x .text) text) g ∙ ap (λ (x : Reply). textAfter (x .what) text) (sym (fed rest)),
+          wrote ∙ ap (λ (x : Gave). written (x .text) text) g ∙ ap (λ (x : Reply). textAfter (x .what) text) (sym (fed rest)),
         )

@@ -88,6 +88,7 @@ module _ (w : Words) (left : ℕ) (R : Ready w left) where
       inside = omega arith;
       far = omega (arith, R .far, e);
       small = R .small;
+      held = R .known .held;
       rows = R .known .rows;
       which = R .known .narrow;
       detail = R .known .slim;

@@ -16,6 +16,7 @@ use Rattle.pieces_spots.specs.declared.PieceSpot.{PieceSpot}
 
 -- a row whose stage reads on, within its bounds at a place, with so many bytes held
 pub record Known (stage start which detail at len : ℕ) : Type 0 where
+  pub held : 3 < stage → (start + len ≡ at) × (1 ≤ len)
   pub rows : stageRow (stageOf (row stage start which detail 0 0)) ≡ row stage start which detail 0 0
   pub narrow : which < 2 ^ 32
   pub slim : detail < 2 ^ 32

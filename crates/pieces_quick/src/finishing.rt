@@ -1,18 +1,16 @@
-// The item that ends before a byte: its record and its text, and the words after it.
+// The item that ends before a byte: its record and its text, and the spot past the byte.
+use crate::Gift;
 use crate::Offer;
-use crate::ready::stand;
-use giving::give::give;
+use giving::give::copy_all;
 use items::Nine;
 use items::Record;
 use items::kinds;
-use lent::Told;
 use lent::Words;
 use lent::codes::IDLE;
 use meaning::Means;
-use meaning::Range;
 use meaning::Text;
+use meaning::records::IN_MEMORY;
 use meaning::records::depth_after;
-use pieces::Got;
 use pieces_spots::DETAIL;
 use pieces_spots::KIND;
 use pieces_spots::KINDS;
@@ -21,113 +19,123 @@ use pieces_spots::first;
 use pieces_spots::tell;
 use telling::Quick;
 ghost use mathlib.Core.Path.{_≡_};
-ghost use mathlib.Core.Bool.{true, false, _&&_};
-ghost use mathlib.Core.List.{[], _∷_};
+ghost use mathlib.Core.Bool.{_&&_};
 ghost use lib.Dec.{eqb};
-ghost use Prim.Native.Nat.{ℕ, _+_, _≤_, _<_};
-ghost use lib.ListN.{length, take};
-ghost use Rattle.laws.specs.Lent.{written};
+ghost use Prim.Native.Nat.{ℕ, _+_, _^_, _≤_, _<_};
+ghost use lib.ListN.{length};
 ghost use Rattle.items.specs.Kinds as kind;
-ghost use Rattle.items.specs.Items.{range, depthAfter};
-ghost use Rattle.items.specs.Whole.{limit, inReport};
-ghost use Rattle.meaning.specs.Records.{nineWith};
+ghost use Rattle.items.specs.Items.{depthAfter};
+ghost use Rattle.items.specs.Whole.{limit};
 ghost use Rattle.pieces.specs.Expected.{longest};
-ghost use Rattle.pieces.specs.Calls.{item};
-ghost use Rattle.giving.specs.Answers.{whatOf};
-ghost use Rattle.giving.specs.Copied.{hasText, givenBy};
 ghost use Rattle.pieces_spots.specs.Spots.{Firsts};
-ghost use Rattle.pieces_quick.specs.Words.{Ready};
-ghost use Rattle.pieces_quick.specs.Gives.{Held, Next, Finishes, Finished};
+ghost use Rattle.pieces_quick.specs.Words.{Ready, stood};
+ghost use Rattle.pieces_quick.specs.Gives.{recorded, Copying, Copied, Held, Next, Finishes, Finished};
 
-// The words after an item that ends before a byte, with so many brackets open: a blank is passed, any other byte begins an item.
-fn after(w: Words, s: PieceSpot, b: u8, f: u64, depth: u64, buf: &mut [u8]) -> Words
-    requires { ⌜ (length (now buf) ≡ longest) × (s .at + 1 ≤ limit) × Firsts b f × (3 ≤ f) ⌝ }
-    ensures { λ r. ⌜ ((left k : ℕ) → Ready w left → depth ≡ depthAfter k (w .depth) → Next w s b k (now (buf .entry)) r (now (buf .exit))) ⌝ }
+// No text.
+const NOWHERE: u32 = 0;
+
+// The spot past a byte before which an item ended: a blank is passed, any other byte begins an item.
+fn after(s: PieceSpot, b: u8, f: u64, buf: &mut [u8]) -> PieceSpot
+    requires { ⌜ (length (now buf) ≡ longest) × (s .at + 1 ≤ limit) × (s .i + 1 < 2 ^ 64) × Firsts b f × (3 ≤ f) ⌝ }
+    ensures { λ r. ⌜ (r .i ≡ s .i + 1)
+        × ((w : Words) (left k d : ℕ) → Ready w left → d ≡ depthAfter k (w .depth) → Next w s b k (now (buf .entry)) (stood w r d) (now (buf .exit))) ⌝ }
 {
     if f == IDLE {
-        let blank = PieceSpot {
+        return PieceSpot {
             stage: IDLE,
             start: 0,
             which: 0,
             detail: 0,
             at: s.at + 1,
             len: 0,
-            i: 0,
+            i: s.i + 1,
         };
-        return stand(w, blank, depth);
     }
     buf[0] = b;
-    let begun = PieceSpot {
+    PieceSpot {
         stage: f % KIND,
         start: s.at,
         which: f / KIND % KINDS,
         detail: f / DETAIL,
         at: s.at + 1,
         len: 1,
-        i: 0,
-    };
-    stand(w, begun, depth)
-}
-
-// Whether an item has no text and is no error.
-fn is_bare(number: u32, source: Text) -> bool
-    ensures { λ r. ⌜ (r ≡ true → (hasText number source ≡ false) × (number < kind.firstError)) ⌝ }
-{
-    match source {
-        Text::Nowhere => number < kinds::NUMBER,
-        Text::Source(_a, _b) => false,
-        Text::Decoded(_length) => false,
+        i: s.i + 1,
     }
 }
 
-// The record of such an item.
-fn bare_record(number: u32, detail: u32, extent: Range, depth: u32) -> Record
-    ensures { λ r. ⌜ r ≡ record { nine = nineWith (number ∷ detail ∷ extent .from ∷ extent .to ∷ extent .from ∷ extent .to ∷ 0 ∷ 0 ∷ 0 ∷ []); depth = depth } ⌝ }
+// The record of an item that is no error: its place is its extent.
+fn record_of(m: Means, s: PieceSpot, source: u32, past: u32, depth: u32) -> Record
+    requires { ⌜ (s .start ≤ limit) × (s .at ≤ limit) ⌝ }
+    ensures { λ r. ⌜ r ≡ recorded (m .kind) (m .detail) (s .start) (s .at) source past depth ⌝ }
 {
+    let start = s.start as u32;
+    let end = s.at as u32;
     Record {
         nine: Nine {
-            kind: number,
-            detail: detail,
-            start: extent.from,
-            end: extent.to,
-            from: extent.from,
-            to: extent.to,
-            source: 0,
+            kind: m.kind,
+            detail: m.detail,
+            start,
+            end,
+            from: start,
+            to: end,
+            source,
             first: 0,
-            past: 0,
+            past,
         },
         depth,
     }
 }
 
-// The record of an item by its meaning; its text is copied to the front of the text memory.
-fn copied(w: Words, s: PieceSpot, m: Means, buf: &[u8], text: &mut [u8]) -> Record
-    requires { ⌜ Held w s (now buf) (now text) × (s .start + s .len ≡ s .at) × (1 ≤ s .len) ⌝ }
-    ensures { λ r. ⌜ (whatOf (Got.Item r) (now (text .exit)) ≡ item (givenBy (w .depth) (inReport (w .mode)) m (range (w .from) (w .to)) (s .start) (s .at) (take (s .len) (now (buf .entry)))))
-        × (now (text .exit) ≡ written (givenBy (w .depth) (inReport (w .mode)) m (range (w .from) (w .to)) (s .start) (s .at) (take (s .len) (now (buf .entry))) .text) (now (text .entry))) ⌝ }
+// The record of an item without text of its own; a number's text is its extent.
+fn bare_record(m: Means, s: PieceSpot, depth: u32, raw: &[u8], text: &mut [u8]) -> Record
+    requires { ⌜ Copying s m (now raw) (now text) × (m .text ≡ Text.Nowhere) ⌝ }
+    ensures { λ r. ⌜ Copied s m depth (now (raw .entry)) (now (text .entry)) (now (text .exit)) (Gift.Of r) ⌝ }
 {
-    let len = s.len;
-    let extent = Range {
-        from: s.start as u32,
-        to: s.at as u32,
-    };
-    let source = m.text;
-    if is_bare(m.kind, source) {
-        return bare_record(m.kind, m.detail, extent, w.depth as u32);
+    if m.kind == kinds::NUMBER {
+        copy_all(raw, text);
+        return record_of(m, s, IN_MEMORY, raw.len() as u32, depth);
     }
-    let last = Range {
-        from: w.from as u32,
-        to: w.to as u32,
-    };
-    give(
-        w.depth as u32,
-        w.mode == 1,
-        m,
-        last,
-        extent,
-        &buf[..len],
-        text,
-    )
+    record_of(m, s, NOWHERE, 0, depth)
+}
+
+// The record of an item whose text is the part of its extent between two places, which is copied to the front of the text memory.
+fn part_record(
+    m: Means,
+    s: PieceSpot,
+    from: usize,
+    to: usize,
+    depth: u32,
+    raw: &[u8],
+    text: &mut [u8],
+) -> Gift
+    requires { ⌜ Copying s m (now raw) (now text) × (m .text ≡ Text.Source from to) ⌝ }
+    ensures { λ r. ⌜ Copied s m depth (now (raw .entry)) (now (text .entry)) (now (text .exit)) r ⌝ }
+{
+    let start = s.start as usize;
+    if from < start {
+        return Gift::Not;
+    }
+    if to < from {
+        return Gift::Not;
+    }
+    if s.at < to as u64 {
+        return Gift::Not;
+    }
+    copy_all(&raw[from - start..to - start], text);
+    Gift::Of(record_of(m, s, IN_MEMORY, (to - from) as u32, depth))
+}
+
+// The record of an item by its meaning; its text is copied to the front of the text memory. Not where it has to be decoded.
+fn copied(m: Means, s: PieceSpot, depth: u32, raw: &[u8], text: &mut [u8]) -> Gift
+    requires { ⌜ Copying s m (now raw) (now text) ⌝ }
+    ensures { λ r. ⌜ Copied s m depth (now (raw .entry)) (now (text .entry)) (now (text .exit)) r ⌝ }
+{
+    let source = m.text;
+    match source {
+        Text::Nowhere => Gift::Of(bare_record(m, s, depth, raw, text)),
+        Text::Source(from, to) => part_record(m, s, from, to, depth, raw, text),
+        Text::Decoded(_length) => Gift::Not,
+    }
 }
 
 // Whether an item is left out: a comment, where comments are skipped.
@@ -148,15 +156,15 @@ fn given(w: Words, s: PieceSpot, b: u8, f: u64, m: Means, buf: &mut [u8], text: 
     if skips(w.skip, m.kind) {
         return Offer::Not;
     }
-    let r = copied(w, s, m, buf, text);
-    let depth = depth_after(m.kind, w.depth as u32);
-    let words = after(w, s, b, f, depth as u64, buf);
-    let told = Told {
-        words,
-        taken: s.i + 1,
-        got: Got::Item(r),
-    };
-    Offer::Given(told)
+    let len = s.len;
+    let depth = w.depth as u32;
+    match copied(m, s, depth, &buf[..len], text) {
+        Gift::Of(r) => {
+            let next = after(s, b, f, buf);
+            Offer::Given(next, depth_after(m.kind, depth) as u64, r)
+        }
+        Gift::Not => Offer::Not,
+    }
 }
 
 // Gives the item that ends before a byte, where it is told here.
@@ -165,13 +173,7 @@ pub fn finish(w: Words, s: PieceSpot, b: u8, buf: &mut [u8], text: &mut [u8]) ->
     ensures { λ r. ⌜ Finished w s b (now (buf .entry)) (now (buf .exit)) (now (text .entry)) (now (text .exit)) r ⌝ }
 {
     let len = s.len;
-    if len == 0 {
-        return Offer::Not;
-    }
-    if s.at < len as u64 {
-        return Offer::Not;
-    }
-    if s.start != s.at - len as u64 {
+    if s.stage <= IDLE {
         return Offer::Not;
     }
     let f = first(b);

@@ -1,17 +1,19 @@
-// The piece call of the crate `lent`, with the same contract, quick where most calls are made: between two characters, between items, in a
-// word, a number run, a string or a comment to the end of its line, or past a token, on bytes of ASCII. It goes from spot to spot (crate
-// `pieces_spots`) to an item or to the end of the piece. Where it stops short, and for words that it does not know, the crate `lent` goes on.
+// The piece call of the crate `lent`, quick where most calls are made: between two characters, between items, in a word, a number run, a
+// string or a comment to the end of its line, past a number sign or past a token, on bytes of ASCII. It goes from spot to spot (crate
+// `pieces_spots`) to an item or to the end of the piece (`quickly`). Where it stops short (`slow`), and for words that it does not know
+// (`otherwise`), the crate `lent` goes on. The crate `flat` puts the answers into the words that are lent.
 use finishing::finish;
+use items::Record;
 use lent::Told;
 use lent::Words;
 use lent::calls::piece_words as plain_piece;
-use pieces::Got;
+use lent::codes::DONE_TOKEN;
 use pieces::LONGEST;
 use pieces_spots::PieceSpot;
 use pieces_spots::begin;
 use pieces_spots::close;
 use pieces_spots::past;
-use pieces_spots::run;
+use pieces_spots::run_on;
 use ready::is_ready;
 use ready::stand;
 ghost use mathlib.Core.Path.{_≡_};
@@ -21,21 +23,35 @@ ghost use lib.ListN.{length};
 ghost use Rattle.pieces.specs.Expected.{longest};
 ghost use Rattle.pieces.specs.Calls.{textAfter};
 ghost use Rattle.lent.specs.Calls.{lent, said, pieceFor};
-ghost use Rattle.pieces_spots.specs.Spots.{Fits};
+ghost use Rattle.pieces_spots.specs.Spots.{Fits, Onward};
 ghost use Rattle.pieces_quick.specs.Words.{Ready};
-ghost use Rattle.pieces_quick.specs.Gives.{Held, Feeds, Reaches};
+ghost use Rattle.pieces_quick.specs.Gives.{Held, Feeds, Reaches, Comes, Answers};
 
 mod finishing;
 mod ready;
 
-// What a call answers, or nothing where the item is not told here.
-pub enum Offer {
-    Given(Told),
+// The record of an item, or nothing where it is not made here.
+pub enum Gift {
+    Of(Record),
     Not,
 }
 
+// An item's record, the spot past the byte before which it ended and the brackets open there; or nothing where it is not told here.
+pub enum Offer {
+    Given(PieceSpot, u64, Record),
+    Not,
+}
+
+// Where the moves lead: to the end of the piece; past an item, with the brackets open there and the item's record; or to a spot before a
+// byte from which the crate `lent` has to go on.
+pub enum Reached {
+    More(PieceSpot),
+    Item(PieceSpot, u64, Record),
+    Before(PieceSpot),
+}
+
 // Goes on from a spot as the crate `lent` does.
-fn slow(w: Words, s: PieceSpot, buf: &mut [u8], piece: &[u8], text: &mut [u8]) -> Told
+pub fn slow(w: Words, s: PieceSpot, buf: &mut [u8], piece: &[u8], text: &mut [u8]) -> Told
     requires { ⌜ Fits s (now buf) (now piece) × Held w s (now buf) (now text) ⌝ }
     ensures { λ r. ⌜ Feeds w s (now (piece .entry)) (now (buf .entry)) (now (buf .exit)) (now (text .entry)) (now (text .exit)) r ⌝ }
 {
@@ -50,30 +66,39 @@ fn slow(w: Words, s: PieceSpot, buf: &mut [u8], piece: &[u8], text: &mut [u8]) -
     }
 }
 
-// The item from a spot on, or all the bytes, or what the crate `lent` makes of them.
-fn reached(w: Words, s: PieceSpot, buf: &mut [u8], piece: &[u8], text: &mut [u8]) -> Told
+// Past the blanks, into an item and through it, as far as the moves tell. A token that is whole has nothing to pass.
+fn through(s: PieceSpot, buf: &mut [u8], piece: &[u8]) -> PieceSpot
+    requires { ⌜ Fits s (now buf) (now piece) ⌝ }
+    ensures { λ r. ⌜ Fits r (now (buf .exit)) (now (piece .entry)) × Onward s (now (buf .entry)) r (now (buf .exit)) (now (piece .entry)) ⌝ }
+{
+    let idle = past(s, buf, piece);
+    let begun = begin(idle, buf, piece);
+    if begun.stage == DONE_TOKEN {
+        return begun;
+    }
+    let ran = run_on(begun, buf, piece);
+    close(ran, buf, piece)
+}
+
+// The item from a spot on, or all the bytes, or the spot itself.
+fn from_spot(w: Words, s: PieceSpot, buf: &mut [u8], piece: &[u8], text: &mut [u8]) -> Reached
     requires { ⌜ Fits s (now buf) (now piece) × Reaches w s (now buf) (now text) ⌝ }
-    ensures { λ r. ⌜ Feeds w s (now (piece .entry)) (now (buf .entry)) (now (buf .exit)) (now (text .entry)) (now (text .exit)) r ⌝ }
+    ensures { λ r. ⌜ Comes w s (now (piece .entry)) (now (buf .entry)) (now (buf .exit)) (now (text .entry)) (now (text .exit)) r ⌝ }
 {
     let i = s.i;
     if piece.len() <= i {
-        return Told {
-            words: stand(w, s, w.depth),
-            taken: i,
-            got: Got::More,
-        };
+        return Reached::More(s);
     }
     match finish(w, s, piece[i], buf, text) {
-        Offer::Given(told) => told,
-        Offer::Not => slow(w, s, buf, piece, text),
+        Offer::Given(next, depth, record) => Reached::Item(next, depth, record),
+        Offer::Not => Reached::Before(s),
     }
 }
 
-// Reads on in a piece from words that are ready.
-fn quickly(words: Words, buf: &mut [u8], piece: &[u8], text: &mut [u8]) -> Told
+// Reads on in a piece from words that are ready, from spot to spot.
+pub fn quickly(words: Words, buf: &mut [u8], piece: &[u8], text: &mut [u8]) -> Reached
     requires { ⌜ (length (now buf) ≡ longest) × (longest ≤ length (now text)) × Ready words (length (now piece)) ⌝ }
-    ensures { λ r. ⌜ (said r (now (buf .exit)) (now (text .exit)) ≡ pieceFor (lent words (now (buf .entry))) (now (piece .entry)) (length (now (text .entry))))
-        × (now (text .exit) ≡ textAfter (pieceFor (lent words (now (buf .entry))) (now (piece .entry)) (length (now (text .entry))) .what) (now (text .entry))) ⌝ }
+    ensures { λ r. ⌜ Answers words (now (piece .entry)) (now (buf .entry)) (now (buf .exit)) (now (text .entry)) (now (text .exit)) r ⌝ }
 {
     let start = PieceSpot {
         stage: words.stage,
@@ -84,11 +109,8 @@ fn quickly(words: Words, buf: &mut [u8], piece: &[u8], text: &mut [u8]) -> Told
         len: words.len as usize,
         i: 0,
     };
-    let idle = past(start, buf, piece);
-    let begun = begin(idle, buf, piece);
-    let ran = run(begun, buf, piece);
-    let closed = close(ran, buf, piece);
-    reached(words, closed, buf, piece, text)
+    let last = through(start, buf, piece);
+    from_spot(words, last, buf, piece, text)
 }
 
 // The same words, made anew of their parts: what is handed on does not keep the words that were read in memory.
@@ -119,7 +141,7 @@ fn same(w: Words) -> Words
 }
 
 // Reads on in a piece as the crate `lent` does.
-fn otherwise(words: Words, buf: &mut [u8], piece: &[u8], text: &mut [u8]) -> Told
+pub fn otherwise(words: Words, buf: &mut [u8], piece: &[u8], text: &mut [u8]) -> Told
     ensures { λ r. ⌜ (said r (now (buf .exit)) (now (text .exit)) ≡ pieceFor (lent words (now (buf .entry))) (now (piece .entry)) (length (now (text .entry))))
         × (now (text .exit) ≡ textAfter (pieceFor (lent words (now (buf .entry))) (now (piece .entry)) (length (now (text .entry))) .what) (now (text .entry))) ⌝ }
 {
@@ -127,7 +149,7 @@ fn otherwise(words: Words, buf: &mut [u8], piece: &[u8], text: &mut [u8]) -> Tol
 }
 
 // Whether there are the bytes of a state and of a text memory, and the words are ready for a piece of so many bytes.
-fn is_served(w: Words, bytes: usize, room: usize, left: usize) -> bool
+pub fn is_served(w: Words, bytes: usize, room: usize, left: usize) -> bool
     ensures { λ r. ⌜ (r ≡ true → (bytes ≡ longest) × (longest ≤ room) × Ready w left) ⌝ }
 {
     if bytes != LONGEST {
@@ -137,15 +159,4 @@ fn is_served(w: Words, bytes: usize, room: usize, left: usize) -> bool
         return false;
     }
     is_ready(w, left)
-}
-
-// Reads on in a piece: takes the fewest bytes of it that make an item ready, or all of them.
-pub fn piece_words(words: Words, buf: &mut [u8], piece: &[u8], text: &mut [u8]) -> Told
-    ensures { λ r. ⌜ (said r (now (buf .exit)) (now (text .exit)) ≡ pieceFor (lent words (now (buf .entry))) (now (piece .entry)) (length (now (text .entry))))
-        × (now (text .exit) ≡ textAfter (pieceFor (lent words (now (buf .entry))) (now (piece .entry)) (length (now (text .entry))) .what) (now (text .entry))) ⌝ }
-{
-    if !is_served(words, buf.len(), text.len(), piece.len()) {
-        return otherwise(words, buf, piece, text);
-    }
-    quickly(words, buf, piece, text)
 }

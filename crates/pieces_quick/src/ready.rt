@@ -1,7 +1,9 @@
 // Whether the words of a state are ones that moves know, and the words of a spot.
 use lent::Words;
+use lent::codes::AFTER_HASH;
 use lent::codes::DONE_TOKEN;
 use lent::codes::IDLE;
+use lent::codes::IN_HASH;
 use lent::codes::IN_LINE;
 use lent::codes::IN_RUN;
 use lent::codes::IN_WORD;
@@ -81,6 +83,12 @@ fn is_known(stage: u64, start: u64, which: u64, detail: u64, at: u64, len: u64) 
         return true;
     }
     if stage == QUOTED {
+        return true;
+    }
+    if stage == AFTER_HASH {
+        return true;
+    }
+    if stage == IN_HASH {
         return true;
     }
     stage == IN_LINE

@@ -3,3 +3,4 @@ pub mod Begins
 pub mod Runs
 pub mod Ends
 pub mod Moves
+pub mod TwoBytes

@@ -31,6 +31,13 @@ use Rattle.pieces_spots.proofs.Turning.{turned-begun, turned-eaten}
 pub stay : (s : PieceSpot) (buf piece : List ℕ) → Onward s buf s buf piece
 stay s buf piece m text h = record { sound = h; feeds = refl }
 
+-- one spot after the other
+pub along : (piece : List ℕ) (s : PieceSpot) (buf : List ℕ) (r : PieceSpot) (now : List ℕ) (q : PieceSpot) (then : List ℕ)
+    → Onward s buf r now piece → Onward r now q then piece → Onward s buf q then piece
+along piece s buf r now q then f g m text h =
+    let a = f m text h in
+    let b = g m text (a .sound) in record { sound = b .sound; feeds = b .feeds ∙ a .feeds }
+
 -- ---- a byte by its turn
 
 module _ (m : Marks) (text piece : List ℕ) (s : PieceSpot) (buf : List ℕ) (r : PieceSpot) (now : List ℕ) (h : Sound (marksAt m s) buf text)
@@ -53,7 +60,7 @@ module _ (m : Marks) (text piece : List ℕ) (s : PieceSpot) (buf : List ℕ) (r
 
 -- ---- past blanks
 
-idle-stage : (s : PieceSpot) → s .stage ≡ 3 → stageOf (rowAt s) ≡ Idle
+pub idle-stage : (s : PieceSpot) → s .stage ≡ 3 → stageOf (rowAt s) ≡ Idle
 unfolding stageOf
 idle-stage s e = rw e
 
@@ -72,6 +79,7 @@ module _ (s : PieceSpot) (buf piece : List ℕ) (fits : Fits s buf piece) (idle 
     inside = past-inside;
     far = omega (arith, fits .far);
     small = omega arith;
+    held = λ h. absurd (omega arith);
     rows = refl;
     which = omega arith;
     detail = omega arith;
@@ -119,6 +127,7 @@ module _ (s : PieceSpot) (buf piece : List ℕ) (fits : Fits s buf piece) (idle 
     inside = omega arith;
     far = omega (arith, fits .far);
     small = omega arith;
+    held = λ h. (refl, omega arith);
     rows = ap stageRow (told .stands (s .at)) ∙ told .rows (s .at);
     which = omega arith;
     detail = omega arith;
@@ -157,6 +166,7 @@ module _ (s : PieceSpot) (buf piece : List ℕ) (fits : Fits s buf piece) (n k :
     inside = ran-inside;
     far = omega (arith, fits .far);
     small = omega (arith, ran-all .1);
+    held = λ h. let k = fits .held h in (omega (arith, k .0), omega (arith, k .1));
     rows = fits .rows;
     which = fits .which;
     detail = fits .detail;
@@ -180,7 +190,7 @@ module _ (s : PieceSpot) (buf piece : List ℕ) (fits : Fits s buf piece) (n k :
 -- ---- past a byte that closes an item
 
 module _ (s : PieceSpot) (buf piece : List ℕ) (fits : Fits s buf piece) (f : ℕ) (inside : s .i < length piece) (room : s .len < longest)
-    (told : Closes (s .stage) (s .which) (getD piece (s .i) 0) f) where
+    (told : Closes (s .stage) (s .which) (getD piece (s .i) 0) f (take (s .len) buf)) where
   abbrev closed : PieceSpot
   closed = record { stage = f % 64; start = s .start; which = f / 64 % 32; detail = f / 2048; at = s .at + 1; len = s .len + 1; i = s .i + 1 }
 
@@ -193,6 +203,7 @@ module _ (s : PieceSpot) (buf piece : List ℕ) (fits : Fits s buf piece) (f : �
     inside = omega arith;
     far = omega (arith, fits .far);
     small = omega arith;
+    held = λ h. let k = fits .held (told .item) in (omega (arith, k .0), omega arith);
     rows = ap stageRow (told .then (s .start)) ∙ told .rows (s .start);
     which = omega arith;
     detail = omega (arith, told .few);
@@ -203,6 +214,6 @@ module _ (s : PieceSpot) (buf piece : List ℕ) (fits : Fits s buf piece) (f : �
       let laid : laidAt (s .len) (d ∷ []) buf ≡ set buf (s .len) d = sym (laid-sets (s .len) (d ∷ []) buf (omega (arith, fits .full))) in
       turn-goes m text piece s buf closed (set buf (s .len) d) h inside refl
       (turned-eaten (stateAt m s buf) (record { count = refl; need = refl; far = omega (arith, fits .far) }) (s .start) (told .phase) (told .next)
-      (told .stands (s .start) (s .detail)) d (told .small) (omega arith) (told .eats _ _)
+      (told .stands (s .start) (s .detail)) d (told .small) (omega arith) (told .eats _ _ refl)
       ∙ ap (λ (l : List ℕ). on (stateOf (marks m (Busy (s .start) (told .next)) (s .at + 1) (s .len + 1) (range (m .from) (m .to))) l)) laid
       ∙ ap (λ (g : Stage). on (stateOf (marks m g (s .at + 1) (s .len + 1) (range (m .from) (m .to))) (set buf (s .len) d))) (sym (told .then (s .start))))

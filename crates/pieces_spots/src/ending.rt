@@ -1,7 +1,9 @@
 // What an item is that ends before a byte.
 use crate::first_byte::KINDS;
+use items::kinds;
 use lent::codes::CLOSED;
 use lent::codes::DONE_TOKEN;
+use lent::codes::IN_HASH;
 use lent::codes::IN_RUN;
 use lent::codes::IN_WORD;
 use telling::Quick;
@@ -13,9 +15,12 @@ ghost use mathlib.Core.Path.{_≡_};
 ghost use mathlib.Core.Bool.{true};
 ghost use Prim.Native.Nat.{_+_, _^_, _<_};
 ghost use lib.ListN.{length};
-ghost use Rattle.pieces_spots.specs.Spots.{StopsWord, Stops, TellsAt};
+ghost use Rattle.pieces_spots.specs.Spots.{StopsWord, Stops, TellsSign, TellsAt};
 
-// Whether a byte ends a word and a number run, of those that often do.
+// How many bytes a boolean of one letter is.
+const BOOLEAN: usize = 2;
+
+// Whether a byte ends a word, a number run and a word that begins with a number sign, of those that often do.
 fn is_stop(b: u8) -> bool
     ensures { λ r. ⌜ (r ≡ true → Stops b) ⌝ }
 {
@@ -43,6 +48,23 @@ fn ends_word(b: u8) -> bool
     }
 }
 
+// What a word that begins with a number sign tells: a boolean of one letter.
+fn tell_boolean(at: usize, end: usize, raw: &[u8]) -> Quick
+    ensures { λ r. ⌜ TellsSign (now (raw .entry)) r ⌝ }
+{
+    if raw.len() != BOOLEAN {
+        return Quick::Other;
+    }
+    if raw[0] != b'#' {
+        return Quick::Other;
+    }
+    match raw[1] {
+        b't' => bare(kinds::BOOLEAN_LITERAL, kinds::TRUE, at, end),
+        b'f' => bare(kinds::BOOLEAN_LITERAL, kinds::FALSE, at, end),
+        _ => Quick::Other,
+    }
+}
+
 // What an item is, by its stage, that ends before a byte of ASCII.
 pub fn tell(stage: u64, which: u64, detail: u64, b: u8, at: usize, end: usize, raw: &[u8]) -> Quick
     requires { ⌜ (0 < length (now raw)) × (end ≡ at + length (now raw)) × (which < 2 ^ 32) × (detail < 2 ^ 32) ⌝ }
@@ -66,10 +88,14 @@ pub fn tell(stage: u64, which: u64, detail: u64, b: u8, at: usize, end: usize, r
         }
         return Quick::Other;
     }
+    if !is_stop(b) {
+        return Quick::Other;
+    }
     if stage == IN_RUN {
-        if is_stop(b) {
-            return tell_run(at, end, raw);
-        }
+        return tell_run(at, end, raw);
+    }
+    if stage == IN_HASH {
+        return tell_boolean(at, end, raw);
     }
     Quick::Other
 }

@@ -46,6 +46,11 @@ const IN_LINES: u64 = QUOTED + KIND;
 // a comment to the end of its line, past the newline
 pub const LINE_DONE: u64 = DONE_TOKEN + KIND * kinds::COMMENT as u64;
 
+// the opening of a vector, past its bracket
+pub const VECTOR_DONE: u64 = DONE_TOKEN
+    + KIND * kinds::OPEN_PAREN as u64
+    + DETAIL * kinds::VECTOR as u64;
+
 // a byte that is not told here
 pub const NOT_TOLD: u64 = 0;
 

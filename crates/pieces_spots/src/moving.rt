@@ -5,12 +5,16 @@ use crate::first_byte::KIND;
 use crate::first_byte::KINDS;
 use crate::first_byte::LINE_DONE;
 use crate::first_byte::NOT_TOLD;
+use crate::first_byte::VECTOR_DONE;
 use crate::first_byte::first;
+use crate::letters::begin_letter;
 use giving::give::copy_all;
 use items::Phase;
 use items::Quotes;
+use lent::codes::AFTER_HASH;
 use lent::codes::CLOSED;
 use lent::codes::IDLE;
+use lent::codes::IN_HASH;
 use lent::codes::IN_LINE;
 use lent::codes::IN_RUN;
 use lent::codes::IN_WORD;
@@ -78,7 +82,7 @@ pub fn begin(s: PieceSpot, buf: &mut [u8], piece: &[u8]) -> PieceSpot
     let b = piece[i];
     let f = first(b);
     if f <= IDLE {
-        return s;
+        return begin_letter(s, buf, piece);
     }
     buf[0] = b;
     PieceSpot {
@@ -117,7 +121,7 @@ fn kept_count(stage: u64, which: u64, bytes: &[u8]) -> usize
 // Past the bytes that leave an item in its phase.
 pub fn run(s: PieceSpot, buf: &mut [u8], piece: &[u8]) -> PieceSpot
     requires { ⌜ Fits s (now buf) (now piece) ⌝ }
-    ensures { λ r. ⌜ Fits r (now (buf .exit)) (now (piece .entry)) × Onward s (now (buf .entry)) r (now (buf .exit)) (now (piece .entry)) ⌝ }
+    ensures { λ r. ⌜ Fits r (now (buf .exit)) (now (piece .entry)) × Onward s (now (buf .entry)) r (now (buf .exit)) (now (piece .entry)) × (s .i ≤ r .i) ⌝ }
 {
     let i = s.i;
     let len = s.len;
@@ -139,9 +143,28 @@ pub fn run(s: PieceSpot, buf: &mut [u8], piece: &[u8]) -> PieceSpot
     }
 }
 
-// What a byte that closes an item at a stage makes of it, as `first` has it; NOT_TOLD where it closes none.
-fn closes(stage: u64, which: u64, b: u8) -> u64
-    ensures { λ r. ⌜ (0 < r → Closes stage which b r) ⌝ }
+// What a byte after a number sign alone makes of an item, as `first` has it: the opening of a vector, or what may be a boolean.
+fn after_sign(which: u64, raw: &[u8], b: u8) -> u64
+    ensures { λ r. ⌜ (0 < r → Closes 9 which b r (now (raw .entry))) ⌝ }
+{
+    if raw.len() != 1 {
+        return NOT_TOLD;
+    }
+    if raw[0] != b'#' {
+        return NOT_TOLD;
+    }
+    match b {
+        b'(' => VECTOR_DONE,
+        b't' => IN_HASH,
+        b'f' => IN_HASH,
+        _ => NOT_TOLD,
+    }
+}
+
+// What a byte that belongs to an item at a stage, whose bytes so far are `raw`, makes of it, as `first` has it; NOT_TOLD where it is not
+// told here.
+fn closes(stage: u64, which: u64, raw: &[u8], b: u8) -> u64
+    ensures { λ r. ⌜ (0 < r → Closes stage which b r (now (raw .entry))) ⌝ }
 {
     if stage == QUOTED {
         if which != 0 {
@@ -156,11 +179,15 @@ fn closes(stage: u64, which: u64, b: u8) -> u64
         if b == b'\n' {
             return LINE_DONE;
         }
+        return NOT_TOLD;
+    }
+    if stage == AFTER_HASH {
+        return after_sign(which, raw, b);
     }
     NOT_TOLD
 }
 
-// Past a byte that closes an item.
+// Past a byte that leads an item to another phase.
 pub fn close(s: PieceSpot, buf: &mut [u8], piece: &[u8]) -> PieceSpot
     requires { ⌜ Fits s (now buf) (now piece) ⌝ }
     ensures { λ r. ⌜ Fits r (now (buf .exit)) (now (piece .entry)) × Onward s (now (buf .entry)) r (now (buf .exit)) (now (piece .entry)) ⌝ }
@@ -174,7 +201,7 @@ pub fn close(s: PieceSpot, buf: &mut [u8], piece: &[u8]) -> PieceSpot
         return s;
     }
     let b = piece[i];
-    let f = closes(s.stage, s.which, b);
+    let f = closes(s.stage, s.which, &buf[..len], b);
     if f == NOT_TOLD {
         return s;
     }

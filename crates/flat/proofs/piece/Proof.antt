@@ -1,63 +1,132 @@
 -- 22 and 27 leave all but the values; else the call of `lent` fixes the state and the text memory, and `tell` the rest.
+use borrow.Author.Needs.{needs}
 use mathlib.Core.Path.{sym, _∙_}
 use borrow.Author.Tests.{not-true, not-false}
-use borrow.Author.Needs.{needs}
 use lib.ListN.{length}
 use denote.Ref.{now}
-use Rattle.flat.proofs.Left.{room-record, state-words, too-few, no-state, told-on}
+use Rattle.flat.proofs.Left.{room-record, state-words, too-few, no-state, served, told-on}
 use Rattle.flat.proofs.piece.Statement.{statement}
 use Rattle.flat.proofs.piece.Tie as tie
+
+is-room-requires : tie.Need-is-room-requires
+is-room-requires c κs = search needs
+
+put-values-requires : tie.Need-put-values-requires
+put-values-requires c κs = search needs
+
+same-length : tie.Need-same-length
+same-length c = search needs
 
 returns : tie.Need-returns
 returns c = too-few _ _ (sym (c .before .before .before .before .before .is-room .ensures) ∙ not-true _ (c .before .before .before .before .if1 .taken)) (c .before .before .put-values .ensures)
 
+is-state-requires : tie.Need-is-state-requires
+is-state-requires c κs = search needs
+
+put-values-requires-2 : tie.Need-put-values-requires-2
+put-values-requires-2 c κs = search needs
+
+same-length-2 : tie.Need-same-length-2
+same-length-2 c = search needs
+
 returns-2 : tie.Need-returns-2
-returns-2 c =
-    let branch = c .before .before .before .before in
-    no-state _ _ (sym (branch .before .before .before .is-room .ensures) ∙ not-false _ (branch .before .before .if1 .left))
-    (sym (branch .before .is-state .ensures) ∙ not-true _ (branch .if2 .taken)) (c .before .before .put-values2 .ensures)
+returns-2 c = no-state _ _ (sym (c .before .before .before .before .before .before .before .is-room .ensures) ∙ not-false _ (c .before .before .before .before .before .before .if1 .left)) (sym (c .before .before .before .before .before .is-state .ensures) ∙ not-true _ (c .before .before .before .before .if2 .taken)) (c .before .before .put-values2 .ensures)
 
 words-in-requires : tie.Need-words-in-requires
-words-in-requires c κs =
-    state-words (length (now (c .before .before .before .before .before .before .before .before .before .before .before .args .buf))) _
-    (sym (c .before .before .is-state .ensures) ∙ not-false _ (c .before .if2 .left))
+words-in-requires c κs = state-words (length (now (c .before .before .before .before .before .before .before .before .before .before .before .args .buf))) _ (sym (c .before .before .is-state .ensures) ∙ not-false _ (c .before .if2 .left))
 
-tell-requires : tie.Need-tell-requires
-tell-requires c κs =
-    let branch = c .before .before .before .before .before .before .before .before .before .before .before .before in
-    let entry = branch .before .before .before .before .before .before .before .before .before .before in (
-      state-words (length (now (entry .args .buf))) _ (sym (branch .before .is-state .ensures) ∙ not-false _ (branch .if2 .left)),
-      room-record _ (length (now (entry .args .values)))
-          (sym (branch .before .before .before .is-room .ensures) ∙ not-false _ (branch .before .before .if1 .left)),
+is-served-requires : tie.Need-is-served-requires
+is-served-requires c κs = search needs
+
+read-on-requires : tie.Need-read-on-requires
+read-on-requires c κs =
+    let a = c .before .before .before .before .before .before .before .before .before .before .before .before .before .before .before .before .before .before .before in
+    let h = c .before .before .before .before .before .before .is-served .ensures (c .before .before .before .before .before .if3 .taken) in (
+      state-words (length (now (a .args .buf))) _ (sym (c .before .before .before .before .before .before .before .before .before .before .is-state .ensures) ∙ not-false _ (c .before .before .before .before .before .before .before .before .before .if2 .left)),
+      room-record _ (length (now (a .args .values))) (sym (c .before .before .before .before .before .before .before .before .before .before .before .before .is-room .ensures) ∙ not-false _ (c .before .before .before .before .before .before .before .before .before .before .before .if1 .left)),
+      c .before .before .before .before .before .before .before .words-in .ensures,
+      h .0,
+      h .1,
+      h .2,
     )
+
+same-length-3 : tie.Need-same-length-3
+same-length-3 c = search needs
+
+same-length-4 : tie.Need-same-length-4
+same-length-4 c = search needs
+
+same-length-5 : tie.Need-same-length-5
+same-length-5 c = search needs
+
+same-length-6 : tie.Need-same-length-6
+same-length-6 c = search needs
+
+same-length-7 : tie.Need-same-length-7
+same-length-7 c = search needs
 
 returns-3 : tie.Need-returns-3
 returns-3 c =
-    let gone-on = c .before .before .before .before .before .before .before .before .before .before .before .before .before .before in
-    let branch = gone-on .before .before .before .before .before in
-    told-on _ _ (gone-on .piece-words .result) (sym (branch .before .before .before .is-room .ensures)
-    ∙ not-false _ (branch .before .before .if1 .left)) (sym (branch .before .is-state .ensures) ∙ not-false _ (branch .if2 .left))
-    (gone-on .before .before .before .words-in .ensures)
-    (gone-on .piece-words .ensures .0) (gone-on .piece-words .ensures .1) (c .before .before .before .before .before .before .tell .ensures _ _ _)
+    served _ _ (sym (c .before .before .before .before .before .before .before .before .before .before .before .before .before .before .before .before .before .before .before .before .before .before .before .is-room .ensures) ∙ not-false _ (c .before .before .before .before .before .before .before .before .before .before .before .before .before .before .before .before .before .before .before .before .before .before .if1 .left)) (sym (c .before .before .before .before .before .before .before .before .before .before .before .before .before .before .before .before .before .before .before .before .before .is-state .ensures) ∙ not-false _ (c .before .before .before .before .before .before .before .before .before .before .before .before .before .before .before .before .before .before .before .before .if2 .left))
+    (c .before .before .before .before .before .before .before .before .before .before .before .before .before .before .before .before .before .before .words-in .ensures) (c .before .before .before .before .before .before .before .before .before .before .read-on .ensures)
+
+otherwise-requires : tie.Need-otherwise-requires
+otherwise-requires c κs = search needs
+
+tell-requires : tie.Need-tell-requires
+tell-requires c κs =
+    let a = c .before .before .before .before .before .before .before .before .before .before .before .before .before .before .before .before .before .before .before .before .before .before .before .before in (
+      state-words (length (now (a .args .buf))) _ (sym (c .before .before .before .before .before .before .before .before .before .before .before .before .before .before .before .is-state .ensures) ∙ not-false _ (c .before .before .before .before .before .before .before .before .before .before .before .before .before .before .if2 .left)),
+      room-record _ (length (now (a .args .values))) (sym (c .before .before .before .before .before .before .before .before .before .before .before .before .before .before .before .before .before .is-room .ensures) ∙ not-false _ (c .before .before .before .before .before .before .before .before .before .before .before .before .before .before .before .before .if1 .left)),
+    )
+
+same-length-8 : tie.Need-same-length-8
+same-length-8 c = search needs
+
+same-length-9 : tie.Need-same-length-9
+same-length-9 c = search needs
+
+same-length-10 : tie.Need-same-length-10
+same-length-10 c = search needs
+
+same-length-11 : tie.Need-same-length-11
+same-length-11 c = search needs
+
+same-length-12 : tie.Need-same-length-12
+same-length-12 c = search needs
+
+returns-4 : tie.Need-returns-4
+returns-4 c =
+    let p = c .before .before .before .before .before .before .before .before .before .before .before .before .before .before .otherwise in
+    told-on _ _ (p .result) (sym (c .before .before .before .before .before .before .before .before .before .before .before .before .before .before .before .before .before .before .before .before .before .before .before .before .is-room .ensures) ∙ not-false _ (c .before .before .before .before .before .before .before .before .before .before .before .before .before .before .before .before .before .before .before .before .before .before .before .if1 .left)) (sym (c .before .before .before .before .before .before .before .before .before .before .before .before .before .before .before .before .before .before .before .before .before .before .is-state .ensures) ∙ not-false _ (c .before .before .before .before .before .before .before .before .before .before .before .before .before .before .before .before .before .before .before .before .before .if2 .left))
+    (c .before .before .before .before .before .before .before .before .before .before .before .before .before .before .before .before .before .before .before .words-in .ensures) (p .ensures .0) (p .ensures .1) (c .before .before .before .before .before .before .tell .ensures _ _ _)
 
 pub piece-spec : {M : Type 1} → statement M
 piece-spec =
     tie.close
     (tie.spec
-    (λ c κs. search needs)
-    (λ c κs. search needs)
-    (λ c. search needs)
+    is-room-requires
+    put-values-requires
+    same-length
     returns
-    (λ c κs. search needs)
-    (λ c κs. search needs)
-    (λ c. search needs)
+    is-state-requires
+    put-values-requires-2
+    same-length-2
     returns-2
     words-in-requires
-    (λ c κs. search needs)
+    is-served-requires
+    read-on-requires
+    same-length-3
+    same-length-4
+    same-length-5
+    same-length-6
+    same-length-7
+    returns-3
+    otherwise-requires
     tell-requires
-    (λ c. search needs)
-    (λ c. search needs)
-    (λ c. search needs)
-    (λ c. search needs)
-    (λ c. search needs)
-    returns-3)
+    same-length-8
+    same-length-9
+    same-length-10
+    same-length-11
+    same-length-12
+    returns-4)

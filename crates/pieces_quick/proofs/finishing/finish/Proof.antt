@@ -13,50 +13,43 @@ use Rattle.pieces_quick.proofs.finishing.finish.Tie as tie
 returns : tie.Need-returns
 returns c = search needs
 
-returns-2 : tie.Need-returns-2
-returns-2 c = search needs
-
-sub-if3 : tie.Need-sub-if3
-sub-if3 c = search needs
-
-returns-3 : tie.Need-returns-3
-returns-3 c = search needs
-
 first-requires : tie.Need-first-requires
 first-requires c κs = search needs
 
-returns-4 : tie.Need-returns-4
-returns-4 c = search needs
+returns-2 : tie.Need-returns-2
+returns-2 c = search needs
 
 slice-reshare-prefix-tell : tie.Need-slice-reshare-prefix-tell
 slice-reshare-prefix-tell c = search needs
 
 slice-aggregate-tell : tie.Need-slice-aggregate-tell
 slice-aggregate-tell c =
-    let a = c .before .before .before .before .before .before .before .before .before .before .before in
+    let a = c .before .before .before .before .before .before .before in
     sym (length-take-le (a .args .s .len) (now (a .args .buf)) (omega (arith, a .pre .small, a .pre .sound .full)))
 
 tell-requires : tie.Need-tell-requires
 tell-requires c κs =
-    let a = c .before .before .before .before .before .before .before .before .before .before .before in
+    let a = c .before .before .before .before .before .before .before in
+    let k = a .pre .held (omega (arith, c .before .before .before .if1 .left)) in
     let l = length-take-le (a .args .s .len) (now (a .args .buf)) (omega (arith, a .pre .small, a .pre .sound .full)) in
-    (omega (arith, l), omega (arith, l), a .pre .which, a .pre .detail)
+    (omega (arith, l, k .1), omega (arith, l, k .0), a .pre .which, a .pre .detail)
 
 enum-known-told : tie.Need-enum-known-told
 enum-known-told c = search needs
 
 given-requires : tie.Need-given-requires
 given-requires c κs =
-    let a = c .before .before .before .before .before .before .before .before .before .before .before .before .before .before .before .before .before in
-    let s = a .args .s in (
+    let a = c .before .before .before .before .before .before .before .before .before .before .before .before .before in
+    let s = a .args .s in
+    let k = a .pre .held (omega (arith, c .before .before .before .before .before .before .before .before .before .if1 .left)) in (
       a .pre,
       record {
-        held = omega (arith, c .before .before .before .before .before .before .before .before .before .if3 .left, c .before .before .before .before .before .before .before .before .before .before .before .before .if2 .left);
-        some = omega (arith, c .before .before .before .before .before .before .before .before .before .before .before .before .before .before .if1 .left);
+        held = k .0;
+        some = k .1;
         ended = subst (λ (q : Quick). TellsAt (s .stage) (s .which) (s .detail) (a .args .b) (s .start) (take (s .len) (now (a .args .buf))) q)
             (c .before .before .before .told .given .1) (c .before .before .before .before .before .tell .ensures);
         firsts = c .before .before .before .before .before .before .before .before .first .ensures;
-        told = omega (arith, c .before .before .before .before .before .before .before .if4 .left);
+        told = omega (arith, c .before .before .before .before .before .before .before .if2 .left);
       },
     )
 
@@ -72,31 +65,28 @@ same-length c = search needs
 same-length-2 : tie.Need-same-length-2
 same-length-2 c = search needs
 
-returns-5 : tie.Need-returns-5
-returns-5 c = search needs
+returns-3 : tie.Need-returns-3
+returns-3 c = search needs
 
 same-length-3 : tie.Need-same-length-3
 same-length-3 c = search needs
 
-returns-6 : tie.Need-returns-6
-returns-6 c = search needs
+returns-4 : tie.Need-returns-4
+returns-4 c = search needs
 
 same-length-4 : tie.Need-same-length-4
 same-length-4 c = search needs
 
-returns-7 : tie.Need-returns-7
-returns-7 c = search needs
+returns-5 : tie.Need-returns-5
+returns-5 c = search needs
 
 pub finish-spec : {M : Type 1} → statement M
 finish-spec =
     tie.close
     (tie.spec
     returns
-    returns-2
-    sub-if3
-    returns-3
     first-requires
-    returns-4
+    returns-2
     slice-reshare-prefix-tell
     slice-aggregate-tell
     tell-requires
@@ -106,8 +96,8 @@ finish-spec =
     enum-told-2
     same-length
     same-length-2
-    returns-5
+    returns-3
     same-length-3
-    returns-6
+    returns-4
     same-length-4
-    returns-7)
+    returns-5)

@@ -70,7 +70,25 @@ returns-8 c = λ e.
 
 returns-9 : tie.Need-returns-9
 returns-9 c = λ e.
-    let known = c .before .before .before in
+    let known = c .before .before .before .before in
+    let held = known .before .before .before .before .is-held .ensures (not-false _ (known .before .before .before .if3 .left)) in
+    let none = known .before .is-unmarked2 .ensures (not-false _ (known .if5 .left)) in
+    let a = known .before .before .before .before .before .before .args in
+    knows.sign-known (a .stage) (a .start) (a .which) (a .detail) (a .at) (a .len)
+    (held .0) (held .1) (none .0) (none .1) (omega arith)
+
+returns-10 : tie.Need-returns-10
+returns-10 c = λ e.
+    let known = c .before .before .before .before .before in
+    let held = known .before .before .before .before .is-held .ensures (not-false _ (known .before .before .before .if3 .left)) in
+    let none = known .before .is-unmarked2 .ensures (not-false _ (known .if5 .left)) in
+    let a = known .before .before .before .before .before .before .args in
+    knows.hash-known (a .stage) (a .start) (a .which) (a .detail) (a .at) (a .len)
+    (held .0) (held .1) (none .0) (none .1) (omega arith)
+
+returns-11 : tie.Need-returns-11
+returns-11 c = λ e.
+    let known = c .before .before .before .before .before in
     let held = known .before .before .before .before .is-held .ensures (not-false _ (known .before .before .before .if3 .left)) in
     let none = known .before .is-unmarked2 .ensures (not-false _ (known .if5 .left)) in
     let a = known .before .before .before .before .before .before .args in
@@ -78,4 +96,4 @@ returns-9 c = λ e.
     (held .0) (held .1) (none .0) (none .1) (eqb-true (a .stage) 7 e)
 
 pub is-known-spec : {M : Type 1} → statement M
-is-known-spec = tie.close (tie.spec returns is-unmarked-requires returns-2 is-held-requires returns-3 is-token-requires returns-4 is-unmarked-requires-2 returns-5 returns-6 returns-7 returns-8 returns-9)
+is-known-spec = tie.close (tie.spec returns is-unmarked-requires returns-2 is-held-requires returns-3 is-token-requires returns-4 is-unmarked-requires-2 returns-5 returns-6 returns-7 returns-8 returns-9 returns-10 returns-11)

@@ -1,7 +1,8 @@
--- A token that is whole and a string that is closed end before any byte; a word and a number run before those that end them (Ends).
+-- A token that is whole and a string that is closed end before any byte; a word, a number run and a boolean before those that end them (Ends).
 use borrow.Author.Needs.{needs}
 use native.Mathlib.Omega.{arith}
 use denote.Ref.{now}
+use borrow.Author.Tests.{not-false}
 use Rattle.pieces_spots.proofs.Ends as ends
 use Rattle.pieces_spots.proofs.ending.tell.Statement.{statement}
 use Rattle.pieces_spots.proofs.ending.tell.Tie as tie
@@ -41,8 +42,7 @@ tell-word-requires c κs = search needs
 returns-5 : tie.Need-returns-5
 returns-5 c =
     let a = c .before .before .before .before .before .before .before .args in
-    ends.word-ends (a .stage) (a .which) (a .detail) (a .b) (a .at) (now (a .raw)) (omega arith)
-    (c .before .before .ends-word .ensures (c .before .if6 .taken)) (c .tell-word .result) (c .tell-word .ensures)
+    ends.word-ends (a .stage) (a .which) (a .detail) (a .b) (a .at) (now (a .raw)) (omega arith) (c .before .before .ends-word .ensures (c .before .if6 .taken)) (c .tell-word .result) (c .tell-word .ensures)
 
 returns-6 : tie.Need-returns-6
 returns-6 c = search needs
@@ -50,20 +50,27 @@ returns-6 c = search needs
 is-stop-requires : tie.Need-is-stop-requires
 is-stop-requires c κs = search needs
 
+returns-7 : tie.Need-returns-7
+returns-7 c = search needs
+
 tell-run-requires : tie.Need-tell-run-requires
 tell-run-requires c κs = search needs
 
-returns-7 : tie.Need-returns-7
-returns-7 c =
-    let a = c .before .before .before .before .before .before .before .before .args in
-    ends.run-ends (a .stage) (a .which) (a .detail) (a .b) (a .at) (now (a .raw)) (omega arith)
-    (c .before .before .is-stop .ensures (c .before .if8 .taken)) (c .tell-run .result) (c .tell-run .ensures)
-
 returns-8 : tie.Need-returns-8
-returns-8 c = search needs
+returns-8 c =
+    let a = c .before .before .before .before .before .before .before .before .args in
+    ends.run-ends (a .stage) (a .which) (a .detail) (a .b) (a .at) (now (a .raw)) (omega arith) (c .before .before .before .is-stop .ensures (not-false _ (c .before .before .if7 .left))) (c .tell-run .result) (c .tell-run .ensures)
+
+tell-boolean-requires : tie.Need-tell-boolean-requires
+tell-boolean-requires c κs = search needs
 
 returns-9 : tie.Need-returns-9
-returns-9 c = search needs
+returns-9 c =
+    let a = c .before .before .before .before .before .before .before .before .before .args in
+    ends.boolean-ends (a .stage) (a .which) (a .detail) (a .b) (a .at) (now (a .raw)) (omega arith) (c .before .before .before .before .is-stop .ensures (not-false _ (c .before .before .before .if7 .left))) (c .tell-boolean .result) (c .tell-boolean .ensures)
+
+returns-10 : tie.Need-returns-10
+returns-10 c = search needs
 
 pub tell-spec : {M : Type 1} → statement M
 tell-spec =
@@ -82,7 +89,9 @@ tell-spec =
     returns-5
     returns-6
     is-stop-requires
-    tell-run-requires
     returns-7
+    tell-run-requires
     returns-8
-    returns-9)
+    tell-boolean-requires
+    returns-9
+    returns-10)

@@ -18,20 +18,26 @@ shared-slice-read-b c = search needs
 first-requires : tie.Need-first-requires
 first-requires c κs = search needs
 
+begin-letter-requires : tie.Need-begin-letter-requires
+begin-letter-requires c κs = search needs
+
+same-length : tie.Need-same-length
+same-length c = search needs
+
 returns-3 : tie.Need-returns-3
 returns-3 c = search needs
 
 slice-write-buf : tie.Need-slice-write-buf
 slice-write-buf c = search needs
 
-add-t16 : tie.Need-add-t16
-add-t16 c = search needs
+add-t18 : tie.Need-add-t18
+add-t18 c = search needs
 
 add-t8 : tie.Need-add-t8
 add-t8 c = search needs
 
-same-length : tie.Need-same-length
-same-length c = search needs
+same-length-2 : tie.Need-same-length-2
+same-length-2 c = search needs
 
 returns-4 : tie.Need-returns-4
 returns-4 c =
@@ -50,9 +56,11 @@ begin-spec =
     returns-2
     shared-slice-read-b
     first-requires
+    begin-letter-requires
+    same-length
     returns-3
     slice-write-buf
-    add-t16
+    add-t18
     add-t8
-    same-length
+    same-length-2
     returns-4)

@@ -113,6 +113,7 @@ returns-2 c =
     ∙ ap (λ (x : ℕ). laidAt (a .args .s .len) (take x (drop i (now (a .args .piece)))) (now (a .args .buf))) j in (
       ran-fits (a .args .s) (now (a .args .buf)) (now (a .args .piece)) (a .pre) n (i + k - i) (omega arith) (omega (arith, a .pre .small, c .before .before .before .before .before .before .before .before .before .fewer .ensures)) told _ laid,
       ran-on (a .args .s) (now (a .args .buf)) (now (a .args .piece)) (a .pre) n (i + k - i) (omega arith) (omega (arith, a .pre .small, c .before .before .before .before .before .before .before .before .before .fewer .ensures)) told _ laid,
+      omega arith,
     )
 
 pub run-spec : {M : Type 1} → statement M

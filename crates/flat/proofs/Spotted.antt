@@ -1,0 +1,52 @@
+-- What the quick path writes at a spot is what is told there by value: the words that it leaves are as the spot's words have them.
+use Prim.Native.Nat.{ℕ}
+use mathlib.Core.Path.{_≡_, sym, ap, _∙_}
+use mathlib.Core.List.{List, [], _∷_}
+use lib.ListN.{length, set}
+use Rattle.laws.specs.Lent.{written}
+use Rattle.chars.specs.Encode.{lay}
+use Rattle.pieces.specs.declared.Got.{Got}
+use Rattle.pieces.specs.Calls.{textAfter}
+use Rattle.piecewise.specs.Answers.{whatOf}
+use Rattle.lent.specs.declared.Words.{Words}
+use Rattle.lent.specs.declared.Told.{Told}
+use Rattle.lent.specs.Calls.{Said, said}
+use Rattle.pieces_spots.specs.declared.PieceSpot.{PieceSpot}
+use Rattle.pieces_quick.specs.Words.{Ready, stood}
+use Rattle.flat.specs.Piece.{listed, wordsIn, stateWords, Memory, left, gives, memory, whatNumber, whatPlace, recordAfter}
+use Rattle.flat.specs.Spotted.{placed, Tells}
+use Rattle.flat.proofs.Left.{left-is, kept}
+use Rattle.flat.proofs.Held.{over}
+
+-- a state's words, one by one
+all-words : (l : List ℕ) → length l ≡ stateWords → l ≡ listed (wordsIn l)
+all-words l h = sym (kept l h) ∙ over (wordsIn l) l h
+
+module _ (l : List ℕ) (h : length l ≡ stateWords) (s : PieceSpot) (d : ℕ) where
+  abbrev stores : List ℕ → List ℕ
+  stores x = set (set (set (set (set (set (set x 3 (s .stage)) 4 (s .start)) 5 (s .which)) 6 (s .detail)) 9 (s .at)) 17 (s .len)) 18 d
+
+  -- seven stores put the spot in place
+  pub spot-stored : stores l ≡ written (listed (placed (wordsIn l) s d)) l
+  spot-stored = ap stores (all-words l h) ∙ sym (over (placed (wordsIn l) s d) l h)
+
+-- of words that are ready the others are those of the spot too
+placed-stood : (w : Words) (count : ℕ) → Ready w count → (s : PieceSpot) (d : ℕ) → placed w s d ≡ stood w s d
+placed-stood w count R s d = rw (R .ended, R .one, R .two, R .count, R .need, R .low, R .high, R .code)
+
+module _ (s : PieceSpot) (d : ℕ) (g : Got) (words after i put values told : List ℕ) (n : ℕ) where
+  pub tells-so : after ≡ written (listed (placed (wordsIn words) s d)) words
+      → ((text : List ℕ) → (put ≡ recordAfter (whatOf g text) i) × (told ≡ lay (whatPlace (whatOf g text) ∷ s .i ∷ []) values) × (n ≡ whatNumber (whatOf g text)))
+      → Tells s d g words after i put values told n
+  tells-so e f w count R is buf text old =
+      let t = f text in
+      left-is (t .2) (e ∙ ap (λ (x : Words). written (listed x) words) (ap (λ (v : Words). placed v s d) (sym is) ∙ placed-stood w count R s d)) (t .0) (t .1)
+
+-- what is told is what a call says
+module _ (m : Memory) (s : Said) where
+  pub told-by : (t : Told) {n : ℕ} {buf words text i v : List ℕ} → said t buf text ≡ s → text ≡ textAfter (s .what) (m .text)
+      → left n (memory buf words (textAfter (whatOf (t .got) text) (m .text)) i v) ≡ gives (memory buf (m .words) (m .text) (m .item) (m .values)) (said t buf text)
+      → left n (memory buf words text i v) ≡ gives m s
+  told-by t {n = n} {buf = buf} {words = words} {i = i} {v = v} e f k =
+      let same = f ∙ ap (λ (x : Said). textAfter (x .what) (m .text)) (sym e) in
+      ap (λ (x : List ℕ). left n (memory buf words x i v)) same ∙ k ∙ ap (gives m) e

@@ -1,0 +1,73 @@
+-- At the end of the piece nothing is left to feed. Before it the item is given, or the reader stands as before (Answering).
+use borrow.Author.Needs.{needs}
+use native.Mathlib.Omega.{arith}
+use denote.Ref.{now}
+use mathlib.Core.Path.{refl, subst}
+use lib.ListN.{getD}
+use Rattle.pieces_quick.specs.declared.Offer.{Offer}
+use Rattle.pieces_quick.specs.Gives.{Finished}
+use Rattle.pieces_quick.proofs.Answering.{more-feeds, before-byte, item-feeds}
+use Rattle.pieces_quick.proofs.from_spot.Statement.{statement}
+use Rattle.pieces_quick.proofs.from_spot.Tie as tie
+
+returns : tie.Need-returns
+returns c =
+    let a = c .before .before .before .before in
+    more-feeds (a .args .w) (a .pre .1 .left) (a .pre .1 .ready) (a .args .s) (now (a .args .buf)) (now (a .args .text)) (now (a .args .piece)) (a .pre .0) (a .pre .1 .sound) (omega arith)
+
+shared-slice-read-finish : tie.Need-shared-slice-read-finish
+shared-slice-read-finish c = search needs
+
+finish-requires : tie.Need-finish-requires
+finish-requires c κs =
+    let a = c .before .before .before .before .before .before .before in
+    before-byte (a .args .w) (a .pre .1 .left) (a .pre .1 .ready) (a .args .s) (now (a .args .buf)) (now (a .args .text)) (now (a .args .piece)) (a .pre .0) (a .pre .1 .sound) (omega arith) (omega arith)
+
+enum-known-next : tie.Need-enum-known-next
+enum-known-next c = search needs
+
+enum-told : tie.Need-enum-told
+enum-told c = search needs
+
+same-length : tie.Need-same-length
+same-length c = search needs
+
+same-length-2 : tie.Need-same-length-2
+same-length-2 c = search needs
+
+returns-2 : tie.Need-returns-2
+returns-2 c =
+    let a = c .before .before .before .before .before .before .before .before .before .before .before .before .before .before .before in
+    let s = a .args .s in
+    item-feeds (a .args .w) (a .pre .1 .left) (a .pre .1 .ready) s (now (a .args .buf)) (now (a .args .text)) (now (a .args .piece)) (a .pre .0) (a .pre .1 .sound)
+    (omega (arith, c .before .before .before .before .before .before .before .before .before .before .before .if1 .left)) _ _ _ _ _
+    (subst (λ (q : Offer). Finished (a .args .w) s (getD (now (a .args .piece)) (s .i) 0) (now (a .args .buf)) (c .before .before .before .before .before .before .before .finish .last .1 .1 .1 .0) (now (a .args .text)) (c .before .before .before .before .before .before .before .finish .last .1 .1 .1 .1 .0) q) (c .before .next .given .1) (c .before .before .before .before .before .before .before .finish .ensures))
+
+same-length-3 : tie.Need-same-length-3
+same-length-3 c = search needs
+
+same-length-4 : tie.Need-same-length-4
+same-length-4 c = search needs
+
+returns-3 : tie.Need-returns-3
+returns-3 c =
+    let a = c .before .before .before .before .before .before .before .before .before .before .before .before .before .before in
+    let s = a .args .s in
+    let same = subst (λ (q : Offer). Finished (a .args .w) s (getD (now (a .args .piece)) (s .i) 0) (now (a .args .buf)) (c .before .before .before .before .before .before .finish .last .1 .1 .1 .0) (now (a .args .text)) (c .before .before .before .before .before .before .finish .last .1 .1 .1 .1 .0) q) (c .enum-told .given .1) (c .before .before .before .before .before .before .finish .ensures) in
+    (refl, omega (arith, c .before .before .before .before .before .before .before .before .before .before .if1 .left), omega (arith, c .before .before .before .before .before .before .before .before .before .before .if1 .left), same .0, same .1)
+
+pub from-spot-spec : {M : Type 1} → statement M
+from-spot-spec =
+    tie.close
+    (tie.spec
+    returns
+    shared-slice-read-finish
+    finish-requires
+    enum-known-next
+    enum-told
+    same-length
+    same-length-2
+    returns-2
+    same-length-3
+    same-length-4
+    returns-3)

@@ -1,0 +1,51 @@
+-- Each move feeds on as the spot before (pieces_spots/proofs/Moves: along).
+use borrow.Author.Needs.{needs}
+use denote.Ref.{now}
+use Rattle.pieces_spots.proofs.Moves.{along}
+use Rattle.pieces_quick.proofs.through.Statement.{statement}
+use Rattle.pieces_quick.proofs.through.Tie as tie
+
+past-requires : tie.Need-past-requires
+past-requires c κs = search needs
+
+begin-requires : tie.Need-begin-requires
+begin-requires c κs = search needs
+
+same-length : tie.Need-same-length
+same-length c = search needs
+
+returns : tie.Need-returns
+returns c =
+    let piece = now (c .before .before .before .before .before .before .before .before .before .before .args .piece) in
+    let one = c .before .before .before .before .begin in
+    (one .ensures .0, along piece _ _ _ _ _ _ (c .before .before .before .before .before .before .past .ensures .1) (one .ensures .1))
+
+run-on-requires : tie.Need-run-on-requires
+run-on-requires c κs = search needs
+
+close-requires : tie.Need-close-requires
+close-requires c κs = search needs
+
+same-length-2 : tie.Need-same-length-2
+same-length-2 c = search needs
+
+returns-2 : tie.Need-returns-2
+returns-2 c =
+    let piece = now (c .before .before .before .before .before .before .before .before .before .before .before .before .before .before .before .before .before .before .args .piece) in
+    let begun = along piece _ _ _ _ _ _ (c .before .before .before .before .before .before .before .before .before .before .before .before .before .before .past .ensures .1) (c .before .before .before .before .before .before .before .before .before .before .before .before .begin .ensures .1) in
+    let ran = along piece _ _ _ _ _ _ begun (c .before .before .before .before .before .before .run-on .ensures .1) in
+    let last = c .before .before .close in
+    (last .ensures .0, along piece _ _ _ _ _ _ ran (last .ensures .1))
+
+pub through-spec : {M : Type 1} → statement M
+through-spec =
+    tie.close
+    (tie.spec
+    past-requires
+    begin-requires
+    same-length
+    returns
+    run-on-requires
+    close-requires
+    same-length-2
+    returns-2)

@@ -1,0 +1,266 @@
+-- A letter past ASCII of two bytes: its two turns do what passing it does.
+use Prim.Native.Nat.{ℕ, suc, _+_, _-_, _*_, _/_, _%_, _≤_, _<_}
+use mathlib.Core.Path.{_≡_, refl, sym, ap, _∙_}
+use mathlib.Core.Bool.{Bool, true, false, _&&_}
+use mathlib.Core.List.{List, [], _∷_}
+use lib.Dec.{eqb, ltb}
+use lib.ListN.{length, getD, drop, set, length-set}
+use lib.Seq.{drop-cons}
+use native.Mathlib.Omega.{arith}
+use native.Mathlib.Numerals.{add-one}
+use borrow.Author.Tests.{eq-eqb, ne-eqb, ltb-true, lt-leb, le-leb, le-ltb}
+use Rattle.laws.proofs.Choice.{and-true}
+use Rattle.laws.specs.Quoted.{code, codes, oneOf}
+use Rattle.chars.specs.Encode.{width, utf8}
+use Rattle.chars.specs.Blank.{isBlank}
+use Rattle.chars.specs.Machine.{step}
+use Rattle.chars.proofs.Table.{within-in, first-c2}
+use Rattle.chars.proofs.SixBits.{high, low}
+use Rattle.chars.proofs.Width.{utf8-two, width-utf8}
+use Rattle.chars.proofs.Blanks.{between-blanks}
+use Rattle.items.specs.Items.{range}
+use Rattle.items.specs.Readers.{SoFar}
+use Rattle.items.specs.Classes.{startsRun, firstOf, inQuotes, breaksWord, inWord}
+use Rattle.items.specs.declared.Quotes.the-variants.{Double}
+use Rattle.items.specs.declared.Phase.{Phase}
+use Rattle.items.specs.declared.Phase.the-variants as ph
+use Rattle.items.specs.declared.Next.the-variants.{Eat}
+use Rattle.items.specs.Machine.{stepOf, onFirst}
+use Rattle.items.specs.Whole.{limit}
+use Rattle.pieces.specs.declared.Stage.{Stage}
+use Rattle.pieces.specs.declared.Stage.the-variants.{Idle, Busy}
+use Rattle.pieces.specs.declared.Marks.{Marks}
+use Rattle.pieces.specs.declared.State.{State}
+use Rattle.pieces.specs.Expected.{longest}
+use Rattle.pieces.specs.Calls.{Turn, on, marks, becomes, lastOf, laidAt, partly, onStage, turnOf, after, feedOf}
+use Rattle.giving.specs.Answers.{stateOf}
+use Rattle.giving.proofs.Laid.{laid-two}
+use Rattle.turns.specs.Inner.{Sound}
+use Rattle.turns.proofs.Sounds.{turn-sound}
+use Rattle.lent.specs.Coding.{stageOf, stageRow}
+use Rattle.pieces_spots.specs.declared.PieceSpot.{PieceSpot}
+use Rattle.pieces_spots.specs.Spots.{rowAt, marksAt, stateAt, Fits, Goes, Onward, Letter, Carries, Lettered}
+use Rattle.pieces_spots.proofs.Turning.{Between}
+use Rattle.pieces_spots.proofs.Moves.{idle-stage}
+
+-- ---- a character past ASCII is none of those that end or close something
+
+-- whether all are below
+abbrev below : List ℕ → Bool
+below [] = true
+below (k ∷ l) = ltb k 0x80 && below l
+
+other : (c k : ℕ) → 0x80 ≤ c → ltb k 0x80 ≡ true → eqb c k ≡ false
+other c k h e = ne-eqb c k (λ f. omega (arith, ltb-true k 0x80 e))
+
+none-of : (l : List ℕ) → below l ≡ true → (c : ℕ) → 0x80 ≤ c → oneOf l c ≡ false
+none-of [] e c h = refl
+none-of (k ∷ l) e c h = let t = and-true (ltb k 0x80) (below l) e in rw (other c k h (t .0)) (none-of l (t .1) c h)
+
+module _ (c : ℕ) (h : 0xC0 ≤ c) (k : c < 0x800) where
+  past : 0x80 ≤ c
+  past = omega arith
+
+  solid : isBlank c ≡ false
+  solid = between-blanks c (omega arith) (omega arith) (λ f. omega arith) (λ f. omega arith) (λ f. omega arith) (λ f. omega arith)
+
+  in-word : (report : Bool) (i : SoFar) → stepOf report ph.InWord i c ≡ Eat ph.InWord
+  unfolding inWord breaksWord
+  in-word report i = rw (none-of (codes "([)]{}'\"`;,") refl c past, solid, other c (code "\\") past refl)
+
+  in-line : (report : Bool) (i : SoFar) → stepOf report ph.InLine i c ≡ Eat ph.InLine
+  in-line report i = rw (other c (code "\n") past refl)
+
+  in-string : (report : Bool) (i : SoFar) → stepOf report (ph.Quoted Double) i c ≡ Eat (ph.Quoted Double)
+  unfolding inQuotes
+  in-string report i = rw (other c (code "\"") past refl, other c (code "\\") past refl)
+
+  begins-word : onFirst (firstOf c) ≡ ph.InWord
+  unfolding firstOf startsRun
+  begins-word = rw (
+    other c (code ";") past refl,
+    other c (code "\"") past refl,
+    other c (code ",") past refl,
+    other c (code "#") past refl,
+    other c (code "(") past refl,
+    other c (code "[") past refl,
+    other c (code "{") past refl,
+    other c (code ")") past refl,
+    other c (code "]") past refl,
+    other c (code "}") past refl,
+    other c (code "'") past refl,
+    other c (code "`") past refl,
+    none-of (codes "+-.0123456789") refl c past,
+    other c (code "|") past refl,
+    other c (code "\\") past refl,
+  )
+
+module _ (stage which : ℕ) where
+  pub word-carries : stage ≡ 14 → Carries stage which
+  unfolding stageOf
+  word-carries e = record { phase = ph.InWord; stands = λ start detail. rw e; eats = in-word }
+
+  pub line-carries : stage ≡ 7 → Carries stage which
+  unfolding stageOf
+  line-carries e = record { phase = ph.InLine; stands = λ start detail. rw e; eats = in-line }
+
+  pub string-carries : stage ≡ 24 → which ≡ 0 → Carries stage which
+  unfolding stageOf
+  string-carries e f = record { phase = ph.Quoted Double; stands = λ start detail. rw (e, f); eats = in-string }
+
+-- ---- its two bytes
+
+module _ (x y : ℕ) (L : Letter x y) where
+  abbrev char : ℕ
+  char = (x - 0xC0) * 64 + y % 64
+
+  from : 0xC0 ≤ char
+  from = omega (arith, L .first)
+
+  below-end : char < 0x800
+  below-end = omega (arith, L .few)
+
+  lead : x ≡ 0xC0 + char / 64
+  lead = omega (arith, high (x - 0xC0) y, L .first)
+
+  second : y ≡ 0x80 + char % 64
+  second = sym (low (x - 0xC0) y (L .next) (L .last))
+
+  wide : width char ≡ 2
+  wide = sym (width-utf8 char) ∙ ap length (utf8-two char (omega (arith, from)) below-end)
+
+  pub laid-letter : (buf : List ℕ) (n : ℕ) → n + 2 ≤ length buf → set (set buf n x) (n + 1) y ≡ laidAt n (utf8 char) buf
+  laid-letter buf n room = laid-two buf n char (omega (arith, wide, room)) x y lead second (omega (arith, from)) below-end
+
+  module _ (s : State) (b : Between s) (far : s .marks .at + 2 ≤ limit) where
+    -- past the first
+    abbrev half : State
+    half = partly s (record { count = s .marks .part .count + 1; state = record { need = 1; low = 0x80; high = 0xBF; code = x - 0xC0 } })
+
+    pub half-turn : turnOf s x ≡ on half
+    unfolding turnOf step
+    half-turn =
+        rw (
+          lt-leb limit (s .marks .at + s .marks .part .count) (omega (arith, b .count, far)),
+          eq-eqb (s .marks .part .state .need) 0 (b .need),
+          first-c2 x (omega (arith, L .first)) (L .few),
+        )
+
+    whole-turn : (g : Stage) → s .marks .stage ≡ g → turnOf half y ≡ onStage half g char
+    unfolding turnOf step
+    whole-turn g here =
+        rw (
+          lt-leb limit (s .marks .at + (s .marks .part .count + 1)) (omega (arith, b .count, far)),
+          within-in 0x80 0xBF y (L .next) (L .last),
+          le-leb (x - 0xC0) 0x7FFF (omega (arith, L .few)),
+        ) (ap (λ (z : Stage). onStage half z char) here)
+
+    -- past both, in an item that goes on with the letter, or between items
+    pub eaten-turn : (st : ℕ) (p : Phase) → s .marks .stage ≡ Busy st p → s .marks .len + 2 ≤ longest
+        → ((report : Bool) (i : SoFar) → stepOf report p i char ≡ Eat p)
+        → turnOf half y ≡ on (becomes s (laidAt (s .marks .len) (utf8 char) (s .buf)) (Busy st p) (s .marks .at + 2) (s .marks .len + 2) (lastOf s))
+    eaten-turn st p here room eats =
+        whole-turn (Busy st p) here ∙ rw (eats _ _, wide, le-ltb longest (s .marks .len + 2) room)
+
+    pub begun-turn : s .marks .stage ≡ Idle
+        → turnOf half y ≡ on (becomes s (laidAt 0 (utf8 char) (s .buf)) (Busy (s .marks .at) ph.InWord) (s .marks .at + 2) 2 (lastOf s))
+    begun-turn here = whole-turn Idle here ∙ rw (solid char from below-end, wide, begins-word char from below-end)
+
+-- ---- from spot to spot
+
+module _ (m : Marks) (text piece : List ℕ) (s : PieceSpot) (buf : List ℕ) (r : PieceSpot) (now : List ℕ) (h : Sound (marksAt m s) buf text) (mid : State)
+    (inside : s .i + 2 ≤ length piece) (on-two : r .i ≡ s .i + 2) (one : turnOf (stateAt m s buf) (getD piece (s .i) 0) ≡ on mid)
+    (two : turnOf mid (getD piece (s .i + 1) 0) ≡ on (stateAt m r now)) where
+  turns-go : Goes m text piece s buf r now
+  unfolding feedOf
+  turns-go =
+      let i = s .i in
+      let x = getD piece i 0 in
+      let y = getD piece (i + 1) 0 in
+      let rest = drop (suc (suc i)) piece in
+      let front : drop i piece ≡ x ∷ y ∷ rest =
+      drop-cons piece i 0 (omega arith)
+      ∙ ap (λ (l : List ℕ). x ∷ l) (drop-cons piece (suc i) 0 (omega arith) ∙ ap (λ (k : ℕ). getD piece k 0 ∷ rest) (sym (add-one i))) in
+      let next : r .i ≡ suc (suc i) = omega (arith, on-two) in
+      let sum : suc (suc i) ≡ i + 1 + 1 = omega arith in
+      record {
+        sound = turn-sound (mid .marks) (mid .buf) text (turn-sound (marksAt m s) buf text h x (mid .marks) (mid .buf) (sym one)) y (marksAt m r) now (sym two);
+        feeds =
+            ap (λ (k : ℕ). feedOf (stateAt m r now) (drop k piece) k) next
+            ∙ ap (λ (k : ℕ). feedOf (stateAt m r now) rest k) sum
+            ∙ ap (λ (t : Turn). after t (λ u. feedOf u rest (i + 1 + 1)) (i + 1 + 1)) (sym two)
+            ∙ ap (λ (t : Turn). after t (λ u. feedOf u (y ∷ rest) (i + 1)) (i + 1)) (sym one)
+            ∙ ap (λ (l : List ℕ). feedOf (stateAt m s buf) l i) (sym front);
+      }
+
+module _ (s : PieceSpot) (buf piece : List ℕ) (fits : Fits s buf piece) where
+  abbrev x-at : ℕ
+  x-at = getD piece (s .i) 0
+
+  abbrev y-at : ℕ
+  y-at = getD piece (s .i + 1) 0
+
+  module _ (L : Lettered s piece) where
+    abbrev passed : PieceSpot
+    passed = record { stage = s .stage; start = s .start; which = s .which; detail = s .detail; at = s .at + 2; len = s .len + 2; i = s .i + 2 }
+
+    abbrev laid : List ℕ
+    laid = set (set buf (s .len) x-at) (s .len + 1) y-at
+
+    pub letter-fits : Fits passed laid piece
+    letter-fits = record {
+      full = length-set (set buf (s .len) x-at) (s .len + 1) y-at ∙ length-set buf (s .len) x-at ∙ fits .full;
+      inside = L .inside;
+      far = omega (arith, fits .far);
+      small = L .room;
+      held = λ h. let k = fits .held h in (omega (arith, k .0), omega (arith, k .1));
+      rows = fits .rows;
+      which = fits .which;
+      detail = fits .detail;
+    }
+
+    pub letter-on : Onward s buf passed laid piece
+    letter-on m text h =
+        let c = char x-at y-at (L .letter) in
+        let S = stateAt m s buf in
+        let between : Between S = record { count = refl; need = refl; far = omega (arith, fits .far, L .inside) } in
+        let far : s .at + 2 ≤ limit = omega (arith, fits .far, L .inside) in
+        let stands = L .carries .stands (s .start) (s .detail) in
+        turns-go m text piece s buf passed laid h (half x-at y-at (L .letter) S between far) (L .inside) refl
+        (half-turn x-at y-at (L .letter) S between far)
+        (eaten-turn x-at y-at (L .letter) S between far (s .start) (L .carries .phase) stands (L .room)
+        (L .carries .eats c (from x-at y-at (L .letter)) (below-end x-at y-at (L .letter)))
+        ∙ ap (λ (l : List ℕ). on (stateOf (marks m (Busy (s .start) (L .carries .phase)) (s .at + 2) (s .len + 2) (range (m .from) (m .to))) l))
+        (sym (laid-letter x-at y-at (L .letter) buf (s .len) (omega (arith, fits .full, L .room))))
+        ∙ ap (λ (g : Stage). on (stateOf (marks m g (s .at + 2) (s .len + 2) (range (m .from) (m .to))) laid)) (sym stands))
+
+  module _ (idle : s .stage ≡ 3) (inside : s .i + 2 ≤ length piece) (L : Letter x-at y-at) where
+    abbrev begun : PieceSpot
+    begun = record { stage = 14; start = s .at; which = 0; detail = 0; at = s .at + 2; len = 2; i = s .i + 2 }
+
+    abbrev first-laid : List ℕ
+    first-laid = set (set buf 0 x-at) 1 y-at
+
+    pub first-fits : Fits begun first-laid piece
+    unfolding stageOf
+    first-fits = record {
+      full = length-set (set buf 0 x-at) 1 y-at ∙ length-set buf 0 x-at ∙ fits .full;
+      inside = inside;
+      far = omega (arith, fits .far);
+      small = omega arith;
+      held = λ h. (refl, omega arith);
+      rows = refl;
+      which = omega arith;
+      detail = omega arith;
+    }
+
+    pub first-on : Onward s buf begun first-laid piece
+    unfolding stageOf
+    first-on m text h =
+        let S = stateAt m s buf in
+        let between : Between S = record { count = refl; need = refl; far = omega (arith, fits .far, inside) } in
+        let far : s .at + 2 ≤ limit = omega (arith, fits .far, inside) in
+        turns-go m text piece s buf begun first-laid h (half x-at y-at L S between far) inside refl
+        (half-turn x-at y-at L S between far)
+        (begun-turn x-at y-at L S between far (idle-stage s idle)
+        ∙ ap (λ (l : List ℕ). on (stateOf (marks m (Busy (s .at) ph.InWord) (s .at + 2) 2 (range (m .from) (m .to))) l)) (sym (laid-letter x-at y-at L buf 0 (omega (arith, fits .full)))))
