@@ -31,10 +31,10 @@ use Rattle.nested.specs.Lent.{nestedOf}
 use Rattle.findings.specs.Finding.{warning, error, both, single}
 use Rattle.findings.specs.Rows.{rowAt, depthAt, lastBefore, firstFrom}
 use Rattle.findings.specs.Lines.{lineStart, firstOnLine}
-use Rattle.findings.specs.Lists.{isOpen, wrongClose, isDot, misplacedDot, waits, markWaits, isMisfit, bracketOpen, refusedList, listOf}
+use Rattle.findings.specs.Lists.{isOpen, wrongClose, isDot, misplacedDot, isMark, waits, markWaits, isMisfit, bracketOpen, refusedList, listOf}
 use Rattle.findings.specs.Slips.{isName, isQuote, isDash, isInvisible, oddCode, firstOdd, likeNumber, commaFollows, numberSlip, nameTold}
 use Rattle.findings.specs.Slips.{swallows, isSwallower, endsOtherwise}
-use Rattle.findings.specs.Told.{endsInText, errorEnd, errorTold, textTold, numberTold, rowTold, toldFrom, toldOf}
+use Rattle.findings.specs.Told.{endsInText, errorEnd, errorTold, swallowTold, textTold, numberTold, nameOrNothing, rowTold, toldFrom, toldOf}
 use Rattle.findings.specs.declared.Finding.{Finding}
 
 -- the rows of some items
@@ -104,7 +104,7 @@ table =
 computed : map (λ r. toldOf (r .text) (rowsOf 0 (kept true (items true (chars (r .text)))))) table ≡ map (λ r. r .tells) table
 -- the list only permits the computing
 unfolding table rowsOf sequences chars span starts begins same isScalar utf8 width encode bytesOf isBlank within first rest front digitOf sign uinteger value fit signed wholeOf integer hexDigits hexAfterPlus hexValue exponentMarker exponent suffix pointOf dotted undotted decimal infnan integralOf rationalOf denominator exact orElse ureal real justOf complexOf polarOf endsI imaginary aloneOf pairOf toSign startsE rectangular complex zeroInt zeroReal zeroParts judged radixMark prefix parseNumber startsRun firstOf inQuotes afterBackslash stopsHex inHex inTrim inNest breaksWord inWord staysRun endsRun inRun afterHash endsHash inHash inDelim readLine linedOf scalarOf pastFailing readWord readRun boolKind quoteKind formKind hashKind hashBracket hashAt hashComma unreturned endsWith hereEnds hereBody hereDelim afterAngle readHash readComma readItem readNest readQuoted wordOn hashOn lookup words wordKind wordMeans runMeans escaped stringText linedText hereText charNames isDelimiter nameless hexNamed spelledOut characterOf unescape extentItems itemsFrom pastLine afterPound items kept
-    hasDetail sortOf classOf nests.itemsFrom readOn giveIn nestedOf rowAt depthAt lastBefore firstFrom lineStart firstOnLine isOpen wrongClose isDot misplacedDot
+    hasDetail sortOf classOf nests.itemsFrom readOn giveIn nestedOf rowAt depthAt lastBefore firstFrom lineStart firstOnLine isOpen wrongClose isDot misplacedDot isMark
     waits markWaits isMisfit bracketOpen refusedList listOf isName isQuote isDash isInvisible oddCode firstOdd likeNumber commaFollows
-    numberSlip nameTold swallows isSwallower endsOtherwise endsInText errorEnd errorTold textTold numberTold rowTold toldFrom toldOf
+    numberSlip nameTold swallows isSwallower endsOtherwise endsInText errorEnd errorTold swallowTold textTold numberTold nameOrNothing rowTold toldFrom toldOf
 computed = refl

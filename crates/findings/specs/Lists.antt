@@ -16,6 +16,7 @@ use Rattle.nested.specs.declared.Nested.the-variants.{Built, Refused}
 use Rattle.findings.specs.Finding.{error, both, single}
 use Rattle.findings.specs.Rows.{rowAt, lastRow, depthAt, lastBefore, firstRow}
 use Rattle.findings.specs.Lines.{lineStart, offset, firstOnLine}
+use Rattle.findings.specs.declared.Row.{Row}
 use Rattle.findings.specs.declared.ListTold.{ListTold}
 use Rattle.findings.specs.declared.ListTold.the-variants.{Silent, At}
 
@@ -55,8 +56,9 @@ misplacedDot rows p =
 
 -- ---- E43, "43 points at the mark": `(a ')`
 
-abbrev pub isMark : ℕ → Bool
-isMark k = within kind.QuoteTick kind.UnquoteSpliceSyntax k || eqb k kind.DatumComment
+-- `#;`, or one of the eight quoting marks
+unfoldable pub isMark : ℕ → Bool
+isMark k = eqb k kind.DatumComment || within kind.QuoteTick kind.UnquoteSpliceSyntax k
 
 -- the mark of row i waits at row p: nothing follows it, or only what `#;` drops, as in `('#;a)`
 unfoldable pub waits : List ℕ → ℕ → ℕ → ℕ → Bool
@@ -68,15 +70,20 @@ markWaits rows p = atRow rows refusal.markWaits 0 (lastBefore (waits rows (depth
 
 -- ---- E40, a bracket that is never closed: "for a missing one the first list that starts no further right than the one it lies in"
 
--- Row k starts a list first on its line, below the line of the bracket that it lies in and no further right: a close is missing before it.
--- (No more than `deepest` brackets are open where E40 is told.)
+-- a list at the place a stands first on its line, below the line of the place o and no further right
+abbrev pub standsOut : List ℕ → ℕ → ℕ → Bool
+standsOut source o a = ltb (lineStart source o) (lineStart source a) && leb (offset source a) (offset source o) && firstOnLine source a
+
+-- where the last bracket before row k starts that opens inside d others
+abbrev pub openStart : List ℕ → ℕ → ℕ → ℕ
+openStart rows d k = rowAt rows (lastBefore (isOpen rows d) k) .start
+
+-- Row k opens a bracket and stands out of the one that it lies in: a close is missing before it. (Where E40 is told, no more than `deepest`
+-- are open.)
 unfoldable pub isMisfit : List ℕ → List ℕ → ℕ → Bool
 isMisfit source rows k =
-    let d : ℕ = rowAt rows k .depth in
-    let a : ℕ = rowAt rows k .start in
-    let o : ℕ = rowAt rows (opener rows d k) .start in
-    eqb (rowAt rows k .kind) kind.OpenParen && within 1 deepest d && firstOnLine source a
-    && ltb (lineStart source o) (lineStart source a) && leb (offset source a) (offset source o)
+    let r : Row = rowAt rows k in
+    eqb (r .kind) kind.OpenParen && within 1 deepest (r .depth) && standsOut source (openStart rows (r .depth - 1) k) (r .start)
 
 -- no misfit: the innermost bracket that is open at the end
 abbrev pub innermost : List ℕ → ListTold

@@ -20,7 +20,7 @@ byteAt source i = getD source i 0
 abbrev pub part : List ℕ → ℕ → ℕ → List ℕ
 part source a b = take (b - a) (drop a source)
 
--- a word of a row
+-- a word of a row, past its first
 abbrev pub word : List ℕ → ℕ → ℕ → ℕ
 word rows p k = getD rows (p * recordWords + k) 0
 
@@ -30,7 +30,7 @@ noRow = record { kind = kind.firstError; start = 0; end = 0; from = 0; to = 0; e
 
 abbrev pub wholeRow : List ℕ → ℕ → Row
 wholeRow rows p = record {
-  kind = word rows p 0;
+  kind = getD rows (p * recordWords) 0;
   start = word rows p 2;
   end = word rows p 3;
   from = word rows p 4;

@@ -39,20 +39,24 @@ errorEnd r =
     else if eqb (r .error) kind.IncompleteComment then bytesOn 2 (r .from)
     else r .to
 
+-- an error's row, as it is
+abbrev pub errorOf : Row → Told
+errorOf r = One (single error (r .error) (r .about) (r .from) (errorEnd r))
+
 -- E01 to E13; a left-over quote is told where the closing one is missing
 unfoldable pub errorTold : List ℕ → Bool → ℕ → Told
-errorTold rows left p =
-    let r : Row = rowAt rows p in
-    if left && eqb (p + 1) (countOf rows) then Nothing else One (single error (r .error) (r .about) (r .from) (errorEnd r))
+errorTold rows left p = if left && eqb (p + 1) (countOf rows) then Nothing else errorOf (rowAt rows p)
 
--- W06 of the first swallower; E02 with the left-over quote if there is one
+-- W06; or E02 with the left-over quote. a and b are where the text and the left-over quote start
+unfoldable pub swallowTold : Bool → ℕ → ℕ → Told
+swallowTold left a b =
+    if left
+    then One (both error kind.IncompleteString 0 a (bytesOn 1 a) b (bytesOn 1 b))
+    else One (single warning swallowing 0 a (bytesOn 1 a))
+
+-- only the first swallower tells
 unfoldable pub textTold : List ℕ → ℕ → Bool → ℕ → Told
-textTold rows first left p =
-    let a : ℕ = rowAt rows p .start in
-    let b : ℕ = lastRow rows .start in
-    if eqb p first
-    then (if left then One (both error kind.IncompleteString 0 a (bytesOn 1 a) b (bytesOn 1 b)) else One (single warning swallowing 0 a (bytesOn 1 a)))
-    else Nothing
+textTold rows first left p = if eqb p first then swallowTold left (rowAt rows p .start) (lastRow rows .start) else Nothing
 
 -- W07, with the byte that follows
 unfoldable pub numberTold : List ℕ → List ℕ → ℕ → Told
@@ -60,11 +64,14 @@ numberTold source rows p =
     let r : Row = rowAt rows p in
     if endsOtherwise source rows p then One (single warning modesDiffer (byteAt source (r .end)) (r .start) (r .end)) else Nothing
 
+unfoldable pub nameOrNothing : List ℕ → List ℕ → ℕ → Told
+nameOrNothing source rows p = if isName source rows p then nameTold source rows p else Nothing
+
 unfoldable pub rowTold : List ℕ → List ℕ → ℕ → Bool → ℕ → Told
 rowTold source rows first left p =
     let r : Row = rowAt rows p in
     if ltb 0 (r .error) then errorTold rows left p
-    else if eqb (r .kind) kind.Identifier then (if isName source rows p then nameTold source rows p else Nothing)
+    else if eqb (r .kind) kind.Identifier then nameOrNothing source rows p
     else if eqb (r .kind) kind.StringLiteral then textTold rows first left p
     else if eqb (r .kind) kind.Number then numberTold source rows p
     else Nothing

@@ -1,6 +1,21 @@
 // What a foreman can act on in a plan: its errors, and what reads well but is hardly meant. A finding is a severity, a code, a detail, a
 // place and a second place. Which findings a plan has, and in which order, is defined in specs/: Told goes row by row, Slips has the
 // warnings' conditions, Lists the one finding about brackets, dots and marks. How a finding reads is for crate `findings_render`.
+mod codes;
+mod laying;
+mod lines;
+mod lists;
+mod misfits;
+mod rows;
+mod slips;
+mod swallowing;
+mod telling;
+
+pub use codes::ERROR;
+pub use codes::FINDING_WORDS;
+pub use codes::WARNING;
+pub use telling::tell;
+
 // A finding. A second place is never empty: 0 and 0 say that there is none.
 pub struct Finding {
     // WARNING or ERROR
