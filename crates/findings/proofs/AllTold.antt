@@ -62,6 +62,16 @@ module _ {done : List Finding} {old now : List ℕ} {n : Counted} (h : Held done
         ∙ ap (λ (l : List (List ℕ)). laidRows l old) (sym (map-append wordsOf done fs));
   }
 
+  pub held-told : telling n now ≡ allTold done old
+  held-told = ap (λ (m : List ℕ). telling n m) (h .lies) ∙ counts
+    where
+      counts : telling n (laidFindings done old) ≡ allTold done old
+      counts = rw (← (h .found), ← (h .bad))
+
+pub held-none : (old : List ℕ) → Held [] old old (counted 0 0)
+unfolding errorsIn laidRows
+held-none old = record { found = refl; bad = refl; lies = refl }
+
 -- ---- the loop, before row p of some rows
 
 pub record RowByRow (f : ℕ → List Finding) (count : ℕ) (old now : List ℕ) (n : Counted) (p : ℕ) : Type 0 where
@@ -73,13 +83,12 @@ pub record RowByRow (f : ℕ → List Finding) (count : ℕ) (old now : List ℕ
 
 module _ (f : ℕ → List Finding) (count : ℕ) (old : List ℕ) where
   pub rows-start : RowByRow f count old old (counted 0 0) 0
-  unfolding errorsIn laidRows
   rows-start = record {
     done = [];
     whole = let z : count ≡ count - 0 = omega arith in ap (λ (k : ℕ). toldFrom f k 0) z;
     inside = omega arith;
     few = omega arith;
-    held = record { found = refl; bad = refl; lies = refl };
+    held = held-none old;
   }
 
   module _ {now : List ℕ} {n : Counted} {p : ℕ} (g : RowByRow f count old now n p) where
@@ -88,10 +97,7 @@ module _ (f : ℕ → List Finding) (count : ℕ) (old : List ℕ) where
     rows-end h =
         let z : count - p ≡ 0 = omega arith in
         let e : toldFrom f count 0 ≡ g .done = g .whole ∙ ap (λ (k : ℕ). g .done ++ toldFrom f k p) z ∙ append-nil (g .done) in
-        rw e (ap (λ (m : List ℕ). telling n m) (g .held .lies) ∙ ends)
-      where
-        ends : telling n (laidFindings (g .done) old) ≡ telling (counted (length (g .done)) (errorsIn (g .done))) (laidFindings (g .done) old)
-        ends = rw (← (g .held .found), ← (g .held .bad))
+        rw e (held-told (g .held))
 
     -- row p tells t, and then u
     pub rows-turn : (t u : Told) {next : List ℕ} {r : Counted} → p < count → f p ≡ listed t ++ listed u

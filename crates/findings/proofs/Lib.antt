@@ -4,3 +4,4 @@ pub mod MisfitPass
 pub mod OddNames
 pub mod Swallows
 pub mod AllTold
+pub mod Calls

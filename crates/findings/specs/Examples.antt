@@ -1,15 +1,12 @@
 -- Worked examples: a plan and its findings, one table under one statement.
-use Prim.Native.Nat.{ℕ, _-_}
+use Prim.Native.Nat.{ℕ}
 use Prim.Native.String.{String}
 use mathlib.Core.Path.{_≡_, refl}
-use mathlib.Core.Bool.{true}
-use mathlib.Core.List.{List, [], _∷_, _++_, map}
-use lib.Dec.{leb}
-use Rattle.laws.specs.Choice.{if_then_else_}
+use mathlib.Core.List.{List, [], _∷_, map}
 use Rattle.laws.specs.Quoted.{code, codes, within}
 use Rattle.items.specs.Kinds as kind
 use Rattle.laws.specs.Texts.{span, starts, begins, same}
-use Rattle.chars.specs.Encode.{isScalar, utf8, width, encode, bytesOf, spelled}
+use Rattle.chars.specs.Encode.{isScalar, utf8, width, encode, bytesOf}
 use Rattle.chars.specs.Blank.{isBlank}
 use Rattle.chars.specs.Utf8.{first, rest, front, sequences, chars, firstBad}
 use Rattle.digits.specs.Digits.{digitOf, sign, uinteger, value, fit, signed, wholeOf, integer}
@@ -23,7 +20,12 @@ use Rattle.items.specs.Readers.{hashBracket, hashAt, hashComma, unreturned, end
 use Rattle.items.specs.Readers.{readHash, readComma, readItem, readNest, readQuoted, wordOn, hashOn}
 use Rattle.items.specs.Meaning.{lookup, words, wordKind, wordMeans, runMeans, escaped, stringText, linedText, hereText, charNames}
 use Rattle.items.specs.Meaning.{isDelimiter, nameless, hexNamed, spelledOut, characterOf, unescape}
-use Rattle.items.specs.Items.{extentItems, itemsFrom, pastLine, afterPound, items, kept, depthAfter, Item}
+use Rattle.items.specs.Items.{extentItems}
+use Rattle.lexer.specs.Opening.{lineEnd, afterHash as afterPound, startOf}
+use Rattle.lexer.specs.Reading.{turnFrom, turn, nextFrom, nextAt}
+use Rattle.findings_rows.specs.Mended.{slips, closing, mendedAt, mendedFrom, mendedOf}
+use Rattle.findings_rows.specs.Rows.{rowsFrom, rowsOf}
+use Rattle.findings_rows.specs.Laid.{flat}
 use Rattle.nested.specs.Items.{hasDetail, sortOf, classOf}
 use Rattle.nested.specs.Items as nests
 use Rattle.nested.specs.Reader.{readOn, giveIn}
@@ -35,18 +37,8 @@ use Rattle.findings.specs.Lists.{isOpen, wrongClose, isDot, misplacedDot
 use Rattle.findings.specs.Slips.{isName, isQuote, isDash, isInvisible, oddCode, firstOdd, likeNumber, commaFollows, numberSlip, nameTold}
 use Rattle.findings.specs.Slips.{swallows, isSwallower, endsOtherwise}
 use Rattle.findings.specs.Told.{endsInText, errorEnd, errorTold, swallowTold, textTold, numberTold, nameOrNothing, rowTold, toldFrom, toldOf}
+use Rattle.findings.specs.Find.{findOf}
 use Rattle.findings.specs.declared.Finding.{Finding}
-
--- the rows of some items
-abbrev rowWords : ℕ → Item → List ℕ
-rowWords depth i =
-    if leb kind.firstError (i .kind)
-    then kind.Identifier ∷ 0 ∷ i .start ∷ i .end ∷ i .place .from ∷ i .place .to ∷ (i .kind - kind.firstError) ∷ i .detail ∷ 0 ∷ depth ∷ []
-    else i .kind ∷ i .detail ∷ i .start ∷ i .end ∷ i .place .from ∷ i .place .to ∷ 0 ∷ 0 ∷ 0 ∷ depth ∷ []
-
-unfoldable rowsOf : ℕ → List Item → List ℕ
-rowsOf depth [] = []
-rowsOf depth (i ∷ is) = rowWords depth i ++ rowsOf (depthAfter (i .kind) depth) is
 
 record Row : Type 0 where
   text : List ℕ
@@ -63,6 +55,10 @@ table =
     plan "(plan (a 1.5 \"b\" . |c d|))\n" []
     ∷ plan "##" (single error 1 (code "#") 0 2 ∷ [])
     ∷ plan "1/0" (single error 8 0 0 3 ∷ [])
+    -- one slip, one finding: the rest of its string is passed over
+    ∷ plan "(a \"\\q (\" b)" (single error 6 (code "q") 4 6 ∷ [])
+    -- not UTF-8
+    ∷ record { text = 0x28 ∷ 0xE4 ∷ 0x29 ∷ []; tells = single error 21 0xE4 1 1 ∷ [] }
     -- of what is not closed only the opening characters, and nothing of the bracket
     ∷ plan "(\"a" (single error 2 0 1 2 ∷ [])
     ∷ plan "(|a" (single error 3 0 1 2 ∷ [])
@@ -101,10 +97,19 @@ table =
     ∷ plan "1m) 2m" (single warning 2 0 0 2 ∷ single error 41 0 2 3 ∷ single warning 2 0 4 6 ∷ [])
     ∷ []
 
-computed : map (λ r. toldOf (r .text) (rowsOf 0 (kept true (items true (chars (r .text)))))) table ≡ map (λ r. r .tells) table
+computed : map (λ r. findOf (r .text)) table ≡ map (λ r. r .tells) table
 -- the list only permits the computing
-unfolding table rowsOf sequences chars span starts begins same isScalar utf8 width encode bytesOf isBlank within first rest front digitOf sign uinteger value fit signed wholeOf integer hexDigits hexAfterPlus hexValue exponentMarker exponent suffix pointOf dotted undotted decimal infnan integralOf rationalOf denominator exact orElse ureal real justOf complexOf polarOf endsI imaginary aloneOf pairOf toSign startsE rectangular complex zeroInt zeroReal zeroParts judged radixMark prefix parseNumber startsRun firstOf inQuotes afterBackslash stopsHex inHex inTrim inNest breaksWord inWord staysRun endsRun inRun afterHash endsHash inHash inDelim readLine linedOf scalarOf pastFailing readWord readRun boolKind quoteKind formKind hashKind hashBracket hashAt hashComma unreturned endsWith hereEnds hereBody hereDelim afterAngle readHash readComma readItem readNest readQuoted wordOn hashOn lookup words wordKind wordMeans runMeans escaped stringText linedText hereText charNames isDelimiter nameless hexNamed spelledOut characterOf unescape extentItems itemsFrom pastLine afterPound items kept
-    hasDetail sortOf classOf nests.itemsFrom readOn giveIn nestedOf rowAt depthAt lastBefore firstFrom lineStart firstOnLine isOpen wrongClose isDot misplacedDot isMark
-    waits markWaits isMisfit bracketOpen refusedList listOf isName isQuote isDash isInvisible oddCode firstOdd likeNumber commaFollows
-    numberSlip nameTold swallows isSwallower endsOtherwise endsInText errorEnd errorTold swallowTold textTold numberTold nameOrNothing rowTold toldFrom toldOf
+unfolding table sequences chars span starts begins same isScalar utf8 width encode bytesOf isBlank within first rest front digitOf sign
+    uinteger value fit signed wholeOf integer hexDigits hexAfterPlus hexValue exponentMarker exponent suffix pointOf dotted undotted
+    decimal infnan integralOf rationalOf denominator exact orElse ureal real justOf complexOf polarOf endsI imaginary aloneOf pairOf
+    toSign startsE rectangular complex zeroInt zeroReal zeroParts judged radixMark prefix parseNumber startsRun firstOf inQuotes
+    afterBackslash stopsHex inHex inTrim inNest breaksWord inWord staysRun endsRun inRun afterHash endsHash inHash inDelim readLine
+    linedOf scalarOf pastFailing readWord readRun boolKind quoteKind formKind hashKind hashBracket hashAt hashComma unreturned endsWith
+    hereEnds hereBody hereDelim afterAngle readHash readComma readItem readNest readQuoted wordOn hashOn lookup words wordKind wordMeans
+    runMeans escaped stringText linedText hereText charNames isDelimiter nameless hexNamed spelledOut characterOf unescape extentItems
+    lineEnd afterPound startOf turnFrom turn nextFrom nextAt slips closing mendedAt mendedFrom mendedOf rowsFrom flat toldOf hasDetail
+    sortOf classOf nests.itemsFrom readOn giveIn nestedOf rowAt depthAt lastBefore firstFrom lineStart firstOnLine isOpen wrongClose
+    isDot misplacedDot isMark waits markWaits isMisfit bracketOpen refusedList listOf isName isQuote isDash isInvisible oddCode firstOdd
+    likeNumber commaFollows numberSlip nameTold swallows isSwallower endsOtherwise endsInText errorEnd errorTold swallowTold textTold
+    numberTold nameOrNothing rowTold toldFrom firstBad findOf
 computed = refl

@@ -6,4 +6,5 @@ pub mod Misfits
 pub mod Slips
 pub mod Told
 pub mod Laid
+pub mod Find
 pub mod Examples

@@ -1,20 +1,18 @@
 // What a foreman can act on in a plan: its errors, and what reads well but is hardly meant. A finding is a severity, a code, a detail, a
 // place and a second place. Which findings a plan has, and in which order, is defined in specs/: Told goes row by row, Slips has the
 // warnings' conditions, Lists the one finding about brackets, dots and marks. How a finding reads is for crate `findings_render`.
-mod codes;
+pub mod codes;
 mod laying;
 mod lines;
 mod lists;
 mod misfits;
+mod plans;
 mod rows;
 mod slips;
 mod swallowing;
 mod telling;
 
-pub use codes::ERROR;
-pub use codes::FINDING_WORDS;
-pub use codes::WARNING;
-pub use telling::tell;
+pub use plans::find;
 
 // A finding. A second place is never empty: 0 and 0 say that there is none.
 pub struct Finding {
@@ -63,4 +61,12 @@ pub enum ListTold {
 pub struct Counted {
     pub findings: usize,
     pub errors: usize,
+}
+
+// What the call answers.
+pub enum FindAnswer {
+    // 0, with how many findings there are and how many of them are errors
+    Found(usize, usize),
+    // 22, with the rows needed
+    TooFew(usize),
 }
