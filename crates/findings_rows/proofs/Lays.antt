@@ -55,11 +55,11 @@ rows-size d (x ∷ is) =
 -- ---- reading on
 
 module _ (s : List ℕ) where
-  from-gives : (n : ℕ) (p q : Spot) (i : Item) → mendedAt s p ≡ gives i q → mendedFrom (suc n) s p ≡ i ∷ mendedFrom n s q
+  pub from-gives : (n : ℕ) (p q : Spot) (i : Item) → mendedAt s p ≡ gives i q → mendedFrom (suc n) s p ≡ i ∷ mendedFrom n s q
   unfolding mendedFrom
   from-gives n p q i e = rw e
 
-  from-ends : (n : ℕ) (p : Spot) → mendedAt s p ≡ ends → mendedFrom (suc n) s p ≡ []
+  pub from-ends : (n : ℕ) (p : Spot) → mendedAt s p ≡ ends → mendedFrom (suc n) s p ≡ []
   unfolding mendedFrom
   from-ends n p e = rw e
 

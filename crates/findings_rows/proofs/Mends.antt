@@ -113,11 +113,11 @@ slip-packed : (s : List ℕ) (i : Item) (q : Spot) (c : Closing) → mendedBy s 
 slip-packed s i q (Behind e) = refl
 slip-packed s i q Nowhere = refl
 
-mend-slip : (s : List ℕ) (i : Item) (q : Spot) → slips s (i .kind) (i .start) ≡ true
+pub mend-slip : (s : List ℕ) (i : Item) (q : Spot) → slips s (i .kind) (i .start) ≡ true
     → mendTurn s (gives i q) ≡ slipTurn s i q (closingOf s (i .kind) (i .start) (q .at))
 mend-slip s i q b = rw b
 
-mend-fine : (s : List ℕ) (i : Item) (q : Spot) → slips s (i .kind) (i .start) ≡ false → mendTurn s (gives i q) ≡ gives i q
+pub mend-fine : (s : List ℕ) (i : Item) (q : Spot) → slips s (i .kind) (i .start) ≡ false → mendTurn s (gives i q) ≡ gives i q
 mend-fine s i q b = rw b
 
 module _ (s : List ℕ) (p : Spot) where
