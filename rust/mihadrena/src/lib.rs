@@ -4,8 +4,8 @@
 //! answers what the definitions say. This crate makes a safe interface of them: [`Items`] reads a whole text, [`Reader`] one item of it a
 //! call, [`Fields`] many short texts in one call, [`PieceReader`] a text that comes in pieces, [`number`] and [`number_by`] take a number
 //! apart, [`coordinate`] makes a float of a decimal, [`nest`] makes nested lists of items, [`write()`] writes items back, [`LineIndex`] and
-//! [`LinePieces`] tell line and column, [`Names`] numbers names for two parties, and [`write_items`] and [`read_items`] store records as
-//! item files. It allocates nothing and depends on nothing but the archive that `.ci/archive` writes; `build.rs` looks for it in the
+//! [`LinePieces`] tell line and column, [`Names`] numbers names for two parties, [`write_items`] and [`read_items`] store records as item
+//! files, and [`find()`] tells what a foreman can act on. It allocates nothing and depends on nothing but the archive that `.ci/archive` writes; `build.rs` looks for it in the
 //! repository's target folder, or in the folder that the environment variable `MIHADRENA_ARCHIVE` names. There are archives for x86-64
 //! Linux and for Linux on Arm of 64 bits (`.ci/archive --target aarch64-linux-gnu`).
 //!
@@ -39,6 +39,7 @@ mod coordinate;
 mod error;
 mod fields;
 mod files;
+mod find;
 mod items;
 mod kind;
 mod lines;
@@ -56,6 +57,7 @@ pub use coordinate::{coordinate, record_coordinate, NoCoordinate};
 pub use error::{Error, HexError, Refusal};
 pub use fields::{Fields, NoFields};
 pub use files::{read_items, write_items, FileRefusal};
+pub use find::{find, FewRecords, Finding, Findings, Severity};
 pub use items::{needed, Item, Items, Mode, Needed, Options};
 pub use kind::{Kind, Paren, ParenMod};
 pub use lines::{LineIndex, LinePieces, LineRefusal, Position};

@@ -328,12 +328,41 @@ pub const CONTRACTOR: u32 = 1;
 pub const PLANNERS_FIRST: u32 = 0;
 pub const CONTRACTORS_FIRST: u32 = 512;
 
+/// How many words a finding has.
+pub const FINDING_WORDS: usize = 7;
+
+/// How many values `mihadrena_find` writes.
+pub const FIND_VALUES: usize = 2;
+
+// How bad a finding is.
+pub const WARNING: u32 = 1;
+pub const ERROR: u32 = 2;
+
+/// A finding. Places are in bytes of the source.
+#[repr(C)]
+#[derive(Clone, Copy, Debug, Default, PartialEq, Eq, Hash)]
+pub struct Finding {
+    /// `WARNING` or `ERROR`.
+    pub severity: u32,
+    /// The number behind W or E.
+    pub code: u32,
+    /// What the message needs beside: a character, the bad byte, a length, a count; else 0.
+    pub detail: u32,
+    /// The place.
+    pub start: u32,
+    pub end: u32,
+    /// The second place; 0 and 0 where there is none.
+    pub also_start: u32,
+    pub also_end: u32,
+}
+
 const _: () = assert!(size_of::<Record>() == RECORD_WORDS * size_of::<u32>());
 const _: () = assert!(size_of::<Row>() == ROW_WORDS * size_of::<u32>());
 const _: () = assert!(size_of::<State>() == STATE_SIZE && align_of::<State>() == STATE_ALIGN);
 const _: () = assert!(size_of::<Told>() == PIECE_VALUES * size_of::<u64>());
 const _: () = assert!(size_of::<Parts>() == NUMBER_WORDS * size_of::<u64>());
 const _: () = assert!(size_of::<Node>() == NODE_WORDS * size_of::<u32>());
+const _: () = assert!(size_of::<Finding>() == FINDING_WORDS * size_of::<u32>());
 
 extern "C" {
     pub fn mihadrena_read(
@@ -440,6 +469,17 @@ extern "C" {
         records_length: usize,
         nodes: *mut u32,
         nodes_length: usize,
+        values: *mut u64,
+        values_length: usize,
+    ) -> u32;
+
+    pub fn mihadrena_find(
+        source: *const u8,
+        source_length: usize,
+        records: *mut u32,
+        records_length: usize,
+        findings: *mut u32,
+        findings_length: usize,
         values: *mut u64,
         values_length: usize,
     ) -> u32;
