@@ -30,7 +30,10 @@ same-length c = search needs
 
 returns : tie.Need-returns
 unfolding errorsIn laidFrom
-returns c = rw (c .before .before .before .before .before .before .before .before .before .t .given .1) (rw (eq-eqb _ _ (c .before .before .if1 .taken), c .before .before .before .before .before .before .lay-one .ensures))
+returns c =
+    let t = c .before .before .before .before .before .before .before .before .before .t in
+    let lay-one = c .before .before .before .before .before .before .lay-one in
+    rw (t .given .1) (rw (eq-eqb _ _ (c .before .before .if1 .taken), lay-one .ensures))
 
 add-t12 : tie.Need-add-t12
 add-t12 c = search needs
@@ -44,7 +47,10 @@ same-length-2 c = search needs
 
 returns-3 : tie.Need-returns-3
 unfolding errorsIn laidFrom
-returns-3 c = rw (c .before .before .before .before .before .before .before .before .t .given .1) (rw (ne-eqb _ _ (c .before .if1 .left), c .before .before .before .before .before .lay-one .ensures, add-zero))
+returns-3 c =
+    let t = c .before .before .before .before .before .before .before .before .t in
+    let lay-one = c .before .before .before .before .before .lay-one in
+    rw (t .given .1) (rw (ne-eqb _ _ (c .before .if1 .left), lay-one .ensures, add-zero))
 
 pub lay-spec : {M : Type 1} → statement M
 lay-spec =

@@ -36,8 +36,9 @@ same-length c = search needs
 
 returns : tie.Need-returns
 returns c =
-    let m = c .before .before .before .before .before .before .args .findings .now in
-    laid-part (c .before .before .before .before .before .before .args .n * 7) (wordsOf (c .before .before .before .before .before .before .args .f)) m (omega arith) (c .before .before .put .ensures)
+    let args = c .before .before .before .before .before .before .args in
+    let m = args .findings .now in
+    laid-part (args .n * 7) (wordsOf (args .f)) m (omega arith) (c .before .before .put .ensures)
 
 returns-2 : tie.Need-returns-2
 returns-2 c =

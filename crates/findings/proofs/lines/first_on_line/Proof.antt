@@ -29,19 +29,28 @@ byte-at-requires : tie.Need-byte-at-requires Inv-loop μ-loop
 byte-at-requires c κs = tt
 
 returns : tie.Need-returns Inv-loop μ-loop
-returns c = let e = c .before .before .before in first-newline (now (e .before .before .args .source)) (e .before .before .args .a) (e .loop .i) (e .loop .inv) (omega arith) (c .before .byte-at .ensures) (c .if1 .taken)
+returns c =
+    let e = c .before .before .before in first-newline (now (e .before .before .args .source)) (e .before .before .args .a) (e .loop .i) (e .loop .inv) (omega arith) (c .before .byte-at .ensures) (c .if1 .taken)
 
 is-space-requires : tie.Need-is-space-requires Inv-loop μ-loop
 is-space-requires c κs = tt
 
 returns-2 : tie.Need-returns-2 Inv-loop μ-loop
-returns-2 c = first-solid _ _ _ (c .before .before .before .before .before .loop .inv) (c .before .before .before .before .loop-test .taken) (c .before .before .before .byte-at .ensures) (c .before .before .if1 .left) (sym (c .before .is-space .ensures) ∙ not-true _ (c .if2 .taken))
+returns-2 c =
+    let loop = c .before .before .before .before .before .loop in
+    let loop-test = c .before .before .before .before .loop-test in
+    let byte-at = c .before .before .before .byte-at in
+    first-solid _ _ _ (loop .inv) (loop-test .taken) (byte-at .ensures) (c .before .before .if1 .left) (sym (c .before .is-space .ensures) ∙ not-true _ (c .if2 .taken))
 
 loop-less : tie.Need-loop-less Inv-loop μ-loop
 loop-less c = omega arith
 
 loop-again : tie.Need-loop-again Inv-loop μ-loop
-loop-again c = first-space _ _ _ (c .before .before .before .before .before .loop .inv) (c .before .before .before .before .loop-test .taken) (c .before .before .before .byte-at .ensures) (c .before .before .if1 .left) (sym (c .before .is-space .ensures) ∙ not-false _ (c .if2 .left))
+loop-again c =
+    let loop = c .before .before .before .before .before .loop in
+    let loop-test = c .before .before .before .before .loop-test in
+    let byte-at = c .before .before .before .byte-at in
+    first-space _ _ _ (loop .inv) (loop-test .taken) (byte-at .ensures) (c .before .before .if1 .left) (sym (c .before .is-space .ensures) ∙ not-false _ (c .if2 .left))
 
 returns-3 : tie.Need-returns-3 Inv-loop μ-loop
 returns-3 c = first-end _ _ _ (c .before .loop .inv) (c .loop-test .left)

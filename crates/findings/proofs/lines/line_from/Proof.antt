@@ -40,17 +40,21 @@ loop-less c = omega arith
 
 loop-again : tie.Need-loop-again Inv-loop μ-loop
 loop-again c =
-    let s = now (c .before .before .before .before .before .before .before .args .source) in
-    let i : ℕ = c .before .before .before .before .loop .i in (
+    let args = c .before .before .before .before .before .before .before .args in
+    let loop = c .before .before .before .before .loop in
+    let s = now (args .source) in
+    let i : ℕ = loop .i in (
       omega arith,
       ⊎-elim
           (λ w. w .2 ∙ sym (line-next s i (c .before .before .byte-at .ensures) (w .0 .taken)))
-          (λ w. w .1 ∙ c .before .before .before .before .loop .inv .1 ∙ sym (line-same s i (c .before .before .byte-at .ensures) (w .0 .left)))
+          (λ w. w .1 ∙ loop .inv .1 ∙ sym (line-same s i (c .before .before .byte-at .ensures) (w .0 .left)))
           (c .before .if2 .came),
     )
 
 returns : tie.Need-returns Inv-loop μ-loop
-returns c = let z : c .before .loop .i ≡ c .before .before .before .before .args .to = omega arith in c .before .loop .inv .1 ∙ ap (lineStart (now (c .before .before .before .before .args .source))) z
+returns c =
+    let args = c .before .before .before .before .args in
+    let z : c .before .loop .i ≡ args .to = omega arith in c .before .loop .inv .1 ∙ ap (lineStart (now (args .source))) z
 
 pub line-from-spec : {M : Type 1} → statement M
 line-from-spec =

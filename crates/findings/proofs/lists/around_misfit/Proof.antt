@@ -23,7 +23,9 @@ at-rows-requires : tie.Need-at-rows-requires
 at-rows-requires c κs = search needs
 
 returns : tie.Need-returns
-returns c = c .at-rows .ensures ∙ rw (c .before .opener-of .ensures, c .before .before .row-at .ensures, c .before .before .before .depth-at .ensures)
+returns c =
+    let depth-at = c .before .before .before .depth-at in
+    c .at-rows .ensures ∙ rw (c .before .opener-of .ensures, c .before .before .row-at .ensures, depth-at .ensures)
 
 pub around-misfit-spec : {M : Type 1} → statement M
 around-misfit-spec =

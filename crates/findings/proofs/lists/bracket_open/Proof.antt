@@ -31,14 +31,22 @@ around-misfit-requires c κs = search needs
 
 returns-2 : tie.Need-returns-2
 unfolding bracketOpen
-returns-2 c = rw (← (c .before .before .before .before .before .last-row .ensures)) (rw (sym (c .before .before .before .before .is-unclosed .ensures) ∙ c .before .before .before .if1 .left, ← (c .before .before .first-misfit .ensures)) (rw (lt-ltb _ _ (c .before .if2 .taken)) (c .around-misfit .ensures)))
+returns-2 c =
+    let last-row = c .before .before .before .before .before .last-row in
+    let is-unclosed = c .before .before .before .before .is-unclosed in
+    let if1 = c .before .before .before .if1 in
+    rw (← (last-row .ensures)) (rw (sym (is-unclosed .ensures) ∙ if1 .left, ← (c .before .before .first-misfit .ensures)) (rw (lt-ltb _ _ (c .before .if2 .taken)) (c .around-misfit .ensures)))
 
 innermost-open-requires : tie.Need-innermost-open-requires
 innermost-open-requires c κs = search needs
 
 returns-3 : tie.Need-returns-3
 unfolding bracketOpen
-returns-3 c = rw (← (c .before .before .before .before .before .last-row .ensures)) (rw (sym (c .before .before .before .before .is-unclosed .ensures) ∙ c .before .before .before .if1 .left, ← (c .before .before .first-misfit .ensures)) (rw (le-ltb _ _ (c .before .if2 .left)) (c .innermost-open .ensures)))
+returns-3 c =
+    let last-row = c .before .before .before .before .before .last-row in
+    let is-unclosed = c .before .before .before .before .is-unclosed in
+    let if1 = c .before .before .before .if1 in
+    rw (← (last-row .ensures)) (rw (sym (is-unclosed .ensures) ∙ if1 .left, ← (c .before .before .first-misfit .ensures)) (rw (le-ltb _ _ (c .before .if2 .left)) (c .innermost-open .ensures)))
 
 pub bracket-open-spec : {M : Type 1} → statement M
 bracket-open-spec =

@@ -22,14 +22,21 @@ returns c = rw (← (c .before .before .row-at .ensures)) (rw (sym (c .before .i
 
 returns-2 : tie.Need-returns-2
 unfolding waits
-returns-2 c = rw (← (c .before .before .before .before .row-at .ensures)) (rw (sym (c .before .before .before .is-mark .ensures) ∙ not-false _ (c .before .before .if1 .left), ne-eqb _ _ (c .if2 .taken)))
+returns-2 c =
+    let row-at = c .before .before .before .before .row-at in
+    let is-mark = c .before .before .before .is-mark in
+    rw (← (row-at .ensures)) (rw (sym (is-mark .ensures) ∙ not-false _ (c .before .before .if1 .left), ne-eqb _ _ (c .if2 .taken)))
 
 add-if3 : tie.Need-add-if3
 add-if3 c = search needs
 
 returns-3 : tie.Need-returns-3
 unfolding waits
-returns-3 c = rw (← (c .before .before .before .before .before .row-at .ensures)) (rw (sym (c .before .before .before .before .is-mark .ensures) ∙ not-false _ (c .before .before .before .if1 .left), eq-eqb _ _ (c .before .if2 .left), eq-eqb _ _ (c .if3 .taken)))
+returns-3 c =
+    let row-at = c .before .before .before .before .before .row-at in
+    let is-mark = c .before .before .before .before .is-mark in
+    let if1 = c .before .before .before .if1 in
+    rw (← (row-at .ensures)) (rw (sym (is-mark .ensures) ∙ not-false _ (if1 .left), eq-eqb _ _ (c .before .if2 .left), eq-eqb _ _ (c .if3 .taken)))
 
 add-row-at : tie.Need-add-row-at
 add-row-at c = search needs
@@ -39,7 +46,12 @@ row-at-requires-2 c κs = search needs
 
 returns-4 : tie.Need-returns-4
 unfolding waits
-returns-4 c = rw (← (c .before .before .before .before .before .before .before .row-at .ensures), ← (c .before .row-at2 .ensures)) (rw (sym (c .before .before .before .before .before .before .is-mark .ensures) ∙ not-false _ (c .before .before .before .before .before .if1 .left), eq-eqb _ _ (c .before .before .before .if2 .left), ne-eqb _ _ (c .before .before .if3 .left)))
+returns-4 c =
+    let row-at = c .before .before .before .before .before .before .before .row-at in
+    let is-mark = c .before .before .before .before .before .before .is-mark in
+    let if1 = c .before .before .before .before .before .if1 in
+    let if2 = c .before .before .before .if2 in
+    rw (← (row-at .ensures), ← (c .before .row-at2 .ensures)) (rw (sym (is-mark .ensures) ∙ not-false _ (if1 .left), eq-eqb _ _ (if2 .left), ne-eqb _ _ (c .before .before .if3 .left)))
 
 pub is-waiting-spec : {M : Type 1} → statement M
 is-waiting-spec =

@@ -27,16 +27,24 @@ is-open-requires : tie.Need-is-open-requires Inv-loop μ-loop
 is-open-requires c κs = tt
 
 returns : tie.Need-returns Inv-loop μ-loop
-returns c = last-hit (isOpen (now (c .before .before .before .before .before .args .rows)) (c .before .before .before .before .before .args .depth)) _ _ (c .before .before .before .loop .inv) (c .before .before .loop-test .taken) (sym (c .before .is-open .ensures) ∙ c .if1 .taken)
+returns c =
+    let args = c .before .before .before .before .before .args in
+    let loop = c .before .before .before .loop in
+    last-hit (isOpen (now (args .rows)) (args .depth)) _ _ (loop .inv) (c .before .before .loop-test .taken) (sym (c .before .is-open .ensures) ∙ c .if1 .taken)
 
 loop-less : tie.Need-loop-less Inv-loop μ-loop
 loop-less c = omega arith
 
 loop-again : tie.Need-loop-again Inv-loop μ-loop
-loop-again c = last-miss (isOpen (now (c .before .before .before .before .before .args .rows)) (c .before .before .before .before .before .args .depth)) _ _ (c .before .before .before .loop .inv) (c .before .before .loop-test .taken) (sym (c .before .is-open .ensures) ∙ c .if1 .left)
+loop-again c =
+    let args = c .before .before .before .before .before .args in
+    let loop = c .before .before .before .loop in
+    last-miss (isOpen (now (args .rows)) (args .depth)) _ _ (loop .inv) (c .before .before .loop-test .taken) (sym (c .before .is-open .ensures) ∙ c .if1 .left)
 
 returns-2 : tie.Need-returns-2 Inv-loop μ-loop
-returns-2 c = last-end (isOpen (now (c .before .before .before .args .rows)) (c .before .before .before .args .depth)) _ _ (c .before .loop .inv) (c .loop-test .left)
+returns-2 c =
+    let args = c .before .before .before .args in
+    last-end (isOpen (now (args .rows)) (args .depth)) _ _ (c .before .loop .inv) (c .loop-test .left)
 
 pub last-open-spec : {M : Type 1} → statement M
 last-open-spec =

@@ -28,16 +28,24 @@ is-waiting-requires : tie.Need-is-waiting-requires Inv-loop μ-loop
 is-waiting-requires c κs = omega arith
 
 returns : tie.Need-returns Inv-loop μ-loop
-returns c = last-hit (waits (now (c .before .before .before .before .before .args .rows)) (c .before .before .before .before .before .args .depth) (c .before .before .before .before .before .args .p)) _ _ (c .before .before .before .loop .inv .1) (c .before .before .loop-test .taken) (sym (c .before .is-waiting .ensures) ∙ c .if1 .taken)
+returns c =
+    let args = c .before .before .before .before .before .args in
+    let loop = c .before .before .before .loop in
+    last-hit (waits (now (args .rows)) (args .depth) (args .p)) _ _ (loop .inv .1) (c .before .before .loop-test .taken) (sym (c .before .is-waiting .ensures) ∙ c .if1 .taken)
 
 loop-less : tie.Need-loop-less Inv-loop μ-loop
 loop-less c = omega arith
 
 loop-again : tie.Need-loop-again Inv-loop μ-loop
-loop-again c = (omega arith, last-miss (waits (now (c .before .before .before .before .before .args .rows)) (c .before .before .before .before .before .args .depth) (c .before .before .before .before .before .args .p)) _ _ (c .before .before .before .loop .inv .1) (c .before .before .loop-test .taken) (sym (c .before .is-waiting .ensures) ∙ c .if1 .left))
+loop-again c =
+    let args = c .before .before .before .before .before .args in
+    let loop = c .before .before .before .loop in
+    (omega arith, last-miss (waits (now (args .rows)) (args .depth) (args .p)) _ _ (loop .inv .1) (c .before .before .loop-test .taken) (sym (c .before .is-waiting .ensures) ∙ c .if1 .left))
 
 returns-2 : tie.Need-returns-2 Inv-loop μ-loop
-returns-2 c = last-end (waits (now (c .before .before .before .args .rows)) (c .before .before .before .args .depth) (c .before .before .before .args .p)) _ _ (c .before .loop .inv .1) (c .loop-test .left)
+returns-2 c =
+    let args = c .before .before .before .args in
+    last-end (waits (now (args .rows)) (args .depth) (args .p)) _ _ (c .before .loop .inv .1) (c .loop-test .left)
 
 pub last-waiting-spec : {M : Type 1} → statement M
 last-waiting-spec =

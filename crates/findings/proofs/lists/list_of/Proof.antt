@@ -33,14 +33,18 @@ refused-list-requires c κs = search needs
 returns : tie.Need-returns
 unfolding listOf
 returns c =
-    let told = nestedTold (now (c .before .before .before .before .before .before .before .before .args .source)) (now (c .before .before .before .before .before .before .before .before .args .rows)) in
-    sym (ap told (ap (λ (o : Outcome). o .answer) (sym (c .before .before .before .before .build .ensures)) ∙ c .before .built .given .1))
+    let args = c .before .before .before .before .before .before .before .before .args in
+    let build = c .before .before .before .before .build in
+    let told = nestedTold (now (args .source)) (now (args .rows)) in
+    sym (ap told (ap (λ (o : Outcome). o .answer) (sym (build .ensures)) ∙ c .before .built .given .1))
 
 returns-2 : tie.Need-returns-2
 unfolding listOf
 returns-2 c =
-    let told = nestedTold (now (c .before .before .before .before .before .before .before .before .before .args .source)) (now (c .before .before .before .before .before .before .before .before .before .args .rows)) in
-    c .refused-list .ensures ∙ sym (ap told (ap (λ (o : Outcome). o .answer) (sym (c .before .before .before .before .before .build .ensures)) ∙ c .before .before .built2 .given .1))
+    let args = c .before .before .before .before .before .before .before .before .before .args in
+    let build = c .before .before .before .before .before .build in
+    let told = nestedTold (now (args .source)) (now (args .rows)) in
+    c .refused-list .ensures ∙ sym (ap told (ap (λ (o : Outcome). o .answer) (sym (build .ensures)) ∙ c .before .before .built2 .given .1))
 
 pub list-of-spec : {M : Type 1} → statement M
 list-of-spec =

@@ -33,7 +33,10 @@ at-row-requires-2 c κs = search needs
 
 returns-2 : tie.Need-returns-2
 unfolding misplacedDot
-returns-2 c = c .at-row2 .ensures ∙ rw (← (c .before .before .before .before .before .row-at .ensures)) (rw (ne-eqb _ _ (c .before .before .before .if1 .left), c .before .last-dot .ensures, c .before .before .depth-at .ensures))
+returns-2 c =
+    let row-at = c .before .before .before .before .before .row-at in
+    let if1 = c .before .before .before .if1 in
+    c .at-row2 .ensures ∙ rw (← (row-at .ensures)) (rw (ne-eqb _ _ (if1 .left), c .before .last-dot .ensures, c .before .before .depth-at .ensures))
 
 pub misplaced-dot-spec : {M : Type 1} → statement M
 misplaced-dot-spec =

@@ -17,8 +17,9 @@ last-open-requires c κs = search needs
 
 returns : tie.Need-returns
 returns c =
-    let z : 0 ≡ c .before .before .before .args .depth - 1 = omega arith in
-    c .last-open .ensures ∙ ap (λ (d : ℕ). lastBefore (isOpen (now (c .before .before .before .args .rows)) d) (c .before .before .before .args .p)) z
+    let args = c .before .before .before .args in
+    let z : 0 ≡ args .depth - 1 = omega arith in
+    c .last-open .ensures ∙ ap (λ (d : ℕ). lastBefore (isOpen (now (args .rows)) d) (args .p)) z
 
 sub-last-open : tie.Need-sub-last-open
 sub-last-open c = search needs

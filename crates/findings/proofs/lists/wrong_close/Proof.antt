@@ -30,7 +30,9 @@ at-rows-requires c κs = search needs
 
 returns-2 : tie.Need-returns-2
 unfolding wrongClose
-returns-2 c = c .at-rows .ensures ∙ rw (← (c .before .before .before .depth-at .ensures)) (rw (ne-eqb _ _ (c .before .before .if1 .left), c .before .opener-of .ensures))
+returns-2 c =
+    let depth-at = c .before .before .before .depth-at in
+    c .at-rows .ensures ∙ rw (← (depth-at .ensures)) (rw (ne-eqb _ _ (c .before .before .if1 .left), c .before .opener-of .ensures))
 
 pub wrong-close-spec : {M : Type 1} → statement M
 wrong-close-spec =

@@ -38,7 +38,9 @@ unfolding lineStart
 line-from-requires c κs = refl
 
 sub-offsets : tie.Need-sub-offsets Inv-loop μ-loop
-sub-offsets c = omega (arith, c .line-from .ensures, line-le (now (c .before .before .before .before .before .args .source)) (c .before .before .row-at .result .start))
+sub-offsets c =
+    let args = c .before .before .before .before .before .args in
+    omega (arith, c .line-from .ensures, line-le (now (args .source)) (c .before .before .row-at .result .start))
 
 loop-holds : tie.Need-loop-holds Inv-loop μ-loop
 loop-holds c = passing-start _ _ (ap (λ (r : Row). r .start) (c .before .before .row-at .ensures)) (c .line-from .ensures)
@@ -56,40 +58,71 @@ cast-at-2 : tie.Need-cast-at-2 Inv-loop μ-loop
 cast-at-2 c = search needs
 
 slice-aggregate-is-misfit : tie.Need-slice-aggregate-is-misfit Inv-loop μ-loop
-slice-aggregate-is-misfit c = sym (c .before .before .before .before .before .before .loop .inv .wide)
+slice-aggregate-is-misfit c =
+    let loop = c .before .before .before .before .before .before .loop in
+    sym (loop .inv .wide)
 
 slice-aggregate-is-misfit-2 : tie.Need-slice-aggregate-is-misfit-2 Inv-loop μ-loop
-slice-aggregate-is-misfit-2 c = sym (c .before .before .before .before .before .before .before .loop .inv .far)
+slice-aggregate-is-misfit-2 c =
+    let loop = c .before .before .before .before .before .before .before .loop in
+    sym (loop .inv .far)
 
 is-misfit-requires : tie.Need-is-misfit-requires Inv-loop μ-loop
-is-misfit-requires c κs = omega (arith, c .before .before .before .line-from2 .ensures, line-le (now (c .before .before .before .before .before .before .before .before .before .before .before .before .before .args .source)) (c .before .before .before .before .before .row-at2 .result .start))
+is-misfit-requires c κs =
+    let args = c .before .before .before .before .before .before .before .before .before .before .before .before .before .args in
+    let row-at2 = c .before .before .before .before .before .row-at2 in
+    let line-from2 = c .before .before .before .line-from2 in
+    omega (arith, line-from2 .ensures, line-le (now (args .source)) (row-at2 .result .start))
 
 returns : tie.Need-returns Inv-loop μ-loop
-returns c = passing-hit _ _ (c .before .before .before .before .before .before .before .before .before .loop .inv) (c .before .before .before .before .before .before .before .before .loop-test .taken) (c .before .before .before .before .before .before .before .row-at2 .ensures) (c .before .before .before .before .before .line-from2 .ensures) (sym (c .before .is-misfit .ensures) ∙ c .if1 .taken)
+returns c =
+    let loop = c .before .before .before .before .before .before .before .before .before .loop in
+    let loop-test = c .before .before .before .before .before .before .before .before .loop-test in
+    let row-at2 = c .before .before .before .before .before .before .before .row-at2 in
+    let line-from2 = c .before .before .before .before .before .line-from2 in
+    passing-hit _ _ (loop .inv) (loop-test .taken) (row-at2 .ensures) (line-from2 .ensures) (sym (c .before .is-misfit .ensures) ∙ c .if1 .taken)
 
 slice-aggregate-note : tie.Need-slice-aggregate-note Inv-loop μ-loop
-slice-aggregate-note c = sym (c .before .before .before .before .before .before .before .before .before .before .loop .inv .wide)
+slice-aggregate-note c =
+    let loop = c .before .before .before .before .before .before .before .before .before .before .loop in
+    sym (loop .inv .wide)
 
 note-requires : tie.Need-note-requires Inv-loop μ-loop
 note-requires c κs = tt
 
 slice-aggregate-note-2 : tie.Need-slice-aggregate-note-2 Inv-loop μ-loop
-slice-aggregate-note-2 c = sym (c .before .before .before .before .before .before .before .before .before .before .before .before .before .loop .inv .far)
+slice-aggregate-note-2 c =
+    let loop = c .before .before .before .before .before .before .before .before .before .before .before .before .before .loop in
+    sym (loop .inv .far)
 
 sub-note : tie.Need-sub-note Inv-loop μ-loop
-sub-note c = omega (arith, c .before .before .before .before .before .before .before .before .before .line-from2 .ensures, line-le (now (c .before .before .before .before .before .before .before .before .before .before .before .before .before .before .before .before .before .before .before .args .source)) (c .before .before .before .before .before .before .before .before .before .before .before .row-at2 .result .start))
+sub-note c =
+    let args = c .before .before .before .before .before .before .before .before .before .before .before .before .before .before .before .before .before .before .before .args in
+    let row-at2 = c .before .before .before .before .before .before .before .before .before .before .before .row-at2 in
+    let line-from2 = c .before .before .before .before .before .before .before .before .before .line-from2 in
+    omega (arith, line-from2 .ensures, line-le (now (args .source)) (row-at2 .result .start))
 
 note-requires-2 : tie.Need-note-requires-2 Inv-loop μ-loop
 note-requires-2 c κs = tt
 
 add-k : tie.Need-add-k Inv-loop μ-loop
-add-k c = omega (arith, c .before .before .before .before .before .before .before .before .before .before .before .before .before .before .loop-test .taken, c .before .before .before .before .before .before .before .before .before .before .before .before .before .before .before .before .before .before .before .before .before .good .1 .0 .0)
+add-k c =
+    let loop-test = c .before .before .before .before .before .before .before .before .before .before .before .before .before .before .loop-test in
+    omega (arith, loop-test .taken, c .before .before .before .before .before .before .before .before .before .before .before .before .before .before .before .before .before .before .before .before .before .good .1 .0 .0)
 
 loop-less : tie.Need-loop-less Inv-loop μ-loop
 loop-less c = omega arith
 
 loop-again : tie.Need-loop-again Inv-loop μ-loop
-loop-again c = rw (c .before .before .before .before .note .ensures, c .before .note2 .ensures) (passing-next _ _ (c .before .before .before .before .before .before .before .before .before .before .before .before .before .before .before .loop .inv) (c .before .before .before .before .before .before .before .before .before .before .before .before .before .before .loop-test .taken) (c .before .before .before .before .before .before .before .before .before .before .before .before .before .row-at2 .ensures) (c .before .before .before .before .before .before .before .before .before .before .before .line-from2 .ensures) (sym (c .before .before .before .before .before .before .before .is-misfit .ensures) ∙ c .before .before .before .before .before .before .if1 .left))
+loop-again c =
+    let loop = c .before .before .before .before .before .before .before .before .before .before .before .before .before .before .before .loop in
+    let loop-test = c .before .before .before .before .before .before .before .before .before .before .before .before .before .before .loop-test in
+    let row-at2 = c .before .before .before .before .before .before .before .before .before .before .before .before .before .row-at2 in
+    let line-from2 = c .before .before .before .before .before .before .before .before .before .before .before .line-from2 in
+    let is-misfit = c .before .before .before .before .before .before .before .is-misfit in
+    let if1 = c .before .before .before .before .before .before .if1 in
+    let note = c .before .before .before .before .note in
+    rw (note .ensures, c .before .note2 .ensures) (passing-next _ _ (loop .inv) (loop-test .taken) (row-at2 .ensures) (line-from2 .ensures) (sym (is-misfit .ensures) ∙ if1 .left))
 
 returns-2 : tie.Need-returns-2 Inv-loop μ-loop
 returns-2 c = passing-end _ _ (c .before .loop .inv) (c .loop-test .left)

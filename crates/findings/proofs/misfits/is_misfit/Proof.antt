@@ -23,7 +23,9 @@ returns-2 c = simp (eq-eqb _ _ (c .before .before .if1 .left), c .if2 .taken, sy
 
 returns-3 : tie.Need-returns-3
 unfolding misfitBy
-returns-3 c = simp (eq-eqb _ _ (c .before .before .before .before .if1 .left), within-above 1 64 _ (c .if3 .taken))
+returns-3 c =
+    let if1 = c .before .before .before .before .if1 in
+    simp (eq-eqb _ _ (if1 .left), within-above 1 64 _ (c .if3 .taken))
 
 sub-kept-at : tie.Need-sub-kept-at
 sub-kept-at c = search needs
@@ -45,7 +47,11 @@ stands-out-requires c κs = search needs
 
 returns-4 : tie.Need-returns-4
 unfolding misfitBy
-returns-4 c = simp (eq-eqb _ _ (c .before .before .before .before .before .before .before .before .before .before .if1 .left), within-in 1 64 (c .before .before .before .before .before .before .before .before .before .before .before .before .before .before .before .args .row .depth) (omega arith) (omega arith), sym (c .before .before .before .before .kept-at .ensures), sym (c .before .before .kept-at2 .ensures)) (c .stands-out .ensures)
+returns-4 c =
+    let args = c .before .before .before .before .before .before .before .before .before .before .before .before .before .before .before .args in
+    let if1 = c .before .before .before .before .before .before .before .before .before .before .if1 in
+    let kept-at = c .before .before .before .before .kept-at in
+    simp (eq-eqb _ _ (if1 .left), within-in 1 64 (args .row .depth) (omega arith) (omega arith), sym (kept-at .ensures), sym (c .before .before .kept-at2 .ensures)) (c .stands-out .ensures)
 
 pub is-misfit-spec : {M : Type 1} → statement M
 is-misfit-spec =

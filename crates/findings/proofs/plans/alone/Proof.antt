@@ -15,7 +15,9 @@ same-length : tie.Need-same-length
 same-length c = search needs
 
 returns : tie.Need-returns
-returns c = call-alone (c .before .before .before .before .before .before .args .f) (now (c .before .before .before .before .before .before .args .rows)) (now (c .before .before .before .before .before .before .args .findings)) (c .before .before .lay .ensures)
+returns c =
+    let args = c .before .before .before .before .before .before .args in
+    call-alone (args .f) (now (args .rows)) (now (args .findings)) (c .before .before .lay .ensures)
 
 pub alone-spec : {M : Type 1} → statement M
 alone-spec = tie.close (tie.spec lay-requires same-length returns)

@@ -24,7 +24,10 @@ same-length-2 : tie.Need-same-length-2
 same-length-2 c = search needs
 
 returns : tie.Need-returns
-returns c = c .before .before .alone .ensures ∙ call-long (now (c .before .before .before .before .before .before .before .before .before .args .source)) (now (c .before .before .before .before .before .before .before .before .before .args .rows)) (now (c .before .before .before .before .before .before .before .before .before .args .findings)) (c .before .before .before .before .before .if1 .taken)
+returns c =
+    let args = c .before .before .before .before .before .before .before .before .before .args in
+    let if1 = c .before .before .before .before .before .if1 in
+    c .before .before .alone .ensures ∙ call-long (now (args .source)) (now (args .rows)) (now (args .findings)) (if1 .taken)
 
 first-bad-requires : tie.Need-first-bad-requires
 first-bad-requires c κs = search needs
@@ -40,8 +43,12 @@ enum-known-b c = search needs
 
 not-utf8-requires : tie.Need-not-utf8-requires
 not-utf8-requires c κs =
-    let b = c .before .before .before .b .given in
-    omega (arith, first-bad-ahead (now (c .before .before .before .before .before .before .before .before .before .before .args .source)) (b .0 .0) (sym (c .before .before .before .before .before .first-bad .ensures) ∙ b .1), c .before .before .before .before .before .before .if1 .left)
+    let args = c .before .before .before .before .before .before .before .before .before .before .args in
+    let if1 = c .before .before .before .before .before .before .if1 in
+    let first-bad = c .before .before .before .before .before .first-bad in
+    let b = c .before .before .before .b in
+    let b = b .given in
+    omega (arith, first-bad-ahead (now (args .source)) (b .0 .0) (sym (first-bad .ensures) ∙ b .1), if1 .left)
 
 alone-requires-2 : tie.Need-alone-requires-2
 alone-requires-2 c κs = search needs
@@ -54,8 +61,13 @@ same-length-4 c = search needs
 
 returns-2 : tie.Need-returns-2
 returns-2 c =
-    c .before .before .before .before .find-good .ensures
-    ∙ call-good (now (c .before .before .before .before .before .before .before .before .before .before .before .before .before .before .args .source)) (now (c .before .before .before .before .before .before .before .before .before .before .before .before .before .before .args .rows)) (now (c .before .before .before .before .before .before .before .before .before .before .before .before .before .before .args .findings)) (c .before .before .before .before .before .before .before .before .before .before .if1 .left) (sym (c .before .before .before .before .before .before .before .before .before .first-bad .ensures) ∙ c .before .before .before .before .before .before .before .enum-told .given .1)
+    let args = c .before .before .before .before .before .before .before .before .before .before .before .before .before .before .args in
+    let if1 = c .before .before .before .before .before .before .before .before .before .before .if1 in
+    let first-bad = c .before .before .before .before .before .before .before .before .before .first-bad in
+    let enum-told = c .before .before .before .before .before .before .before .enum-told in
+    let find-good = c .before .before .before .before .find-good in
+    find-good .ensures
+    ∙ call-good (now (args .source)) (now (args .rows)) (now (args .findings)) (if1 .left) (sym (first-bad .ensures) ∙ enum-told .given .1)
 
 same-length-5 : tie.Need-same-length-5
 same-length-5 c = search needs
@@ -65,10 +77,15 @@ same-length-6 c = search needs
 
 returns-3 : tie.Need-returns-3
 returns-3 c =
-    let b = c .before .before .before .before .before .before .before .b .given in
+    let args = c .before .before .before .before .before .before .before .before .before .before .before .before .before .before .args in
+    let if1 = c .before .before .before .before .before .before .before .before .before .before .if1 in
+    let first-bad = c .before .before .before .before .before .before .before .before .before .first-bad in
+    let b = c .before .before .before .before .before .before .before .b in
+    let not-utf8 = c .before .before .before .not-utf8 in
+    let b = b .given in
     c .before .before .alone2 .ensures
-    ∙ rw (c .before .before .before .not-utf8 .ensures)
-    (call-bad (now (c .before .before .before .before .before .before .before .before .before .before .before .before .before .before .args .source)) (now (c .before .before .before .before .before .before .before .before .before .before .before .before .before .before .args .rows)) (now (c .before .before .before .before .before .before .before .before .before .before .before .before .before .before .args .findings)) (c .before .before .before .before .before .before .before .before .before .before .if1 .left) (b .0 .0) (sym (c .before .before .before .before .before .before .before .before .before .first-bad .ensures) ∙ b .1))
+    ∙ rw (not-utf8 .ensures)
+    (call-bad (now (args .source)) (now (args .rows)) (now (args .findings)) (if1 .left) (b .0 .0) (sym (first-bad .ensures) ∙ b .1))
 
 pub find-spec : {M : Type 1} → statement M
 find-spec =

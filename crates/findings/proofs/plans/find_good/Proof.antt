@@ -20,9 +20,11 @@ same-length c = search needs
 
 returns : tie.Need-returns
 returns c =
-    let a = c .before .before .before .before .before .before .before .before .args in
+    let args = c .before .before .before .before .before .before .before .before .args in
+    let rows = c .before .before .before .rows in
+    let a = args in
     let source = now (a .source) in
-    too-few source (now (a .rows)) (c .before .before .before .rows .ensures) (now (a .findings)) (toldOf source (flat (rowsOf source))) (c .if1 .taken)
+    too-few source (now (a .rows)) (rows .ensures) (now (a .findings)) (toldOf source (flat (rowsOf source))) (c .if1 .taken)
 
 mul-end : tie.Need-mul-end
 mul-end c = search needs
@@ -31,7 +33,10 @@ slice-reshare-prefix-tell : tie.Need-slice-reshare-prefix-tell
 slice-reshare-prefix-tell c = search needs
 
 slice-aggregate-tell : tie.Need-slice-aggregate-tell
-slice-aggregate-tell c = part-length (now (c .before .before .before .before .before .before .before .before .before .args .source)) (now (c .before .before .before .before .before .before .before .before .before .args .rows)) (c .before .before .before .before .rows .ensures) (c .before .if1 .left)
+slice-aggregate-tell c =
+    let args = c .before .before .before .before .before .before .before .before .before .args in
+    let rows = c .before .before .before .before .rows in
+    part-length (now (args .source)) (now (args .rows)) (rows .ensures) (c .before .if1 .left)
 
 tell-requires : tie.Need-tell-requires
 tell-requires c κs = search needs
@@ -43,7 +48,11 @@ same-length-3 : tie.Need-same-length-3
 same-length-3 c = search needs
 
 returns-2 : tie.Need-returns-2
-returns-2 c = all-found (now (c .before .before .before .before .before .before .before .before .before .before .before .before .before .args .source)) (now (c .before .before .before .before .before .before .before .before .before .before .before .before .before .args .rows)) (c .before .before .before .before .before .before .before .before .rows .ensures) (c .before .before .before .before .before .if1 .left) (now (c .before .before .before .before .before .before .before .before .before .before .before .before .before .args .findings)) (c .before .before .tell .ensures)
+returns-2 c =
+    let args = c .before .before .before .before .before .before .before .before .before .before .before .before .before .args in
+    let rows = c .before .before .before .before .before .before .before .before .rows in
+    let if1 = c .before .before .before .before .before .if1 in
+    all-found (now (args .source)) (now (args .rows)) (rows .ensures) (if1 .left) (now (args .findings)) (c .before .before .tell .ensures)
 
 pub find-good-spec : {M : Type 1} → statement M
 find-good-spec =

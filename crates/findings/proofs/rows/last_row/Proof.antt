@@ -16,7 +16,9 @@ row-at-requires : tie.Need-row-at-requires
 row-at-requires c κs = search needs
 
 returns : tie.Need-returns
-returns c = let rows = now (c .before .before .before .args .rows) in let z : 0 ≡ length rows / 10 - 1 = omega arith in c .row-at .ensures ∙ ap (rowAt rows) z
+returns c =
+    let args = c .before .before .before .args in
+    let rows = now (args .rows) in let z : 0 ≡ length rows / 10 - 1 = omega arith in c .row-at .ensures ∙ ap (rowAt rows) z
 
 sub-row-at : tie.Need-sub-row-at
 sub-row-at c = search needs

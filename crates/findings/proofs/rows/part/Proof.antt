@@ -35,13 +35,17 @@ part-result-end-2 : tie.Need-part-result-end-2
 part-result-end-2 c = search needs
 
 returns-3 : tie.Need-returns-3
-returns-3 c = part-rest (now (c .before .before .before .before .args .source)) (c .before .before .before .before .args .a) ∙ part-over (now (c .before .before .before .before .args .source)) (c .before .before .before .before .args .a) (c .before .before .before .before .args .b) (omega arith)
+returns-3 c =
+    let args = c .before .before .before .before .args in
+    part-rest (now (args .source)) (args .a) ∙ part-over (now (args .source)) (args .a) (args .b) (omega arith)
 
 slice-aggregate-result-2 : tie.Need-slice-aggregate-result-2
 slice-aggregate-result-2 c = search needs
 
 returns-4 : tie.Need-returns-4
-returns-4 c = part-past (now (c .before .before .before .before .args .source)) (c .before .before .before .before .args .a) (c .before .before .before .before .args .b) (omega arith)
+returns-4 c =
+    let args = c .before .before .before .before .args in
+    part-past (now (args .source)) (args .a) (args .b) (omega arith)
 
 pub part-spec : {M : Type 1} → statement M
 part-spec =

@@ -81,7 +81,9 @@ shared-slice-read-t37 c = search needs
 
 returns : tie.Need-returns
 unfolding rowAt
-returns c = simp (lt-ltb _ _ (c .before .before .before .before .before .before .before .before .if1 .taken))
+returns c =
+    let if1 = c .before .before .before .before .before .before .before .before .if1 in
+    simp (lt-ltb _ _ (if1 .taken))
 
 returns-2 : tie.Need-returns-2
 unfolding rowAt

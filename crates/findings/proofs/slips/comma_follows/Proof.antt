@@ -26,7 +26,11 @@ row-at-requires-2 c κs = search needs
 
 returns-2 : tie.Need-returns-2
 unfolding commaFollows
-returns-2 c = rw (← (c .before .before .before .before .before .before .row-at .ensures), ← (c .before .before .before .row-at2 .ensures)) (rw (eq-eqb _ _ (c .before .before .before .before .if1 .left), ne-eqb _ _ (c .if2 .taken)))
+returns-2 c =
+    let row-at = c .before .before .before .before .before .before .row-at in
+    let if1 = c .before .before .before .before .if1 in
+    let row-at2 = c .before .before .before .row-at2 in
+    rw (← (row-at .ensures), ← (row-at2 .ensures)) (rw (eq-eqb _ _ (if1 .left), ne-eqb _ _ (c .if2 .taken)))
 
 add-row-at-2 : tie.Need-add-row-at-2
 add-row-at-2 c = search needs
@@ -36,7 +40,13 @@ row-at-requires-3 c κs = search needs
 
 returns-3 : tie.Need-returns-3
 unfolding commaFollows
-returns-3 c = rw (← (c .before .before .before .before .before .before .before .before .before .before .row-at .ensures), ← (c .before .before .before .before .before .before .before .row-at2 .ensures), ← (c .before .before .before .row-at3 .ensures)) (rw (eq-eqb _ _ (c .before .before .before .before .before .before .before .before .if1 .left), eq-eqb _ _ (c .before .before .before .before .if2 .left), ne-eqb _ _ (c .if3 .taken)))
+returns-3 c =
+    let row-at = c .before .before .before .before .before .before .before .before .before .before .row-at in
+    let if1 = c .before .before .before .before .before .before .before .before .if1 in
+    let row-at2 = c .before .before .before .before .before .before .before .row-at2 in
+    let if2 = c .before .before .before .before .if2 in
+    let row-at3 = c .before .before .before .row-at3 in
+    rw (← (row-at .ensures), ← (row-at2 .ensures), ← (row-at3 .ensures)) (rw (eq-eqb _ _ (if1 .left), eq-eqb _ _ (if2 .left), ne-eqb _ _ (c .if3 .taken)))
 
 cast-byte-at : tie.Need-cast-byte-at
 cast-byte-at c = search needs
@@ -49,7 +59,14 @@ is-digit-requires c κs = search needs
 
 returns-4 : tie.Need-returns-4
 unfolding commaFollows
-returns-4 c = rw (← (c .before .before .before .before .before .before .before .before .before .before .before .before .before .row-at .ensures), ← (c .before .before .before .before .before .before .before .before .before .before .row-at2 .ensures), ← (c .before .before .before .before .before .before .row-at3 .ensures)) (rw (eq-eqb _ _ (c .before .before .before .before .before .before .before .before .before .before .before .if1 .left), eq-eqb _ _ (c .before .before .before .before .before .before .before .if2 .left), eq-eqb _ _ (c .before .before .before .if3 .left)) (c .is-digit .ensures ∙ ap isDigit (c .before .byte-at .ensures)))
+returns-4 c =
+    let row-at = c .before .before .before .before .before .before .before .before .before .before .before .before .before .row-at in
+    let if1 = c .before .before .before .before .before .before .before .before .before .before .before .if1 in
+    let row-at2 = c .before .before .before .before .before .before .before .before .before .before .row-at2 in
+    let if2 = c .before .before .before .before .before .before .before .if2 in
+    let row-at3 = c .before .before .before .before .before .before .row-at3 in
+    let if3 = c .before .before .before .if3 in
+    rw (← (row-at .ensures), ← (row-at2 .ensures), ← (row-at3 .ensures)) (rw (eq-eqb _ _ (if1 .left), eq-eqb _ _ (if2 .left), eq-eqb _ _ (if3 .left)) (c .is-digit .ensures ∙ ap isDigit (c .before .byte-at .ensures)))
 
 pub comma-follows-spec : {M : Type 1} → statement M
 comma-follows-spec =

@@ -45,8 +45,11 @@ loop-less c = omega arith
 
 loop-again : tie.Need-loop-again Inv-loop μ-loop
 loop-again c =
-    let s = now (c .before .before .before .before .before .before .args .part) in
-    (omega arith, sym (plain-turn s (c .before .before .before .before .before .before .args .a) (c .before .before .before .before .loop .i) (c .before .before .before .loop-test .taken) refl (sym (c .before .is-plain .ensures) ∙ c .if1 .taken)) ∙ c .before .before .before .before .loop .inv .1)
+    let args = c .before .before .before .before .before .before .args in
+    let loop = c .before .before .before .before .loop in
+    let loop-test = c .before .before .before .loop-test in
+    let s = now (args .part) in
+    (omega arith, sym (plain-turn s (args .a) (loop .i) (loop-test .taken) refl (sym (c .before .is-plain .ensures) ∙ c .if1 .taken)) ∙ loop .inv .1)
 
 decode-at-requires : tie.Need-decode-at-requires Inv-loop μ-loop
 decode-at-requires c κs = tt
@@ -64,47 +67,76 @@ cast-warn : tie.Need-cast-warn Inv-loop μ-loop
 cast-warn c = omega arith
 
 add-warn-2 : tie.Need-add-warn-2 Inv-loop μ-loop
-add-warn-2 c = let v = c .before .before .before .code .given in omega (arith, char-at (now (c .before .before .before .before .before .before .before .before .before .before .before .before .args .part)) (c .before .before .before .before .before .before .before .before .before .before .loop .i) (v .0 .0) (v .0 .1 .0) (sym (v .1) ∙ c .before .before .before .before .before .decode-at .ensures) (c .before .before .before .before .before .before .before .before .before .before .loop .inv .0) .inside)
+add-warn-2 c =
+    let args = c .before .before .before .before .before .before .before .before .before .before .before .before .args in
+    let loop = c .before .before .before .before .before .before .before .before .before .before .loop in
+    let decode-at = c .before .before .before .before .before .decode-at in
+    let code = c .before .before .before .code in
+    let v = code .given in omega (arith, char-at (now (args .part)) (loop .i) (v .0 .0) (v .0 .1 .0) (sym (v .1) ∙ decode-at .ensures) (loop .inv .0) .inside)
 
 cast-warn-2 : tie.Need-cast-warn-2 Inv-loop μ-loop
-cast-warn-2 c = let v = c .before .before .before .code .given in omega (arith, char-at (now (c .before .before .before .before .before .before .before .before .before .before .before .before .args .part)) (c .before .before .before .before .before .before .before .before .before .before .loop .i) (v .0 .0) (v .0 .1 .0) (sym (v .1) ∙ c .before .before .before .before .before .decode-at .ensures) (c .before .before .before .before .before .before .before .before .before .before .loop .inv .0) .inside)
+cast-warn-2 c =
+    let args = c .before .before .before .before .before .before .before .before .before .before .before .before .args in
+    let loop = c .before .before .before .before .before .before .before .before .before .before .loop in
+    let decode-at = c .before .before .before .before .before .decode-at in
+    let code = c .before .before .before .code in
+    let v = code .given in omega (arith, char-at (now (args .part)) (loop .i) (v .0 .0) (v .0 .1 .0) (sym (v .1) ∙ decode-at .ensures) (loop .inv .0) .inside)
 
 warn-requires : tie.Need-warn-requires Inv-loop μ-loop
 warn-requires c κs = tt
 
 returns : tie.Need-returns Inv-loop μ-loop
 returns c =
-    let turn = odd-turn (now (c .before .before .before .before .before .before .before .before .before .before .before .before .before .args .part)) (c .before .before .before .before .before .before .before .before .before .before .before .before .before .args .a) (c .before .before .before .before .before .before .before .before .before .before .before .loop .i) (sym (c .before .before .before .before .code .given .1) ∙ c .before .before .before .before .before .before .decode-at .ensures) in
-    c .warn .ensures ∙ sym (turn ∙ rw (← (c .before .before .odd-code .ensures)) (rw (ne-eqb _ _ (c .before .if2 .taken)))) ∙ c .before .before .before .before .before .before .before .before .before .before .before .loop .inv .1
+    let args = c .before .before .before .before .before .before .before .before .before .before .before .before .before .args in
+    let loop = c .before .before .before .before .before .before .before .before .before .before .before .loop in
+    let decode-at = c .before .before .before .before .before .before .decode-at in
+    let code = c .before .before .before .before .code in
+    let turn = odd-turn (now (args .part)) (args .a) (loop .i) (sym (code .given .1) ∙ decode-at .ensures) in
+    c .warn .ensures ∙ sym (turn ∙ rw (← (c .before .before .odd-code .ensures)) (rw (ne-eqb _ _ (c .before .if2 .taken)))) ∙ loop .inv .1
 
 loop-less-2 : tie.Need-loop-less-2 Inv-loop μ-loop
-loop-less-2 c = let v = c .before .before .before .code .given in omega (arith, further (now (c .before .before .before .before .before .before .before .before .before .before .before .before .args .part)) (c .before .before .before .before .before .before .before .before .before .before .loop .i) (v .0 .0) (v .0 .1 .0) (sym (v .1) ∙ c .before .before .before .before .before .decode-at .ensures))
+loop-less-2 c =
+    let args = c .before .before .before .before .before .before .before .before .before .before .before .before .args in
+    let loop = c .before .before .before .before .before .before .before .before .before .before .loop in
+    let decode-at = c .before .before .before .before .before .decode-at in
+    let code = c .before .before .before .code in
+    let v = code .given in omega (arith, further (now (args .part)) (loop .i) (v .0 .0) (v .0 .1 .0) (sym (v .1) ∙ decode-at .ensures))
 
 loop-again-2 : tie.Need-loop-again-2 Inv-loop μ-loop
 loop-again-2 c =
-    let v = c .before .before .before .code .given in
-    let turn = odd-turn (now (c .before .before .before .before .before .before .before .before .before .before .before .before .args .part)) (c .before .before .before .before .before .before .before .before .before .before .before .before .args .a) (c .before .before .before .before .before .before .before .before .before .before .loop .i) (sym (v .1) ∙ c .before .before .before .before .before .decode-at .ensures) in (
-      char-at (now (c .before .before .before .before .before .before .before .before .before .before .before .before .args .part)) (c .before .before .before .before .before .before .before .before .before .before .loop .i) (v .0 .0) (v .0 .1 .0) (sym (v .1) ∙ c .before .before .before .before .before .decode-at .ensures) (c .before .before .before .before .before .before .before .before .before .before .loop .inv .0) .inside,
-      sym (turn ∙ rw (← (c .before .odd-code .ensures)) (rw (eq-eqb _ _ (c .if2 .left)))) ∙ c .before .before .before .before .before .before .before .before .before .before .loop .inv .1,
+    let args = c .before .before .before .before .before .before .before .before .before .before .before .before .args in
+    let loop = c .before .before .before .before .before .before .before .before .before .before .loop in
+    let decode-at = c .before .before .before .before .before .decode-at in
+    let code = c .before .before .before .code in
+    let v = code .given in
+    let turn = odd-turn (now (args .part)) (args .a) (loop .i) (sym (v .1) ∙ decode-at .ensures) in (
+      char-at (now (args .part)) (loop .i) (v .0 .0) (v .0 .1 .0) (sym (v .1) ∙ decode-at .ensures) (loop .inv .0) .inside,
+      sym (turn ∙ rw (← (c .before .odd-code .ensures)) (rw (eq-eqb _ _ (c .if2 .left)))) ∙ loop .inv .1,
     )
 
 enum-told : tie.Need-enum-told Inv-loop μ-loop
 enum-told c = search needs
 
 returns-2 : tie.Need-returns-2 Inv-loop μ-loop
-returns-2 c = sym (odd-turn _ _ _ (sym (c .enum-told .given .1) ∙ c .before .before .decode-at .ensures)) ∙ c .before .before .before .before .before .before .before .loop .inv .1
+returns-2 c =
+    let loop = c .before .before .before .before .before .before .before .loop in
+    sym (odd-turn _ _ _ (sym (c .enum-told .given .1) ∙ c .before .before .decode-at .ensures)) ∙ loop .inv .1
 
 enum-told-2 : tie.Need-enum-told-2 Inv-loop μ-loop
 enum-told-2 c = search needs
 
 returns-3 : tie.Need-returns-3 Inv-loop μ-loop
-returns-3 c = sym (odd-turn _ _ _ (sym (c .enum-told2 .given .1) ∙ c .before .before .decode-at .ensures)) ∙ c .before .before .before .before .before .before .before .loop .inv .1
+returns-3 c =
+    let loop = c .before .before .before .before .before .before .before .loop in
+    sym (odd-turn _ _ _ (sym (c .enum-told2 .given .1) ∙ c .before .before .decode-at .ensures)) ∙ loop .inv .1
 
 enum-told-3 : tie.Need-enum-told-3 Inv-loop μ-loop
 enum-told-3 c = search needs
 
 returns-4 : tie.Need-returns-4 Inv-loop μ-loop
-returns-4 c = sym (odd-turn _ _ _ (sym (c .enum-told3 .given .1) ∙ c .before .before .decode-at .ensures)) ∙ c .before .before .before .before .before .before .before .loop .inv .1
+returns-4 c =
+    let loop = c .before .before .before .before .before .before .before .loop in
+    sym (odd-turn _ _ _ (sym (c .enum-told3 .given .1) ∙ c .before .before .decode-at .ensures)) ∙ loop .inv .1
 
 returns-5 : tie.Need-returns-5 Inv-loop μ-loop
 returns-5 c = odd-end _ _ _ (c .loop-test .left) ∙ c .before .loop .inv .1

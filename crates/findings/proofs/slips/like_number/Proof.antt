@@ -34,11 +34,19 @@ is-digit-requires-2 c κs = search needs
 
 returns-2 : tie.Need-returns-2
 unfolding likeNumber
-returns-2 c = rw (← (c .before .before .before .before .before .before .byte-at .ensures)) (rw (sym (c .before .before .before .before .before .is-digit .ensures) ∙ c .before .before .before .before .if1 .left, sym (c .before .before .before .leads-number .ensures) ∙ c .before .before .if2 .taken) (c .is-digit2 .ensures ∙ ap isDigit (c .before .byte-at2 .ensures)))
+returns-2 c =
+    let byte-at = c .before .before .before .before .before .before .byte-at in
+    let is-digit = c .before .before .before .before .before .is-digit in
+    let if1 = c .before .before .before .before .if1 in
+    let leads-number = c .before .before .before .leads-number in
+    rw (← (byte-at .ensures)) (rw (sym (is-digit .ensures) ∙ if1 .left, sym (leads-number .ensures) ∙ c .before .before .if2 .taken) (c .is-digit2 .ensures ∙ ap isDigit (c .before .byte-at2 .ensures)))
 
 returns-3 : tie.Need-returns-3
 unfolding likeNumber
-returns-3 c = rw (← (c .before .before .before .before .byte-at .ensures)) (rw (sym (c .before .before .before .is-digit .ensures) ∙ c .before .before .if1 .left, sym (c .before .leads-number .ensures) ∙ c .if2 .left))
+returns-3 c =
+    let byte-at = c .before .before .before .before .byte-at in
+    let is-digit = c .before .before .before .is-digit in
+    rw (← (byte-at .ensures)) (rw (sym (is-digit .ensures) ∙ c .before .before .if1 .left, sym (c .before .leads-number .ensures) ∙ c .if2 .left))
 
 pub like-number-spec : {M : Type 1} → statement M
 like-number-spec =

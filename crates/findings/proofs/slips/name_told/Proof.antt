@@ -27,11 +27,17 @@ enum-known-odd c = search needs
 
 returns : tie.Need-returns
 unfolding nameTold
-returns c = c .number-slip .ensures ∙ rw (← (c .before .before .before .before .row-at .ensures)) (rw (← (c .before .before .before .odd-in .ensures)) (rw (c .before .enum-told .given .1)))
+returns c =
+    let row-at = c .before .before .before .before .row-at in
+    let odd-in = c .before .before .before .odd-in in
+    c .number-slip .ensures ∙ rw (← (row-at .ensures)) (rw (← (odd-in .ensures)) (rw (c .before .enum-told .given .1)))
 
 returns-2 : tie.Need-returns-2
 unfolding nameTold
-returns-2 c = rw (← (c .before .before .before .before .row-at .ensures)) (rw (← (c .before .before .before .odd-in .ensures)) (rw (c .before .odd .given .1)))
+returns-2 c =
+    let row-at = c .before .before .before .before .row-at in
+    let odd-in = c .before .before .before .odd-in in
+    rw (← (row-at .ensures)) (rw (← (odd-in .ensures)) (rw (c .before .odd .given .1)))
 
 pub name-told-spec : {M : Type 1} → statement M
 name-told-spec =

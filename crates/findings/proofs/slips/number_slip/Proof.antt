@@ -35,14 +35,24 @@ warn-requires c κs = search needs
 
 returns : tie.Need-returns
 unfolding numberSlip
-returns c = rw (← (c .before .before .before .before .before .before .before .row-at .ensures), ← (c .before .before .row-at2 .ensures)) (rw (sym (c .before .before .before .before .before .before .like-number .ensures) ∙ c .before .before .before .before .before .if1 .taken, sym (c .before .before .before .before .comma-follows .ensures) ∙ c .before .before .before .if2 .taken, ← (c .before .length-of .ensures)) (c .warn .ensures))
+returns c =
+    let row-at = c .before .before .before .before .before .before .before .row-at in
+    let like-number = c .before .before .before .before .before .before .like-number in
+    let if1 = c .before .before .before .before .before .if1 in
+    let comma-follows = c .before .before .before .before .comma-follows in
+    let if2 = c .before .before .before .if2 in
+    rw (← (row-at .ensures), ← (c .before .before .row-at2 .ensures)) (rw (sym (like-number .ensures) ∙ if1 .taken, sym (comma-follows .ensures) ∙ if2 .taken, ← (c .before .length-of .ensures)) (c .warn .ensures))
 
 warn-requires-2 : tie.Need-warn-requires-2
 warn-requires-2 c κs = search needs
 
 returns-2 : tie.Need-returns-2
 unfolding numberSlip
-returns-2 c = rw (← (c .before .before .before .before .before .row-at .ensures)) (rw (sym (c .before .before .before .before .like-number .ensures) ∙ c .before .before .before .if1 .taken, sym (c .before .before .comma-follows .ensures) ∙ c .before .if2 .left) (c .warn2 .ensures))
+returns-2 c =
+    let row-at = c .before .before .before .before .before .row-at in
+    let like-number = c .before .before .before .before .like-number in
+    let if1 = c .before .before .before .if1 in
+    rw (← (row-at .ensures)) (rw (sym (like-number .ensures) ∙ if1 .taken, sym (c .before .before .comma-follows .ensures) ∙ c .before .if2 .left) (c .warn2 .ensures))
 
 returns-3 : tie.Need-returns-3
 unfolding numberSlip

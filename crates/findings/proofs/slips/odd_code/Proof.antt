@@ -22,18 +22,28 @@ is-dash-requires c κs = search needs
 
 returns-2 : tie.Need-returns-2
 unfolding oddCode
-returns-2 c = rw (sym (c .before .before .before .is-quote .ensures) ∙ c .before .before .if1 .left, sym (c .before .is-dash .ensures) ∙ c .if2 .taken)
+returns-2 c =
+    let is-quote = c .before .before .before .is-quote in
+    rw (sym (is-quote .ensures) ∙ c .before .before .if1 .left, sym (c .before .is-dash .ensures) ∙ c .if2 .taken)
 
 is-invisible-requires : tie.Need-is-invisible-requires
 is-invisible-requires c κs = search needs
 
 returns-3 : tie.Need-returns-3
 unfolding oddCode
-returns-3 c = rw (sym (c .before .before .before .before .before .is-quote .ensures) ∙ c .before .before .before .before .if1 .left, sym (c .before .before .before .is-dash .ensures) ∙ c .before .before .if2 .left, sym (c .before .is-invisible .ensures) ∙ c .if3 .taken)
+returns-3 c =
+    let is-quote = c .before .before .before .before .before .is-quote in
+    let if1 = c .before .before .before .before .if1 in
+    let is-dash = c .before .before .before .is-dash in
+    rw (sym (is-quote .ensures) ∙ if1 .left, sym (is-dash .ensures) ∙ c .before .before .if2 .left, sym (c .before .is-invisible .ensures) ∙ c .if3 .taken)
 
 returns-4 : tie.Need-returns-4
 unfolding oddCode
-returns-4 c = rw (sym (c .before .before .before .before .before .is-quote .ensures) ∙ c .before .before .before .before .if1 .left, sym (c .before .before .before .is-dash .ensures) ∙ c .before .before .if2 .left, sym (c .before .is-invisible .ensures) ∙ c .if3 .left)
+returns-4 c =
+    let is-quote = c .before .before .before .before .before .is-quote in
+    let if1 = c .before .before .before .before .if1 in
+    let is-dash = c .before .before .before .is-dash in
+    rw (sym (is-quote .ensures) ∙ if1 .left, sym (is-dash .ensures) ∙ c .before .before .if2 .left, sym (c .before .is-invisible .ensures) ∙ c .if3 .left)
 
 pub odd-code-spec : {M : Type 1} → statement M
 odd-code-spec =

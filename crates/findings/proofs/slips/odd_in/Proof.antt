@@ -26,7 +26,9 @@ first-odd-requires c κs =
     omega arith
 
 returns : tie.Need-returns
-returns c = c .first-odd .ensures ∙ ap (λ (l : List ℕ). firstOdd (sequences 0 (c .before .before .before .args .start) l)) (c .before .part .ensures)
+returns c =
+    let args = c .before .before .before .args in
+    c .first-odd .ensures ∙ ap (λ (l : List ℕ). firstOdd (sequences 0 (args .start) l)) (c .before .part .ensures)
 
 pub odd-in-spec : {M : Type 1} → statement M
 odd-in-spec = tie.close (tie.spec part-requires first-odd-requires returns)

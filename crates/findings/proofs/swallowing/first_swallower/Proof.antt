@@ -26,7 +26,10 @@ is-swallower-requires : tie.Need-is-swallower-requires Inv-loop μ-loop
 is-swallower-requires c κs = tt
 
 returns : tie.Need-returns Inv-loop μ-loop
-returns c = first-hit (isSwallower (now (c .before .before .before .before .before .before .args .source)) (now (c .before .before .before .before .before .before .args .rows))) _ _ (c .before .before .before .loop .inv .1) (c .before .before .loop-test .taken) (sym (c .before .is-swallower .ensures) ∙ c .if1 .taken)
+returns c =
+    let args = c .before .before .before .before .before .before .args in
+    let loop = c .before .before .before .loop in
+    first-hit (isSwallower (now (args .source)) (now (args .rows))) _ _ (loop .inv .1) (c .before .before .loop-test .taken) (sym (c .before .is-swallower .ensures) ∙ c .if1 .taken)
 
 add-p : tie.Need-add-p Inv-loop μ-loop
 add-p c = omega arith
@@ -35,10 +38,15 @@ loop-less : tie.Need-loop-less Inv-loop μ-loop
 loop-less c = omega arith
 
 loop-again : tie.Need-loop-again Inv-loop μ-loop
-loop-again c = (omega arith, first-miss (isSwallower (now (c .before .before .before .before .before .before .args .source)) (now (c .before .before .before .before .before .before .args .rows))) _ _ (c .before .before .before .loop .inv .1) (c .before .before .loop-test .taken) (sym (c .before .is-swallower .ensures) ∙ c .if1 .left))
+loop-again c =
+    let args = c .before .before .before .before .before .before .args in
+    let loop = c .before .before .before .loop in
+    (omega arith, first-miss (isSwallower (now (args .source)) (now (args .rows))) _ _ (loop .inv .1) (c .before .before .loop-test .taken) (sym (c .before .is-swallower .ensures) ∙ c .if1 .left))
 
 returns-2 : tie.Need-returns-2 Inv-loop μ-loop
-returns-2 c = first-end (isSwallower (now (c .before .before .before .before .args .source)) (now (c .before .before .before .before .args .rows))) _ _ (c .before .loop .inv .1) (c .loop-test .left) (c .before .loop .inv .0)
+returns-2 c =
+    let args = c .before .before .before .before .args in
+    first-end (isSwallower (now (args .source)) (now (args .rows))) _ _ (c .before .loop .inv .1) (c .loop-test .left) (c .before .loop .inv .0)
 
 pub first-swallower-spec : {M : Type 1} → statement M
 first-swallower-spec =

@@ -31,7 +31,11 @@ opens-line-requires : tie.Need-opens-line-requires Inv-loop μ-loop
 opens-line-requires c κs = tt
 
 returns : tie.Need-returns Inv-loop μ-loop
-returns c = sym (swallow-open (now (c .before .before .before .before .before .before .before .args .part)) (c .before .before .before .before .before .loop .i) (c .before .before .before .before .before .loop .fresh) (c .before .before .before .before .loop-test .taken) (c .before .before .if1 .left) (sym (c .before .opens-line .ensures) ∙ c .if2 .taken)) ∙ c .before .before .before .before .before .loop .inv
+returns c =
+    let args = c .before .before .before .before .before .before .before .args in
+    let loop = c .before .before .before .before .before .loop in
+    let loop-test = c .before .before .before .before .loop-test in
+    sym (swallow-open (now (args .part)) (loop .i) (loop .fresh) (loop-test .taken) (c .before .before .if1 .left) (sym (c .before .opens-line .ensures) ∙ c .if2 .taken)) ∙ loop .inv
 
 stays-fresh-requires : tie.Need-stays-fresh-requires Inv-loop μ-loop
 stays-fresh-requires c κs = tt
@@ -44,15 +48,19 @@ loop-less c = omega arith
 
 loop-again : tie.Need-loop-again Inv-loop μ-loop
 loop-again c =
-    let s = now (c .before .before .before .before .before .args .part) in
-    let i = c .before .before .before .loop .i in
+    let args = c .before .before .before .before .before .args in
+    let loop = c .before .before .before .loop in
+    let s = now (args .part) in
+    let i = loop .i in
     ⊎-elim
-    (λ w. ap (λ (b : Bool). swallows b (drop (i + 1) s)) (w .1) ∙ sym (swallow-newline s i (c .before .before .before .loop .fresh) (c .before .before .loop-test .taken) (w .0 .taken)) ∙ c .before .before .before .loop .inv)
-    (λ w. ap (λ (b : Bool). swallows b (drop (i + 1) s)) (w .4 ∙ w .3 .ensures) ∙ sym (swallow-on s i (c .before .before .before .loop .fresh) (c .before .before .loop-test .taken) (w .0 .left) (sym (w .1 .ensures) ∙ w .2 .left)) ∙ c .before .before .before .loop .inv)
+    (λ w. ap (λ (b : Bool). swallows b (drop (i + 1) s)) (w .1) ∙ sym (swallow-newline s i (loop .fresh) (c .before .before .loop-test .taken) (w .0 .taken)) ∙ loop .inv)
+    (λ w. ap (λ (b : Bool). swallows b (drop (i + 1) s)) (w .4 ∙ w .3 .ensures) ∙ sym (swallow-on s i (loop .fresh) (c .before .before .loop-test .taken) (w .0 .left) (sym (w .1 .ensures) ∙ w .2 .left)) ∙ loop .inv)
     (c .if1 .came)
 
 returns-2 : tie.Need-returns-2 Inv-loop μ-loop
-returns-2 c = sym (swallow-end (now (c .before .before .before .args .part)) (c .before .loop .i) (c .before .loop .fresh) (c .loop-test .left)) ∙ c .before .loop .inv
+returns-2 c =
+    let args = c .before .before .before .args in
+    sym (swallow-end (now (args .part)) (c .before .loop .i) (c .before .loop .fresh) (c .loop-test .left)) ∙ c .before .loop .inv
 
 pub has-swallowed-spec : {M : Type 1} → statement M
 has-swallowed-spec =

@@ -26,7 +26,10 @@ byte-at-requires c κs = search needs
 
 returns-2 : tie.Need-returns-2
 unfolding isSwallower
-returns-2 c = rw (← (c .before .before .before .before .before .row-at .ensures), ← (c .before .byte-at .ensures)) (rw (eq-eqb _ _ (c .before .before .before .if1 .left), ne-eqb _ _ (c .if2 .taken)))
+returns-2 c =
+    let row-at = c .before .before .before .before .before .row-at in
+    let if1 = c .before .before .before .if1 in
+    rw (← (row-at .ensures), ← (c .before .byte-at .ensures)) (rw (eq-eqb _ _ (if1 .left), ne-eqb _ _ (c .if2 .taken)))
 
 cast-part : tie.Need-cast-part
 cast-part c = search needs
@@ -42,7 +45,12 @@ has-swallowed-requires c κs = search needs
 
 returns-3 : tie.Need-returns-3
 unfolding isSwallower
-returns-3 c = rw (← (c .before .before .before .before .before .before .before .before .before .row-at .ensures), ← (c .before .before .before .before .before .byte-at .ensures)) (rw (eq-eqb _ _ (c .before .before .before .before .before .before .before .if1 .left), eq-eqb _ _ (c .before .before .before .before .if2 .left), ← (c .before .part .ensures)) (c .has-swallowed .ensures))
+returns-3 c =
+    let row-at = c .before .before .before .before .before .before .before .before .before .row-at in
+    let if1 = c .before .before .before .before .before .before .before .if1 in
+    let byte-at = c .before .before .before .before .before .byte-at in
+    let if2 = c .before .before .before .before .if2 in
+    rw (← (row-at .ensures), ← (byte-at .ensures)) (rw (eq-eqb _ _ (if1 .left), eq-eqb _ _ (if2 .left), ← (c .before .part .ensures)) (c .has-swallowed .ensures))
 
 pub is-swallower-spec : {M : Type 1} → statement M
 is-swallower-spec =

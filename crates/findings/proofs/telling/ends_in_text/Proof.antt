@@ -24,7 +24,9 @@ byte-at-requires c κs = search needs
 
 returns-2 : tie.Need-returns-2
 unfolding endsInText
-returns-2 c = rw (← (c .before .before .before .before .last-row .ensures), ← (c .byte-at .ensures)) (rw (eq-eqb _ _ (c .before .before .if1 .left)))
+returns-2 c =
+    let last-row = c .before .before .before .before .last-row in
+    rw (← (last-row .ensures), ← (c .byte-at .ensures)) (rw (eq-eqb _ _ (c .before .before .if1 .left)))
 
 pub ends-in-text-spec : {M : Type 1} → statement M
 ends-in-text-spec =

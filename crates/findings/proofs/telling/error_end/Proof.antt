@@ -27,11 +27,16 @@ bytes-on-requires-3 c κs = search needs
 
 returns-3 : tie.Need-returns-3
 unfolding errorEnd
-returns-3 c = rw (ne-eqb _ _ (c .before .before .before .before .before .if1 .left), ne-eqb _ _ (c .before .before .before .if2 .left), eq-eqb _ _ (c .before .if3 .taken)) (c .bytes-on3 .ensures)
+returns-3 c =
+    let if1 = c .before .before .before .before .before .if1 in
+    let if2 = c .before .before .before .if2 in
+    rw (ne-eqb _ _ (if1 .left), ne-eqb _ _ (if2 .left), eq-eqb _ _ (c .before .if3 .taken)) (c .bytes-on3 .ensures)
 
 returns-4 : tie.Need-returns-4
 unfolding errorEnd
-returns-4 c = rw (ne-eqb _ _ (c .before .before .before .before .if1 .left), ne-eqb _ _ (c .before .before .if2 .left), ne-eqb _ _ (c .if3 .left))
+returns-4 c =
+    let if1 = c .before .before .before .before .if1 in
+    rw (ne-eqb _ _ (if1 .left), ne-eqb _ _ (c .before .before .if2 .left), ne-eqb _ _ (c .if3 .left))
 
 pub error-end-spec : {M : Type 1} → statement M
 error-end-spec =

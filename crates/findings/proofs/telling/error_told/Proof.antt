@@ -25,7 +25,9 @@ error-of-requires c κs = search needs
 
 returns-2 : tie.Need-returns-2
 unfolding errorTold
-returns-2 c = rw (sym (c .before .before .before .is-left-quote .ensures) ∙ c .before .before .if1 .left) (c .error-of .ensures ∙ ap errorOf (c .before .row-at .ensures))
+returns-2 c =
+    let is-left-quote = c .before .before .before .is-left-quote in
+    rw (sym (is-left-quote .ensures) ∙ c .before .before .if1 .left) (c .error-of .ensures ∙ ap errorOf (c .before .row-at .ensures))
 
 pub error-told-spec : {M : Type 1} → statement M
 error-told-spec =

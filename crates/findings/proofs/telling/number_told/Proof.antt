@@ -32,11 +32,16 @@ warn-requires c κs = search needs
 
 returns : tie.Need-returns
 unfolding numberTold endsOtherwise
-returns c = rw (← (c .before .before .before .before .before .row-at .ensures), ← (c .before .before .before .byte-at .ensures)) (rw (sym (c .before .before .ends-in-report .ensures) ∙ c .before .if1 .taken) (c .warn .ensures))
+returns c =
+    let row-at = c .before .before .before .before .before .row-at in
+    let byte-at = c .before .before .before .byte-at in
+    rw (← (row-at .ensures), ← (byte-at .ensures)) (rw (sym (c .before .before .ends-in-report .ensures) ∙ c .before .if1 .taken) (c .warn .ensures))
 
 returns-2 : tie.Need-returns-2
 unfolding numberTold endsOtherwise
-returns-2 c = rw (← (c .before .before .before .before .row-at .ensures), ← (c .before .before .byte-at .ensures)) (rw (sym (c .before .ends-in-report .ensures) ∙ c .if1 .left))
+returns-2 c =
+    let row-at = c .before .before .before .before .row-at in
+    rw (← (row-at .ensures), ← (c .before .before .byte-at .ensures)) (rw (sym (c .before .ends-in-report .ensures) ∙ c .if1 .left))
 
 pub number-told-spec : {M : Type 1} → statement M
 number-told-spec =

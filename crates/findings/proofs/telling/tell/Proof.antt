@@ -43,32 +43,48 @@ list-told-requires c κs = tt
 
 lay-requires : tie.Need-lay-requires Inv-loop μ-loop
 lay-requires c κs =
-    let g = c .before .before .before .loop .inv in
+    let loop = c .before .before .before .loop in
+    let g = loop .inv in
     (omega (arith, g .few, g .held .found, c .before .before .loop-test .taken, c .before .before .before .before .before .before .before .before .before .before .good .1 .0 .1), held-errors (g .held))
 
 row-told-requires : tie.Need-row-told-requires Inv-loop μ-loop
-row-told-requires c κs = c .before .before .before .before .before .before .loop-test .taken
+row-told-requires c κs =
+    let loop-test = c .before .before .before .before .before .before .loop-test in
+    loop-test .taken
 
 lay-requires-2 : tie.Need-lay-requires-2 Inv-loop μ-loop
 lay-requires-2 c κs =
-    let g = c .before .before .before .before .before .before .before .before .loop .inv in
-    let t = c .before .before .before .before .before .list-told .result in
-    let h = held-more (g .held) (listed t) (c .before .before .before .before .lay .ensures) in
-    (omega (arith, g .few, h .found, length-append (g .done) (listed t), listed-few t, c .before .before .before .before .before .before .before .loop-test .taken, c .before .before .before .before .before .before .before .before .before .before .before .before .before .before .before .good .1 .0 .1), held-errors h)
+    let loop = c .before .before .before .before .before .before .before .before .loop in
+    let loop-test = c .before .before .before .before .before .before .before .loop-test in
+    let list-told = c .before .before .before .before .before .list-told in
+    let lay = c .before .before .before .before .lay in
+    let g = loop .inv in
+    let t = list-told .result in
+    let h = held-more (g .held) (listed t) (lay .ensures) in
+    (omega (arith, g .few, h .found, length-append (g .done) (listed t), listed-few t, loop-test .taken, c .before .before .before .before .before .before .before .before .before .before .before .before .before .before .before .good .1 .0 .1), held-errors h)
 
 add-p : tie.Need-add-p Inv-loop μ-loop
-add-p c = omega (arith, c .before .before .before .before .before .before .before .before .before .before .loop-test .taken, c .before .before .before .before .before .before .before .before .before .before .before .before .before .before .before .before .before .before .good .1 .0 .0)
+add-p c =
+    let loop-test = c .before .before .before .before .before .before .before .before .before .before .loop-test in
+    omega (arith, loop-test .taken, c .before .before .before .before .before .before .before .before .before .before .before .before .before .before .before .before .before .before .good .1 .0 .0)
 
 loop-less : tie.Need-loop-less Inv-loop μ-loop
-loop-less c = omega (arith, c .before .before .before .before .before .before .before .before .before .before .loop-test .taken)
+loop-less c =
+    let loop-test = c .before .before .before .before .before .before .before .before .before .before .loop-test in
+    omega (arith, loop-test .taken)
 
 loop-again : tie.Need-loop-again Inv-loop μ-loop
 loop-again c =
-    let g = c .before .before .before .before .before .before .before .before .before .before .before .loop .inv in
-    let t = c .before .before .before .before .before .before .before .before .list-told .result in
-    let u = c .before .before .before .row-told .result in
-    rows-turn _ _ _ g t u (c .before .before .before .before .before .before .before .before .before .before .loop-test .taken) (rw (c .before .before .before .before .before .before .before .before .list-told .ensures, c .before .before .before .row-told .ensures))
-    (held-more (held-more (g .held) (listed t) (c .before .before .before .before .before .before .before .lay .ensures)) (listed u) (c .before .before .lay2 .ensures))
+    let loop = c .before .before .before .before .before .before .before .before .before .before .before .loop in
+    let loop-test = c .before .before .before .before .before .before .before .before .before .before .loop-test in
+    let list-told = c .before .before .before .before .before .before .before .before .list-told in
+    let lay = c .before .before .before .before .before .before .before .lay in
+    let row-told = c .before .before .before .row-told in
+    let g = loop .inv in
+    let t = list-told .result in
+    let u = row-told .result in
+    rows-turn _ _ _ g t u (loop-test .taken) (rw (list-told .ensures, row-told .ensures))
+    (held-more (held-more (g .held) (listed t) (lay .ensures)) (listed u) (c .before .before .lay2 .ensures))
 
 same-length : tie.Need-same-length Inv-loop μ-loop
 same-length c = ap length (c .before .loop .inv .held .lies) ∙ laid-length _ _
@@ -76,8 +92,10 @@ same-length c = ap length (c .before .loop .inv .held .lies) ∙ laid-length _ _
 returns : tie.Need-returns Inv-loop μ-loop
 unfolding toldOf
 returns c =
+    let list-of = c .before .before .before .before .list-of in
+    let first-swallower = c .before .before .before .first-swallower in
     rows-end _ _ _ (c .before .loop .inv) (c .loop-test .left)
-    ∙ rw (c .before .before .before .before .list-of .ensures, c .before .before .is-left-over .ensures, c .before .before .before .first-swallower .ensures)
+    ∙ rw (list-of .ensures, c .before .before .is-left-over .ensures, first-swallower .ensures)
 
 pub tell-spec : {M : Type 1} → statement M
 tell-spec =

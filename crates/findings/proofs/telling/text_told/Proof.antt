@@ -21,7 +21,9 @@ swallow-told-requires c κs = search needs
 
 returns : tie.Need-returns
 unfolding textTold
-returns c = rw (eq-eqb _ _ (c .before .before .before .if1 .taken), ← (c .before .before .row-at .ensures), ← (c .before .last-row .ensures)) (c .swallow-told .ensures)
+returns c =
+    let if1 = c .before .before .before .if1 in
+    rw (eq-eqb _ _ (if1 .taken), ← (c .before .before .row-at .ensures), ← (c .before .last-row .ensures)) (c .swallow-told .ensures)
 
 returns-2 : tie.Need-returns-2
 unfolding textTold
