@@ -721,9 +721,13 @@ uint32_t mihadrena_nest(const uint32_t *records, size_t records_length, uint32_t
 
 /* What a foreman can act on in a plan: its errors, and what reads well but is hardly meant. docs/FINDINGS.md has every code. */
 
-/* How bad a finding is. */
+/* How bad a finding is. mihadrena_find gives the first two; mihadrena_render also takes a warning that counts as an error. */
 #define MIHADRENA_WARNING 1
 #define MIHADRENA_ERROR 2
+#define MIHADRENA_WARNING_AS_ERROR 3
+
+/* The code of the warning that terminals which read in plain mode read otherwise: W07. */
+#define MIHADRENA_PLAIN_OTHERWISE 7
 
 /* A finding. Places are in bytes of the source. */
 typedef struct mihadrena_finding {
@@ -763,6 +767,30 @@ MIHADRENA_ASSERT(sizeof(mihadrena_finding) == 4 * MIHADRENA_FINDING_WORDS, "a fi
  */
 uint32_t mihadrena_find(const uint8_t *source, size_t source_length, uint32_t *records, size_t records_length, uint32_t *findings,
                         size_t findings_length, uint64_t *values, size_t values_length);
+
+/* How a finding is rendered: with a picture and help; the headline, and the note at the second place, alone; as one object of JSON. */
+#define MIHADRENA_STYLE_FULL 0
+#define MIHADRENA_STYLE_BRIEF 1
+#define MIHADRENA_STYLE_JSON 2
+
+/* Renders a finding of the text `source`, which goes by the name `name`: its bytes are written from the front of `out` on, as many as fit, and
+ * the answer is how many there are, so that a caller who lent too little lends that much and calls again. All memory behind them stays as it
+ * was. `colour` puts a terminal's escape sequences around the severity and the carets, in no JSON. A finding that mihadrena_find does not give
+ * and a style that is not there have 0 bytes. Line and column count as mihadrena_locate counts them, and any bytes have them.
+ *
+ *     const uint32_t finding[] = {MIHADRENA_WARNING, 2, 0, 3, 8, 0, 0};
+ *     uint8_t out[80];
+ *     size_t needed = mihadrena_render(finding, 7, (const uint8_t *)"(a 14.7m", 8, (const uint8_t *)"a.scm", 5, MIHADRENA_STYLE_BRIEF, false,
+ *                                      out, sizeof out);
+ *     // needed == 74: a.scm:1:4: warning: this begins like a number and is read as a name [W02]
+ */
+size_t mihadrena_render(const uint32_t *finding, size_t finding_length, const uint8_t *source, size_t source_length,
+                        const uint8_t *name, size_t name_length, uint32_t style, bool colour, uint8_t *out, size_t out_length);
+
+/* Renders the last lines of a file in the same way: how many findings were not told, if fewer were told than there are, and `NAME: ok` or how
+ * many errors and warnings there are. In JSON there are none. */
+size_t mihadrena_summary(const uint8_t *name, size_t name_length, size_t findings, size_t errors, size_t told, uint32_t style,
+                         uint8_t *out, size_t out_length);
 
 /* -- Item files ------------------------------------------------------------------------------------------------------------ */
 

@@ -51,6 +51,7 @@ mod pieces;
 #[allow(missing_docs, clippy::unreadable_literal)]
 pub mod raw;
 mod reader;
+mod render;
 mod write;
 
 pub use coordinate::{coordinate, record_coordinate, NoCoordinate};
@@ -68,4 +69,5 @@ pub use number_by::{number_by, NumberReader};
 pub use pieces::PieceReader;
 pub use raw::Record;
 pub use reader::Reader;
+pub use render::{render, summary, Style};
 pub use write::{write, NotWritten};

@@ -334,9 +334,18 @@ pub const FINDING_WORDS: usize = 7;
 /// How many values `mihadrena_find` writes.
 pub const FIND_VALUES: usize = 2;
 
-// How bad a finding is.
+// How bad a finding is; the last is a warning that counts as an error, for `mihadrena_render` alone.
 pub const WARNING: u32 = 1;
 pub const ERROR: u32 = 2;
+pub const WARNING_AS_ERROR: u32 = 3;
+
+/// The code of W07.
+pub const PLAIN_OTHERWISE: u32 = 7;
+
+// How a finding is rendered.
+pub const STYLE_FULL: u32 = 0;
+pub const STYLE_BRIEF: u32 = 1;
+pub const STYLE_JSON: u32 = 2;
 
 /// A finding. Places are in bytes of the source.
 #[repr(C)]
@@ -483,6 +492,28 @@ extern "C" {
         values: *mut u64,
         values_length: usize,
     ) -> u32;
+    pub fn mihadrena_render(
+        finding: *const u32,
+        finding_length: usize,
+        source: *const u8,
+        source_length: usize,
+        name: *const u8,
+        name_length: usize,
+        style: u32,
+        colour: bool,
+        out: *mut u8,
+        out_length: usize,
+    ) -> usize;
+    pub fn mihadrena_summary(
+        name: *const u8,
+        name_length: usize,
+        findings: usize,
+        errors: usize,
+        told: usize,
+        style: u32,
+        out: *mut u8,
+        out_length: usize,
+    ) -> usize;
     pub fn mihadrena_write(
         records: *const u32,
         records_length: usize,
