@@ -1,6 +1,7 @@
-# Installs the headers, the archive for a machine, and what pkg-config and CMake find them by; from the repository, once `.ci/archive` made the
-# archive, or from the folder that dist/make makes, where it lies already.
+# Installs the headers, the archive for a machine, what pkg-config and CMake find them by, and plancheck with its manual page; from the
+# repository, once `.ci/archive` made the archive, or from the folder that dist/make makes, where it lies already.
 #
+#     make plancheck                                      target/plancheck, by the C compiler CC
 #     make install PREFIX=/usr/local [TARGET=x86_64-linux-gnu|aarch64-linux-gnu] [DESTDIR=]
 PREFIX = /usr/local
 TARGET = $(shell uname -m)-linux-gnu
@@ -16,9 +17,16 @@ version = $(call part,MAJOR).$(call part,MINOR).$(call part,PATCH)
 filled = sed -e 's|@PREFIX@|$(PREFIX)|g' -e 's|@VERSION@|$(version)|g'
 to = $(DESTDIR)$(PREFIX)
 
-.PHONY: install version
-install:
+.PHONY: install plancheck version
+plancheck:
 	@test -n "$(archive)" || { echo "no archive for $(TARGET): .ci/archive makes it" >&2; exit 1; }
+	mkdir -p target
+	$(CC) -std=c99 -O2 -Iinclude plancheck/plancheck.c $(archive) -o target/plancheck
+
+install: plancheck
+	mkdir -p $(to)/bin $(to)/share/man/man1
+	cp target/plancheck $(to)/bin/
+	cp plancheck/plancheck.1 $(to)/share/man/man1/
 	mkdir -p $(to)/include $(to)/lib/pkgconfig $(to)/lib/cmake/mihadrena $(to)/share/doc/mihadrena
 	cp include/mihadrena.h include/mihadrena_plan.h $(to)/include/
 	cp $(archive) $(to)/lib/

@@ -773,6 +773,81 @@ size_t mihadrena_opener(const uint32_t *records, size_t records_length, size_t a
  */
 bool mihadrena_records_fit(const uint32_t *records, size_t records_length, size_t source_length, size_t text_length);
 
+/* -- Findings ------------------------------------------------------------------------------------------------------------- */
+
+/* What a foreman can act on in a plan: its errors, and what reads well but is hardly meant. docs/FINDINGS.md has every code. */
+
+/* How bad a finding is. mihadrena_find gives the first two; mihadrena_render also takes a warning that counts as an error. */
+#define MIHADRENA_WARNING 1
+#define MIHADRENA_ERROR 2
+#define MIHADRENA_WARNING_AS_ERROR 3
+
+/* The code of the warning that terminals which read in plain mode read otherwise: W07. */
+#define MIHADRENA_PLAIN_OTHERWISE 7
+
+/* A finding. Places are in bytes of the source. */
+typedef struct mihadrena_finding {
+    uint32_t severity;   /* MIHADRENA_WARNING or MIHADRENA_ERROR */
+    uint32_t code;       /* the number behind W or E: 1 to 13 of an error item, 20 and 21 of a text, 40 to 44 of nested lists; W 1 to 7 */
+    uint32_t detail;     /* what the message needs beside: a character, the bad byte, a length, a count; else 0 */
+    uint32_t start;      /* the place */
+    uint32_t end;
+    uint32_t also_start; /* the second place: an opening bracket, a quote that is left over; 0 and 0 where there is none */
+    uint32_t also_end;
+} mihadrena_finding;
+
+/* How many words a finding has. */
+#define MIHADRENA_FINDING_WORDS 7
+
+MIHADRENA_ASSERT(sizeof(mihadrena_finding) == 4 * MIHADRENA_FINDING_WORDS, "a finding is MIHADRENA_FINDING_WORDS words");
+
+/* How many values mihadrena_find writes. */
+#define MIHADRENA_FIND_VALUES 2
+
+/* Finds what there is to find in a plan, in report mode: findings go to `findings`, MIHADRENA_FINDING_WORDS words each, from the front on,
+ * in the order of their rows, as many whole ones as fit. There is no error among them exactly if the plan is within the limit and UTF-8, has
+ * no error item in report mode and its records form data.
+ *
+ * `records` is working memory: it holds the plan's rows, ten words each (MIHADRENA_RECORD_WORDS).
+ *
+ * MIHADRENA_SERVED: values[0] is how many findings there are, be they written or not, and values[1] how many of them are errors. A text that
+ * is too long (20) or not UTF-8 (21) has one finding that says so, and is served. MIHADRENA_TOO_FEW: `records` is too short; values[0] is how
+ * many records are needed, values[1] is 0, and `findings` stays as it was. With no room for both values none is written.
+ *
+ *     uint32_t records[7 * MIHADRENA_RECORD_WORDS];
+ *     mihadrena_finding findings[1];
+ *     uint64_t values[MIHADRENA_FIND_VALUES];
+ *     uint32_t answer = mihadrena_find((const uint8_t *)"(a 14.7m", 8, records, 7 * MIHADRENA_RECORD_WORDS, (uint32_t *)findings,
+ *                                      MIHADRENA_FINDING_WORDS, values, MIHADRENA_FIND_VALUES);
+ *     // answer == MIHADRENA_SERVED, values[0] == 2, values[1] == 1, findings[0] is { MIHADRENA_ERROR, 40, 1, 0, 1, 0, 0 }
+ */
+uint32_t mihadrena_find(const uint8_t *source, size_t source_length, uint32_t *records, size_t records_length, uint32_t *findings,
+                        size_t findings_length, uint64_t *values, size_t values_length);
+
+/* How a finding is rendered: with a picture and help; the headline, and the note at the second place, alone; as one object of JSON. */
+#define MIHADRENA_STYLE_FULL 0
+#define MIHADRENA_STYLE_BRIEF 1
+#define MIHADRENA_STYLE_JSON 2
+
+/* Renders a finding of the text `source`, which goes by the name `name`: its bytes are written from the front of `out` on, as many as fit, and
+ * the answer is how many there are, so that a caller who lent too little lends that much and calls again. All memory behind them stays as it
+ * was. `colour` puts a terminal's escape sequences around the severity and the carets, in no JSON. A finding that mihadrena_find does not give
+ * and a style that is not there have 0 bytes. Line and column count as mihadrena_locate counts them, and any bytes have them.
+ *
+ *     const uint32_t finding[] = {MIHADRENA_WARNING, 2, 0, 3, 8, 0, 0};
+ *     uint8_t out[80];
+ *     size_t needed = mihadrena_render(finding, 7, (const uint8_t *)"(a 14.7m", 8, (const uint8_t *)"a.scm", 5, MIHADRENA_STYLE_BRIEF, false,
+ *                                      out, sizeof out);
+ *     // needed == 74: a.scm:1:4: warning: this begins like a number and is read as a name [W02]
+ */
+size_t mihadrena_render(const uint32_t *finding, size_t finding_length, const uint8_t *source, size_t source_length,
+                        const uint8_t *name, size_t name_length, uint32_t style, bool colour, uint8_t *out, size_t out_length);
+
+/* Renders the last lines of a file in the same way: how many findings were not told, if fewer were told than there are, and `NAME: ok` or how
+ * many errors and warnings there are. In JSON there are none. */
+size_t mihadrena_summary(const uint8_t *name, size_t name_length, size_t findings, size_t errors, size_t told, uint32_t style,
+                         uint8_t *out, size_t out_length);
+
 /* -- Item files ------------------------------------------------------------------------------------------------------------ */
 
 /* Records as a file: ten numbers an item, each in groups of seven bits, so that a stored plan takes about a quarter of its records' bytes

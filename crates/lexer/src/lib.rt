@@ -16,6 +16,7 @@ mod whole;
 pub use opening::open;
 pub use opening::start as begin;
 pub use reader::next_at;
+pub use reading::next_item;
 pub use text::text_and_mark;
 pub use text::text_mark;
 pub use text::text_of;

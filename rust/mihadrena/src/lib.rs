@@ -5,8 +5,9 @@
 //! call, [`Fields`] many short texts in one call, [`PieceReader`] a text that comes in pieces, [`number`] and [`number_by`] take a number
 //! apart, [`value`] and [`coordinate`] make a float of one, [`nest`] makes nested lists of items, [`write()`] writes items back,
 //! [`LineIndex`] and [`LinePieces`] tell line and column, [`Names`] numbers names for two parties, [`write_items`] and [`read_items`] store
-//! records as item files, and [`opener`] and [`records_fit`] answer questions about records. A new program reads in report mode
-//! ([`Options::report`]); plain mode is there to read as Steel does. The example `terminal` is a program to start from.
+//! records as item files, [`opener`] and [`records_fit`] answer questions about records, and [`find()`] tells what a foreman can act on and
+//! [`render`] how it reads. A new program reads in report mode ([`Options::report`]); plain mode is there to read as Steel does. The
+//! example `terminal` is a program to start from.
 //!
 //! It allocates nothing and depends on nothing but the archive that `.ci/archive` writes; `build.rs` looks for it in the repository's target
 //! folder, or in the folder that the environment variable `MIHADRENA_ARCHIVE` names. Only linking needs it. There are archives for x86-64
@@ -48,6 +49,7 @@ mod coordinate;
 mod error;
 mod fields;
 mod files;
+mod find;
 mod items;
 mod kind;
 mod lines;
@@ -62,12 +64,14 @@ mod plan;
 pub mod raw;
 mod reader;
 mod records;
+mod render;
 mod write;
 
 pub use coordinate::{coordinate, record_coordinate, record_value, value, NoCoordinate};
 pub use error::{Error, HexError, Refusal};
 pub use fields::{Fields, NoFields};
 pub use files::{read_items, write_items, FileRefusal};
+pub use find::{find, FewRecords, Finding, Findings, Severity};
 pub use items::{needed, Item, Items, Mode, Needed, Options};
 pub use kind::{Kind, Paren, ParenMod};
 pub use lines::{LineIndex, LinePieces, LineRefusal, Position};
@@ -82,6 +86,7 @@ pub use plan::{Found, Plan};
 pub use raw::{Node as NodeRecord, Record, Row};
 pub use reader::Reader;
 pub use records::{opener, records_fit};
+pub use render::{render, summary, Style};
 pub use write::{write, NotWritten};
 
 /// The version of the archive that is linked: major times 65536, minor times 256, patch.

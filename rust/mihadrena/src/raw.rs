@@ -328,12 +328,50 @@ pub const CONTRACTOR: u32 = 1;
 pub const PLANNERS_FIRST: u32 = 0;
 pub const CONTRACTORS_FIRST: u32 = 512;
 
+/// How many words a finding has.
+pub const FINDING_WORDS: usize = 7;
+
+/// How many values `mihadrena_find` writes.
+pub const FIND_VALUES: usize = 2;
+
+// How bad a finding is; the last is a warning that counts as an error, for `mihadrena_render` alone.
+pub const WARNING: u32 = 1;
+pub const ERROR: u32 = 2;
+pub const WARNING_AS_ERROR: u32 = 3;
+
+/// The code of W07.
+pub const PLAIN_OTHERWISE: u32 = 7;
+
+// How a finding is rendered.
+pub const STYLE_FULL: u32 = 0;
+pub const STYLE_BRIEF: u32 = 1;
+pub const STYLE_JSON: u32 = 2;
+
+/// A finding. Places are in bytes of the source.
+#[repr(C)]
+#[derive(Clone, Copy, Debug, Default, PartialEq, Eq, Hash)]
+pub struct Finding {
+    /// `WARNING` or `ERROR`.
+    pub severity: u32,
+    /// The number behind W or E.
+    pub code: u32,
+    /// What the message needs beside: a character, the bad byte, a length, a count; else 0.
+    pub detail: u32,
+    /// The place.
+    pub start: u32,
+    pub end: u32,
+    /// The second place; 0 and 0 where there is none.
+    pub also_start: u32,
+    pub also_end: u32,
+}
+
 const _: () = assert!(size_of::<Record>() == RECORD_WORDS * size_of::<u32>());
 const _: () = assert!(size_of::<Row>() == ROW_WORDS * size_of::<u32>());
 const _: () = assert!(size_of::<State>() == STATE_SIZE && align_of::<State>() == STATE_ALIGN);
 const _: () = assert!(size_of::<Told>() == PIECE_VALUES * size_of::<u64>());
 const _: () = assert!(size_of::<Parts>() == NUMBER_WORDS * size_of::<u64>());
 const _: () = assert!(size_of::<Node>() == NODE_WORDS * size_of::<u32>());
+const _: () = assert!(size_of::<Finding>() == FINDING_WORDS * size_of::<u32>());
 
 extern "C" {
     pub fn mihadrena_read(
@@ -453,6 +491,38 @@ extern "C" {
         text_length: usize,
     ) -> bool;
     pub fn mihadrena_version() -> u32;
+    pub fn mihadrena_find(
+        source: *const u8,
+        source_length: usize,
+        records: *mut u32,
+        records_length: usize,
+        findings: *mut u32,
+        findings_length: usize,
+        values: *mut u64,
+        values_length: usize,
+    ) -> u32;
+    pub fn mihadrena_render(
+        finding: *const u32,
+        finding_length: usize,
+        source: *const u8,
+        source_length: usize,
+        name: *const u8,
+        name_length: usize,
+        style: u32,
+        colour: bool,
+        out: *mut u8,
+        out_length: usize,
+    ) -> usize;
+    pub fn mihadrena_summary(
+        name: *const u8,
+        name_length: usize,
+        findings: usize,
+        errors: usize,
+        told: usize,
+        style: u32,
+        out: *mut u8,
+        out_length: usize,
+    ) -> usize;
     pub fn mihadrena_write(
         records: *const u32,
         records_length: usize,

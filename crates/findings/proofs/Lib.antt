@@ -1,0 +1,7 @@
+pub mod LineStarts
+pub mod Searches
+pub mod MisfitPass
+pub mod OddNames
+pub mod Swallows
+pub mod AllTold
+pub mod Calls

@@ -1,0 +1,10 @@
+pub mod Finding
+pub mod Rows
+pub mod Lines
+pub mod Lists
+pub mod Misfits
+pub mod Slips
+pub mod Told
+pub mod Laid
+pub mod Find
+pub mod Examples

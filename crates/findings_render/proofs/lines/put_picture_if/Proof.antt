@@ -1,0 +1,22 @@
+-- By the test.
+use Rattle.findings_render.proofs.OneByOne.{nothing}
+use borrow.Author.Needs.{needs}
+use Rattle.findings_render.proofs.lines.put_picture_if.Statement.{statement}
+use Rattle.findings_render.proofs.lines.put_picture_if.Tie as tie
+
+put-picture-requires : tie.Need-put-picture-requires
+put-picture-requires c κs = search needs
+
+same-length : tie.Need-same-length
+same-length c = search needs
+
+returns : tie.Need-returns
+returns c =
+    let branch = c .before .before .before .before in
+    rw (branch .if1 .taken) (c .before .before .put-picture .ensures)
+
+returns-2 : tie.Need-returns-2
+returns-2 c = rw (c .if1 .left) nothing
+
+pub put-picture-if-spec : {M : Type 1} → statement M
+put-picture-if-spec = tie.close (tie.spec put-picture-requires same-length returns returns-2)

@@ -1,0 +1,9 @@
+pub mod Laid
+pub mod Printed
+pub mod Shown
+pub mod Spots
+pub mod Messages
+pub mod Rendered
+pub mod Summed
+pub mod Json
+pub mod Called

@@ -1,0 +1,4 @@
+pub mod Laid
+pub mod Escapes
+pub mod Mends
+pub mod Lays

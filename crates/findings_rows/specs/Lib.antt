@@ -1,0 +1,5 @@
+pub mod Laid
+pub mod Mended
+pub mod Rows
+pub mod Inner
+pub mod Examples

@@ -1,0 +1,10 @@
+pub mod Unmended
+pub mod Sorts
+pub mod Layouts
+pub mod Turns
+pub mod Words
+pub mod Numbers
+pub mod Clean
+pub mod Exactly
+pub mod Records
+pub mod CleanExactly
