@@ -8,3 +8,4 @@ pub mod Clean
 pub mod Exactly
 pub mod Records
 pub mod CleanExactly
+pub mod Order
