@@ -9,3 +9,5 @@ pub mod Exactly
 pub mod Records
 pub mod CleanExactly
 pub mod Order
+pub mod Within
+pub mod Placed

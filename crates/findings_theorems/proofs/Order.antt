@@ -100,7 +100,7 @@ pair-extent report last s o i =
 
 pub record Went (s : List ℕ) (p : Spot) (i : Item) (q : Spot) : Type 0 where
   pub ahead : p .at ≤ i .start
-  pub after : (q .at ≡ i .end) ⊎ ((j : Item) × ((u : Spot) × ((turn s q ≡ gives j u) × (j .start ≡ i .start) × (j .kind ≡ kind.Identifier))))
+  pub after : (q .at ≡ i .end) ⊎ ((j : Item) × ((u : Spot) × ((turn s q ≡ gives j u) × (j .start ≡ i .start) × (j .kind ≡ kind.Identifier) × (i .kind ≡ kind.Identifier))))
 
 module _ (s : List ℕ) (p : Spot) (c a n : ℕ) (S : Started s (p .at) (chars (drop (p .at) s)) c a n) where
   abbrev it : Read
@@ -129,7 +129,7 @@ module _ (s : List ℕ) (p : Spot) (c a n : ℕ) (S : Started s (p .at) (chars (
       (λ x f g. same x gone (sym g ∙ e) (record { ahead = omega (arith, S .ahead, subst (Every Ends) f all-end .0 .0); after = inl (sym (subst (Every Ends) f all-end .0 .1)) }))
       (λ x y f b g. same x stay (sym g ∙ e) (record {
         ahead = omega (arith, S .ahead, subst (Every Ends) f all-end .0 .0);
-        after = inr (y, (gone, (second x y f, (subst (Every Ends) f all-end .1 .0 .0 ∙ sym (subst (Every Ends) f all-end .0 .0)), subst (λ (l : List Item). Pair (itemKinds l)) f names .1)));
+        after = inr (y, (gone, (second x y f, (subst (Every Ends) f all-end .1 .0 .0 ∙ sym (subst (Every Ends) f all-end .0 .0)), subst (λ (l : List Item). Pair (itemKinds l)) f names .1, subst (λ (l : List Item). Pair (itemKinds l)) f names .0)));
       }))
       (λ x y f b g. same y gone (sym g ∙ e) (record { ahead = omega (arith, S .ahead, subst (Every Ends) f all-end .1 .0 .0); after = inl (sym (subst (Every Ends) f all-end .1 .0 .1)) }))
     where
@@ -156,6 +156,7 @@ module _ (s : List ℕ) where
     pub from : Spot
     pub behind : p .at ≤ from .at
     pub skips-too : from .skip ≡ p .skip
+    pub reports-too : from .report ≡ p .report
     pub gave : turn s from ≡ gives i q
 
   next-came : (n : ℕ) (p : Spot) (i : Item) (q : Spot) → nextFrom n s p ≡ gives i q → Came p i q
@@ -168,10 +169,10 @@ module _ (s : List ℕ) where
       go (gives x t) f rec = by-bool (p .skip && eqb (x .kind) kind.Comment)
           (λ b. let m : Moved s p x t = turn-moved s p x t f in
           let k : Came t i q = rec t (rw (f, b) at e) in
-          record { from = k .from; behind = omega (arith, k .behind, m .memory); skips-too = k .skips-too ∙ m .skip; gave = k .gave })
-          (λ b. let z : gives x t ≡ gives i q = rw (f, b) at e in record { from = p; behind = omega arith; skips-too = refl; gave = f ∙ z })
+          record { from = k .from; behind = omega (arith, k .behind, m .memory); skips-too = k .skips-too ∙ m .skip; reports-too = k .reports-too ∙ m .report; gave = k .gave })
+          (λ b. let z : gives x t ≡ gives i q = rw (f, b) at e in record { from = p; behind = omega arith; skips-too = refl; reports-too = refl; gave = f ∙ z })
 
-  came : (p : Spot) (i : Item) (q : Spot) → nextAt s p ≡ gives i q → Came p i q
+  pub came : (p : Spot) (i : Item) (q : Spot) → nextAt s p ≡ gives i q → Came p i q
   unfolding nextAt
   came p i q e = next-came (suc (sizeOf s p)) p i q e
 
@@ -200,7 +201,7 @@ module _ (s : List ℕ) where
 
   -- behind the extent of the one before; or the second of two names with one extent
   abbrev pub Next : Item → Item → Type 0
-  Next i j = (i .end ≤ j .start) ⊎ ((j .start ≡ i .start) × (j .kind ≡ kind.Identifier))
+  Next i j = (i .end ≤ j .start) ⊎ ((j .start ≡ i .start) × (j .kind ≡ kind.Identifier) × (i .kind ≡ kind.Identifier))
 
   abbrev pub Chained : (Item → Type 0) → List Item → Type 0
   Chained P [] = Unit {0}
@@ -215,12 +216,12 @@ module _ (s : List ℕ) where
   behind-next i q e = given-then (Ahead q) (Next i) (λ j h. inl (omega arith)) (mendedAt s q) (mended-ahead q)
 
   -- the second name comes at once
-  second-next : (i : Item) (q : Spot) (j : Item) (u : Spot) → turn s q ≡ gives j u → j .start ≡ i .start → j .kind ≡ kind.Identifier → Given (Next i) (mendedAt s q)
+  second-next : (i : Item) (q : Spot) (j : Item) (u : Spot) → turn s q ≡ gives j u → j .start ≡ i .start → j .kind ≡ kind.Identifier → i .kind ≡ kind.Identifier → Given (Next i) (mendedAt s q)
   unfolding mendedAt
-  second-next i q j u e h k =
+  second-next i q j u e h k g =
       let kept : (q .skip && eqb (j .kind) kind.Comment) ≡ false = ap (λ (n : ℕ). q .skip && eqb n kind.Comment) k ∙ and-no (q .skip) in
       let fine : slips s (j .kind) (j .start) ≡ false = fine-unslipped s j (omega arith) in
-      subst (Given (Next i)) (sym (ap (mendTurn s) (next-at-gives s q u j e kept) ∙ mend-fine s j u fine)) (inr (h, k))
+      subst (Given (Next i)) (sym (ap (mendTurn s) (next-at-gives s q u j e kept) ∙ mend-fine s j u fine)) (inr (h, k, g))
 
   -- a slip's extent ends where reading goes on
   slip-end : (x : Item) (t : Spot) (c : Closing) (i : Item) (q : Spot) → slipTurn s x t c ≡ gives i q → q .at ≡ i .end
@@ -244,7 +245,7 @@ module _ (s : List ℕ) where
       slip c f = behind-next i q (slip-end x t c i q f)
 
       fine : {f : Spot} → Went s f i q → Given (Next i) (mendedAt s q)
-      fine w = ⊎-elim (λ a. behind-next i q a) (λ r. second-next i q (r .0) (r .1 .0) (r .1 .1 .0) (r .1 .1 .1) (r .1 .1 .2)) (w .after)
+      fine w = ⊎-elim (λ a. behind-next i q a) (λ r. second-next i q (r .0) (r .1 .0) (r .1 .1 .0) (r .1 .1 .1) (r .1 .1 .2) (r .1 .1 .3)) (w .after)
 
   next-of : (p : Spot) (i : Item) (q : Spot) → mendedAt s p ≡ gives i q → Given (Next i) (mendedAt s q)
   unfolding mendedAt
