@@ -139,14 +139,14 @@ module _ (is : List Item) where
   pub count-is : countOf laidWords ≡ length is
   count-is = omega (arith, flat-length (rowsFrom 0 is) (rows-ten 0 is), rows-count 0 is)
 
-  row-is : (p : ℕ) → p < length is → rowAt laidWords p ≡ wholeRow laidWords p
+  pub row-is : (p : ℕ) → p < length is → rowAt laidWords p ≡ wholeRow laidWords p
   unfolding rowAt
   row-is p h = rw (lt-ltb p (countOf laidWords) (omega (arith, count-is)))
 
   pub word-is : (p k : ℕ) → p < length is → k < recordWords → wordOf laidWords p k ≡ getD (words.rowAt (rowsFrom 0 is) p) k 0
   word-is p k h l = word-at (rowsFrom 0 is) (rows-ten 0 is) p k (omega (arith, rows-count 0 is)) l
 
-  error-is : (p : ℕ) (h : p < length is) → rowAt laidWords p .error ≡ getD (words.rowAt (rowsFrom 0 is) p) 6 0
+  pub error-is : (p : ℕ) (h : p < length is) → rowAt laidWords p .error ≡ getD (words.rowAt (rowsFrom 0 is) p) 6 0
   error-is p h = ap (λ (r : Row). r .error) (row-is p h) ∙ word-is p 6 h (omega arith)
 
   pub kind-is : (p : ℕ) (h : p < length is) → rowAt laidWords p .kind ≡ getD (words.rowAt (rowsFrom 0 is) p) 0 0

@@ -11,3 +11,4 @@ pub mod CleanExactly
 pub mod Order
 pub mod Within
 pub mod Placed
+pub mod InOrder
