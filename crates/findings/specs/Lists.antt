@@ -1,6 +1,6 @@
 -- The one finding about lists: after a wrong bracket all others are its consequences. Which refusal it is, and at which row, is the nested
 -- lists' (crate nested); here it gets the place that a foreman looks for.
-use Prim.Native.Nat.{ℕ, suc, _+_, _-_}
+use Prim.Native.Nat.{ℕ, _+_, _-_}
 use mathlib.Core.Bool.{Bool, _&&_, _||_}
 use mathlib.Core.List.{List, []}
 use lib.Dec.{eqb, leb, ltb}

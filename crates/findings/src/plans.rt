@@ -18,7 +18,6 @@ use refusal::TOO_LONG;
 ghost use mathlib.Core.Path.{_≡_};
 ghost use mathlib.Core.List.{[], _∷_};
 ghost use Prim.Native.Nat.{_≤_};
-ghost use lib.ListN.{length, getD};
 ghost use Rattle.items.specs.Whole.{limit};
 ghost use Rattle.findings_rows.specs.Laid.{flat};
 ghost use Rattle.findings_rows.specs.Rows.{rowsOf};
