@@ -1,24 +1,24 @@
 -- `in-order`: findings come in the order of their places. What a row tells starts in the row's extent, and no row starts before the end of the
 -- one before it, but for the second name of `+foo`, of which the first tells nothing.
-use Prim.Native.Nat.{ℕ, zero, suc, _+_, _-_, _*_, _≤_, _<_}
+use Prim.Native.Nat.{ℕ, zero, suc, _+_, _-_, _≤_, _<_}
 use mathlib.Core.Path.{_≡_, refl, sym, ap, _∙_, subst}
 use mathlib.Core.Bool.{Bool, true, false, not, _&&_}
-use mathlib.Core.List.{List, [], _∷_, _++_, append-nil}
+use mathlib.Core.List.{List, [], _∷_, _++_}
 use mathlib.Core.Logic.{_⊎_, inl, inr, ⊎-elim}
-use lib.ListN.{length, getD, take, drop, length-take, length-drop}
+use lib.ListN.{length, getD, drop, length-take}
 use lib.Dec.{eqb, leb, ltb}
 use native.Mathlib.Omega.{arith}
 use native.Mathlib.Numerals.{add-one}
-use borrow.Author.Tests.{eqb-true, eq-eqb, ltb-true, ltb-false, lt-ltb}
+use borrow.Author.Tests.{eqb-true, eq-eqb}
 use Rattle.laws.specs.Choice.{if_then_else_}
 use Rattle.laws.specs.Quoted.{code, within}
-use Rattle.laws.proofs.Choice.{by-bool, if-all, if-is, no-yes}
+use Rattle.laws.proofs.Choice.{by-bool, if-all, if-is}
 use Rattle.chars.specs.Utf8.{Sequence, read, broken, short, Front, char, bad, cut, none, front, onward, sequences, firstBad}
 use Rattle.chars.specs.declared.Utf8.{Utf8}
 use Rattle.chars.specs.declared.Utf8.the-variants.{Good, Bad}
 use Rattle.refusal.specs.Refusals as refusal
 use Rattle.items.specs.Kinds as kind
-use Rattle.items.specs.Items.{Item, depthAfter, recordWords}
+use Rattle.items.specs.Items.{Item, depthAfter}
 use Rattle.items.specs.Whole.{limit}
 use Rattle.items.proofs.Every.{Every}
 use Rattle.nested.specs.Items.{countOf}
@@ -27,11 +27,11 @@ use Rattle.nested.specs.declared.Nested.{Nested}
 use Rattle.nested.specs.declared.Nested.the-variants.{Built, Refused}
 use Rattle.findings_rows.specs.Mended.{mendedOf}
 use Rattle.findings_rows.specs.Rows.{rowOf, rowsFrom}
-use Rattle.findings.specs.Finding.{warning, error, single, both, listed}
-use Rattle.findings.specs.Rows.{byteAt, part, rowAt, wholeRow, lastRow, depthAt, firstFrom}
+use Rattle.findings.specs.Finding.{warning, error, single, listed}
+use Rattle.findings.specs.Rows.{byteAt, part, rowAt, lastRow, depthAt, firstFrom}
 use Rattle.findings.specs.Lists.{wrongClose, misplacedDot, markWaits, bracketOpen, isMisfit, refusedList, nestedTold, listOf}
 use Rattle.findings.specs.Slips.{isName, oddCode, firstOdd, oddIn, likeNumber, commaFollows, numberSlip, orElse, nameTold, swallower, endsOtherwise}
-use Rattle.findings.specs.Told.{leftOver, errorOf, errorTold, swallowTold, textTold, numberTold, nameOrNothing, rowTold, listTold, toldAt, toldFrom, toldOf}
+use Rattle.findings.specs.Told.{leftOver, errorTold, swallowTold, textTold, numberTold, nameOrNothing, rowTold, listTold, toldAt, toldFrom, toldOf}
 use Rattle.findings.specs.Find.{toldIf, findOf}
 use Rattle.findings.specs.declared.Finding.{Finding}
 use Rattle.findings.specs.declared.Row.{Row}
@@ -40,7 +40,7 @@ use Rattle.findings.specs.declared.Told.the-variants.{Nothing, One}
 use Rattle.findings.specs.declared.ListTold.{ListTold}
 use Rattle.findings.specs.declared.ListTold.the-variants.{Silent, At}
 use Rattle.findings_theorems.proofs.Words as words
-use Rattle.findings_theorems.proofs.Words.{Stands, stands, row-fine, row-wrong}
+use Rattle.findings_theorems.proofs.Words.{Stands, stands, row-fine}
 use Rattle.findings_theorems.proofs.Clean.{laidWords, count-is, row-is, word-is, kind-is, error-is}
 use Rattle.findings_theorems.proofs.Order.{Next, Chained, rows-in-order}
 use Rattle.findings_theorems.proofs.Placed.{Placed, mended-placed}

@@ -1,8 +1,8 @@
 -- The rows of a plan come in the order of their extents: each starts where the one before it ends, or later; but the two items of `+foo`
 -- share one extent.
-use Prim.Native.Nat.{ℕ, zero, suc, _+_, _≤_, _<_}
+use Prim.Native.Nat.{ℕ, zero, suc, _+_, _≤_}
 use mathlib.Core.Path.{_≡_, refl, sym, ap, _∙_, subst}
-use mathlib.Core.Bool.{Bool, true, false, _&&_}
+use mathlib.Core.Bool.{Bool, false, _&&_}
 use mathlib.Core.List.{List, [], _∷_}
 use mathlib.Core.Logic.{_⊎_, inl, inr, ⊎-elim}
 use lib.ListN.{length, drop}
@@ -26,14 +26,14 @@ use Rattle.items.specs.Items.{Place, Item, itemsOf, extentItems, rangeAfter, st
 use Rattle.items.specs.Whole.{limit}
 use Rattle.items.proofs.Every.{Every}
 use Rattle.meaning.specs.Places.{placeIn}
-use Rattle.lexer.specs.Reading.{Turn, gives, ends, turnOf, turnAt, turn, startFrom, nextFrom, nextAt, sizeOf}
+use Rattle.lexer.specs.Reading.{Turn, gives, ends, turnOf, turn, startFrom, nextFrom, nextAt, sizeOf}
 use Rattle.lexer.specs.declared.Spot.{Spot}
 use Rattle.lexer.specs.declared.Start.{Start}
 use Rattle.lexer.specs.declared.Start.the-variants.{At, Nothing}
 use Rattle.lexer.proofs.Cases.{past, halfway, both, by-turn, turn-here}
 use Rattle.lexer.proofs.Turns.{Started, started, turn-started, turn-nothing}
 use Rattle.lexer.proofs.Moves.{Moved, turn-moved, extent-ends}
-use Rattle.lexer.proofs.Nexts.{next-at-gives, next-moved}
+use Rattle.lexer.proofs.Nexts.{next-at-gives}
 use Rattle.findings_rows.specs.declared.Closing.{Closing}
 use Rattle.findings_rows.specs.declared.Closing.the-variants.{Behind, Nowhere}
 use Rattle.findings_rows.specs.Mended.{slips, quoteOf, closingOf, spotAt, endedAt, unclosedAt, slipTurn, mendTurn, mendedAt, mendedFrom, mendedOf, openingSpot}

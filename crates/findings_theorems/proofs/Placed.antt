@@ -1,18 +1,17 @@
 -- Every item of the mended reading points at a place from its start on, up to its end.
-use Prim.Native.Nat.{ℕ, zero, suc, _≤_, _<_}
-use mathlib.Core.Path.{_≡_, refl, sym, ap, _∙_, subst}
-use mathlib.Core.Bool.{Bool, true, false}
-use mathlib.Core.List.{List, [], _∷_}
+use Prim.Native.Nat.{ℕ, zero, suc, _≤_}
+use mathlib.Core.Path.{_≡_, refl, sym, _∙_, subst}
+use mathlib.Core.Bool.{true}
+use mathlib.Core.List.{List}
 use mathlib.Core.Logic.{⊎-elim}
 use lib.ListN.{length}
 use lib.Dec.{ltb}
 use native.Mathlib.Omega.{arith}
 use Rattle.laws.proofs.Choice.{by-bool, no-yes}
-use Rattle.items.specs.Kinds as kind
 use Rattle.items.specs.Items.{Item}
 use Rattle.items.specs.Whole.{limit}
 use Rattle.items.proofs.Every.{Every}
-use Rattle.lexer.specs.Reading.{Turn, gives, ends, nextAt, turn, sizeOf}
+use Rattle.lexer.specs.Reading.{Turn, gives, ends, nextAt, sizeOf}
 use Rattle.lexer.specs.declared.Spot.{Spot}
 use Rattle.lexer.proofs.Moves.{Moved}
 use Rattle.lexer.proofs.Nexts.{next-moved}

@@ -1,10 +1,10 @@
 -- Where an error of report mode points at: from a place of its extent on. So do the errors of the mended reading.
-use Prim.Native.Nat.{ℕ, zero, suc, _+_, _-_, _≤_, _<_}
-use mathlib.Core.Path.{_≡_, refl, sym, ap, _∙_, subst}
+use Prim.Native.Nat.{ℕ, _+_, _-_, _≤_, _<_}
+use mathlib.Core.Path.{_≡_, sym, subst}
 use mathlib.Core.Bool.{Bool, true, false, _&&_}
 use mathlib.Core.List.{List, [], _∷_}
 use lib.ListN.{length, drop, length-drop}
-use lib.Dec.{eqb, leb, ltb}
+use lib.Dec.{leb}
 use native.Mathlib.Omega.{arith}
 use Rattle.laws.specs.Choice.{if_then_else_}
 use Rattle.laws.proofs.Choice.{by-bool, and-true, no-yes}
@@ -19,14 +19,14 @@ use Rattle.items.specs.declared.CharValue.{CharValue}
 use Rattle.items.specs.declared.CharValue.the-variants.{Scalar, Wrong, WrongAt}
 use Rattle.items.specs.Readers.{Read, SoFar, readItem}
 use Rattle.items.specs.Meaning.{Meaning, characterOf, charInside, meaningOf}
-use Rattle.items.specs.Items.{Place, Item, range, unset, isSet, placeOf, characterSets, itemsOf, extentItems, rangeAfter, standing}
+use Rattle.items.specs.Items.{Place, Item, range, unset, isSet, placeOf, characterSets, itemsOf, extentItems, rangeAfter}
 use Rattle.items.proofs.Every.{Every}
 use Rattle.items.proofs.Failing.{Named, character-inside}
 use Rattle.items.proofs.Own.{Own}
 use Rattle.items.proofs.OwnSteps.{read-own}
 use Rattle.items.proofs.Splits.{read-at, read-forward}
 use Rattle.meaning.specs.Places.{placeIn}
-use Rattle.lexer.specs.Reading.{Turn, gives, ends, moved, pick, turnAt, turnFrom, turn}
+use Rattle.lexer.specs.Reading.{moved, pick, turnAt, turnFrom, turn}
 use Rattle.lexer.specs.declared.Spot.{Spot}
 use Rattle.findings_theorems.proofs.Turns.{Given}
 
