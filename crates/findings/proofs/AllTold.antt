@@ -6,7 +6,6 @@ use native.Mathlib.Omega.{arith}
 use lib.Dec.{eqb}
 use lib.ListN.{length, length-append}
 use Rattle.laws.proofs.Choice.{by-bool, if-all}
-use Rattle.laws.specs.Choice.{if_then_else_}
 use Rattle.findings_rows.specs.Laid.{flat, laidRows}
 use Rattle.findings_rows.proofs.Laid.{laid-from}
 use Rattle.findings.specs.Finding.{error, findingWords, wordsOf, listed}

@@ -5,3 +5,4 @@ pub mod OddNames
 pub mod Swallows
 pub mod AllTold
 pub mod Calls
+pub mod Exactly

@@ -1,14 +1,14 @@
 -- The pass that searches for a misfit: for each depth it keeps the line start and the offset of the last bracket that opens there, so that
 -- its test is the definition's.
-use Prim.Native.Nat.{ℕ, suc, _+_, _-_, _≤_, _<_}
+use Prim.Native.Nat.{ℕ, _+_, _-_, _≤_, _<_}
 use mathlib.Core.Path.{_≡_, refl, sym, ap, _∙_}
 use mathlib.Core.Bool.{Bool, true, false, _&&_}
 use mathlib.Core.List.{List}
 use native.Mathlib.Omega.{arith}
-use lib.Dec.{eqb, leb, ltb}
+use lib.Dec.{eqb, ltb}
 use lib.ListN.{length, getD, set, replicate, getD-replicate, length-replicate, length-set}
 use lib.Seq.{getD-set-same, getD-set-other}
-use borrow.Author.Tests.{eq-eqb, ne-eqb, eqb-true, eqb-false, lt-ltb, ltb-true, ltb-false}
+use borrow.Author.Tests.{eqb-true, eqb-false, lt-ltb}
 use Rattle.laws.specs.Choice.{if_then_else_}
 use Rattle.laws.specs.Quoted.{within}
 use Rattle.laws.proofs.Choice.{by-bool, within-is}
@@ -16,7 +16,7 @@ use Rattle.items.specs.Kinds as kind
 use Rattle.nested.specs.Items.{countOf}
 use Rattle.nested.specs.Grammar.{deepest}
 use Rattle.findings.specs.Rows.{rowAt, lastBefore, firstFrom, firstRow}
-use Rattle.findings.specs.Lines.{lineStart, offset, firstOnLine}
+use Rattle.findings.specs.Lines.{lineStart, offset}
 use Rattle.findings.specs.Lists.{isOpen, openStart, isMisfit}
 use Rattle.findings.specs.Misfits.{noted, misfitBy}
 use Rattle.findings.specs.declared.Row.{Row}

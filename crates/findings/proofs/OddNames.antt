@@ -3,18 +3,18 @@
 use Prim.Native.Nat.{ℕ, _+_, _≤_, _<_}
 use mathlib.Core.Path.{_≡_, refl, sym, ap, _∙_}
 use mathlib.Core.Bool.{true, false}
-use mathlib.Core.List.{List, [], _∷_}
+use mathlib.Core.List.{List}
 use native.Mathlib.Omega.{arith}
 use native.Mathlib.Nat.{add-assoc}
 use lib.Dec.{eqb}
 use lib.ListN.{length, getD, drop}
 use lib.Seq.{drop-drop}
-use borrow.Author.Tests.{eq-eqb, ne-eqb}
+use borrow.Author.Tests.{ne-eqb}
 use Rattle.laws.specs.Choice.{if_then_else_}
 use Rattle.laws.specs.Quoted.{within}
 use Rattle.laws.proofs.Choice.{within-is}
 use Rattle.laws.proofs.Places.{past, here}
-use Rattle.chars.specs.Utf8.{Front, char, bad, cut, none, front, placed, Sequence, read, sequences}
+use Rattle.chars.specs.Utf8.{Front, char, bad, cut, none, front, placed, read, sequences}
 use Rattle.chars.specs.declared.Decoded.{Decoded}
 use Rattle.chars.specs.declared.Decoded.the-variants as decoded
 use Rattle.chars.proofs.Table.{within-below, within-above}

@@ -24,7 +24,7 @@ use Rattle.items.specs.Items.{extentItems}
 use Rattle.lexer.specs.Opening.{lineEnd, afterHash as afterPound, startOf}
 use Rattle.lexer.specs.Reading.{turnFrom, turn, nextFrom, nextAt}
 use Rattle.findings_rows.specs.Mended.{slips, closing, mendedAt, mendedFrom, mendedOf}
-use Rattle.findings_rows.specs.Rows.{rowsFrom, rowsOf}
+use Rattle.findings_rows.specs.Rows.{rowsFrom}
 use Rattle.findings_rows.specs.Laid.{flat}
 use Rattle.nested.specs.Items.{hasDetail, sortOf, classOf}
 use Rattle.nested.specs.Items as nests

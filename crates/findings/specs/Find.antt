@@ -12,7 +12,7 @@ use Rattle.items.specs.Items.{recordWords}
 use Rattle.items.specs.Whole.{limit}
 use Rattle.findings_rows.specs.Laid.{flat, laidRows}
 use Rattle.findings_rows.specs.Rows.{rowsOf}
-use Rattle.findings.specs.Finding.{error, single}
+use Rattle.findings.specs.Finding.{error, single, noDetail}
 use Rattle.findings.specs.Rows.{byteAt}
 use Rattle.findings.specs.Told.{toldOf, errorsIn}
 use Rattle.findings.specs.Laid.{laidFindings}
@@ -22,7 +22,7 @@ use Rattle.findings.specs.declared.FindAnswer.the-variants.{Found, TooFe
 
 -- E20: the text exceeds the limit
 abbrev pub tooLong : Finding
-tooLong = single error refusal.tooLong 0 0 0
+tooLong = single error refusal.tooLong noDetail 0 0
 
 -- E21 with the bad byte: a bad sequence starts at b, which is no character's place
 abbrev pub notUtf8 : List ℕ → ℕ → Finding

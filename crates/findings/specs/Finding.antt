@@ -44,6 +44,26 @@ swallowing = 6
 abbrev pub modesDiffer : ℕ
 modesDiffer = 7
 
+-- ---- details. E01 to E13 have the item's own, E21 the bad byte, E40 how many brackets are open at the end, W01 the length in bytes of what
+-- stands before the comma, W03 to W05 the character, W07 the byte behind the number
+
+abbrev pub noDetail : ℕ
+noDetail = 0
+
+-- E41: nothing is open; another bracket is, the second place
+abbrev pub stray : ℕ
+stray = 0
+
+abbrev pub closesAnother : ℕ
+closesAnother = 1
+
+-- E42: the dot itself is refused; something behind a dot is, and the place is the dot all the same
+abbrev pub atDot : ℕ
+atDot = 0
+
+abbrev pub behindDot : ℕ
+behindDot = 1
+
 -- ---- findings
 
 abbrev pub findingWords : ℕ

@@ -1,6 +1,6 @@
 -- How many findings there are, and what of them lies in lent memory.
 use Prim.Native.Nat.{ℕ, _+_, _*_}
-use mathlib.Core.List.{List, [], _∷_, map}
+use mathlib.Core.List.{List, map}
 use lib.ListN.{length}
 use Rattle.findings_rows.specs.Laid.{laidRows, laidFrom}
 use Rattle.findings.specs.Finding.{findingWords, wordsOf}

@@ -1,6 +1,6 @@
 -- The one finding about lists: after a wrong bracket all others are its consequences. Which refusal it is, and at which row, is the nested
 -- lists' (crate nested); here it gets the place that a foreman looks for.
-use Prim.Native.Nat.{ℕ, suc, _+_, _-_}
+use Prim.Native.Nat.{ℕ, _+_, _-_}
 use mathlib.Core.Bool.{Bool, _&&_, _||_}
 use mathlib.Core.List.{List, []}
 use lib.Dec.{eqb, leb, ltb}
@@ -13,7 +13,7 @@ use Rattle.nested.specs.Grammar.{deepest}
 use Rattle.nested.specs.Lent.{nestedOf}
 use Rattle.nested.specs.declared.Nested.{Nested}
 use Rattle.nested.specs.declared.Nested.the-variants.{Built, Refused}
-use Rattle.findings.specs.Finding.{error, both, single}
+use Rattle.findings.specs.Finding.{error, both, single, noDetail, stray, closesAnother, atDot, behindDot}
 use Rattle.findings.specs.Rows.{rowAt, lastRow, depthAt, lastBefore, firstRow}
 use Rattle.findings.specs.Lines.{lineStart, offset, firstOnLine}
 use Rattle.findings.specs.declared.Row.{Row}
@@ -41,7 +41,7 @@ opener rows d p = lastBefore (isOpen rows (d - 1)) p
 unfoldable pub wrongClose : List ℕ → ℕ → ListTold
 wrongClose rows p =
     let d : ℕ = depthAt rows p in
-    if eqb d 0 then atRow rows refusal.wrongClose 0 p else atRows rows refusal.wrongClose 1 p (opener rows d p)
+    if eqb d 0 then atRow rows refusal.wrongClose stray p else atRows rows refusal.wrongClose closesAnother p (opener rows d p)
 
 -- ---- E42, "42 at the dot": `(. a)`; of `(a . b c)`, where c is refused, the dot before it in its list
 
@@ -51,8 +51,8 @@ isDot rows d i = eqb (rowAt rows i .kind) kind.Dot && eqb (rowAt rows i .depth) 
 unfoldable pub misplacedDot : List ℕ → ℕ → ListTold
 misplacedDot rows p =
     if eqb (rowAt rows p .kind) kind.Dot
-    then atRow rows refusal.misplacedDot 0 p
-    else atRow rows refusal.misplacedDot 1 (lastBefore (isDot rows (depthAt rows p)) p)
+    then atRow rows refusal.misplacedDot atDot p
+    else atRow rows refusal.misplacedDot behindDot (lastBefore (isDot rows (depthAt rows p)) p)
 
 -- ---- E43, "43 points at the mark": `(a ')`
 
@@ -66,7 +66,7 @@ waits rows d p i =
     isMark (rowAt rows i .kind) && eqb (rowAt rows i .depth) d && (eqb (i + 1) p || eqb (rowAt rows (i + 1) .kind) kind.DatumComment)
 
 unfoldable pub markWaits : List ℕ → ℕ → ListTold
-markWaits rows p = atRow rows refusal.markWaits 0 (lastBefore (waits rows (depthAt rows p) p) p)
+markWaits rows p = atRow rows refusal.markWaits noDetail (lastBefore (waits rows (depthAt rows p) p) p)
 
 -- ---- E40, a bracket that is never closed: "for a missing one the first list that starts no further right than the one it lies in"
 
@@ -109,7 +109,7 @@ refusedList source rows n p =
     else if eqb n refusal.wrongClose then wrongClose rows p
     else if eqb n refusal.misplacedDot then misplacedDot rows p
     else if eqb n refusal.markWaits then markWaits rows p
-    else if eqb n refusal.tooDeep then atRow rows refusal.tooDeep 0 p
+    else if eqb n refusal.tooDeep then atRow rows refusal.tooDeep noDetail p
     else Silent
 
 abbrev pub nestedTold : List ℕ → List ℕ → Nested → ListTold

@@ -2,12 +2,12 @@
 use Prim.Native.Nat.{ℕ, _+_, _-_}
 use mathlib.Core.Bool.{Bool, true, false, not, _&&_, _||_}
 use mathlib.Core.List.{List, [], _∷_}
-use lib.Dec.{eqb, ltb}
+use lib.Dec.{eqb}
 use Rattle.laws.specs.Choice.{if_then_else_}
 use Rattle.laws.specs.Quoted.{code, codes, oneOf, within}
 use Rattle.chars.specs.Utf8.{Sequence, read, broken, short, sequences}
 use Rattle.items.specs.Kinds as kind
-use Rattle.findings.specs.Finding.{warning, single, commaNumber, numberName, typographicQuote, typographicDash, invisible}
+use Rattle.findings.specs.Finding.{warning, single, noDetail, commaNumber, numberName, typographicQuote, typographicDash, invisible}
 use Rattle.findings.specs.Rows.{byteAt, part, rowAt, firstRow}
 use Rattle.findings.specs.Lines.{isNewline, isSpace}
 use Rattle.findings.specs.declared.Row.{Row}
@@ -81,7 +81,7 @@ numberSlip source rows p =
     then
     (if commaFollows source rows p
     then One (single warning commaNumber (r .end - r .start) (r .start) (rowAt rows (p + 2) .end))
-    else One (single warning numberName 0 (r .start) (r .end)))
+    else One (single warning numberName noDetail (r .start) (r .end)))
     else Nothing
 
 abbrev pub orElse : Told → Told → Told

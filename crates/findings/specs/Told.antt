@@ -7,7 +7,7 @@ use Rattle.laws.specs.Choice.{if_then_else_}
 use Rattle.laws.specs.Quoted.{code}
 use Rattle.items.specs.Kinds as kind
 use Rattle.nested.specs.Items.{countOf}
-use Rattle.findings.specs.Finding.{warning, error, both, single, listed, swallowing, modesDiffer}
+use Rattle.findings.specs.Finding.{warning, error, both, single, listed, noDetail, swallowing, modesDiffer}
 use Rattle.findings.specs.Rows.{byteAt, rowAt, lastRow, bytesOn}
 use Rattle.findings.specs.Lists.{listOf}
 use Rattle.findings.specs.Slips.{isName, nameTold, swallower, endsOtherwise}
@@ -51,8 +51,8 @@ errorTold rows left p = if left && eqb (p + 1) (countOf rows) then Nothing else 
 unfoldable pub swallowTold : Bool → ℕ → ℕ → Told
 swallowTold left a b =
     if left
-    then One (both error kind.IncompleteString 0 a (bytesOn 1 a) b (bytesOn 1 b))
-    else One (single warning swallowing 0 a (bytesOn 1 a))
+    then One (both error kind.IncompleteString noDetail a (bytesOn 1 a) b (bytesOn 1 b))
+    else One (single warning swallowing noDetail a (bytesOn 1 a))
 
 -- only the first swallower tells
 unfoldable pub textTold : List ℕ → ℕ → Bool → ℕ → Told

@@ -27,3 +27,21 @@ pub const SWALLOWING: u32 = 6;
 
 // W07: 14.7;gps
 pub const MODES_DIFFER: u32 = 7;
+
+// ---- details
+
+// most findings have none
+pub const NO_DETAIL: u32 = 0;
+
+// E41: nothing is open; another bracket is
+pub const STRAY: u32 = 0;
+
+pub const CLOSES_ANOTHER: u32 = 1;
+
+// E42: the dot itself is refused; something behind a dot is
+pub const AT_DOT: u32 = 0;
+
+pub const BEHIND_DOT: u32 = 1;
+
+// Both ends of a second place that is not there.
+pub const NOWHERE: u32 = 0;

@@ -10,7 +10,6 @@ ghost use lib.ListN.{length};
 ghost use Rattle.laws.specs.Lent.{written};
 ghost use Rattle.findings_rows.specs.Laid.{laidAt};
 ghost use Rattle.findings.specs.Finding.{findingWords, wordsOf, listed};
-ghost use Rattle.findings.specs.Told.{errorsIn};
 ghost use Rattle.findings.specs.Laid.{countOn, laidBehind, telling};
 
 // A finding at the start of lent memory.

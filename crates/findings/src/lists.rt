@@ -1,7 +1,13 @@
 // The finding about lists, by the refusal of the nested lists.
 use crate::Finding;
 use crate::ListTold;
+use crate::codes::AT_DOT;
+use crate::codes::BEHIND_DOT;
+use crate::codes::CLOSES_ANOTHER;
 use crate::codes::ERROR;
+use crate::codes::NO_DETAIL;
+use crate::codes::NOWHERE;
+use crate::codes::STRAY;
 use crate::misfits;
 use crate::rows;
 use items::kinds;
@@ -32,8 +38,8 @@ fn at_row(rows: &[u32], code: u32, detail: u32, i: usize) -> ListTold
             detail,
             start: row.start,
             end: row.end,
-            also: 0,
-            past: 0,
+            also: NOWHERE,
+            past: NOWHERE,
         },
     )
 }
@@ -98,9 +104,15 @@ fn wrong_close(rows: &[u32], p: usize) -> ListTold
 {
     let depth = rows::depth_at(rows, p);
     if depth == 0 {
-        return at_row(rows, WRONG_CLOSE, 0, p);
+        return at_row(rows, WRONG_CLOSE, STRAY, p);
     }
-    at_rows(rows, WRONG_CLOSE, 1, p, opener_of(rows, depth, p))
+    at_rows(
+        rows,
+        WRONG_CLOSE,
+        CLOSES_ANOTHER,
+        p,
+        opener_of(rows, depth, p),
+    )
 }
 
 fn is_dot(rows: &[u32], depth: u32, i: usize) -> bool
@@ -133,10 +145,10 @@ fn misplaced_dot(rows: &[u32], p: usize) -> ListTold
 {
     let row = rows::row_at(rows, p);
     if row.kind == kinds::DOT {
-        return at_row(rows, MISPLACED_DOT, 0, p);
+        return at_row(rows, MISPLACED_DOT, AT_DOT, p);
     }
     let depth = rows::depth_at(rows, p);
-    at_row(rows, MISPLACED_DOT, 1, last_dot(rows, depth, p))
+    at_row(rows, MISPLACED_DOT, BEHIND_DOT, last_dot(rows, depth, p))
 }
 
 // One of the eight quoting marks, or `#;`.
@@ -190,7 +202,7 @@ fn mark_waits(rows: &[u32], p: usize) -> ListTold
     ensures { λ r. ⌜ r ≡ markWaits (now (rows .entry)) p ⌝ }
 {
     let depth = rows::depth_at(rows, p);
-    at_row(rows, MARK_WAITS, 0, last_waiting(rows, depth, p))
+    at_row(rows, MARK_WAITS, NO_DETAIL, last_waiting(rows, depth, p))
 }
 
 // The innermost bracket that is open at the end.
@@ -254,7 +266,7 @@ fn refused_list(source: &[u8], rows: &[u32], n: u32, p: usize) -> ListTold
         return mark_waits(rows, p);
     }
     if n == TOO_DEEP {
-        return at_row(rows, TOO_DEEP, 0, p);
+        return at_row(rows, TOO_DEEP, NO_DETAIL, p);
     }
     ListTold::Silent
 }

@@ -4,6 +4,8 @@ use crate::FindAnswer;
 use crate::Finding;
 use crate::Told;
 use crate::codes::ERROR;
+use crate::codes::NO_DETAIL;
+use crate::codes::NOWHERE;
 use crate::laying;
 use crate::rows;
 use crate::telling::tell;
@@ -16,7 +18,6 @@ use refusal::TOO_LONG;
 ghost use mathlib.Core.Path.{_≡_};
 ghost use mathlib.Core.List.{[], _∷_};
 ghost use Prim.Native.Nat.{_≤_};
-ghost use lib.ListN.{length, getD};
 ghost use Rattle.items.specs.Whole.{limit};
 ghost use Rattle.findings_rows.specs.Laid.{flat};
 ghost use Rattle.findings_rows.specs.Rows.{rowsOf};
@@ -47,8 +48,8 @@ fn not_utf8(source: &[u8], b: usize) -> Finding
         detail: byte as u32,
         start: b as u32,
         end: b as u32,
-        also: 0,
-        past: 0,
+        also: NOWHERE,
+        past: NOWHERE,
     }
 }
 
@@ -75,11 +76,11 @@ pub fn find(source: &[u8], rows: &mut [u32], findings: &mut [u32]) -> FindAnswer
         let f = Finding {
             severity: ERROR,
             code: TOO_LONG,
-            detail: 0,
+            detail: NO_DETAIL,
             start: 0,
             end: 0,
-            also: 0,
-            past: 0,
+            also: NOWHERE,
+            past: NOWHERE,
         };
         return alone(rows, findings, f);
     }

@@ -3,6 +3,8 @@ use crate::Finding;
 use crate::Told;
 use crate::codes::COMMA_NUMBER;
 use crate::codes::INVISIBLE;
+use crate::codes::NO_DETAIL;
+use crate::codes::NOWHERE;
 use crate::codes::NUMBER_NAME;
 use crate::codes::TYPOGRAPHIC_DASH;
 use crate::codes::TYPOGRAPHIC_QUOTE;
@@ -36,8 +38,8 @@ pub fn warn(code: u32, detail: u32, start: u32, end: u32) -> Told
         detail,
         start,
         end,
-        also: 0,
-        past: 0,
+        also: NOWHERE,
+        past: NOWHERE,
     })
 }
 
@@ -63,6 +65,7 @@ pub fn is_name(source: &[u8], rows: &[u32], p: usize) -> bool
     next.start != row.start
 }
 
+// Whether c is one of the characters from a to b.
 fn is_within(a: u32, b: u32, c: u32) -> bool
     ensures { λ r. ⌜ r ≡ within a b c ⌝ }
 {
@@ -72,6 +75,7 @@ fn is_within(a: u32, b: u32, c: u32) -> bool
     c <= b
 }
 
+// A typographic quote: specs/Slips says which characters these are, also of the two below.
 fn is_quote(c: u32) -> bool
     ensures { λ r. ⌜ r ≡ isQuote c ⌝ }
 {
@@ -84,6 +88,7 @@ fn is_quote(c: u32) -> bool
     c == 0xBB
 }
 
+// A typographic minus or dash.
 fn is_dash(c: u32) -> bool
     ensures { λ r. ⌜ r ≡ isDash c ⌝ }
 {
@@ -93,6 +98,7 @@ fn is_dash(c: u32) -> bool
     c == 0x2212
 }
 
+// An invisible, control or direction-changing character.
 fn is_invisible(c: u32) -> bool
     ensures { λ r. ⌜ r ≡ isInvisible c ⌝ }
 {
@@ -190,6 +196,7 @@ fn odd_in(source: &[u8], start: u32, end: u32) -> Told
     first_odd(part, start as usize)
 }
 
+// A decimal digit.
 fn is_digit(b: u8) -> bool
     ensures { λ r. ⌜ r ≡ isDigit b ⌝ }
 {
@@ -269,7 +276,7 @@ fn number_slip(source: &[u8], rows: &[u32], p: usize) -> Told
                 rest.end,
             );
         }
-        return warn(NUMBER_NAME, 0, row.start, row.end);
+        return warn(NUMBER_NAME, NO_DETAIL, row.start, row.end);
     }
     Told::Nothing
 }

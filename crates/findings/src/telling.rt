@@ -6,6 +6,8 @@ use crate::Row;
 use crate::Told;
 use crate::codes::ERROR;
 use crate::codes::MODES_DIFFER;
+use crate::codes::NO_DETAIL;
+use crate::codes::NOWHERE;
 use crate::codes::SWALLOWING;
 use crate::laying;
 use crate::lists;
@@ -82,8 +84,8 @@ fn error_of(row: Row) -> Told
         detail: row.about,
         start: row.from,
         end,
-        also: 0,
-        past: 0,
+        also: NOWHERE,
+        past: NOWHERE,
     })
 }
 
@@ -106,14 +108,14 @@ fn swallow_told(left: bool, a: u32, b: u32) -> Told
         return Told::One(Finding {
             severity: ERROR,
             code: kinds::INCOMPLETE_STRING,
-            detail: 0,
+            detail: NO_DETAIL,
             start: a,
             end: rows::bytes_on(1, a),
             also: b,
             past: rows::bytes_on(1, b),
         });
     }
-    slips::warn(SWALLOWING, 0, a, rows::bytes_on(1, a))
+    slips::warn(SWALLOWING, NO_DETAIL, a, rows::bytes_on(1, a))
 }
 
 // W06 or E02.
@@ -153,6 +155,7 @@ fn number_told(source: &[u8], rows: &[u32], p: usize) -> Told
     Told::Nothing
 }
 
+// A name that warnings are told of, and no other, tells something.
 fn name_or_nothing(source: &[u8], rows: &[u32], p: usize) -> Told
     requires { ⌜ p < countOf (now rows) ⌝ }
     ensures { λ r. ⌜ r ≡ nameOrNothing (now (source .entry)) (now (rows .entry)) p ⌝ }

@@ -1,7 +1,7 @@
 -- The call's answer told, and all that it leaves.
 use Prim.Native.Nat.{ℕ}
-use mathlib.Core.Path.{_≡_, refl, sym, ap, _∙_}
-use mathlib.Core.List.{List, []}
+use mathlib.Core.Path.{_≡_, sym, ap, _∙_}
+use mathlib.Core.List.{List}
 use Rattle.chars.specs.Encode.{lay}
 use Rattle.findings.specs.Find.{Outcome, outcome, callOf}
 use Rattle.findings.specs.declared.FindAnswer.{FindAnswer}

@@ -25,7 +25,7 @@ use Rattle.items.specs.Items.{extentItems}
 use Rattle.lexer.specs.Opening.{lineEnd, afterHash as afterPound, startOf}
 use Rattle.lexer.specs.Reading.{turnFrom, turn, nextFrom, nextAt}
 use Rattle.findings_rows.specs.Mended.{slips, closing, mendedAt, mendedFrom, mendedOf}
-use Rattle.findings_rows.specs.Rows.{rowsFrom, rowsOf}
+use Rattle.findings_rows.specs.Rows.{rowsFrom}
 use Rattle.findings_rows.specs.Laid.{flat, laidRows}
 use Rattle.nested.specs.Items.{hasDetail, sortOf, classOf}
 use Rattle.nested.specs.Items as nests
@@ -38,7 +38,7 @@ use Rattle.findings.specs.Slips.{isName, isQuote, isDash, isInvisible, oddCode,
 use Rattle.findings.specs.Slips.{swallows, isSwallower, endsOtherwise}
 use Rattle.findings.specs.Told.{endsInText, errorEnd, errorTold, swallowTold, textTold, numberTold, nameOrNothing, rowTold, toldFrom, toldOf, errorsIn}
 use Rattle.findings.specs.Find.{findOf, neededRows, callOf}
-use Rattle.findings_exports.specs.Told.{LeftBehind, leftBehind, findLeft}
+use Rattle.findings_exports.specs.Told.{leftBehind, findLeft}
 
 -- lent memory
 abbrev nines : ℕ → List ℕ

@@ -1,7 +1,6 @@
 -- Laying the rows of the items that are read on: those that are done are laid, and the others are those from a spot on.
 use Prim.Native.Nat.{ℕ, zero, suc, _+_, _*_, _/_, _≤_, _<_}
 use mathlib.Core.Path.{_≡_, refl, sym, ap, _∙_}
-use mathlib.Core.Bool.{Bool, true, false}
 use mathlib.Core.List.{List, [], _∷_, _++_, append-assoc, append-nil}
 use lib.ListN.{length, length-append}
 use lib.Dec.{leb}
@@ -14,7 +13,7 @@ use borrow.Author.Tests.{lt-ltb, le-ltb}
 use Rattle.items.specs.Items.{Item, depthAfter, depthPast, recordWords, wordsOf}
 use Rattle.items.specs.declared.Nine.{Nine}
 use Rattle.meaning.specs.Records.{packed}
-use Rattle.lexer.specs.Reading.{Turn, gives, ends, sizeOf, andThen, foundOf}
+use Rattle.lexer.specs.Reading.{gives, ends, sizeOf, foundOf}
 use Rattle.lexer.specs.declared.Spot.{Spot}
 use Rattle.lexer.specs.declared.Found.the-variants.{One, End}
 use Rattle.lexer.proofs.Nexts.{found-gives, found-ends}
@@ -23,7 +22,7 @@ use Rattle.findings_rows.specs.Laid.{flat, laidRows, laidAt, laid, allLa
 use Rattle.findings_rows.specs.Mended.{mendedAt, mendedFrom, mendedOf, openingSpot}
 use Rattle.findings_rows.specs.Rows.{rowOf, rowsFrom, rowsOf}
 use Rattle.findings_rows.specs.Inner.{rowRecord, fromSpot}
-use Rattle.findings_rows.proofs.Laid.{flat-more, laid-on, laid-length}
+use Rattle.findings_rows.proofs.Laid.{laid-on, laid-length}
 use Rattle.findings_rows.proofs.Mends.{Forward, mended-forward}
 
 -- ---- rows

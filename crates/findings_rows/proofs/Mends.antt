@@ -1,5 +1,5 @@
 -- A mended turn goes forward, as a turn does, and in nine words it is what the code builds.
-use Prim.Native.Nat.{ℕ, zero, suc, _+_, _-_, _*_, _≤_, _<_}
+use Prim.Native.Nat.{ℕ, _+_, _-_, _≤_, _<_}
 use mathlib.Core.Path.{_≡_, refl, sym, ap, _∙_, subst}
 use mathlib.Core.Bool.{Bool, true, false}
 use mathlib.Core.List.{List, [], _∷_}
@@ -15,13 +15,12 @@ use Rattle.items.specs.declared.Nine.{Nine}
 use Rattle.meaning.specs.Records.{packed}
 use Rattle.lexer.specs.Reading.{Turn, gives, ends, nextAt, sizeOf, foundOf}
 use Rattle.lexer.specs.declared.Spot.{Spot}
-use Rattle.lexer.specs.declared.Found.{Found}
 use Rattle.lexer.specs.declared.Found.the-variants.{One, End}
 use Rattle.lexer.proofs.Moves.{Moved}
 use Rattle.lexer.proofs.Nexts.{found-gives, found-ends, next-moved}
 use Rattle.findings_rows.specs.declared.Closing.{Closing}
 use Rattle.findings_rows.specs.declared.Closing.the-variants.{Behind, Nowhere}
-use Rattle.findings_rows.specs.Mended.{slips, quoteOf, closing, restFrom, closingOf, spotAt, endedAt, slipTurn, mendTurn, mendedAt}
+use Rattle.findings_rows.specs.Mended.{slips, quoteOf, closing, restFrom, closingOf, spotAt, slipTurn, mendTurn, mendedAt}
 use Rattle.findings_rows.specs.Inner.{endedNine, unclosedNine, mendedBy, mendNine}
 
 -- ---- where the rest ends

@@ -1,6 +1,6 @@
 -- The same as the code hands it on: an item in nine words, and the record of a row.
 use Prim.Native.Nat.{ℕ, suc, _-_}
-use mathlib.Core.List.{List, []}
+use mathlib.Core.List.{List}
 use lib.ListN.{length}
 use lib.Dec.{leb}
 use Rattle.laws.specs.Choice.{if_then_else_}

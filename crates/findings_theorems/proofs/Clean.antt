@@ -1,17 +1,17 @@
 -- A plan has no finding of severity error exactly if report mode has no error item and its records form data. An error row tells an error, or
 -- the text that swallowed lines does in its stead; a refusal of nested lists is told at a row; all else that rows tell are warnings.
-use Prim.Native.Nat.{ℕ, zero, suc, _+_, _-_, _*_, _/_, _≤_, _<_}
-use mathlib.Core.Path.{_≡_, refl, sym, ap, _∙_, subst}
-use mathlib.Core.Bool.{Bool, true, false, _&&_, _||_}
+use Prim.Native.Nat.{ℕ, zero, suc, _+_, _-_, _*_, _≤_, _<_}
+use mathlib.Core.Path.{_≡_, refl, sym, ap, _∙_}
+use mathlib.Core.Bool.{Bool, true, false}
 use mathlib.Core.List.{List, [], _∷_, _++_}
-use mathlib.Core.Logic.{_⊎_, inl, inr, ⊎-elim}
+use mathlib.Core.Logic.{_⊎_, ⊎-elim}
 use lib.ListN.{length, getD}
 use lib.Dec.{eqb, leb, ltb}
 use native.Mathlib.Omega.{arith}
-use borrow.Author.Tests.{eqb-true, eqb-false, eq-eqb, ne-eqb, ltb-true, ltb-false, lt-ltb, le-ltb, leb-true, leb-false}
+use borrow.Author.Tests.{eqb-true, eqb-false, eq-eqb, ltb-true, lt-ltb, leb-true, leb-false}
 use Rattle.laws.specs.Choice.{if_then_else_}
 use Rattle.laws.specs.Quoted.{within}
-use Rattle.laws.proofs.Choice.{by-bool, and-true, if-all, if-is, no-yes}
+use Rattle.laws.proofs.Choice.{by-bool, if-all, if-is}
 use Rattle.chars.specs.Utf8.{Sequence, read, broken, short}
 use Rattle.refusal.specs.Refusals as refusal
 use Rattle.items.specs.Kinds as kind
@@ -19,13 +19,13 @@ use Rattle.items.specs.Items.{Item, recordWords}
 use Rattle.items.proofs.Every.{Every}
 use Rattle.nested.specs.Items.{countOf}
 use Rattle.findings_rows.specs.Laid.{flat}
-use Rattle.findings_rows.specs.Rows.{rowOf, fineRow, errorRow, rowsFrom}
+use Rattle.findings_rows.specs.Rows.{rowOf, rowsFrom}
 use Rattle.findings_rows.proofs.Lays.{rows-count}
-use Rattle.findings.specs.Finding.{warning, error, both, single, listed, swallowing, modesDiffer, commaNumber, numberName}
-use Rattle.findings.specs.Rows.{byteAt, rowAt, wholeRow, noRow, lastRow, depthAt, lastBefore, firstFrom, bytesOn, part}
-use Rattle.findings.specs.Lists.{atRow, atRows, opener, wrongClose, misplacedDot, markWaits, isMisfit, innermost, around, bracketOpen, refusedList, nestedTold, listOf, isDot, waits}
-use Rattle.findings.specs.Slips.{isName, oddCode, firstOdd, oddIn, likeNumber, commaFollows, numberSlip, orElse, nameTold, isSwallower, swallower, endsOtherwise}
-use Rattle.findings.specs.Told.{endsInText, leftOver, errorOf, errorTold, swallowTold, textTold, numberTold, nameOrNothing, rowTold, listTold, toldAt, toldFrom, toldOf, errorsIn}
+use Rattle.findings.specs.Finding.{warning, error, single, listed, swallowing, modesDiffer, commaNumber, numberName}
+use Rattle.findings.specs.Rows.{rowAt, wholeRow, noRow, lastRow, depthAt, lastBefore, firstFrom}
+use Rattle.findings.specs.Lists.{wrongClose, misplacedDot, markWaits, isMisfit, bracketOpen, refusedList, isDot, waits}
+use Rattle.findings.specs.Slips.{isName, oddCode, firstOdd, oddIn, likeNumber, commaFollows, numberSlip, orElse, nameTold, endsOtherwise}
+use Rattle.findings.specs.Told.{errorOf, swallowTold, textTold, numberTold, nameOrNothing, rowTold, toldFrom, errorsIn}
 use Rattle.findings.specs.declared.Finding.{Finding}
 use Rattle.findings.specs.declared.Row.{Row}
 use Rattle.findings.specs.declared.Told.{Told}
@@ -36,7 +36,7 @@ use Rattle.findings_theorems.proofs.Unmended.{Fine}
 use Rattle.findings_theorems.proofs.Layouts.{LaidItem}
 use Rattle.findings_theorems.proofs.Words as words
 use Rattle.findings_theorems.proofs.Words.{wordOf, word-at, flat-length, rows-ten, Stands, stands, every-row, row-fine, row-wrong}
-use Rattle.findings_theorems.proofs.Numbers.{Stop, AtRecord, AtEnd}
+use Rattle.findings_theorems.proofs.Numbers.{Stop, AtEnd}
 
 -- ---- how many errors there are
 
@@ -139,14 +139,14 @@ module _ (is : List Item) where
   pub count-is : countOf laidWords ≡ length is
   count-is = omega (arith, flat-length (rowsFrom 0 is) (rows-ten 0 is), rows-count 0 is)
 
-  row-is : (p : ℕ) → p < length is → rowAt laidWords p ≡ wholeRow laidWords p
+  pub row-is : (p : ℕ) → p < length is → rowAt laidWords p ≡ wholeRow laidWords p
   unfolding rowAt
   row-is p h = rw (lt-ltb p (countOf laidWords) (omega (arith, count-is)))
 
   pub word-is : (p k : ℕ) → p < length is → k < recordWords → wordOf laidWords p k ≡ getD (words.rowAt (rowsFrom 0 is) p) k 0
   word-is p k h l = word-at (rowsFrom 0 is) (rows-ten 0 is) p k (omega (arith, rows-count 0 is)) l
 
-  error-is : (p : ℕ) (h : p < length is) → rowAt laidWords p .error ≡ getD (words.rowAt (rowsFrom 0 is) p) 6 0
+  pub error-is : (p : ℕ) (h : p < length is) → rowAt laidWords p .error ≡ getD (words.rowAt (rowsFrom 0 is) p) 6 0
   error-is p h = ap (λ (r : Row). r .error) (row-is p h) ∙ word-is p 6 h (omega arith)
 
   pub kind-is : (p : ℕ) (h : p < length is) → rowAt laidWords p .kind ≡ getD (words.rowAt (rowsFrom 0 is) p) 0 0

@@ -1,7 +1,6 @@
 -- "`plancheck` says ok exactly when the reader and the nested lists have nothing to refuse": `clean-exactly`, of what the call answers.
-use Prim.Native.Nat.{ℕ, _+_, _/_, _≤_, _<_}
-use mathlib.Core.Path.{_≡_, refl, sym, ap, _∙_, subst}
-use mathlib.Core.Bool.{Bool, true, false}
+use Prim.Native.Nat.{ℕ, _/_, _≤_, _<_}
+use mathlib.Core.Path.{_≡_, refl, sym, _∙_, subst}
 use mathlib.Core.List.{List, [], _∷_}
 use lib.ListN.{length}
 use lib.Dec.{eqb, leb, ltb}
@@ -10,23 +9,20 @@ use borrow.Author.Tests.{ltb-false, le-ltb}
 use Rattle.laws.specs.Choice.{if_then_else_}
 use Rattle.laws.specs.Quoted.{code}
 use Rattle.laws.proofs.Choice.{by-bool, if-all}
-use Rattle.chars.specs.Utf8.{chars, firstBad}
+use Rattle.chars.specs.Utf8.{firstBad}
 use Rattle.chars.specs.declared.Utf8.{Utf8}
 use Rattle.chars.specs.declared.Utf8.the-variants.{Good, Bad}
 use Rattle.items.specs.Kinds as kind
-use Rattle.items.specs.Items.{Item, items, records, recordWords}
+use Rattle.items.specs.Items.{Item, records, recordWords}
 use Rattle.items.specs.Whole.{limit}
 use Rattle.items.proofs.Every.{Every}
-use Rattle.items.proofs.Skipped.{kept-every}
-use Rattle.nested.specs.Lent.{nestedOf}
 use Rattle.nested.specs.declared.Nested.{Nested}
 use Rattle.nested.specs.declared.Nested.the-variants.{Refused}
 use Rattle.findings_rows.specs.Mended.{mendedOf}
 use Rattle.findings.specs.Finding.{error}
 use Rattle.findings.specs.Told.{errorsIn, toldOf}
-use Rattle.findings.specs.Find.{toldIf, findOf, neededRows, delivered, callOf}
+use Rattle.findings.specs.Find.{toldIf, findOf, neededRows, callOf}
 use Rattle.findings.specs.declared.Finding.{Finding}
-use Rattle.findings.specs.declared.FindAnswer.{FindAnswer}
 use Rattle.findings.specs.declared.FindAnswer.the-variants.{Found, TooFew}
 use Rattle.findings_theorems.proofs.Unmended.{Fine, reported, mended-clean, clean-same}
 use Rattle.findings_theorems.proofs.Layouts.{LaidItem, error-laid, read-laid}

@@ -1,45 +1,39 @@
 -- `clean-exactly`: no finding is an error exactly if no item of report mode is one and its records form data.
-use Prim.Native.Nat.{ℕ, zero, suc, _+_, _-_, _*_, _/_, _≤_, _<_}
-use mathlib.Core.Path.{_≡_, refl, sym, ap, _∙_, subst}
-use mathlib.Core.Bool.{Bool, true, false, _&&_}
-use mathlib.Core.List.{List, [], _∷_, _++_}
+use Prim.Native.Nat.{ℕ, zero, suc, _+_, _-_, _*_, _<_}
+use mathlib.Core.Path.{_≡_, refl, sym, ap, _∙_}
+use mathlib.Core.Bool.{Bool, true, false}
+use mathlib.Core.List.{List, []}
 use lib.ListN.{length, getD}
-use lib.Dec.{eqb, leb, ltb}
+use lib.Dec.{eqb, ltb}
 use native.Mathlib.Omega.{arith}
-use borrow.Author.Tests.{eqb-true, eqb-false, eq-eqb, ltb-true, ltb-false, lt-ltb, le-ltb, leb-true, leb-false}
+use borrow.Author.Tests.{eqb-true, eq-eqb, ltb-true, ltb-false}
 use Rattle.laws.specs.Choice.{if_then_else_}
-use Rattle.laws.proofs.Choice.{by-bool, and-true, and-no, if-all, if-is, no-yes}
+use Rattle.laws.proofs.Choice.{by-bool, and-true, and-no, no-yes}
 use Rattle.refusal.specs.Refusals as refusal
 use Rattle.items.specs.Kinds as kind
-use Rattle.items.specs.Items.{Item, depthAfter, memoryOf, recordWords, recordOf, records}
+use Rattle.items.specs.Items.{Item, recordWords}
 use Rattle.items.proofs.Every.{Every}
-use Rattle.items.proofs.Fit.{records-length}
-use Rattle.nested.specs.Items.{countOf, classOf, classAt, itemsOf, itemsFrom}
+use Rattle.nested.specs.Items.{countOf, classAt, itemsOf, itemsFrom}
 use Rattle.nested.specs.Reader.{Result, Nodes, No, run, start, readOn}
 use Rattle.nested.specs.Lent.{fits, given, nestedOf}
-use Rattle.nested.specs.declared.Class.{Class}
 use Rattle.nested.specs.declared.Nested.{Nested}
 use Rattle.nested.specs.declared.Nested.the-variants.{Built, Refused}
-use Rattle.findings_rows.specs.Laid.{flat}
-use Rattle.findings_rows.specs.Rows.{rowOf, fineRow, rowsFrom}
-use Rattle.findings_rows.proofs.Lays.{rows-count}
+use Rattle.findings_rows.specs.Rows.{fineRow, rowsFrom}
 use Rattle.findings.specs.Finding.{error, listed}
-use Rattle.findings.specs.Rows.{byteAt, rowAt, lastRow, firstFrom}
+use Rattle.findings.specs.Rows.{rowAt, lastRow, firstFrom}
 use Rattle.findings.specs.Lists.{refusedList, nestedTold, listOf}
 use Rattle.findings.specs.Slips.{isSwallower, swallower}
-use Rattle.findings.specs.Told.{endsInText, leftOver, errorOf, errorTold, swallowTold, textTold, rowTold, listTold, toldAt, toldFrom, toldOf, errorsIn}
+use Rattle.findings.specs.Told.{endsInText, leftOver, errorTold, swallowTold, textTold, rowTold, listTold, toldAt, toldOf, errorsIn}
 use Rattle.findings.specs.declared.Finding.{Finding}
 use Rattle.findings.specs.declared.Row.{Row}
-use Rattle.findings.specs.declared.Told.{Told}
-use Rattle.findings.specs.declared.Told.the-variants.{Nothing, One}
 use Rattle.findings.specs.declared.ListTold.{ListTold}
 use Rattle.findings.specs.declared.ListTold.the-variants.{Silent, At}
 use Rattle.findings_theorems.proofs.Unmended.{Fine}
 use Rattle.findings_theorems.proofs.Layouts.{LaidItem}
 use Rattle.findings_theorems.proofs.Words as words
-use Rattle.findings_theorems.proofs.Words.{wordOf, Ten, word-at, rows-ten, recordRows, records-flat, row-fine, Stands, stands}
-use Rattle.findings_theorems.proofs.Numbers.{Known, sorted-known, Stop, stop-of, same-items}
-use Rattle.findings_theorems.proofs.Clean.{errors-append, quiet-each, quiet-all, Mild, loud, mild-nothing, mild-row, laidWords, count-is, word-is, kind-is, no-error-rows, no-error-items, string-fine, Shows, shows-stop, error-loud, past-row}
+use Rattle.findings_theorems.proofs.Words.{row-fine, Stands, stands}
+use Rattle.findings_theorems.proofs.Numbers.{Known, sorted-known, stop-of}
+use Rattle.findings_theorems.proofs.Clean.{errors-append, quiet-each, quiet-all, Mild, loud, mild-row, laidWords, count-is, word-is, no-error-rows, no-error-items, string-fine, Shows, shows-stop, error-loud, past-row}
 
 -- records, or rows, that nested lists refuse for nothing, or only since there are no nodes: they form data
 abbrev pub Data : List ℕ → Type 0

@@ -1,20 +1,19 @@
 -- What an extent means has kinds and details of the layout, and so has every item of a text.
 use Prim.Native.Nat.{ℕ, suc, _+_, _-_, _≤_, _<_}
-use mathlib.Core.Path.{_≡_, refl, sym, ap, _∙_}
-use mathlib.Core.Bool.{Bool, true, false, _&&_, _||_}
+use mathlib.Core.Path.{_≡_, refl}
+use mathlib.Core.Bool.{Bool, true, _&&_, _||_}
 use mathlib.Core.List.{List, [], _∷_, map}
 use lib.ListN.{length, getD, take, drop}
-use lib.Dec.{eqb, leb, ltb}
+use lib.Dec.{eqb, ltb}
 use native.Mathlib.Omega.{arith}
 use Rattle.laws.specs.Quoted.{code, within}
 use Rattle.laws.specs.Texts.{same}
-use Rattle.laws.proofs.Choice.{by-bool, if-all}
+use Rattle.laws.proofs.Choice.{if-all}
 use Rattle.chars.specs.Encode.{isScalar, bytesOf}
 use Rattle.chars.specs.Utf8.{Front, front}
 use Rattle.chars.specs.Utf8 as utf
 use Rattle.chars.proofs.Spells.{Spells, spells}
 use Rattle.digits.specs.Hex.{hexValue}
-use Rattle.digits.specs.declared.Hex.{Hex}
 use Rattle.numbers.specs.Grammar.{parseNumber}
 use Rattle.numbers.specs.declared.Parsed.{Parsed}
 use Rattle.numbers.specs.declared.Parsed.the-variants as parsed

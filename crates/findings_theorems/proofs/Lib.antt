@@ -8,3 +8,7 @@ pub mod Clean
 pub mod Exactly
 pub mod Records
 pub mod CleanExactly
+pub mod Order
+pub mod Within
+pub mod Placed
+pub mod InOrder

@@ -1,6 +1,6 @@
 -- Which refusals nested lists have of records whose kinds and details are the layout's and of which none is an error: 40 to 44, each at a
 -- record, but 40, 42 and 43 at the end too.
-use Prim.Native.Nat.{ℕ, zero, suc, _+_, _-_, _*_, _≤_, _<_}
+use Prim.Native.Nat.{ℕ, zero, suc, _+_, _-_, _≤_, _<_}
 use mathlib.Core.Path.{_≡_, refl, sym, ap, _∙_, subst}
 use mathlib.Core.Bool.{Bool, true, false, cond}
 use mathlib.Core.List.{List, [], _∷_}
@@ -8,15 +8,13 @@ use mathlib.Core.Logic.{_⊎_, inl, inr, ⊎-elim}
 use lib.ListN.{length}
 use lib.Dec.{eqb, ltb, leb}
 use native.Mathlib.Omega.{arith}
-use borrow.Author.Tests.{eqb-true, le-leb}
+use borrow.Author.Tests.{le-leb}
 use Rattle.laws.proofs.Choice.{by-bool}
-use Rattle.refusal.specs.Refusals as refusal
 use Rattle.items.specs.Kinds as kind
-use Rattle.items.specs.Items.{recordWords}
 use Rattle.items.proofs.Every.{Every}
-use Rattle.nested.specs.Items.{Item, item, hasDetail, sortOf, classOf, countOf, classAt, itemsFrom, itemsOf, rest}
-use Rattle.nested.specs.Grammar.{Node, isList, closer, deepest}
-use Rattle.nested.specs.Reader.{Level, level, Levels, state, Result, Nodes, No, deep, tailed, starting, closing, dotting, ending, wrong, after, readOn}
+use Rattle.nested.specs.Items.{Item, item, sortOf, classOf, countOf, classAt, itemsFrom, itemsOf}
+use Rattle.nested.specs.Grammar.{isList, closer, deepest}
+use Rattle.nested.specs.Reader.{level, Levels, state, Nodes, No, deep, tailed, starting, closing, dotting, ending, wrong, after, readOn}
 use Rattle.nested.specs.declared.Class.{Class}
 use Rattle.nested.specs.declared.Class.the-variants.{Alien, Fails, Passes, Drops, Marks, Simple, Opens, Closes, Dots}
 use Rattle.nested.specs.declared.Frame.{Frame}

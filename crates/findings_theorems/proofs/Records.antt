@@ -1,5 +1,5 @@
 -- To nested lists the rows of items without errors are their records: they ask for kinds and details alone.
-use Prim.Native.Nat.{ℕ, zero, suc, _+_, _-_, _*_, _/_, _^_, _≤_, _<_}
+use Prim.Native.Nat.{ℕ, zero, suc, _+_, _-_, _*_, _^_, _<_}
 use mathlib.Core.Path.{_≡_, refl, sym, ap, _∙_}
 use mathlib.Core.Bool.{cond, _&&_}
 use mathlib.Core.List.{List, [], _∷_, _++_}
@@ -12,14 +12,10 @@ use Rattle.items.specs.Meaning.{Text, none, source, decoded}
 use Rattle.items.proofs.Every.{Every}
 use Rattle.items.proofs.Fit.{records-length}
 use Rattle.nested.specs.Items.{countOf, classOf, classAt, itemsOf, itemsFrom}
-use Rattle.nested.specs.Items as nested
 use Rattle.nested.specs.Reader.{Result, Nodes, No, run, start}
 use Rattle.nested.specs.Lent.{outcome, spliced, wordsOf, given, nestedOf}
-use Rattle.nested.specs.declared.Class.{Class}
-use Rattle.nested.specs.declared.Nested.{Nested}
 use Rattle.nested.specs.declared.Nested.the-variants.{Built, Refused}
-use Rattle.findings_rows.specs.Laid.{flat}
-use Rattle.findings_rows.specs.Rows.{rowOf, rowsFrom}
+use Rattle.findings_rows.specs.Rows.{rowsFrom}
 use Rattle.findings_theorems.proofs.Unmended.{Fine}
 use Rattle.findings_theorems.proofs.Words as words
 use Rattle.findings_theorems.proofs.Words.{wordOf, Ten, word-at, recordRows, records-flat, row-fine}

@@ -1,25 +1,19 @@
 -- Every item's kind and detail are the layout's, so that nested lists never meet one that is alien: a line for each class of a character in
 -- each phase shows it of what the machine gives, and then it holds of what an extent means.
 use Prim.Native.Nat.{ℕ, _+_, _-_, _≤_, _<_}
-use mathlib.Core.Path.{_≡_, refl, sym, ap, _∙_}
-use mathlib.Core.Bool.{Bool, true, false, cond, _&&_, _||_}
-use mathlib.Core.List.{List, [], _∷_, map}
-use lib.ListN.{length, getD, take, drop}
-use lib.Dec.{eqb, leb, ltb}
+use mathlib.Core.Path.{_≡_, refl}
+use mathlib.Core.Bool.{Bool, true, false}
+use mathlib.Core.List.{List, [], _∷_}
+use lib.ListN.{length, drop}
+use lib.Dec.{eqb, leb}
 use native.Mathlib.Omega.{arith}
 use Rattle.laws.specs.Quoted.{code, within}
 use Rattle.laws.specs.Texts.{begins, same}
 use Rattle.laws.proofs.Choice.{by-bool, if-all, if-is}
-use Rattle.chars.specs.Encode.{isScalar, spelled, bytesOf}
-use Rattle.chars.specs.Utf8.{Front, front, chars}
-use Rattle.chars.specs.Utf8 as utf
-use Rattle.chars.proofs.Spells.{Spells, spells}
+use Rattle.chars.specs.Encode.{isScalar, spelled}
 use Rattle.digits.specs.declared.Hex.{Hex}
 use Rattle.digits.specs.declared.Hex.the-variants as hex
 use Rattle.digits.specs.Hex.{hexValue}
-use Rattle.numbers.specs.Grammar.{parseNumber}
-use Rattle.numbers.specs.declared.Parsed.{Parsed}
-use Rattle.numbers.specs.declared.Parsed.the-variants as parsed
 use Rattle.items.specs.declared.Quotes.{Quotes}
 use Rattle.items.specs.declared.Quotes.the-variants.{Double, Lines}
 use Rattle.items.specs.declared.Outcome.{Outcome}
@@ -42,15 +36,8 @@ use Rattle.items.specs.Classes.{returns, blankDelim, ofDelim}
 use Rattle.items.specs.Machine.{onNest, onBar, onSharp, onQuoted, onEscape, onBrace, closeHex, onHex, onTrimBefore, onTrimAfter}
 use Rattle.items.specs.Machine.{onWord, enterWord, onRun, hashThen, hashLast, onHash, onAfterHash, onDelim, stepOf, finishOf, onFirst, scanOf}
 use Rattle.items.specs.Readers.{soFar, eat, firstIs, lastIs, linedOf, closed, unclosed, cut, scalarOf, failing, boolKind, quoteKind, formKind, orElse, hashKind, hereEnds, readItem, SoFar}
-use Rattle.items.specs.Meaning.{Row, Meaning, lookup, words, wordKind, wordMeans, runMeans, lower, charNames, unnamed, nameless, onlyOne, later, hexNamed, spelledOut, characterOf, characterMeans, meaningOf, charInside, beforeDelimiter}
-use Rattle.items.specs.Items.{Place, Item, itemsOf, extentItems, items, kept, rangeAfter, standing}
 use Rattle.items.proofs.Cases.{by-next}
-use Rattle.items.proofs.Every.{Every, every-any}
 use Rattle.items.proofs.Same.{item-same}
-use Rattle.items.proofs.Meanings.{word-le}
-use Rattle.items.proofs.Shorter.{scalar-is}
-use Rattle.items.proofs.Skipped.{kept-every}
-use Rattle.coverage.proofs.Located.{every-item}
 use Rattle.nested.specs.Items.{hasDetail}
 
 -- a kind of the layout with a detail that it has

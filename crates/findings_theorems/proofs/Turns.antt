@@ -1,11 +1,10 @@
 -- What holds of the items of every extent holds of the item that a turn gives, and of all items of the mended reading.
 use Prim.Native.Nat.{ℕ, zero, suc, _+_}
-use mathlib.Core.Path.{_≡_, refl, sym, ap, _∙_, subst}
+use mathlib.Core.Path.{_≡_, refl, sym, subst}
 use mathlib.Core.Bool.{Bool, true, false, _&&_}
 use mathlib.Core.List.{List, [], _∷_}
 use lib.ListN.{length, drop}
 use lib.Dec.{eqb, ltb}
-use native.Mathlib.Omega.{arith}
 use Rattle.laws.specs.Choice.{if_then_else_}
 use Rattle.laws.proofs.Choice.{by-bool}
 use Rattle.chars.specs.Utf8.{chars}
@@ -22,7 +21,7 @@ use Rattle.lexer.specs.declared.Spot.{Spot}
 use Rattle.findings_rows.specs.declared.Closing.{Closing}
 use Rattle.findings_rows.specs.declared.Closing.the-variants.{Behind, Nowhere}
 use Rattle.findings_rows.specs.Mended.{slips, quoteOf, closingOf, endedAt, unclosedAt, slipTurn, mendTurn, mendedAt, mendedFrom, mendedOf, openingSpot}
-use Rattle.findings_rows.proofs.Lays.{from-gives, from-ends, mended-all}
+use Rattle.findings_rows.proofs.Lays.{from-gives, from-ends}
 
 abbrev pub Given : (Item → Type 0) → Turn → Type 0
 Given P (gives i q) = P i

@@ -1,15 +1,15 @@
 -- The mended reading and report mode's: where no item is a slip they are one, and where one is, the mended reading has an error too. So a
 -- plan has an error by the one exactly if it has one by the other, and if it has none its rows are its records.
-use Prim.Native.Nat.{ℕ, zero, suc, _+_, _≤_, _<_}
+use Prim.Native.Nat.{ℕ, zero, suc, _≤_, _<_}
 use mathlib.Core.Path.{_≡_, refl, sym, ap, _∙_, subst}
-use mathlib.Core.Bool.{Bool, true, false, not, _&&_}
-use mathlib.Core.List.{List, [], _∷_}
+use mathlib.Core.Bool.{true, false, not}
+use mathlib.Core.List.{List, _∷_}
 use lib.ListN.{length}
-use lib.Dec.{eqb, ltb}
+use lib.Dec.{ltb}
 use native.Mathlib.Omega.{arith}
 use borrow.Author.Tests.{ltb-true, ltb-false}
 use Rattle.laws.specs.Choice.{if_then_else_}
-use Rattle.laws.specs.Quoted.{code, oneOf}
+use Rattle.laws.specs.Quoted.{oneOf}
 use Rattle.laws.proofs.Choice.{by-bool, and-true, no-yes}
 use Rattle.chars.specs.Utf8.{chars}
 use Rattle.items.specs.Kinds as kind
@@ -22,7 +22,7 @@ use Rattle.lexer.proofs.All.{all-gives, all-ends}
 use Rattle.lexer.proofs.Opens.{reads-all}
 use Rattle.findings_rows.specs.declared.Closing.{Closing}
 use Rattle.findings_rows.specs.declared.Closing.the-variants.{Behind, Nowhere}
-use Rattle.findings_rows.specs.Laid.{laidRows, allLaid}
+use Rattle.findings_rows.specs.Laid.{allLaid}
 use Rattle.findings_rows.specs.Mended.{escapeErrors, characterAt, slips, quoteOf, closingOf, slipTurn, mendTurn, mendedAt, mendedFrom, mendedOf, openingSpot, unclosedKind}
 use Rattle.findings_rows.specs.Rows.{rowsFrom, rowsOf}
 use Rattle.findings_rows.proofs.Escapes.{no-error}

@@ -2,9 +2,6 @@
 use borrow.Author.Needs.{needs}
 use Rattle.findings.proofs.laying.lay.Statement.{statement}
 use Rattle.findings.proofs.laying.lay.Tie as tie
-use Rattle.findings.proofs.laying.lay.Reads as reads
-use Rattle.findings.proofs.laying.lay.Lts as lts
-use Rattle.findings.proofs.laying.lay_one.Reads as lay-one-reads
 use borrow.Author.Tests.{eq-eqb, ne-eqb}
 use native.Mathlib.Nat.{add-zero}
 use Rattle.findings_rows.specs.Laid.{laidFrom}

@@ -2,14 +2,10 @@
 use borrow.Author.Needs.{needs}
 use Rattle.findings.proofs.laying.lay_one.Statement.{statement}
 use Rattle.findings.proofs.laying.lay_one.Tie as tie
-use Rattle.findings.proofs.laying.lay_one.Reads as reads
-use Rattle.findings.proofs.laying.lay_one.Lts as lts
-use Rattle.findings.proofs.laying.put.Reads as put-reads
 use mathlib.Core.Path.{sym}
-use Prim.Native.Nat.{_*_, _+_, _≤_, _<_}
+use Prim.Native.Nat.{_*_}
 use native.Mathlib.Omega.{arith}
 use lib.ListN.{length}
-use Rattle.laws.proofs.Lent.{length-part}
 use Rattle.findings_rows.proofs.Laid.{laid-part, laid-at-short}
 use Rattle.findings.specs.Finding.{wordsOf}
 

@@ -2,8 +2,6 @@
 use borrow.Author.Needs.{needs}
 use Rattle.findings.proofs.laying.put.Statement.{statement}
 use Rattle.findings.proofs.laying.put.Tie as tie
-use Rattle.findings.proofs.laying.put.Reads as reads
-use Rattle.findings.proofs.laying.put.Lts as lts
 use native.Mathlib.Omega.{arith}
 use lib.ListN.{length-set}
 use lib.Seq.{sets-eq}

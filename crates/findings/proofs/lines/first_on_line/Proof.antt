@@ -1,16 +1,10 @@
 -- The loop goes back from the place, and keeps that what stands before it there is what stands before it here.
 use Rattle.findings.proofs.lines.first_on_line.Statement.{statement}
 use Rattle.findings.proofs.lines.first_on_line.Tie as tie
-use Rattle.findings.proofs.lines.first_on_line.Reads as reads
-use Rattle.findings.proofs.lines.first_on_line.Lts as lts
-use Rattle.findings.proofs.lines.is_space.Reads as is-space-reads
-use Rattle.findings.proofs.rows.byte_at.Reads as byte-at-reads
-use mathlib.Core.Path.{_≡_, refl}
+use mathlib.Core.Path.{_≡_, refl, sym, _∙_}
 use Rattle.findings.specs.Lines.{firstOnLine}
 use Rattle.findings.proofs.LineStarts.{first-end, first-newline, first-solid, first-space}
-use denote.Ref.{now}
 use native.Mathlib.Omega.{arith}
-use mathlib.Core.Path.{sym, _∙_}
 use borrow.Author.Tests.{not-true, not-false}
 
 abbrev Inv-loop : tie.InvT-loop
@@ -30,7 +24,8 @@ byte-at-requires c κs = tt
 
 returns : tie.Need-returns Inv-loop μ-loop
 returns c =
-    let e = c .before .before .before in first-newline (now (e .before .before .args .source)) (e .before .before .args .a) (e .loop .i) (e .loop .inv) (omega arith) (c .before .byte-at .ensures) (c .if1 .taken)
+    let loop = c .before .before .before .loop in
+    first-newline _ _ _ (loop .inv) (c .before .before .loop-test .taken) (c .before .byte-at .ensures) (c .if1 .taken)
 
 is-space-requires : tie.Need-is-space-requires Inv-loop μ-loop
 is-space-requires c κs = tt

@@ -1,8 +1,6 @@
 -- The two tests are the definition's.
 use Rattle.findings.proofs.lines.is_space.Statement.{statement}
 use Rattle.findings.proofs.lines.is_space.Tie as tie
-use Rattle.findings.proofs.lines.is_space.Reads as reads
-use Rattle.findings.proofs.lines.is_space.Lts as lts
 use borrow.Author.Tests.{eq-eqb, ne-eqb}
 
 returns : tie.Need-returns

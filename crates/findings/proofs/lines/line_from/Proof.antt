@@ -1,20 +1,14 @@
 -- The loop keeps that the line of the place i starts at `start`.
 use Rattle.findings.proofs.lines.line_from.Statement.{statement}
 use Rattle.findings.proofs.lines.line_from.Tie as tie
-use Rattle.findings.proofs.lines.line_from.Reads as reads
-use Rattle.findings.proofs.lines.line_from.Lts as lts
-use Rattle.findings.proofs.rows.byte_at.Reads as byte-at-reads
-use mathlib.Core.Path.{_≡_, refl}
-use Prim.Native.Nat.{_≤_, _-_}
+use mathlib.Core.Path.{_≡_, sym, _∙_, ap}
+use Prim.Native.Nat.{_≤_, _-_, ℕ}
 use Rattle.findings.specs.Lines.{lineStart}
 use Rattle.findings.proofs.LineStarts.{line-next, line-same}
 use denote.Ref.{now}
 use mathlib.Core.Logic.{⊎-elim}
 use borrow.Author.Needs.{needs}
 use native.Mathlib.Omega.{arith}
-use mathlib.Core.Path.{sym, _∙_}
-use mathlib.Core.Path.{sym, ap, _∙_}
-use Prim.Native.Nat.{ℕ, _+_}
 
 abbrev Inv-loop : tie.InvT-loop
 Inv-loop source from line to i₀ start₀ i start = (i ≤ to) × (start ≡ lineStart source i)

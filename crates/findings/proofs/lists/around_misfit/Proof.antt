@@ -2,12 +2,6 @@
 use borrow.Author.Needs.{needs}
 use Rattle.findings.proofs.lists.around_misfit.Statement.{statement}
 use Rattle.findings.proofs.lists.around_misfit.Tie as tie
-use Rattle.findings.proofs.lists.around_misfit.Reads as reads
-use Rattle.findings.proofs.lists.around_misfit.Lts as lts
-use Rattle.findings.proofs.lists.at_rows.Reads as at-rows-reads
-use Rattle.findings.proofs.lists.opener_of.Reads as opener-of-reads
-use Rattle.findings.proofs.rows.depth_at.Reads as depth-at-reads
-use Rattle.findings.proofs.rows.row_at.Reads as row-at-reads
 use mathlib.Core.Path.{_∙_}
 
 depth-at-requires : tie.Need-depth-at-requires

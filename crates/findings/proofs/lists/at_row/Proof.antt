@@ -2,9 +2,6 @@
 use borrow.Author.Needs.{needs}
 use Rattle.findings.proofs.lists.at_row.Statement.{statement}
 use Rattle.findings.proofs.lists.at_row.Tie as tie
-use Rattle.findings.proofs.lists.at_row.Reads as reads
-use Rattle.findings.proofs.lists.at_row.Lts as lts
-use Rattle.findings.proofs.rows.row_at.Reads as row-at-reads
 
 row-at-requires : tie.Need-row-at-requires
 row-at-requires c κs = search needs

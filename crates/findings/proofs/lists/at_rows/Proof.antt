@@ -2,9 +2,6 @@
 use borrow.Author.Needs.{needs}
 use Rattle.findings.proofs.lists.at_rows.Statement.{statement}
 use Rattle.findings.proofs.lists.at_rows.Tie as tie
-use Rattle.findings.proofs.lists.at_rows.Reads as reads
-use Rattle.findings.proofs.lists.at_rows.Lts as lts
-use Rattle.findings.proofs.rows.row_at.Reads as row-at-reads
 
 row-at-requires : tie.Need-row-at-requires
 row-at-requires c κs = search needs

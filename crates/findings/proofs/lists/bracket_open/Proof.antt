@@ -2,13 +2,6 @@
 use borrow.Author.Needs.{needs}
 use Rattle.findings.proofs.lists.bracket_open.Statement.{statement}
 use Rattle.findings.proofs.lists.bracket_open.Tie as tie
-use Rattle.findings.proofs.lists.bracket_open.Reads as reads
-use Rattle.findings.proofs.lists.bracket_open.Lts as lts
-use Rattle.findings.proofs.lists.around_misfit.Reads as around-misfit-reads
-use Rattle.findings.proofs.lists.innermost_open.Reads as innermost-open-reads
-use Rattle.findings.proofs.lists.is_unclosed.Reads as is-unclosed-reads
-use Rattle.findings.proofs.misfits.first_misfit.Reads as first-misfit-reads
-use Rattle.findings.proofs.rows.last_row.Reads as last-row-reads
 use mathlib.Core.Path.{sym, _∙_}
 use borrow.Author.Tests.{lt-ltb, le-ltb}
 use Rattle.findings.specs.Lists.{bracketOpen}
@@ -35,7 +28,9 @@ returns-2 c =
     let last-row = c .before .before .before .before .before .last-row in
     let is-unclosed = c .before .before .before .before .is-unclosed in
     let if1 = c .before .before .before .if1 in
-    rw (← (last-row .ensures)) (rw (sym (is-unclosed .ensures) ∙ if1 .left, ← (c .before .before .first-misfit .ensures)) (rw (lt-ltb _ _ (c .before .if2 .taken)) (c .around-misfit .ensures)))
+    rw (← (last-row .ensures))
+    (rw (sym (is-unclosed .ensures) ∙ if1 .left, ← (c .before .before .first-misfit .ensures))
+    (rw (lt-ltb _ _ (c .before .if2 .taken)) (c .around-misfit .ensures)))
 
 innermost-open-requires : tie.Need-innermost-open-requires
 innermost-open-requires c κs = search needs
@@ -46,7 +41,9 @@ returns-3 c =
     let last-row = c .before .before .before .before .before .last-row in
     let is-unclosed = c .before .before .before .before .is-unclosed in
     let if1 = c .before .before .before .if1 in
-    rw (← (last-row .ensures)) (rw (sym (is-unclosed .ensures) ∙ if1 .left, ← (c .before .before .first-misfit .ensures)) (rw (le-ltb _ _ (c .before .if2 .left)) (c .innermost-open .ensures)))
+    rw (← (last-row .ensures))
+    (rw (sym (is-unclosed .ensures) ∙ if1 .left, ← (c .before .before .first-misfit .ensures))
+    (rw (le-ltb _ _ (c .before .if2 .left)) (c .innermost-open .ensures)))
 
 pub bracket-open-spec : {M : Type 1} → statement M
 bracket-open-spec =

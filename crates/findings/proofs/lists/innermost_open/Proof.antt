@@ -2,11 +2,6 @@
 use borrow.Author.Needs.{needs}
 use Rattle.findings.proofs.lists.innermost_open.Statement.{statement}
 use Rattle.findings.proofs.lists.innermost_open.Tie as tie
-use Rattle.findings.proofs.lists.innermost_open.Reads as reads
-use Rattle.findings.proofs.lists.innermost_open.Lts as lts
-use Rattle.findings.proofs.lists.at_row.Reads as at-row-reads
-use Rattle.findings.proofs.lists.opener_of.Reads as opener-of-reads
-use Rattle.findings.proofs.rows.depth_at.Reads as depth-at-reads
 use mathlib.Core.Path.{_∙_}
 
 depth-at-requires : tie.Need-depth-at-requires

@@ -2,9 +2,6 @@
 use borrow.Author.Needs.{needs}
 use Rattle.findings.proofs.lists.is_dot.Statement.{statement}
 use Rattle.findings.proofs.lists.is_dot.Tie as tie
-use Rattle.findings.proofs.lists.is_dot.Reads as reads
-use Rattle.findings.proofs.lists.is_dot.Lts as lts
-use Rattle.findings.proofs.rows.row_at.Reads as row-at-reads
 use borrow.Author.Tests.{eq-eqb, ne-eqb}
 use Rattle.findings.specs.Lists.{isDot}
 

@@ -1,8 +1,6 @@
 -- The tests are the definition's, the range from both sides.
 use Rattle.findings.proofs.lists.is_mark.Statement.{statement}
 use Rattle.findings.proofs.lists.is_mark.Tie as tie
-use Rattle.findings.proofs.lists.is_mark.Reads as reads
-use Rattle.findings.proofs.lists.is_mark.Lts as lts
 use borrow.Author.Tests.{eq-eqb, ne-eqb}
 use Rattle.laws.proofs.Choice.{within-below, within-from}
 use Rattle.findings.specs.Lists.{isMark}

@@ -2,9 +2,6 @@
 use borrow.Author.Needs.{needs}
 use Rattle.findings.proofs.lists.is_open.Statement.{statement}
 use Rattle.findings.proofs.lists.is_open.Tie as tie
-use Rattle.findings.proofs.lists.is_open.Reads as reads
-use Rattle.findings.proofs.lists.is_open.Lts as lts
-use Rattle.findings.proofs.rows.row_at.Reads as row-at-reads
 use borrow.Author.Tests.{eq-eqb, ne-eqb}
 use Rattle.findings.specs.Lists.{isOpen}
 

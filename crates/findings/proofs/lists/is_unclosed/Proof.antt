@@ -1,8 +1,6 @@
 -- The range from both sides.
 use Rattle.findings.proofs.lists.is_unclosed.Statement.{statement}
 use Rattle.findings.proofs.lists.is_unclosed.Tie as tie
-use Rattle.findings.proofs.lists.is_unclosed.Reads as reads
-use Rattle.findings.proofs.lists.is_unclosed.Lts as lts
 use Rattle.laws.proofs.Choice.{within-below, within-from}
 
 returns : tie.Need-returns

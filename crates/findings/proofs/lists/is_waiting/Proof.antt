@@ -2,10 +2,6 @@
 use borrow.Author.Needs.{needs}
 use Rattle.findings.proofs.lists.is_waiting.Statement.{statement}
 use Rattle.findings.proofs.lists.is_waiting.Tie as tie
-use Rattle.findings.proofs.lists.is_waiting.Reads as reads
-use Rattle.findings.proofs.lists.is_waiting.Lts as lts
-use Rattle.findings.proofs.lists.is_mark.Reads as is-mark-reads
-use Rattle.findings.proofs.rows.row_at.Reads as row-at-reads
 use mathlib.Core.Path.{sym, _∙_}
 use borrow.Author.Tests.{eq-eqb, ne-eqb, not-true, not-false}
 use Rattle.findings.specs.Lists.{waits}
@@ -25,7 +21,8 @@ unfolding waits
 returns-2 c =
     let row-at = c .before .before .before .before .row-at in
     let is-mark = c .before .before .before .is-mark in
-    rw (← (row-at .ensures)) (rw (sym (is-mark .ensures) ∙ not-false _ (c .before .before .if1 .left), ne-eqb _ _ (c .if2 .taken)))
+    rw (← (row-at .ensures))
+    (rw (sym (is-mark .ensures) ∙ not-false _ (c .before .before .if1 .left), ne-eqb _ _ (c .if2 .taken)))
 
 add-if3 : tie.Need-add-if3
 add-if3 c = search needs
@@ -36,7 +33,8 @@ returns-3 c =
     let row-at = c .before .before .before .before .before .row-at in
     let is-mark = c .before .before .before .before .is-mark in
     let if1 = c .before .before .before .if1 in
-    rw (← (row-at .ensures)) (rw (sym (is-mark .ensures) ∙ not-false _ (if1 .left), eq-eqb _ _ (c .before .if2 .left), eq-eqb _ _ (c .if3 .taken)))
+    rw (← (row-at .ensures))
+    (rw (sym (is-mark .ensures) ∙ not-false _ (if1 .left), eq-eqb _ _ (c .before .if2 .left), eq-eqb _ _ (c .if3 .taken)))
 
 add-row-at : tie.Need-add-row-at
 add-row-at c = search needs
@@ -51,7 +49,8 @@ returns-4 c =
     let is-mark = c .before .before .before .before .before .before .is-mark in
     let if1 = c .before .before .before .before .before .if1 in
     let if2 = c .before .before .before .if2 in
-    rw (← (row-at .ensures), ← (c .before .row-at2 .ensures)) (rw (sym (is-mark .ensures) ∙ not-false _ (if1 .left), eq-eqb _ _ (if2 .left), ne-eqb _ _ (c .before .before .if3 .left)))
+    rw (← (row-at .ensures), ← (c .before .row-at2 .ensures))
+    (rw (sym (is-mark .ensures) ∙ not-false _ (if1 .left), eq-eqb _ _ (if2 .left), ne-eqb _ _ (c .before .before .if3 .left)))
 
 pub is-waiting-spec : {M : Type 1} → statement M
 is-waiting-spec =

@@ -1,9 +1,6 @@
 -- The loop goes back, and keeps that the last dot before p is the last before i.
 use Rattle.findings.proofs.lists.last_dot.Statement.{statement}
 use Rattle.findings.proofs.lists.last_dot.Tie as tie
-use Rattle.findings.proofs.lists.last_dot.Reads as reads
-use Rattle.findings.proofs.lists.last_dot.Lts as lts
-use Rattle.findings.proofs.lists.is_dot.Reads as is-dot-reads
 use mathlib.Core.Path.{_≡_, refl, sym, _∙_}
 use denote.Ref.{now}
 use Rattle.findings.specs.Rows.{lastBefore}

@@ -1,9 +1,6 @@
 -- The loop goes back, and keeps that the last bracket before p is the last before i.
 use Rattle.findings.proofs.lists.last_open.Statement.{statement}
 use Rattle.findings.proofs.lists.last_open.Tie as tie
-use Rattle.findings.proofs.lists.last_open.Reads as reads
-use Rattle.findings.proofs.lists.last_open.Lts as lts
-use Rattle.findings.proofs.lists.is_open.Reads as is-open-reads
 use mathlib.Core.Path.{_≡_, refl, sym, _∙_}
 use denote.Ref.{now}
 use Rattle.findings.specs.Rows.{lastBefore}

@@ -1,9 +1,6 @@
 -- The loop goes back, and keeps that the last mark before p that waits is the last before i.
 use Rattle.findings.proofs.lists.last_waiting.Statement.{statement}
 use Rattle.findings.proofs.lists.last_waiting.Tie as tie
-use Rattle.findings.proofs.lists.last_waiting.Reads as reads
-use Rattle.findings.proofs.lists.last_waiting.Lts as lts
-use Rattle.findings.proofs.lists.is_waiting.Reads as is-waiting-reads
 use mathlib.Core.Path.{_≡_, refl, sym, _∙_}
 use Prim.Native.Nat.{_≤_}
 use denote.Ref.{now}

@@ -2,15 +2,10 @@
 use borrow.Author.Needs.{needs}
 use Rattle.findings.proofs.lists.list_of.Statement.{statement}
 use Rattle.findings.proofs.lists.list_of.Tie as tie
-use Rattle.findings.proofs.lists.list_of.Reads as reads
-use Rattle.findings.proofs.lists.list_of.Lts as lts
-use Rattle.findings.proofs.lists.refused_list.Reads as refused-list-reads
-use Rattle.nested.proofs.build.Reads as build-reads
-use Rattle.findings.specs.Lists.{listOf}
+use Rattle.findings.specs.Lists.{listOf, nestedTold}
 use mathlib.Core.Path.{sym, ap, _∙_}
 use denote.Ref.{now}
 use Rattle.nested.specs.Lent.{Outcome}
-use Rattle.findings.specs.Lists.{nestedTold}
 
 array-borrow-prefix-none : tie.Need-array-borrow-prefix-none
 array-borrow-prefix-none c = search needs

@@ -2,11 +2,6 @@
 use borrow.Author.Needs.{needs}
 use Rattle.findings.proofs.lists.mark_waits.Statement.{statement}
 use Rattle.findings.proofs.lists.mark_waits.Tie as tie
-use Rattle.findings.proofs.lists.mark_waits.Reads as reads
-use Rattle.findings.proofs.lists.mark_waits.Lts as lts
-use Rattle.findings.proofs.lists.at_row.Reads as at-row-reads
-use Rattle.findings.proofs.lists.last_waiting.Reads as last-waiting-reads
-use Rattle.findings.proofs.rows.depth_at.Reads as depth-at-reads
 use mathlib.Core.Path.{_∙_}
 use Rattle.findings.specs.Lists.{markWaits}
 

@@ -2,13 +2,7 @@
 use borrow.Author.Needs.{needs}
 use Rattle.findings.proofs.lists.misplaced_dot.Statement.{statement}
 use Rattle.findings.proofs.lists.misplaced_dot.Tie as tie
-use Rattle.findings.proofs.lists.misplaced_dot.Reads as reads
-use Rattle.findings.proofs.lists.misplaced_dot.Lts as lts
-use Rattle.findings.proofs.lists.at_row.Reads as at-row-reads
-use Rattle.findings.proofs.lists.last_dot.Reads as last-dot-reads
-use Rattle.findings.proofs.rows.depth_at.Reads as depth-at-reads
-use Rattle.findings.proofs.rows.row_at.Reads as row-at-reads
-use mathlib.Core.Path.{sym, ap, _∙_}
+use mathlib.Core.Path.{_∙_}
 use borrow.Author.Tests.{eq-eqb, ne-eqb}
 use Rattle.findings.specs.Lists.{misplacedDot}
 

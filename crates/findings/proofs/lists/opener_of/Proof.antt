@@ -2,9 +2,6 @@
 use borrow.Author.Needs.{needs}
 use Rattle.findings.proofs.lists.opener_of.Statement.{statement}
 use Rattle.findings.proofs.lists.opener_of.Tie as tie
-use Rattle.findings.proofs.lists.opener_of.Reads as reads
-use Rattle.findings.proofs.lists.opener_of.Lts as lts
-use Rattle.findings.proofs.lists.last_open.Reads as last-open-reads
 use mathlib.Core.Path.{_≡_, ap, _∙_}
 use Prim.Native.Nat.{ℕ, _-_}
 use native.Mathlib.Omega.{arith}

@@ -2,14 +2,6 @@
 use borrow.Author.Needs.{needs}
 use Rattle.findings.proofs.lists.refused_list.Statement.{statement}
 use Rattle.findings.proofs.lists.refused_list.Tie as tie
-use Rattle.findings.proofs.lists.refused_list.Reads as reads
-use Rattle.findings.proofs.lists.refused_list.Lts as lts
-use Rattle.findings.proofs.lists.at_row.Reads as at-row-reads
-use Rattle.findings.proofs.lists.bracket_open.Reads as bracket-open-reads
-use Rattle.findings.proofs.lists.mark_waits.Reads as mark-waits-reads
-use Rattle.findings.proofs.lists.misplaced_dot.Reads as misplaced-dot-reads
-use Rattle.findings.proofs.lists.wrong_close.Reads as wrong-close-reads
-use mathlib.Core.Path.{sym, _∙_}
 use borrow.Author.Tests.{eq-eqb, ne-eqb}
 use Rattle.findings.specs.Lists.{refusedList}
 

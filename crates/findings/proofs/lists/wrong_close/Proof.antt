@@ -2,13 +2,7 @@
 use borrow.Author.Needs.{needs}
 use Rattle.findings.proofs.lists.wrong_close.Statement.{statement}
 use Rattle.findings.proofs.lists.wrong_close.Tie as tie
-use Rattle.findings.proofs.lists.wrong_close.Reads as reads
-use Rattle.findings.proofs.lists.wrong_close.Lts as lts
-use Rattle.findings.proofs.lists.at_row.Reads as at-row-reads
-use Rattle.findings.proofs.lists.at_rows.Reads as at-rows-reads
-use Rattle.findings.proofs.lists.opener_of.Reads as opener-of-reads
-use Rattle.findings.proofs.rows.depth_at.Reads as depth-at-reads
-use mathlib.Core.Path.{sym, _∙_}
+use mathlib.Core.Path.{_∙_}
 use borrow.Author.Tests.{eq-eqb, ne-eqb}
 use Rattle.findings.specs.Lists.{wrongClose}
 

@@ -1,20 +1,11 @@
 -- The pass keeps what `Passing` says.
 use Rattle.findings.proofs.misfits.first_misfit.Statement.{statement}
 use Rattle.findings.proofs.misfits.first_misfit.Tie as tie
-use Rattle.findings.proofs.misfits.first_misfit.Reads as reads
-use Rattle.findings.proofs.misfits.first_misfit.Lts as lts
-use Rattle.findings.proofs.lines.line_from.Reads as line-from-reads
-use Rattle.findings.proofs.misfits.is_misfit.Reads as is-misfit-reads
-use Rattle.findings.proofs.misfits.note.Reads as note-reads
-use Rattle.findings.proofs.rows.row_at.Reads as row-at-reads
-use mathlib.Core.Path.{_≡_, refl, sym, _∙_}
-use Prim.Native.Nat.{_-_}
+use mathlib.Core.Path.{refl, sym, _∙_, ap}
+use Prim.Native.Nat.{_-_, _/_}
 use denote.Ref.{now}
-use Rattle.nested.specs.Items.{countOf}
 use Rattle.findings.proofs.LineStarts.{line-le}
 use Rattle.findings.proofs.MisfitPass.{Passing, passing-start, passing-end, passing-hit, passing-next}
-use mathlib.Core.Path.{_≡_, refl, sym, ap, _∙_}
-use Prim.Native.Nat.{_/_}
 use lib.ListN.{length}
 use Rattle.findings.specs.Lines.{lineStart}
 use Rattle.findings.specs.declared.Row.{Row}

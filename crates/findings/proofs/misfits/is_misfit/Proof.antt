@@ -2,10 +2,6 @@
 use borrow.Author.Needs.{needs}
 use Rattle.findings.proofs.misfits.is_misfit.Statement.{statement}
 use Rattle.findings.proofs.misfits.is_misfit.Tie as tie
-use Rattle.findings.proofs.misfits.is_misfit.Reads as reads
-use Rattle.findings.proofs.misfits.is_misfit.Lts as lts
-use Rattle.findings.proofs.misfits.kept_at.Reads as kept-at-reads
-use Rattle.findings.proofs.misfits.stands_out.Reads as stands-out-reads
 use mathlib.Core.Path.{sym}
 use native.Mathlib.Omega.{arith}
 use borrow.Author.Tests.{eq-eqb, ne-eqb}

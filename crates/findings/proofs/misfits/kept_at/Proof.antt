@@ -2,8 +2,6 @@
 use borrow.Author.Needs.{needs}
 use Rattle.findings.proofs.misfits.kept_at.Statement.{statement}
 use Rattle.findings.proofs.misfits.kept_at.Tie as tie
-use Rattle.findings.proofs.misfits.kept_at.Reads as reads
-use Rattle.findings.proofs.misfits.kept_at.Lts as lts
 use lib.ListN.{List·getD-eq-default}
 use mathlib.Core.Path.{sym}
 use denote.Ref.{now}

@@ -2,8 +2,6 @@
 use borrow.Author.Needs.{needs}
 use Rattle.findings.proofs.misfits.note.Statement.{statement}
 use Rattle.findings.proofs.misfits.note.Tie as tie
-use Rattle.findings.proofs.misfits.note.Reads as reads
-use Rattle.findings.proofs.misfits.note.Lts as lts
 use borrow.Author.Tests.{eq-eqb, ne-eqb, lt-ltb, le-ltb}
 use Rattle.findings.specs.Misfits.{noted}
 

@@ -2,9 +2,6 @@
 use borrow.Author.Needs.{needs}
 use Rattle.findings.proofs.misfits.stands_out.Statement.{statement}
 use Rattle.findings.proofs.misfits.stands_out.Tie as tie
-use Rattle.findings.proofs.misfits.stands_out.Reads as reads
-use Rattle.findings.proofs.misfits.stands_out.Lts as lts
-use Rattle.findings.proofs.lines.first_on_line.Reads as first-on-line-reads
 use borrow.Author.Tests.{lt-ltb, le-ltb, le-leb, lt-leb}
 
 sub-if2 : tie.Need-sub-if2

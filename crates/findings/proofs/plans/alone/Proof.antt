@@ -2,9 +2,6 @@
 use borrow.Author.Needs.{needs}
 use Rattle.findings.proofs.plans.alone.Statement.{statement}
 use Rattle.findings.proofs.plans.alone.Tie as tie
-use Rattle.findings.proofs.plans.alone.Reads as reads
-use Rattle.findings.proofs.plans.alone.Lts as lts
-use Rattle.findings.proofs.laying.lay.Reads as lay-reads
 use Rattle.findings.proofs.Calls.{call-alone}
 use denote.Ref.{now}
 

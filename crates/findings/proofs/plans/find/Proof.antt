@@ -2,12 +2,6 @@
 use borrow.Author.Needs.{needs}
 use Rattle.findings.proofs.plans.find.Statement.{statement}
 use Rattle.findings.proofs.plans.find.Tie as tie
-use Rattle.findings.proofs.plans.find.Reads as reads
-use Rattle.findings.proofs.plans.find.Lts as lts
-use Rattle.chars.proofs.first_bad.Reads as first-bad-reads
-use Rattle.findings.proofs.plans.alone.Reads as alone-reads
-use Rattle.findings.proofs.plans.find_good.Reads as find-good-reads
-use Rattle.findings.proofs.plans.not_utf8.Reads as not-utf8-reads
 use mathlib.Core.Path.{sym, _∙_}
 use native.Mathlib.Omega.{arith}
 use denote.Ref.{now}

@@ -2,10 +2,6 @@
 use borrow.Author.Needs.{needs}
 use Rattle.findings.proofs.plans.find_good.Statement.{statement}
 use Rattle.findings.proofs.plans.find_good.Tie as tie
-use Rattle.findings.proofs.plans.find_good.Reads as reads
-use Rattle.findings.proofs.plans.find_good.Lts as lts
-use Rattle.findings.proofs.telling.tell.Reads as tell-reads
-use Rattle.findings_rows.proofs.rows.Reads as rows-reads
 use denote.Ref.{now}
 use Rattle.findings_rows.specs.Laid.{flat}
 use Rattle.findings_rows.specs.Rows.{rowsOf}

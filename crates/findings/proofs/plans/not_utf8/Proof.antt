@@ -2,9 +2,6 @@
 use borrow.Author.Needs.{needs}
 use Rattle.findings.proofs.plans.not_utf8.Statement.{statement}
 use Rattle.findings.proofs.plans.not_utf8.Tie as tie
-use Rattle.findings.proofs.plans.not_utf8.Reads as reads
-use Rattle.findings.proofs.plans.not_utf8.Lts as lts
-use Rattle.findings.proofs.rows.byte_at.Reads as byte-at-reads
 
 byte-at-requires : tie.Need-byte-at-requires
 byte-at-requires c κs = search needs

@@ -2,8 +2,6 @@
 use borrow.Author.Needs.{needs}
 use Rattle.findings.proofs.rows.bytes_on.Statement.{statement}
 use Rattle.findings.proofs.rows.bytes_on.Tie as tie
-use Rattle.findings.proofs.rows.bytes_on.Reads as reads
-use Rattle.findings.proofs.rows.bytes_on.Lts as lts
 use borrow.Author.Tests.{le-leb, lt-leb}
 
 add-next : tie.Need-add-next

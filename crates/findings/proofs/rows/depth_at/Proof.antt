@@ -2,11 +2,6 @@
 use borrow.Author.Needs.{needs}
 use Rattle.findings.proofs.rows.depth_at.Statement.{statement}
 use Rattle.findings.proofs.rows.depth_at.Tie as tie
-use Rattle.findings.proofs.rows.depth_at.Reads as reads
-use Rattle.findings.proofs.rows.depth_at.Lts as lts
-use Rattle.findings.proofs.rows.last_row.Reads as last-row-reads
-use Rattle.findings.proofs.rows.row_at.Reads as row-at-reads
-use Rattle.meaning.proofs.records.depth_after.Reads as depth-after-reads
 use borrow.Author.Tests.{lt-ltb, le-ltb}
 use Rattle.findings.specs.Rows.{depthAt}
 

@@ -2,11 +2,8 @@
 use borrow.Author.Needs.{needs}
 use Rattle.findings.proofs.rows.last_row.Statement.{statement}
 use Rattle.findings.proofs.rows.last_row.Tie as tie
-use Rattle.findings.proofs.rows.last_row.Reads as reads
-use Rattle.findings.proofs.rows.last_row.Lts as lts
-use Rattle.findings.proofs.rows.row_at.Reads as row-at-reads
 use mathlib.Core.Path.{_≡_, ap, _∙_}
-use Prim.Native.Nat.{ℕ, _/_, _-_}
+use Prim.Native.Nat.{_/_, _-_}
 use native.Mathlib.Omega.{arith}
 use lib.ListN.{length}
 use denote.Ref.{now}

@@ -2,8 +2,6 @@
 use borrow.Author.Needs.{needs}
 use Rattle.findings.proofs.rows.part.Statement.{statement}
 use Rattle.findings.proofs.rows.part.Tie as tie
-use Rattle.findings.proofs.rows.part.Reads as reads
-use Rattle.findings.proofs.rows.part.Lts as lts
 use Rattle.findings.proofs.Searches.{part-back, part-over, part-past}
 use Rattle.laws.proofs.Lent.{part-rest}
 use mathlib.Core.Path.{_∙_}

@@ -2,8 +2,6 @@
 use borrow.Author.Needs.{needs}
 use Rattle.findings.proofs.rows.row_at.Statement.{statement}
 use Rattle.findings.proofs.rows.row_at.Tie as tie
-use Rattle.findings.proofs.rows.row_at.Reads as reads
-use Rattle.findings.proofs.rows.row_at.Lts as lts
 use borrow.Author.Tests.{lt-ltb, le-ltb}
 use Rattle.findings.specs.Rows.{rowAt}
 

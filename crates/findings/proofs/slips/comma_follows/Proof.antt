@@ -2,11 +2,6 @@
 use borrow.Author.Needs.{needs}
 use Rattle.findings.proofs.slips.comma_follows.Statement.{statement}
 use Rattle.findings.proofs.slips.comma_follows.Tie as tie
-use Rattle.findings.proofs.slips.comma_follows.Reads as reads
-use Rattle.findings.proofs.slips.comma_follows.Lts as lts
-use Rattle.findings.proofs.rows.byte_at.Reads as byte-at-reads
-use Rattle.findings.proofs.rows.row_at.Reads as row-at-reads
-use Rattle.findings.proofs.slips.is_digit.Reads as is-digit-reads
 use mathlib.Core.Path.{ap, _∙_}
 use borrow.Author.Tests.{eq-eqb, ne-eqb}
 use Rattle.findings.specs.Slips.{isDigit, commaFollows}
@@ -46,7 +41,8 @@ returns-3 c =
     let row-at2 = c .before .before .before .before .before .before .before .row-at2 in
     let if2 = c .before .before .before .before .if2 in
     let row-at3 = c .before .before .before .row-at3 in
-    rw (← (row-at .ensures), ← (row-at2 .ensures), ← (row-at3 .ensures)) (rw (eq-eqb _ _ (if1 .left), eq-eqb _ _ (if2 .left), ne-eqb _ _ (c .if3 .taken)))
+    rw (← (row-at .ensures), ← (row-at2 .ensures), ← (row-at3 .ensures))
+    (rw (eq-eqb _ _ (if1 .left), eq-eqb _ _ (if2 .left), ne-eqb _ _ (c .if3 .taken)))
 
 cast-byte-at : tie.Need-cast-byte-at
 cast-byte-at c = search needs
@@ -66,7 +62,8 @@ returns-4 c =
     let if2 = c .before .before .before .before .before .before .before .if2 in
     let row-at3 = c .before .before .before .before .before .before .row-at3 in
     let if3 = c .before .before .before .if3 in
-    rw (← (row-at .ensures), ← (row-at2 .ensures), ← (row-at3 .ensures)) (rw (eq-eqb _ _ (if1 .left), eq-eqb _ _ (if2 .left), eq-eqb _ _ (if3 .left)) (c .is-digit .ensures ∙ ap isDigit (c .before .byte-at .ensures)))
+    rw (← (row-at .ensures), ← (row-at2 .ensures), ← (row-at3 .ensures))
+    (rw (eq-eqb _ _ (if1 .left), eq-eqb _ _ (if2 .left), eq-eqb _ _ (if3 .left)) (c .is-digit .ensures ∙ ap isDigit (c .before .byte-at .ensures)))
 
 pub comma-follows-spec : {M : Type 1} → statement M
 comma-follows-spec =

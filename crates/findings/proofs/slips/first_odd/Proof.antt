@@ -1,25 +1,18 @@
 -- The loop keeps that what the part tells from place i on is what it tells.
 use Rattle.findings.proofs.slips.first_odd.Statement.{statement}
 use Rattle.findings.proofs.slips.first_odd.Tie as tie
-use Rattle.findings.proofs.slips.first_odd.Reads as reads
-use Rattle.findings.proofs.slips.first_odd.Lts as lts
-use Rattle.chars.proofs.decode_at.Reads as decode-at-reads
-use Rattle.findings.proofs.slips.is_plain.Reads as is-plain-reads
-use Rattle.findings.proofs.slips.odd_code.Reads as odd-code-reads
-use Rattle.findings.proofs.slips.warn.Reads as warn-reads
 use mathlib.Core.Path.{_≡_, refl, sym, ap, _∙_}
-use Prim.Native.Nat.{ℕ, _+_, _-_, _≤_}
+use Prim.Native.Nat.{ℕ, _-_, _≤_}
 use native.Mathlib.Omega.{arith}
 use native.Mathlib.Nat.{add-zero}
 use denote.Ref.{now}
 use lib.ListN.{length}
 use borrow.Author.Tests.{eq-eqb, ne-eqb}
 use Rattle.chars.specs.Utf8.{sequences}
-use Rattle.chars.specs.declared.Decoded.{Decoded}
 use Rattle.chars.proofs.Sequences.{further}
 use Rattle.chars.proofs.Chars.{char-at}
 use Rattle.findings.specs.Slips.{firstOdd}
-use Rattle.findings.proofs.OddNames.{oddFrom, oddSaid, odd-turn, plain-turn, odd-end}
+use Rattle.findings.proofs.OddNames.{oddFrom, odd-turn, plain-turn, odd-end}
 use borrow.Author.Needs.{needs}
 
 abbrev Inv-loop : tie.InvT-loop

@@ -2,9 +2,6 @@
 use borrow.Author.Needs.{needs}
 use Rattle.findings.proofs.slips.is_dash.Statement.{statement}
 use Rattle.findings.proofs.slips.is_dash.Tie as tie
-use Rattle.findings.proofs.slips.is_dash.Reads as reads
-use Rattle.findings.proofs.slips.is_dash.Lts as lts
-use Rattle.findings.proofs.slips.is_within.Reads as is-within-reads
 use mathlib.Core.Path.{sym, _∙_}
 use Rattle.findings.specs.Slips.{isDash}
 

@@ -2,10 +2,6 @@
 use borrow.Author.Needs.{needs}
 use Rattle.findings.proofs.slips.is_name.Statement.{statement}
 use Rattle.findings.proofs.slips.is_name.Tie as tie
-use Rattle.findings.proofs.slips.is_name.Reads as reads
-use Rattle.findings.proofs.slips.is_name.Lts as lts
-use Rattle.findings.proofs.rows.byte_at.Reads as byte-at-reads
-use Rattle.findings.proofs.rows.row_at.Reads as row-at-reads
 use borrow.Author.Tests.{eq-eqb, ne-eqb}
 use Rattle.findings.specs.Slips.{isName}
 
@@ -34,7 +30,8 @@ returns-3 c =
     let row-at = c .before .before .before .before .before .before .before .row-at in
     let if1 = c .before .before .before .before .before .if1 in
     let if2 = c .before .before .before .if2 in
-    rw (← (row-at .ensures), ← (c .before .byte-at .ensures)) (rw (eq-eqb _ _ (if1 .left), eq-eqb _ _ (if2 .left), eq-eqb _ _ (c .if3 .taken)))
+    rw (← (row-at .ensures), ← (c .before .byte-at .ensures))
+    (rw (eq-eqb _ _ (if1 .left), eq-eqb _ _ (if2 .left), eq-eqb _ _ (c .if3 .taken)))
 
 add-row-at : tie.Need-add-row-at
 add-row-at c = search needs
@@ -50,7 +47,8 @@ returns-4 c =
     let if2 = c .before .before .before .before .before .before .if2 in
     let byte-at = c .before .before .before .before .byte-at in
     let if3 = c .before .before .before .if3 in
-    rw (← (row-at .ensures), ← (byte-at .ensures), ← (c .before .before .row-at2 .ensures)) (rw (eq-eqb _ _ (if1 .left), eq-eqb _ _ (if2 .left), ne-eqb _ _ (if3 .left), ne-eqb _ _ (c .if4 .taken)))
+    rw (← (row-at .ensures), ← (byte-at .ensures), ← (c .before .before .row-at2 .ensures))
+    (rw (eq-eqb _ _ (if1 .left), eq-eqb _ _ (if2 .left), ne-eqb _ _ (if3 .left), ne-eqb _ _ (c .if4 .taken)))
 
 returns-5 : tie.Need-returns-5
 unfolding isName
@@ -61,7 +59,8 @@ returns-5 c =
     let byte-at = c .before .before .before .before .before .before .byte-at in
     let if3 = c .before .before .before .before .before .if3 in
     let row-at2 = c .before .before .before .before .row-at2 in
-    rw (← (row-at .ensures), ← (byte-at .ensures), ← (row-at2 .ensures)) (rw (eq-eqb _ _ (if1 .left), eq-eqb _ _ (if2 .left), ne-eqb _ _ (if3 .left), eq-eqb _ _ (c .before .before .if4 .left)))
+    rw (← (row-at .ensures), ← (byte-at .ensures), ← (row-at2 .ensures))
+    (rw (eq-eqb _ _ (if1 .left), eq-eqb _ _ (if2 .left), ne-eqb _ _ (if3 .left), eq-eqb _ _ (c .before .before .if4 .left)))
 
 pub is-name-spec : {M : Type 1} → statement M
 is-name-spec =

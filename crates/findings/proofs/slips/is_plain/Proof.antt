@@ -1,8 +1,6 @@
 -- The range from both sides.
 use Rattle.findings.proofs.slips.is_plain.Statement.{statement}
 use Rattle.findings.proofs.slips.is_plain.Tie as tie
-use Rattle.findings.proofs.slips.is_plain.Reads as reads
-use Rattle.findings.proofs.slips.is_plain.Lts as lts
 use Rattle.laws.proofs.Choice.{within-below, within-from}
 
 returns : tie.Need-returns

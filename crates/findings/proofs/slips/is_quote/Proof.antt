@@ -2,9 +2,6 @@
 use borrow.Author.Needs.{needs}
 use Rattle.findings.proofs.slips.is_quote.Statement.{statement}
 use Rattle.findings.proofs.slips.is_quote.Tie as tie
-use Rattle.findings.proofs.slips.is_quote.Reads as reads
-use Rattle.findings.proofs.slips.is_quote.Lts as lts
-use Rattle.findings.proofs.slips.is_within.Reads as is-within-reads
 use mathlib.Core.Path.{sym, _∙_}
 use borrow.Author.Tests.{eq-eqb, ne-eqb}
 use Rattle.findings.specs.Slips.{isQuote}

@@ -1,8 +1,6 @@
 -- The tests are the definition's, in its order.
 use Rattle.findings.proofs.slips.leads_number.Statement.{statement}
 use Rattle.findings.proofs.slips.leads_number.Tie as tie
-use Rattle.findings.proofs.slips.leads_number.Reads as reads
-use Rattle.findings.proofs.slips.leads_number.Lts as lts
 use mathlib.Core.Path.{sym}
 use borrow.Author.Tests.{eq-eqb, ne-eqb}
 use mathlib.Core.Bool.{or-false}

@@ -2,11 +2,6 @@
 use borrow.Author.Needs.{needs}
 use Rattle.findings.proofs.slips.like_number.Statement.{statement}
 use Rattle.findings.proofs.slips.like_number.Tie as tie
-use Rattle.findings.proofs.slips.like_number.Reads as reads
-use Rattle.findings.proofs.slips.like_number.Lts as lts
-use Rattle.findings.proofs.rows.byte_at.Reads as byte-at-reads
-use Rattle.findings.proofs.slips.is_digit.Reads as is-digit-reads
-use Rattle.findings.proofs.slips.leads_number.Reads as leads-number-reads
 use mathlib.Core.Path.{sym, ap, _∙_}
 use Rattle.findings.specs.Slips.{isDigit, likeNumber}
 
@@ -39,14 +34,16 @@ returns-2 c =
     let is-digit = c .before .before .before .before .before .is-digit in
     let if1 = c .before .before .before .before .if1 in
     let leads-number = c .before .before .before .leads-number in
-    rw (← (byte-at .ensures)) (rw (sym (is-digit .ensures) ∙ if1 .left, sym (leads-number .ensures) ∙ c .before .before .if2 .taken) (c .is-digit2 .ensures ∙ ap isDigit (c .before .byte-at2 .ensures)))
+    rw (← (byte-at .ensures))
+    (rw (sym (is-digit .ensures) ∙ if1 .left, sym (leads-number .ensures) ∙ c .before .before .if2 .taken) (c .is-digit2 .ensures ∙ ap isDigit (c .before .byte-at2 .ensures)))
 
 returns-3 : tie.Need-returns-3
 unfolding likeNumber
 returns-3 c =
     let byte-at = c .before .before .before .before .byte-at in
     let is-digit = c .before .before .before .is-digit in
-    rw (← (byte-at .ensures)) (rw (sym (is-digit .ensures) ∙ c .before .before .if1 .left, sym (c .before .leads-number .ensures) ∙ c .if2 .left))
+    rw (← (byte-at .ensures))
+    (rw (sym (is-digit .ensures) ∙ c .before .before .if1 .left, sym (c .before .leads-number .ensures) ∙ c .if2 .left))
 
 pub like-number-spec : {M : Type 1} → statement M
 like-number-spec =

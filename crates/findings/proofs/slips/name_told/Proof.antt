@@ -2,11 +2,6 @@
 use borrow.Author.Needs.{needs}
 use Rattle.findings.proofs.slips.name_told.Statement.{statement}
 use Rattle.findings.proofs.slips.name_told.Tie as tie
-use Rattle.findings.proofs.slips.name_told.Reads as reads
-use Rattle.findings.proofs.slips.name_told.Lts as lts
-use Rattle.findings.proofs.rows.row_at.Reads as row-at-reads
-use Rattle.findings.proofs.slips.number_slip.Reads as number-slip-reads
-use Rattle.findings.proofs.slips.odd_in.Reads as odd-in-reads
 use mathlib.Core.Path.{_∙_}
 use Rattle.findings.specs.Slips.{nameTold}
 

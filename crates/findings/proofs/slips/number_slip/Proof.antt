@@ -2,13 +2,6 @@
 use borrow.Author.Needs.{needs}
 use Rattle.findings.proofs.slips.number_slip.Statement.{statement}
 use Rattle.findings.proofs.slips.number_slip.Tie as tie
-use Rattle.findings.proofs.slips.number_slip.Reads as reads
-use Rattle.findings.proofs.slips.number_slip.Lts as lts
-use Rattle.findings.proofs.rows.row_at.Reads as row-at-reads
-use Rattle.findings.proofs.slips.comma_follows.Reads as comma-follows-reads
-use Rattle.findings.proofs.slips.length_of.Reads as length-of-reads
-use Rattle.findings.proofs.slips.like_number.Reads as like-number-reads
-use Rattle.findings.proofs.slips.warn.Reads as warn-reads
 use mathlib.Core.Path.{sym, _∙_}
 use Rattle.findings.specs.Slips.{numberSlip}
 
@@ -41,7 +34,8 @@ returns c =
     let if1 = c .before .before .before .before .before .if1 in
     let comma-follows = c .before .before .before .before .comma-follows in
     let if2 = c .before .before .before .if2 in
-    rw (← (row-at .ensures), ← (c .before .before .row-at2 .ensures)) (rw (sym (like-number .ensures) ∙ if1 .taken, sym (comma-follows .ensures) ∙ if2 .taken, ← (c .before .length-of .ensures)) (c .warn .ensures))
+    rw (← (row-at .ensures), ← (c .before .before .row-at2 .ensures))
+    (rw (sym (like-number .ensures) ∙ if1 .taken, sym (comma-follows .ensures) ∙ if2 .taken, ← (c .before .length-of .ensures)) (c .warn .ensures))
 
 warn-requires-2 : tie.Need-warn-requires-2
 warn-requires-2 c κs = search needs
@@ -52,7 +46,8 @@ returns-2 c =
     let row-at = c .before .before .before .before .before .row-at in
     let like-number = c .before .before .before .before .like-number in
     let if1 = c .before .before .before .if1 in
-    rw (← (row-at .ensures)) (rw (sym (like-number .ensures) ∙ if1 .taken, sym (c .before .before .comma-follows .ensures) ∙ c .before .if2 .left) (c .warn2 .ensures))
+    rw (← (row-at .ensures))
+    (rw (sym (like-number .ensures) ∙ if1 .taken, sym (c .before .before .comma-follows .ensures) ∙ c .before .if2 .left) (c .warn2 .ensures))
 
 returns-3 : tie.Need-returns-3
 unfolding numberSlip

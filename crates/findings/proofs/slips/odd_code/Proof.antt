@@ -2,11 +2,6 @@
 use borrow.Author.Needs.{needs}
 use Rattle.findings.proofs.slips.odd_code.Statement.{statement}
 use Rattle.findings.proofs.slips.odd_code.Tie as tie
-use Rattle.findings.proofs.slips.odd_code.Reads as reads
-use Rattle.findings.proofs.slips.odd_code.Lts as lts
-use Rattle.findings.proofs.slips.is_dash.Reads as is-dash-reads
-use Rattle.findings.proofs.slips.is_invisible.Reads as is-invisible-reads
-use Rattle.findings.proofs.slips.is_quote.Reads as is-quote-reads
 use mathlib.Core.Path.{sym, _∙_}
 use Rattle.findings.specs.Slips.{oddCode}
 

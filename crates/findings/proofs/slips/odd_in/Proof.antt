@@ -2,10 +2,6 @@
 use borrow.Author.Needs.{needs}
 use Rattle.findings.proofs.slips.odd_in.Statement.{statement}
 use Rattle.findings.proofs.slips.odd_in.Tie as tie
-use Rattle.findings.proofs.slips.odd_in.Reads as reads
-use Rattle.findings.proofs.slips.odd_in.Lts as lts
-use Rattle.findings.proofs.rows.part.Reads as part-reads
-use Rattle.findings.proofs.slips.first_odd.Reads as first-odd-reads
 use mathlib.Core.Path.{ap, _∙_}
 use mathlib.Core.List.{List}
 use Prim.Native.Nat.{ℕ, _-_, _≤_}

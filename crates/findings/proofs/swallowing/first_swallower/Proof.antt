@@ -1,11 +1,8 @@
 -- The loop keeps that the first of them is the first from row p on.
 use Rattle.findings.proofs.swallowing.first_swallower.Statement.{statement}
 use Rattle.findings.proofs.swallowing.first_swallower.Tie as tie
-use Rattle.findings.proofs.swallowing.first_swallower.Reads as reads
-use Rattle.findings.proofs.swallowing.first_swallower.Lts as lts
-use Rattle.findings.proofs.swallowing.is_swallower.Reads as is-swallower-reads
-use mathlib.Core.Path.{_≡_, refl, sym, ap, _∙_}
-use Prim.Native.Nat.{ℕ, _-_, _/_, _≤_}
+use mathlib.Core.Path.{_≡_, sym, _∙_}
+use Prim.Native.Nat.{_-_, _/_, _≤_}
 use native.Mathlib.Omega.{arith}
 use denote.Ref.{now}
 use lib.ListN.{length}

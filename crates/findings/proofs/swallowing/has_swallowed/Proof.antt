@@ -1,10 +1,6 @@
 -- The loop keeps that what is swallowed from place i on is what is swallowed at all.
 use Rattle.findings.proofs.swallowing.has_swallowed.Statement.{statement}
 use Rattle.findings.proofs.swallowing.has_swallowed.Tie as tie
-use Rattle.findings.proofs.swallowing.has_swallowed.Reads as reads
-use Rattle.findings.proofs.swallowing.has_swallowed.Lts as lts
-use Rattle.findings.proofs.swallowing.opens_line.Reads as opens-line-reads
-use Rattle.findings.proofs.swallowing.stays_fresh.Reads as stays-fresh-reads
 use mathlib.Core.Path.{_≡_, refl, sym, ap, _∙_}
 use mathlib.Core.Bool.{Bool, false}
 use mathlib.Core.Logic.{⊎-elim}

@@ -2,12 +2,6 @@
 use borrow.Author.Needs.{needs}
 use Rattle.findings.proofs.swallowing.is_swallower.Statement.{statement}
 use Rattle.findings.proofs.swallowing.is_swallower.Tie as tie
-use Rattle.findings.proofs.swallowing.is_swallower.Reads as reads
-use Rattle.findings.proofs.swallowing.is_swallower.Lts as lts
-use Rattle.findings.proofs.rows.byte_at.Reads as byte-at-reads
-use Rattle.findings.proofs.rows.part.Reads as part-reads
-use Rattle.findings.proofs.rows.row_at.Reads as row-at-reads
-use Rattle.findings.proofs.swallowing.has_swallowed.Reads as has-swallowed-reads
 use borrow.Author.Tests.{eq-eqb, ne-eqb}
 use Rattle.findings.specs.Slips.{isSwallower}
 
@@ -50,7 +44,8 @@ returns-3 c =
     let if1 = c .before .before .before .before .before .before .before .if1 in
     let byte-at = c .before .before .before .before .before .byte-at in
     let if2 = c .before .before .before .before .if2 in
-    rw (← (row-at .ensures), ← (byte-at .ensures)) (rw (eq-eqb _ _ (if1 .left), eq-eqb _ _ (if2 .left), ← (c .before .part .ensures)) (c .has-swallowed .ensures))
+    rw (← (row-at .ensures), ← (byte-at .ensures))
+    (rw (eq-eqb _ _ (if1 .left), eq-eqb _ _ (if2 .left), ← (c .before .part .ensures)) (c .has-swallowed .ensures))
 
 pub is-swallower-spec : {M : Type 1} → statement M
 is-swallower-spec =

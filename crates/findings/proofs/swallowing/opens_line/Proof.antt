@@ -2,8 +2,6 @@
 use borrow.Author.Needs.{needs}
 use Rattle.findings.proofs.swallowing.opens_line.Statement.{statement}
 use Rattle.findings.proofs.swallowing.opens_line.Tie as tie
-use Rattle.findings.proofs.swallowing.opens_line.Reads as reads
-use Rattle.findings.proofs.swallowing.opens_line.Lts as lts
 
 returns : tie.Need-returns
 returns c = rw (c .if1 .taken)

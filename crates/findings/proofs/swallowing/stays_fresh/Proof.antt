@@ -2,9 +2,6 @@
 use borrow.Author.Needs.{needs}
 use Rattle.findings.proofs.swallowing.stays_fresh.Statement.{statement}
 use Rattle.findings.proofs.swallowing.stays_fresh.Tie as tie
-use Rattle.findings.proofs.swallowing.stays_fresh.Reads as reads
-use Rattle.findings.proofs.swallowing.stays_fresh.Lts as lts
-use Rattle.findings.proofs.lines.is_space.Reads as is-space-reads
 
 is-space-requires : tie.Need-is-space-requires
 is-space-requires c κs = search needs

@@ -1,8 +1,6 @@
 -- The tests are the definition's, in its order.
 use Rattle.findings.proofs.telling.ends_in_report.Statement.{statement}
 use Rattle.findings.proofs.telling.ends_in_report.Tie as tie
-use Rattle.findings.proofs.telling.ends_in_report.Reads as reads
-use Rattle.findings.proofs.telling.ends_in_report.Lts as lts
 use mathlib.Core.Path.{sym}
 use mathlib.Core.Bool.{or-false}
 use borrow.Author.Tests.{eq-eqb, ne-eqb}

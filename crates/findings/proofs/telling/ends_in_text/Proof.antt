@@ -2,10 +2,6 @@
 use borrow.Author.Needs.{needs}
 use Rattle.findings.proofs.telling.ends_in_text.Statement.{statement}
 use Rattle.findings.proofs.telling.ends_in_text.Tie as tie
-use Rattle.findings.proofs.telling.ends_in_text.Reads as reads
-use Rattle.findings.proofs.telling.ends_in_text.Lts as lts
-use Rattle.findings.proofs.rows.byte_at.Reads as byte-at-reads
-use Rattle.findings.proofs.rows.last_row.Reads as last-row-reads
 use borrow.Author.Tests.{eq-eqb, ne-eqb}
 use Rattle.findings.specs.Told.{endsInText}
 

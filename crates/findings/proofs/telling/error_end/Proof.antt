@@ -2,9 +2,6 @@
 use borrow.Author.Needs.{needs}
 use Rattle.findings.proofs.telling.error_end.Statement.{statement}
 use Rattle.findings.proofs.telling.error_end.Tie as tie
-use Rattle.findings.proofs.telling.error_end.Reads as reads
-use Rattle.findings.proofs.telling.error_end.Lts as lts
-use Rattle.findings.proofs.rows.bytes_on.Reads as bytes-on-reads
 use borrow.Author.Tests.{eq-eqb, ne-eqb}
 use Rattle.findings.specs.Told.{errorEnd}
 

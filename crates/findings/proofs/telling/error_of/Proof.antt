@@ -2,9 +2,6 @@
 use borrow.Author.Needs.{needs}
 use Rattle.findings.proofs.telling.error_of.Statement.{statement}
 use Rattle.findings.proofs.telling.error_of.Tie as tie
-use Rattle.findings.proofs.telling.error_of.Reads as reads
-use Rattle.findings.proofs.telling.error_of.Lts as lts
-use Rattle.findings.proofs.telling.error_end.Reads as error-end-reads
 
 error-end-requires : tie.Need-error-end-requires
 error-end-requires c κs = search needs

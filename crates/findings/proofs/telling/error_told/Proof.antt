@@ -2,11 +2,6 @@
 use borrow.Author.Needs.{needs}
 use Rattle.findings.proofs.telling.error_told.Statement.{statement}
 use Rattle.findings.proofs.telling.error_told.Tie as tie
-use Rattle.findings.proofs.telling.error_told.Reads as reads
-use Rattle.findings.proofs.telling.error_told.Lts as lts
-use Rattle.findings.proofs.rows.row_at.Reads as row-at-reads
-use Rattle.findings.proofs.telling.error_of.Reads as error-of-reads
-use Rattle.findings.proofs.telling.is_left_quote.Reads as is-left-quote-reads
 use mathlib.Core.Path.{sym, ap, _∙_}
 use Rattle.findings.specs.Told.{errorOf, errorTold}
 

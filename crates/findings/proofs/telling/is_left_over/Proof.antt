@@ -2,9 +2,6 @@
 use borrow.Author.Needs.{needs}
 use Rattle.findings.proofs.telling.is_left_over.Statement.{statement}
 use Rattle.findings.proofs.telling.is_left_over.Tie as tie
-use Rattle.findings.proofs.telling.is_left_over.Reads as reads
-use Rattle.findings.proofs.telling.is_left_over.Lts as lts
-use Rattle.findings.proofs.telling.ends_in_text.Reads as ends-in-text-reads
 use borrow.Author.Tests.{lt-ltb, le-ltb}
 
 ends-in-text-requires : tie.Need-ends-in-text-requires

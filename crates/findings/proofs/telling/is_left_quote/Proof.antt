@@ -2,8 +2,6 @@
 use borrow.Author.Needs.{needs}
 use Rattle.findings.proofs.telling.is_left_quote.Statement.{statement}
 use Rattle.findings.proofs.telling.is_left_quote.Tie as tie
-use Rattle.findings.proofs.telling.is_left_quote.Reads as reads
-use Rattle.findings.proofs.telling.is_left_quote.Lts as lts
 
 add-result : tie.Need-add-result
 add-result c = search needs

@@ -2,8 +2,6 @@
 use borrow.Author.Needs.{needs}
 use Rattle.findings.proofs.telling.list_told.Statement.{statement}
 use Rattle.findings.proofs.telling.list_told.Tie as tie
-use Rattle.findings.proofs.telling.list_told.Reads as reads
-use Rattle.findings.proofs.telling.list_told.Lts as lts
 use borrow.Author.Tests.{eq-eqb, ne-eqb}
 
 enum-told : tie.Need-enum-told

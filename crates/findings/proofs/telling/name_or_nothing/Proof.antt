@@ -2,10 +2,6 @@
 use borrow.Author.Needs.{needs}
 use Rattle.findings.proofs.telling.name_or_nothing.Statement.{statement}
 use Rattle.findings.proofs.telling.name_or_nothing.Tie as tie
-use Rattle.findings.proofs.telling.name_or_nothing.Reads as reads
-use Rattle.findings.proofs.telling.name_or_nothing.Lts as lts
-use Rattle.findings.proofs.slips.is_name.Reads as is-name-reads
-use Rattle.findings.proofs.slips.name_told.Reads as name-told-reads
 use mathlib.Core.Path.{sym, _∙_}
 use Rattle.findings.specs.Told.{nameOrNothing}
 

@@ -2,12 +2,6 @@
 use borrow.Author.Needs.{needs}
 use Rattle.findings.proofs.telling.number_told.Statement.{statement}
 use Rattle.findings.proofs.telling.number_told.Tie as tie
-use Rattle.findings.proofs.telling.number_told.Reads as reads
-use Rattle.findings.proofs.telling.number_told.Lts as lts
-use Rattle.findings.proofs.rows.byte_at.Reads as byte-at-reads
-use Rattle.findings.proofs.rows.row_at.Reads as row-at-reads
-use Rattle.findings.proofs.slips.warn.Reads as warn-reads
-use Rattle.findings.proofs.telling.ends_in_report.Reads as ends-in-report-reads
 use mathlib.Core.Path.{sym, _∙_}
 use Rattle.findings.specs.Slips.{endsOtherwise}
 use Rattle.findings.specs.Told.{numberTold}
@@ -35,13 +29,15 @@ unfolding numberTold endsOtherwise
 returns c =
     let row-at = c .before .before .before .before .before .row-at in
     let byte-at = c .before .before .before .byte-at in
-    rw (← (row-at .ensures), ← (byte-at .ensures)) (rw (sym (c .before .before .ends-in-report .ensures) ∙ c .before .if1 .taken) (c .warn .ensures))
+    rw (← (row-at .ensures), ← (byte-at .ensures))
+    (rw (sym (c .before .before .ends-in-report .ensures) ∙ c .before .if1 .taken) (c .warn .ensures))
 
 returns-2 : tie.Need-returns-2
 unfolding numberTold endsOtherwise
 returns-2 c =
     let row-at = c .before .before .before .before .row-at in
-    rw (← (row-at .ensures), ← (c .before .before .byte-at .ensures)) (rw (sym (c .before .ends-in-report .ensures) ∙ c .if1 .left))
+    rw (← (row-at .ensures), ← (c .before .before .byte-at .ensures))
+    (rw (sym (c .before .ends-in-report .ensures) ∙ c .if1 .left))
 
 pub number-told-spec : {M : Type 1} → statement M
 number-told-spec =

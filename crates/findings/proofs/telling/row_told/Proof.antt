@@ -2,13 +2,6 @@
 use borrow.Author.Needs.{needs}
 use Rattle.findings.proofs.telling.row_told.Statement.{statement}
 use Rattle.findings.proofs.telling.row_told.Tie as tie
-use Rattle.findings.proofs.telling.row_told.Reads as reads
-use Rattle.findings.proofs.telling.row_told.Lts as lts
-use Rattle.findings.proofs.rows.row_at.Reads as row-at-reads
-use Rattle.findings.proofs.telling.error_told.Reads as error-told-reads
-use Rattle.findings.proofs.telling.name_or_nothing.Reads as name-or-nothing-reads
-use Rattle.findings.proofs.telling.number_told.Reads as number-told-reads
-use Rattle.findings.proofs.telling.text_told.Reads as text-told-reads
 use borrow.Author.Tests.{eq-eqb, ne-eqb, lt-ltb, le-ltb}
 use Rattle.findings.specs.Told.{rowTold}
 
@@ -41,7 +34,8 @@ returns-3 c =
     let row-at = c .before .before .before .before .before .before .before .row-at in
     let if1 = c .before .before .before .before .before .if1 in
     let if2 = c .before .before .before .if2 in
-    rw (← (row-at .ensures)) (rw (le-ltb _ _ (if1 .left), ne-eqb _ _ (if2 .left), eq-eqb _ _ (c .before .if3 .taken)) (c .text-told .ensures))
+    rw (← (row-at .ensures))
+    (rw (le-ltb _ _ (if1 .left), ne-eqb _ _ (if2 .left), eq-eqb _ _ (c .before .if3 .taken)) (c .text-told .ensures))
 
 number-told-requires : tie.Need-number-told-requires
 number-told-requires c κs = search needs
@@ -53,7 +47,8 @@ returns-4 c =
     let if1 = c .before .before .before .before .before .before .before .if1 in
     let if2 = c .before .before .before .before .before .if2 in
     let if3 = c .before .before .before .if3 in
-    rw (← (row-at .ensures)) (rw (le-ltb _ _ (if1 .left), ne-eqb _ _ (if2 .left), ne-eqb _ _ (if3 .left), eq-eqb _ _ (c .before .if4 .taken)) (c .number-told .ensures))
+    rw (← (row-at .ensures))
+    (rw (le-ltb _ _ (if1 .left), ne-eqb _ _ (if2 .left), ne-eqb _ _ (if3 .left), eq-eqb _ _ (c .before .if4 .taken)) (c .number-told .ensures))
 
 returns-5 : tie.Need-returns-5
 unfolding rowTold
@@ -61,7 +56,8 @@ returns-5 c =
     let row-at = c .before .before .before .before .before .before .before .before .row-at in
     let if1 = c .before .before .before .before .before .before .if1 in
     let if2 = c .before .before .before .before .if2 in
-    rw (← (row-at .ensures)) (rw (le-ltb _ _ (if1 .left), ne-eqb _ _ (if2 .left), ne-eqb _ _ (c .before .before .if3 .left), ne-eqb _ _ (c .if4 .left)))
+    rw (← (row-at .ensures))
+    (rw (le-ltb _ _ (if1 .left), ne-eqb _ _ (if2 .left), ne-eqb _ _ (c .before .before .if3 .left), ne-eqb _ _ (c .if4 .left)))
 
 pub row-told-spec : {M : Type 1} → statement M
 row-told-spec =

@@ -2,10 +2,6 @@
 use borrow.Author.Needs.{needs}
 use Rattle.findings.proofs.telling.swallow_told.Statement.{statement}
 use Rattle.findings.proofs.telling.swallow_told.Tie as tie
-use Rattle.findings.proofs.telling.swallow_told.Reads as reads
-use Rattle.findings.proofs.telling.swallow_told.Lts as lts
-use Rattle.findings.proofs.rows.bytes_on.Reads as bytes-on-reads
-use Rattle.findings.proofs.slips.warn.Reads as warn-reads
 use mathlib.Core.Path.{_∙_}
 use Rattle.findings.specs.Told.{swallowTold}
 

@@ -1,19 +1,9 @@
 -- The loop keeps what `RowByRow` says; each row tells what the definition has of it.
 use Rattle.findings.proofs.telling.tell.Statement.{statement}
 use Rattle.findings.proofs.telling.tell.Tie as tie
-use Rattle.findings.proofs.telling.tell.Reads as reads
-use Rattle.findings.proofs.telling.tell.Lts as lts
-use Rattle.findings.proofs.laying.lay.Reads as lay-reads
-use Rattle.findings.proofs.lists.list_of.Reads as list-of-reads
-use Rattle.findings.proofs.swallowing.first_swallower.Reads as first-swallower-reads
-use Rattle.findings.proofs.telling.is_left_over.Reads as is-left-over-reads
-use Rattle.findings.proofs.telling.list_told.Reads as list-told-reads
-use Rattle.findings.proofs.telling.row_told.Reads as row-told-reads
-use mathlib.Core.Path.{_≡_, refl, sym, ap, _∙_}
-use mathlib.Core.List.{_++_}
-use Prim.Native.Nat.{ℕ, _-_, _/_}
+use mathlib.Core.Path.{ap, _∙_}
+use Prim.Native.Nat.{_-_, _/_}
 use native.Mathlib.Omega.{arith}
-use denote.Ref.{now}
 use lib.ListN.{length, length-append}
 use Rattle.findings_rows.proofs.Laid.{laid-length}
 use Rattle.findings.specs.Finding.{listed}

@@ -2,11 +2,6 @@
 use borrow.Author.Needs.{needs}
 use Rattle.findings.proofs.telling.text_told.Statement.{statement}
 use Rattle.findings.proofs.telling.text_told.Tie as tie
-use Rattle.findings.proofs.telling.text_told.Reads as reads
-use Rattle.findings.proofs.telling.text_told.Lts as lts
-use Rattle.findings.proofs.rows.last_row.Reads as last-row-reads
-use Rattle.findings.proofs.rows.row_at.Reads as row-at-reads
-use Rattle.findings.proofs.telling.swallow_told.Reads as swallow-told-reads
 use borrow.Author.Tests.{eq-eqb, ne-eqb}
 use Rattle.findings.specs.Told.{textTold}
 
