@@ -19,9 +19,9 @@ to = $(DESTDIR)$(PREFIX)
 
 .PHONY: install plancheck version
 plancheck:
-	@test -n "$(archive)" || { echo "no archive for $(TARGET): .ci/archive makes it" >&2; exit 1; }
+	@test -n "$(archive)" || .ci/archive $(if $(filter-out x86_64-linux-gnu,$(TARGET)),--target $(TARGET))
 	mkdir -p target
-	$(CC) -std=c99 -O2 -Iinclude plancheck/plancheck.c $(archive) -o target/plancheck
+	$(CC) -std=c99 -O2 -Iinclude plancheck/plancheck.c $$(ls $(addsuffix /libmihadrena.a,$(made)) 2>/dev/null | head -n 1) -o target/plancheck
 
 install: plancheck
 	mkdir -p $(to)/bin $(to)/share/man/man1
