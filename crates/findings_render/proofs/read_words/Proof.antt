@@ -1,41 +1,40 @@
 -- Word by word.
 use Rattle.findings_render.specs.Messages.{toldOf}
-use borrow.Author.Needs.{needs}
 use Rattle.findings_render.proofs.read_words.Statement.{statement}
 use Rattle.findings_render.proofs.read_words.Tie as tie
 
 word-requires : tie.Need-word-requires
-word-requires c κs = search needs
+word-requires c κs = tt
 
 word-requires-2 : tie.Need-word-requires-2
-word-requires-2 c κs = search needs
+word-requires-2 c κs = tt
 
 word-requires-3 : tie.Need-word-requires-3
-word-requires-3 c κs = search needs
+word-requires-3 c κs = tt
 
 word-requires-4 : tie.Need-word-requires-4
-word-requires-4 c κs = search needs
+word-requires-4 c κs = tt
 
 within-requires : tie.Need-within-requires
-within-requires c κs = search needs
+within-requires c κs = tt
 
 word-requires-5 : tie.Need-word-requires-5
-word-requires-5 c κs = search needs
+word-requires-5 c κs = tt
 
 within-requires-2 : tie.Need-within-requires-2
-within-requires-2 c κs = search needs
+within-requires-2 c κs = tt
 
 word-requires-6 : tie.Need-word-requires-6
-word-requires-6 c κs = search needs
+word-requires-6 c κs = tt
 
 within-requires-3 : tie.Need-within-requires-3
-within-requires-3 c κs = search needs
+within-requires-3 c κs = tt
 
 word-requires-7 : tie.Need-word-requires-7
-word-requires-7 c κs = search needs
+word-requires-7 c κs = tt
 
 within-requires-4 : tie.Need-within-requires-4
-within-requires-4 c κs = search needs
+within-requires-4 c κs = tt
 
 returns : tie.Need-returns
 unfolding toldOf

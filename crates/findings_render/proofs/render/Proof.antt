@@ -12,10 +12,10 @@ use Rattle.findings_render.proofs.render.Statement.{statement}
 use Rattle.findings_render.proofs.render.Tie as tie
 
 read-words-requires : tie.Need-read-words-requires
-read-words-requires c κs = search needs
+read-words-requires c κs = tt
 
 is-told-requires : tie.Need-is-told-requires
-is-told-requires c κs = search needs
+is-told-requires c κs = tt
 
 returns : tie.Need-returns
 unfolding rendered

@@ -8,7 +8,7 @@ use Rattle.findings_render.proofs.characters.columns_of.Statement.{stat
 use Rattle.findings_render.proofs.characters.columns_of.Tie as tie
 
 hex-count-requires : tie.Need-hex-count-requires
-hex-count-requires c κs = search needs
+hex-count-requires c κs = tt
 
 add-result : tie.Need-add-result
 add-result c = search needs

@@ -3,7 +3,6 @@ use Prim.Native.Nat.{_-_, _≤_}
 use mathlib.Core.Path.{_≡_, refl, sym, ap, _∙_}
 use native.Mathlib.Omega.{arith}
 use lib.ListN.{length, drop}
-use borrow.Author.Needs.{needs}
 use Rattle.findings_render.specs.Shown.{isNil, underOne, under}
 use Rattle.findings_render.proofs.Walks.{size-some, walked-on, walked-end}
 use Rattle.findings_render.proofs.Spotted.{flat-on, flat-not}
@@ -23,7 +22,7 @@ seen-at-requires : tie.Need-seen-at-requires Inv-loop μ-loop
 seen-at-requires c κs = c .loop-test .taken
 
 columns-of-requires : tie.Need-columns-of-requires Inv-loop μ-loop
-columns-of-requires c κs = search needs
+columns-of-requires c κs = tt
 
 returns : tie.Need-returns Inv-loop μ-loop
 returns c =

@@ -29,7 +29,7 @@ array-read-is-within-2 : tie.Need-array-read-is-within-2 Inv-loop μ-loop
 array-read-is-within-2 c = search needs
 
 is-within-requires : tie.Need-is-within-requires Inv-loop μ-loop
-is-within-requires c κs = search needs
+is-within-requires c κs = tt
 
 array-read-result : tie.Need-array-read-result Inv-loop μ-loop
 array-read-result c = search needs

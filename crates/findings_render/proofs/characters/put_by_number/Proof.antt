@@ -9,10 +9,10 @@ slice-aggregate-put : tie.Need-slice-aggregate-put
 slice-aggregate-put c = search needs
 
 put-requires : tie.Need-put-requires
-put-requires c κs = search needs
+put-requires c κs = tt
 
 hex-count-requires : tie.Need-hex-count-requires
-hex-count-requires c κs = search needs
+hex-count-requires c κs = tt
 
 put-digits-requires : tie.Need-put-digits-requires
 put-digits-requires c κs = search needs
@@ -21,7 +21,7 @@ slice-aggregate-put-2 : tie.Need-slice-aggregate-put-2
 slice-aggregate-put-2 c = search needs
 
 put-requires-2 : tie.Need-put-requires-2
-put-requires-2 c κs = search needs
+put-requires-2 c κs = tt
 
 same-length : tie.Need-same-length
 same-length c = search needs

@@ -6,13 +6,13 @@ use Rattle.findings_render.proofs.characters.put_carets.Statement.{stat
 use Rattle.findings_render.proofs.characters.put_carets.Tie as tie
 
 is-flat-requires : tie.Need-is-flat-requires
-is-flat-requires c κs = search needs
+is-flat-requires c κs = tt
 
 slice-aggregate-put : tie.Need-slice-aggregate-put
 slice-aggregate-put c = search needs
 
 put-requires : tie.Need-put-requires
-put-requires c κs = search needs
+put-requires c κs = tt
 
 same-length : tie.Need-same-length
 same-length c = search needs
@@ -25,7 +25,7 @@ returns c =
     rw (sym (after-is-flat .is-flat .ensures) ∙ branch .if1 .taken) (c .before .before .put .ensures)
 
 put-under-requires : tie.Need-put-under-requires
-put-under-requires c κs = search needs
+put-under-requires c κs = tt
 
 same-length-2 : tie.Need-same-length-2
 same-length-2 c = search needs

@@ -9,7 +9,7 @@ use Rattle.findings_render.proofs.characters.put_one.Statement.{stateme
 use Rattle.findings_render.proofs.characters.put_one.Tie as tie
 
 put-by-number-requires : tie.Need-put-by-number-requires
-put-by-number-requires c κs = search needs
+put-by-number-requires c κs = tt
 
 same-length : tie.Need-same-length
 same-length c = search needs
@@ -21,7 +21,7 @@ returns c =
     rw (eq-eqb _ _ (branch .if1 .taken)) (c .before .before .put-by-number .ensures)
 
 put-as-byte-requires : tie.Need-put-as-byte-requires
-put-as-byte-requires c κs = search needs
+put-as-byte-requires c κs = tt
 
 same-length-2 : tie.Need-same-length-2
 same-length-2 c = search needs
@@ -34,10 +34,10 @@ returns-2 c =
     rw (ne-eqb _ _ (branch .if1 .left), eq-eqb _ _ (branch2 .if2 .taken)) (c .before .before .put-as-byte .ensures)
 
 part-requires : tie.Need-part-requires
-part-requires c κs = search needs
+part-requires c κs = tt
 
 put-requires : tie.Need-put-requires
-put-requires c κs = search needs
+put-requires c κs = tt
 
 same-length-3 : tie.Need-same-length-3
 same-length-3 c = search needs

@@ -33,7 +33,7 @@ part-put-one-end : tie.Need-part-put-one-end Inv-loop μ-loop
 part-put-one-end c = search needs
 
 put-one-requires : tie.Need-put-one-requires Inv-loop μ-loop
-put-one-requires c κs = search needs
+put-one-requires c κs = tt
 
 add-i : tie.Need-add-i Inv-loop μ-loop
 add-i c = omega arith

@@ -4,7 +4,6 @@ use Prim.Native.Nat.{_-_, _≤_}
 use mathlib.Core.Path.{ap, sym, _∙_}
 use native.Mathlib.Omega.{arith}
 use lib.ListN.{length, drop}
-use borrow.Author.Needs.{needs}
 use Rattle.findings_render.specs.Shown.{underOne, under}
 use Rattle.findings_render.proofs.OneByOne.{Left, left-start, left-on, left-end, as-laid}
 use Rattle.findings_render.proofs.Walks.{size-some, walked-on, walked-end}
@@ -24,7 +23,7 @@ seen-at-requires : tie.Need-seen-at-requires Inv-loop μ-loop
 seen-at-requires c κs = c .loop-test .taken
 
 put-under-one-requires : tie.Need-put-under-one-requires Inv-loop μ-loop
-put-under-one-requires c κs = search needs
+put-under-one-requires c κs = tt
 
 add-i : tie.Need-add-i Inv-loop μ-loop
 add-i c = omega arith

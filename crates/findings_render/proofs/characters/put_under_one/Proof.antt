@@ -6,10 +6,10 @@ use Rattle.findings_render.proofs.characters.put_under_one.Statement.{s
 use Rattle.findings_render.proofs.characters.put_under_one.Tie as tie
 
 is-copied-requires : tie.Need-is-copied-requires
-is-copied-requires c κs = search needs
+is-copied-requires c κs = tt
 
 put-byte-requires : tie.Need-put-byte-requires
-put-byte-requires c κs = search needs
+put-byte-requires c κs = tt
 
 same-length : tie.Need-same-length
 same-length c = search needs
@@ -22,10 +22,10 @@ returns c =
     rw (sym (after-is-copied .is-copied .ensures) ∙ branch .if1 .taken) (c .before .before .put-byte .ensures)
 
 columns-of-requires : tie.Need-columns-of-requires
-columns-of-requires c κs = search needs
+columns-of-requires c κs = tt
 
 put-run-requires : tie.Need-put-run-requires
-put-run-requires c κs = search needs
+put-run-requires c κs = tt
 
 same-length-2 : tie.Need-same-length-2
 same-length-2 c = search needs

@@ -9,7 +9,7 @@ use Rattle.findings_render.proofs.characters.seen_at.Statement.{stateme
 use Rattle.findings_render.proofs.characters.seen_at.Tie as tie
 
 decode-at-requires : tie.Need-decode-at-requires
-decode-at-requires c κs = search needs
+decode-at-requires c κs = tt
 
 enum-known-code : tie.Need-enum-known-code
 enum-known-code c = search needs
@@ -21,7 +21,7 @@ sub-t7 c =
     omega (arith, further (entry .args .t .now) (entry .args .at) _ _ (sym (c .before .code .given .1) ∙ after-decode-at .decode-at .ensures))
 
 kind-of-requires : tie.Need-kind-of-requires
-kind-of-requires c κs = search needs
+kind-of-requires c κs = tt
 
 enum-told : tie.Need-enum-told
 enum-told c = search needs
@@ -30,7 +30,7 @@ shared-slice-read-seen-byte : tie.Need-shared-slice-read-seen-byte
 shared-slice-read-seen-byte c = search needs
 
 seen-byte-requires : tie.Need-seen-byte-requires
-seen-byte-requires c κs = search needs
+seen-byte-requires c κs = tt
 
 enum-told-2 : tie.Need-enum-told-2
 enum-told-2 c = search needs
@@ -39,7 +39,7 @@ shared-slice-read-seen-byte-2 : tie.Need-shared-slice-read-seen-byte-2
 shared-slice-read-seen-byte-2 c = search needs
 
 seen-byte-requires-2 : tie.Need-seen-byte-requires-2
-seen-byte-requires-2 c κs = search needs
+seen-byte-requires-2 c κs = tt
 
 enum-told-3 : tie.Need-enum-told-3
 enum-told-3 c = search needs
@@ -48,7 +48,7 @@ shared-slice-read-seen-byte-3 : tie.Need-shared-slice-read-seen-byte-3
 shared-slice-read-seen-byte-3 c = search needs
 
 seen-byte-requires-3 : tie.Need-seen-byte-requires-3
-seen-byte-requires-3 c κs = search needs
+seen-byte-requires-3 c κs = tt
 
 returns : tie.Need-returns
 returns c =

@@ -10,19 +10,19 @@ slice-aggregate-put : tie.Need-slice-aggregate-put
 slice-aggregate-put c = search needs
 
 put-requires : tie.Need-put-requires
-put-requires c κs = search needs
+put-requires c κs = tt
 
 put-name-requires : tie.Need-put-name-requires
-put-name-requires c κs = search needs
+put-name-requires c κs = tt
 
 put-place-fields-requires : tie.Need-put-place-fields-requires
 put-place-fields-requires c κs = search needs
 
 put-word-fields-requires : tie.Need-put-word-fields-requires
-put-word-fields-requires c κs = search needs
+put-word-fields-requires c κs = tt
 
 put-help-field-requires : tie.Need-put-help-field-requires
-put-help-field-requires c κs = search needs
+put-help-field-requires c κs = tt
 
 put-see-field-requires : tie.Need-put-see-field-requires
 put-see-field-requires c κs = search needs
@@ -31,7 +31,7 @@ slice-aggregate-put-2 : tie.Need-slice-aggregate-put-2
 slice-aggregate-put-2 c = search needs
 
 put-requires-2 : tie.Need-put-requires-2
-put-requires-2 c κs = search needs
+put-requires-2 c κs = tt
 
 same-length : tie.Need-same-length
 same-length c =

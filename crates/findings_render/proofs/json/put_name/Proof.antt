@@ -33,7 +33,7 @@ part-put-name-one-end : tie.Need-part-put-name-one-end Inv-loop μ-loop
 part-put-name-one-end c = search needs
 
 put-name-one-requires : tie.Need-put-name-one-requires Inv-loop μ-loop
-put-name-one-requires c κs = search needs
+put-name-one-requires c κs = tt
 
 add-i : tie.Need-add-i Inv-loop μ-loop
 add-i c = omega arith

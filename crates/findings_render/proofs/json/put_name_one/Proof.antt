@@ -12,7 +12,7 @@ slice-aggregate-put : tie.Need-slice-aggregate-put
 slice-aggregate-put c = search needs
 
 put-requires : tie.Need-put-requires
-put-requires c κs = search needs
+put-requires c κs = tt
 
 same-length : tie.Need-same-length
 same-length c = search needs
@@ -27,7 +27,7 @@ slice-aggregate-put-2 : tie.Need-slice-aggregate-put-2
 slice-aggregate-put-2 c = search needs
 
 put-requires-2 : tie.Need-put-requires-2
-put-requires-2 c κs = search needs
+put-requires-2 c κs = tt
 
 cast-put-digits : tie.Need-cast-put-digits
 cast-put-digits c = search needs
@@ -47,10 +47,10 @@ returns-2 c =
     rw (ne-eqb _ _ (branch .if1 .left), lt-ltb _ _ (branch2 .if2 .taken)) (joined (after-put2 .put2 .ensures) (c .before .before .put-digits .ensures))
 
 part-requires : tie.Need-part-requires
-part-requires c κs = search needs
+part-requires c κs = tt
 
 put-requires-3 : tie.Need-put-requires-3
-put-requires-3 c κs = search needs
+put-requires-3 c κs = tt
 
 same-length-3 : tie.Need-same-length-3
 same-length-3 c = search needs

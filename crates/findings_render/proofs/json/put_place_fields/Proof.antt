@@ -24,7 +24,7 @@ put-spot-fields-requires-2 : tie.Need-put-spot-fields-requires-2
 put-spot-fields-requires-2 c κs = search needs
 
 put-byte-fields-requires : tie.Need-put-byte-fields-requires
-put-byte-fields-requires c κs = search needs
+put-byte-fields-requires c κs = tt
 
 same-length : tie.Need-same-length
 same-length c = search needs

@@ -6,22 +6,22 @@ use Rattle.findings_render.proofs.json.put_spot_fields.Statement.{state
 use Rattle.findings_render.proofs.json.put_spot_fields.Tie as tie
 
 put-requires : tie.Need-put-requires
-put-requires c κs = search needs
+put-requires c κs = tt
 
 line-number-requires : tie.Need-line-number-requires
 line-number-requires c κs = search needs
 
 put-number-requires : tie.Need-put-number-requires
-put-number-requires c κs = search needs
+put-number-requires c κs = tt
 
 put-requires-2 : tie.Need-put-requires-2
-put-requires-2 c κs = search needs
+put-requires-2 c κs = tt
 
 column-number-requires : tie.Need-column-number-requires
 column-number-requires c κs = search needs
 
 put-number-requires-2 : tie.Need-put-number-requires-2
-put-number-requires-2 c κs = search needs
+put-number-requires-2 c κs = tt
 
 same-length : tie.Need-same-length
 same-length c = search needs

@@ -1,11 +1,10 @@
 -- Nothing is marked where nothing is quoted.
 use Rattle.findings_render.specs.Laid.{isMarked}
-use borrow.Author.Needs.{needs}
 use Rattle.findings_render.proofs.laying.is_marked.Statement.{statement}
 use Rattle.findings_render.proofs.laying.is_marked.Tie as tie
 
 is-special-requires : tie.Need-is-special-requires
-is-special-requires c κs = search needs
+is-special-requires c κs = tt
 
 returns : tie.Need-returns
 unfolding isMarked

@@ -6,16 +6,16 @@ use Rattle.findings_render.proofs.laying.put_byte.Statement.{statement}
 use Rattle.findings_render.proofs.laying.put_byte.Tie as tie
 
 is-marked-requires : tie.Need-is-marked-requires
-is-marked-requires c κs = search needs
+is-marked-requires c κs = tt
 
 put-raw-requires : tie.Need-put-raw-requires
-put-raw-requires c κs = search needs
+put-raw-requires c κs = tt
 
 letter-of-requires : tie.Need-letter-of-requires
-letter-of-requires c κs = search needs
+letter-of-requires c κs = tt
 
 put-raw-requires-2 : tie.Need-put-raw-requires-2
-put-raw-requires-2 c κs = search needs
+put-raw-requires-2 c κs = tt
 
 same-length : tie.Need-same-length
 same-length c = search needs
@@ -30,7 +30,7 @@ returns c =
     (rw (after-letter-of .letter-of .ensures) at (c .before .before .put-raw2 .ensures .1))
 
 put-raw-requires-3 : tie.Need-put-raw-requires-3
-put-raw-requires-3 c κs = search needs
+put-raw-requires-3 c κs = tt
 
 same-length-2 : tie.Need-same-length-2
 same-length-2 c = search needs

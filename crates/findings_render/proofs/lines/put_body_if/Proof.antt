@@ -15,7 +15,7 @@ put-picture-requires : tie.Need-put-picture-requires
 put-picture-requires c κs = search needs
 
 put-help-requires : tie.Need-put-help-requires
-put-help-requires c κs = search needs
+put-help-requires c κs = tt
 
 same-length : tie.Need-same-length
 same-length c = search needs

@@ -8,7 +8,7 @@ slice-aggregate-put-if : tie.Need-slice-aggregate-put-if
 slice-aggregate-put-if c = search needs
 
 put-if-requires : tie.Need-put-if-requires
-put-if-requires c κs = search needs
+put-if-requires c κs = tt
 
 same-length : tie.Need-same-length
 same-length c = search needs
@@ -22,7 +22,7 @@ slice-aggregate-put-if-2 : tie.Need-slice-aggregate-put-if-2
 slice-aggregate-put-if-2 c = search needs
 
 put-if-requires-2 : tie.Need-put-if-requires-2
-put-if-requires-2 c κs = search needs
+put-if-requires-2 c κs = tt
 
 same-length-2 : tie.Need-same-length-2
 same-length-2 c = search needs

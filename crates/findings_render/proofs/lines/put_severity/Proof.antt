@@ -6,22 +6,22 @@ use Rattle.findings_render.proofs.lines.put_severity.Statement.{stateme
 use Rattle.findings_render.proofs.lines.put_severity.Tie as tie
 
 put-paint-requires : tie.Need-put-paint-requires
-put-paint-requires c κs = search needs
+put-paint-requires c κs = tt
 
 put-severity-word-requires : tie.Need-put-severity-word-requires
-put-severity-word-requires c κs = search needs
+put-severity-word-requires c κs = tt
 
 slice-aggregate-put : tie.Need-slice-aggregate-put
 slice-aggregate-put c = search needs
 
 put-requires : tie.Need-put-requires
-put-requires c κs = search needs
+put-requires c κs = tt
 
 slice-aggregate-put-if : tie.Need-slice-aggregate-put-if
 slice-aggregate-put-if c = search needs
 
 put-if-requires : tie.Need-put-if-requires
-put-if-requires c κs = search needs
+put-if-requires c κs = tt
 
 same-length : tie.Need-same-length
 same-length c = search needs

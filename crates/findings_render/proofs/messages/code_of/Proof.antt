@@ -5,7 +5,7 @@ use Rattle.findings_render.proofs.messages.code_of.Statement.{statement
 use Rattle.findings_render.proofs.messages.code_of.Tie as tie
 
 letter-requires : tie.Need-letter-requires
-letter-requires c κs = search needs
+letter-requires c κs = tt
 
 cast-digit-byte : tie.Need-cast-digit-byte
 cast-digit-byte c = search needs

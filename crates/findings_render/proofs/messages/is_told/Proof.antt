@@ -11,7 +11,7 @@ use Rattle.findings_render.proofs.messages.is_told.Statement.{statement
 use Rattle.findings_render.proofs.messages.is_told.Tie as tie
 
 key-of-requires : tie.Need-key-of-requires
-key-of-requires c κs = search needs
+key-of-requires c κs = tt
 
 slice-aggregate-piece : tie.Need-slice-aggregate-piece
 slice-aggregate-piece c = search needs
@@ -20,7 +20,7 @@ slice-aggregate-piece-2 : tie.Need-slice-aggregate-piece-2
 slice-aggregate-piece-2 c = search needs
 
 piece-requires : tie.Need-piece-requires
-piece-requires c κs = search needs
+piece-requires c κs = tt
 
 returns : tie.Need-returns
 unfolding table isTold

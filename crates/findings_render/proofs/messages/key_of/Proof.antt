@@ -6,7 +6,7 @@ use Rattle.findings_render.proofs.messages.key_of.Statement.{statement}
 use Rattle.findings_render.proofs.messages.key_of.Tie as tie
 
 letter-requires : tie.Need-letter-requires
-letter-requires c κs = search needs
+letter-requires c κs = tt
 
 cast-digit-byte : tie.Need-cast-digit-byte
 cast-digit-byte c = search needs
@@ -21,7 +21,7 @@ digit-byte-requires-2 : tie.Need-digit-byte-requires-2
 digit-byte-requires-2 c κs = search needs
 
 variant-requires : tie.Need-variant-requires
-variant-requires c κs = search needs
+variant-requires c κs = tt
 
 digit-byte-requires-3 : tie.Need-digit-byte-requires-3
 digit-byte-requires-3 c κs = omega arith

@@ -1,18 +1,17 @@
 -- From behind the key to the next zero byte.
 use mathlib.Core.Path.{_∙_}
 use Rattle.findings_render.proofs.Worded.{piece-is}
-use borrow.Author.Needs.{needs}
 use Rattle.findings_render.proofs.messages.piece.Statement.{statement}
 use Rattle.findings_render.proofs.messages.piece.Tie as tie
 
 text-start-requires : tie.Need-text-start-requires
-text-start-requires c κs = search needs
+text-start-requires c κs = tt
 
 find-requires : tie.Need-find-requires
-find-requires c κs = search needs
+find-requires c κs = tt
 
 part-requires : tie.Need-part-requires
-part-requires c κs = search needs
+part-requires c κs = tt
 
 returns : tie.Need-returns
 returns c =

@@ -22,7 +22,7 @@ shared-slice-read-put-inserted : tie.Need-shared-slice-read-put-inserted Inv-loo
 shared-slice-read-put-inserted c = search needs
 
 put-inserted-requires : tie.Need-put-inserted-requires Inv-loop μ-loop
-put-inserted-requires c κs = search needs
+put-inserted-requires c κs = tt
 
 add-i : tie.Need-add-i Inv-loop μ-loop
 add-i c = search needs

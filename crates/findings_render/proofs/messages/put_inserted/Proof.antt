@@ -9,22 +9,22 @@ use Rattle.findings_render.proofs.messages.put_inserted.Statement.{stat
 use Rattle.findings_render.proofs.messages.put_inserted.Tie as tie
 
 part-requires : tie.Need-part-requires
-part-requires c κs = search needs
+part-requires c κs = tt
 
 put-shown-requires : tie.Need-put-shown-requires
-put-shown-requires c κs = search needs
+put-shown-requires c κs = tt
 
 part-requires-2 : tie.Need-part-requires-2
-part-requires-2 c κs = search needs
+part-requires-2 c κs = tt
 
 put-shown-requires-2 : tie.Need-put-shown-requires-2
-put-shown-requires-2 c κs = search needs
+put-shown-requires-2 c κs = tt
 
 cast-put-number : tie.Need-cast-put-number
 cast-put-number c = search needs
 
 put-number-requires : tie.Need-put-number-requires
-put-number-requires c κs = search needs
+put-number-requires c κs = tt
 
 cast-t19 : tie.Need-cast-t19
 cast-t19 c = search needs
@@ -33,10 +33,10 @@ slice-aggregate-put-shown : tie.Need-slice-aggregate-put-shown
 slice-aggregate-put-shown c = search needs
 
 put-shown-requires-3 : tie.Need-put-shown-requires-3
-put-shown-requires-3 c κs = search needs
+put-shown-requires-3 c κs = tt
 
 put-inserted-more-requires : tie.Need-put-inserted-more-requires
-put-inserted-more-requires c κs = search needs
+put-inserted-more-requires c κs = tt
 
 same-length : tie.Need-same-length
 same-length c = search needs

@@ -13,7 +13,7 @@ use Rattle.findings_render.proofs.messages.put_inserted_more.Statement.
 use Rattle.findings_render.proofs.messages.put_inserted_more.Tie as tie
 
 hex-count-requires : tie.Need-hex-count-requires
-hex-count-requires c κs = search needs
+hex-count-requires c κs = tt
 
 cast-put-digits : tie.Need-cast-put-digits
 cast-put-digits c = search needs
@@ -28,19 +28,19 @@ put-digits-requires-2 : tie.Need-put-digits-requires-2
 put-digits-requires-2 c κs = search needs
 
 part-requires : tie.Need-part-requires
-part-requires c κs = search needs
+part-requires c κs = tt
 
 cast-part : tie.Need-cast-part
 cast-part c = search needs
 
 part-requires-2 : tie.Need-part-requires-2
-part-requires-2 c κs = search needs
+part-requires-2 c κs = tt
 
 put-shown-requires : tie.Need-put-shown-requires
-put-shown-requires c κs = search needs
+put-shown-requires c κs = tt
 
 part-requires-3 : tie.Need-part-requires-3
-part-requires-3 c κs = search needs
+part-requires-3 c κs = tt
 
 cast-part-2 : tie.Need-cast-part-2
 cast-part-2 c = search needs
@@ -49,13 +49,13 @@ add-part : tie.Need-add-part
 add-part c = search needs
 
 part-requires-4 : tie.Need-part-requires-4
-part-requires-4 c κs = search needs
+part-requires-4 c κs = tt
 
 put-shown-requires-2 : tie.Need-put-shown-requires-2
-put-shown-requires-2 c κs = search needs
+put-shown-requires-2 c κs = tt
 
 put-byte-requires : tie.Need-put-byte-requires
-put-byte-requires c κs = search needs
+put-byte-requires c κs = tt
 
 same-length : tie.Need-same-length
 same-length c = search needs

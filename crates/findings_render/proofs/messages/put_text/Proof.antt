@@ -8,7 +8,7 @@ use Rattle.findings_render.proofs.messages.put_text.Statement.{statemen
 use Rattle.findings_render.proofs.messages.put_text.Tie as tie
 
 key-of-requires : tie.Need-key-of-requires
-key-of-requires c κs = search needs
+key-of-requires c κs = tt
 
 slice-aggregate-piece : tie.Need-slice-aggregate-piece
 slice-aggregate-piece c = search needs
@@ -17,10 +17,10 @@ slice-aggregate-piece-2 : tie.Need-slice-aggregate-piece-2
 slice-aggregate-piece-2 c = search needs
 
 piece-requires : tie.Need-piece-requires
-piece-requires c κs = search needs
+piece-requires c κs = tt
 
 put-filled-requires : tie.Need-put-filled-requires
-put-filled-requires c κs = search needs
+put-filled-requires c κs = tt
 
 same-length : tie.Need-same-length
 same-length c = search needs

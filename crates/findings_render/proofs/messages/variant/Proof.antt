@@ -8,7 +8,7 @@ use Rattle.findings_render.proofs.messages.variant.Statement.{statement
 use Rattle.findings_render.proofs.messages.variant.Tie as tie
 
 is-by-detail-requires : tie.Need-is-by-detail-requires
-is-by-detail-requires c κs = search needs
+is-by-detail-requires c κs = tt
 
 cast-result : tie.Need-cast-result
 cast-result c = search needs
@@ -27,7 +27,7 @@ returns-2 c =
     (rw (sym (after-is-by-detail .is-by-detail .ensures) ∙ c .before .before .if1 .taken, le-ltb _ _ (c .if2 .left)), omega arith)
 
 is-by-second-requires : tie.Need-is-by-second-requires
-is-by-second-requires c κs = search needs
+is-by-second-requires c κs = tt
 
 returns-3 : tie.Need-returns-3
 unfolding variantOf

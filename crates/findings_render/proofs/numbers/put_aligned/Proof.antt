@@ -6,16 +6,16 @@ use Rattle.findings_render.proofs.numbers.put_aligned.Statement.{statem
 use Rattle.findings_render.proofs.numbers.put_aligned.Tie as tie
 
 digit-count-requires : tie.Need-digit-count-requires
-digit-count-requires c κs = search needs
+digit-count-requires c κs = tt
 
 padding-requires : tie.Need-padding-requires
-padding-requires c κs = search needs
+padding-requires c κs = tt
 
 put-run-requires : tie.Need-put-run-requires
-put-run-requires c κs = search needs
+put-run-requires c κs = tt
 
 put-number-requires : tie.Need-put-number-requires
-put-number-requires c κs = search needs
+put-number-requires c κs = tt
 
 same-length : tie.Need-same-length
 same-length c = search needs

@@ -5,7 +5,7 @@ use Rattle.findings_render.proofs.numbers.put_number.Statement.{stateme
 use Rattle.findings_render.proofs.numbers.put_number.Tie as tie
 
 digit-count-requires : tie.Need-digit-count-requires
-digit-count-requires c κs = search needs
+digit-count-requires c κs = tt
 
 put-digits-requires : tie.Need-put-digits-requires
 put-digits-requires c κs = search needs

@@ -5,7 +5,7 @@ use Rattle.findings_render.proofs.picture.put_if.Statement.{statement}
 use Rattle.findings_render.proofs.picture.put_if.Tie as tie
 
 put-requires : tie.Need-put-requires
-put-requires c κs = search needs
+put-requires c κs = tt
 
 same-length : tie.Need-same-length
 same-length c = search needs

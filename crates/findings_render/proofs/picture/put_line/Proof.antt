@@ -8,43 +8,43 @@ use Rattle.findings_render.proofs.picture.put_line.Statement.{statement
 use Rattle.findings_render.proofs.picture.put_line.Tie as tie
 
 put-aligned-requires : tie.Need-put-aligned-requires
-put-aligned-requires c κs = search needs
+put-aligned-requires c κs = tt
 
 slice-aggregate-put : tie.Need-slice-aggregate-put
 slice-aggregate-put c = search needs
 
 put-requires : tie.Need-put-requires
-put-requires c κs = search needs
+put-requires c κs = tt
 
 differ-requires : tie.Need-differ-requires
-differ-requires c κs = search needs
+differ-requires c κs = tt
 
 slice-aggregate-put-if : tie.Need-slice-aggregate-put-if
 slice-aggregate-put-if c = search needs
 
 put-if-requires : tie.Need-put-if-requires
-put-if-requires c κs = search needs
+put-if-requires c κs = tt
 
 part-requires : tie.Need-part-requires
-part-requires c κs = search needs
+part-requires c κs = tt
 
 put-shown-requires : tie.Need-put-shown-requires
-put-shown-requires c κs = search needs
+put-shown-requires c κs = tt
 
 differ-requires-2 : tie.Need-differ-requires-2
-differ-requires-2 c κs = search needs
+differ-requires-2 c κs = tt
 
 slice-aggregate-put-if-2 : tie.Need-slice-aggregate-put-if-2
 slice-aggregate-put-if-2 c = search needs
 
 put-if-requires-2 : tie.Need-put-if-requires-2
-put-if-requires-2 c κs = search needs
+put-if-requires-2 c κs = tt
 
 slice-aggregate-put-2 : tie.Need-slice-aggregate-put-2
 slice-aggregate-put-2 c = search needs
 
 put-requires-2 : tie.Need-put-requires-2
-put-requires-2 c κs = search needs
+put-requires-2 c κs = tt
 
 same-length : tie.Need-same-length
 same-length c =

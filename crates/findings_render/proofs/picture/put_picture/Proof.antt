@@ -12,10 +12,10 @@ line-number-requires : tie.Need-line-number-requires
 line-number-requires c κs = search needs
 
 put-line-requires : tie.Need-put-line-requires
-put-line-requires c κs = search needs
+put-line-requires c κs = tt
 
 put-under-line-requires : tie.Need-put-under-line-requires
-put-under-line-requires c κs = search needs
+put-under-line-requires c κs = tt
 
 same-length : tie.Need-same-length
 same-length c = search needs

@@ -11,49 +11,49 @@ slice-aggregate-put : tie.Need-slice-aggregate-put
 slice-aggregate-put c = search needs
 
 put-requires : tie.Need-put-requires
-put-requires c κs = search needs
+put-requires c κs = tt
 
 differ-requires : tie.Need-differ-requires
-differ-requires c κs = search needs
+differ-requires c κs = tt
 
 slice-aggregate-put-if : tie.Need-slice-aggregate-put-if
 slice-aggregate-put-if c = search needs
 
 put-if-requires : tie.Need-put-if-requires
-put-if-requires c κs = search needs
+put-if-requires c κs = tt
 
 part-requires : tie.Need-part-requires
-part-requires c κs = search needs
+part-requires c κs = tt
 
 put-under-requires : tie.Need-put-under-requires
-put-under-requires c κs = search needs
+put-under-requires c κs = tt
 
 slice-aggregate-put-if-2 : tie.Need-slice-aggregate-put-if-2
 slice-aggregate-put-if-2 c = search needs
 
 put-if-requires-2 : tie.Need-put-if-requires-2
-put-if-requires-2 c κs = search needs
+put-if-requires-2 c κs = tt
 
 lesser-requires : tie.Need-lesser-requires
-lesser-requires c κs = search needs
+lesser-requires c κs = tt
 
 part-requires-2 : tie.Need-part-requires-2
-part-requires-2 c κs = search needs
+part-requires-2 c κs = tt
 
 put-carets-requires : tie.Need-put-carets-requires
-put-carets-requires c κs = search needs
+put-carets-requires c κs = tt
 
 slice-aggregate-put-if-3 : tie.Need-slice-aggregate-put-if-3
 slice-aggregate-put-if-3 c = search needs
 
 put-if-requires-3 : tie.Need-put-if-requires-3
-put-if-requires-3 c κs = search needs
+put-if-requires-3 c κs = tt
 
 slice-aggregate-put-2 : tie.Need-slice-aggregate-put-2
 slice-aggregate-put-2 c = search needs
 
 put-requires-2 : tie.Need-put-requires-2
-put-requires-2 c κs = search needs
+put-requires-2 c κs = tt
 
 same-length : tie.Need-same-length
 same-length c =

@@ -25,7 +25,7 @@ shared-slice-read-hit : tie.Need-shared-slice-read-hit Inv-loop μ-loop
 shared-slice-read-hit c = search needs
 
 hit-requires : tie.Need-hit-requires Inv-loop μ-loop
-hit-requires c κs = search needs
+hit-requires c κs = tt
 
 add-found : tie.Need-add-found Inv-loop μ-loop
 add-found c = omega arith

@@ -1,12 +1,11 @@
 -- By the test.
 use mathlib.Core.Path.{sym, _∙_}
 use native.Mathlib.Omega.{arith}
-use borrow.Author.Needs.{needs}
 use Rattle.findings_render.proofs.places.hit.Statement.{statement}
 use Rattle.findings_render.proofs.places.hit.Tie as tie
 
 is-byte-within-requires : tie.Need-is-byte-within-requires
-is-byte-within-requires c κs = search needs
+is-byte-within-requires c κs = tt
 
 returns : tie.Need-returns
 returns c = (rw (sym (c .before .is-byte-within .ensures) ∙ c .if1 .taken), omega arith)

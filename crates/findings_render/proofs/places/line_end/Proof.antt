@@ -12,7 +12,7 @@ line-start-requires : tie.Need-line-start-requires
 line-start-requires c κs = search needs
 
 find-requires : tie.Need-find-requires
-find-requires c κs = search needs
+find-requires c κs = tt
 
 cut-return-requires : tie.Need-cut-return-requires
 cut-return-requires c κs =

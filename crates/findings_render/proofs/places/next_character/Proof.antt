@@ -22,7 +22,7 @@ shared-slice-read-is-byte-within : tie.Need-shared-slice-read-is-byte-within Inv
 shared-slice-read-is-byte-within c = search needs
 
 is-byte-within-requires : tie.Need-is-byte-within-requires Inv-loop μ-loop
-is-byte-within-requires c κs = search needs
+is-byte-within-requires c κs = tt
 
 add-i : tie.Need-add-i Inv-loop μ-loop
 add-i c = search needs

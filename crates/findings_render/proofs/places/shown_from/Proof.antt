@@ -2,19 +2,18 @@
 use mathlib.Core.Path.{ap, _∙_}
 use borrow.Author.Tests.{le-leb, lt-leb}
 use Rattle.findings_render.specs.Spots.{shownFrom, nextCharacter}
-use borrow.Author.Needs.{needs}
 use Rattle.findings_render.proofs.places.shown_from.Statement.{statement}
 use Rattle.findings_render.proofs.places.shown_from.Tie as tie
 
 minus-requires : tie.Need-minus-requires
-minus-requires c κs = search needs
+minus-requires c κs = tt
 
 returns : tie.Need-returns
 unfolding shownFrom
 returns c = rw (le-leb _ _ (rw (c .before .minus .ensures) at (c .if1 .taken)))
 
 minus-requires-2 : tie.Need-minus-requires-2
-minus-requires-2 c κs = search needs
+minus-requires-2 c κs = tt
 
 returns-2 : tie.Need-returns-2
 unfolding shownFrom
@@ -23,10 +22,10 @@ returns-2 c =
     rw (lt-leb _ _ (rw (after-minus .minus .ensures) at (c .before .before .if1 .left)), le-leb _ _ (rw (c .before .minus2 .ensures) at (c .if2 .taken)))
 
 minus-requires-3 : tie.Need-minus-requires-3
-minus-requires-3 c κs = search needs
+minus-requires-3 c κs = tt
 
 next-character-requires : tie.Need-next-character-requires
-next-character-requires c κs = search needs
+next-character-requires c κs = tt
 
 returns-3 : tie.Need-returns-3
 unfolding shownFrom

@@ -7,7 +7,7 @@ use Rattle.findings_render.proofs.places.shown_to.Statement.{statement}
 use Rattle.findings_render.proofs.places.shown_to.Tie as tie
 
 minus-requires : tie.Need-minus-requires
-minus-requires c κs = search needs
+minus-requires c κs = tt
 
 returns : tie.Need-returns
 unfolding shownTo
@@ -17,7 +17,7 @@ add-next-character : tie.Need-add-next-character
 add-next-character c = search needs
 
 next-character-requires : tie.Need-next-character-requires
-next-character-requires c κs = search needs
+next-character-requires c κs = tt
 
 returns-2 : tie.Need-returns-2
 unfolding shownTo

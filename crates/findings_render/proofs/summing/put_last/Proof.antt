@@ -6,22 +6,22 @@ use Rattle.findings_render.proofs.summing.put_last.Statement.{statement
 use Rattle.findings_render.proofs.summing.put_last.Tie as tie
 
 put-requires : tie.Need-put-requires
-put-requires c κs = search needs
+put-requires c κs = tt
 
 slice-aggregate-put : tie.Need-slice-aggregate-put
 slice-aggregate-put c = search needs
 
 put-requires-2 : tie.Need-put-requires-2
-put-requires-2 c κs = search needs
+put-requires-2 c κs = tt
 
 put-counts-requires : tie.Need-put-counts-requires
-put-counts-requires c κs = search needs
+put-counts-requires c κs = tt
 
 slice-aggregate-put-2 : tie.Need-slice-aggregate-put-2
 slice-aggregate-put-2 c = search needs
 
 put-requires-3 : tie.Need-put-requires-3
-put-requires-3 c κs = search needs
+put-requires-3 c κs = tt
 
 same-length : tie.Need-same-length
 same-length c = search needs
