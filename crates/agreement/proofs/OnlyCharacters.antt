@@ -18,7 +18,7 @@ use Rattle.chars.specs.Utf8.{Front, char, bad, cut, none, front, placed}
 use Rattle.chars.proofs.Chars.{CharAt, char-at}
 use Rattle.coverage.proofs.Bytes.{first-char}
 use Rattle.digits.specs.Hex.{hexValue}
-use Rattle.standard.specs.Characters.{lower}
+use Rattle.laws.specs.Letters.{lower}
 use Rattle.items.specs.declared.CharValue.{CharValue}
 use Rattle.items.specs.declared.CharValue.the-variants.{Scalar, Wrong, WrongAt}
 use Rattle.items.specs.Items.{Item, items}

@@ -8,7 +8,7 @@ use Rattle.chars.specs.Encode.{isScalar, utf8, width, bytesOf}
 use Rattle.digits.specs.Digits.{digitOf, sign, uinteger, value, signed, wholeOf}
 use Rattle.numbers.specs.Grammar.{prefix, justOf, radixMark, startsE, toSign}
 use Rattle.numbers.specs.Reals as bought
-use Rattle.standard.specs.Characters.{lower, isSign}
+use Rattle.laws.specs.Letters.{lower, isSign}
 use Rattle.standard.specs.Grammar as standard
 use Rattle.standard.specs.Reals as standard-real
 use Rattle.items.specs.Items.{items}

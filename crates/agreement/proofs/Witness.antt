@@ -8,7 +8,7 @@ use native.Mathlib.Omega.{arith}
 use Rattle.laws.specs.Quoted.{codes, code, within}
 use Rattle.digits.specs.Digits.{digitOf}
 use Rattle.numbers.specs.Grammar.{zeroParts, zeroReal}
-use Rattle.standard.specs.Characters.{lower, isSign}
+use Rattle.laws.specs.Letters.{lower, isSign}
 use Rattle.difference.specs.Productions.{Letter, Digits, UInteger, Sign, Prefix}
 use Rattle.difference.specs.R7rs.{URealAt, RealAt, ImaginaryAt, ComplexAt}
 use Rattle.difference.specs.Conditions.{somewhere, isCapital, isN, signAfter, oddE}

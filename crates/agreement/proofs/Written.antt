@@ -18,7 +18,7 @@ use Rattle.numbers.specs.declared.Parts.{Parts}
 use Rattle.numbers.specs.declared.Parsed.the-variants as parsed
 use Rattle.numbers.specs.declared.MaybeParts.the-variants.{SomeParts}
 use Rattle.numbers.specs.Grammar.{complex, judged, parseNumber, zeroParts}
-use Rattle.standard.specs.Characters.{lower, isSign}
+use Rattle.laws.specs.Letters.{lower, isSign}
 use Rattle.standard.proofs.Letters.{lower-is, UpperOf}
 use Rattle.difference.specs.Productions.{Letter, Sign, Prefix}
 use Rattle.difference.specs.R7rs.{Infnan, RealAt, ImaginaryAt, ComplexAt, URealAt}

@@ -11,7 +11,7 @@ use Rattle.laws.specs.Quoted.{codes, code, oneOf}
 use Rattle.chars.specs.Encode.{bytesOf}
 use Rattle.items.specs.Items.{Item}
 use Rattle.items.specs.Kinds as kind
-use Rattle.standard.specs.Characters.{lower}
+use Rattle.laws.specs.Letters.{lower}
 use Rattle.difference.specs.Conditions.{NumberText, SignBelowSlash}
 use Rattle.agreement.specs.Boolean.{Boolean, truth}
 use Rattle.agreement.specs.Character.{CharacterName, CharacterText}

@@ -22,7 +22,7 @@ use Rattle.laws.specs.Quoted.{code, within}
 use Rattle.numbers.specs.Grammar.{complexOf, cut, init, justOf, polarOf, startsE, toSign}
 use Rattle.standard.specs.Grammar.{endsI, joint}
 use Rattle.numbers.specs.Reals.{exponentMarker}
-use Rattle.standard.specs.Characters.{isSign, lower}
+use Rattle.laws.specs.Letters.{isSign, lower}
 use Rattle.laws.proofs.Compared.{same-is}
 use Rattle.digits.specs.Digits.{sign}
 use Rattle.difference.proofs.Whole.{At, ends-i, init-snoc, joint-at, no-parts, sign-signed, signed-init, snoc}

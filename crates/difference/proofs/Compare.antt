@@ -24,7 +24,7 @@ use Rattle.laws.specs.Quoted.{code}
 use Rattle.standard.specs.Grammar.{complex, numberParts, parseStandard}
 use Rattle.laws.specs.Choice.{if_then_else_}
 use Rattle.numbers.specs.Grammar.{judged, parseNumber, polarOf, prefix, zeroParts}
-use Rattle.standard.specs.Characters.{lower, toLower}
+use Rattle.laws.specs.Letters.{lower, toLower}
 use Rattle.standard.specs.Reals.{real}
 use Rattle.difference.proofs.WithParts.{BelowSlash, Condition, HexE, Side, Upper}
 use Rattle.difference.proofs.Walk.{Foreign, foreign-at, foreign-hash, other, radix-le, real-other}

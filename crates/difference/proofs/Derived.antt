@@ -26,7 +26,7 @@ use Rattle.digits.specs.Digits.{digitOf, digits, negative, sign, spanAt, wholeO
 use Rattle.laws.specs.Choice.{if_then_else_}
 use Rattle.standard.specs.Grammar.{imaginary}
 use Rattle.standard.specs.Reals.{infnan, ratio, real, ureal}
-use Rattle.standard.specs.Characters.{isSign, lower}
+use Rattle.laws.specs.Letters.{isSign, lower}
 use Rattle.difference.specs.R7rs.{DecimalAt, ImaginaryAt, Infnan, RealAt, SuffixAt, URealAt, intOf, pointed}
 use Rattle.difference.specs.Productions.{Digits, Letter, Sign, UInteger}
 use Rattle.difference.proofs.Runs.{all, all-append, all-cons, all-imp, before-here, before-none, digit-differs, digits-all}

@@ -16,7 +16,7 @@ use Rattle.laws.proofs.Choice.{by-bool, yes-no}
 use Rattle.laws.specs.Quoted.{code, codes, within}
 use Rattle.laws.specs.Choice.{if_then_else_}
 use Rattle.standard.specs.Reals.{infnan}
-use Rattle.standard.specs.Characters.{lower}
+use Rattle.laws.specs.Letters.{lower}
 use Rattle.laws.specs.Texts.{same}
 use Rattle.laws.proofs.Compared.{same-is}
 use Rattle.difference.specs.R7rs.{Infnan}

@@ -19,7 +19,7 @@ use Rattle.laws.specs.Quoted.{code}
 use Rattle.laws.proofs.Choice.{yes-no}
 use Rattle.numbers.specs.Grammar.{complexOf, cut, justOf, polarOf, startsE, toSign}
 use Rattle.numbers.specs.Reals.{exponentMarker}
-use Rattle.standard.specs.Characters.{isSign}
+use Rattle.laws.specs.Letters.{isSign}
 use Rattle.standard.specs.Grammar.{joint}
 use Rattle.digits.specs.Digits.{sign}
 use Rattle.difference.specs.R7rs.{ComplexAt, ImaginaryAt}

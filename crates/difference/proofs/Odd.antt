@@ -11,7 +11,7 @@ use Rattle.laws.proofs.Choice.{by-bool, yes-no}
 use Rattle.laws.specs.Quoted.{code}
 use Rattle.numbers.specs.Grammar.{cut, startsE, toSign}
 use Rattle.numbers.specs.Reals.{exponentMarker}
-use Rattle.standard.specs.Characters.{isSign}
+use Rattle.laws.specs.Letters.{isSign}
 use Rattle.laws.specs.Texts.{span}
 use Rattle.difference.specs.R7rs.{ImaginaryAt, Infnan, RealAt, URealAt}
 use Rattle.difference.specs.Productions.{Sign}

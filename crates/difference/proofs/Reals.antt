@@ -22,7 +22,7 @@ use Rattle.laws.proofs.Choice.{by-bool, yes-no}
 use Rattle.laws.specs.Quoted.{code, within}
 use Rattle.numbers.specs.Reals.{decimal, denominator, exact, integralOf, orElse, rationalOf}
 use Rattle.digits.specs.Digits.{digitOf, integer, negative, sign, wholeOf}
-use Rattle.standard.specs.Characters.{isSign}
+use Rattle.laws.specs.Letters.{isSign}
 use Rattle.standard.specs.Reals.{ratio, real, ureal}
 use Rattle.difference.proofs.Derived.{Head, at-slash, dec-digits, dec-slash, decimal-is, digit-slash, head-sign, head-uint}
 use Rattle.difference.proofs.Derived.{head-ureal, infnan-none, plain, plain-digits, plain-sign, plain-ureal, sign-is, whole-is}

@@ -10,7 +10,7 @@ use Rattle.laws.specs.Quoted.{code, codes, within}
 use Rattle.laws.specs.Texts.{starts}
 use Rattle.laws.proofs.Choice.{yes-no}
 use Rattle.digits.specs.Digits.{digitOf}
-use Rattle.standard.specs.Characters.{lower, isSign}
+use Rattle.laws.specs.Letters.{lower, isSign}
 use Rattle.difference.specs.Productions.{Letter, Digits, UInteger, Sign, Prefix}
 use Rattle.difference.specs.Conditions.{URealText, RealText, ImaginaryText, ComplexText, NumberText, somewhere, isCapital, isN}
 use Rattle.difference.specs.Conditions.{signAfter, oddE, signAfterOddE, SignedBelow, SideText, SignBelowSlash, UpperCase, OddE}

@@ -9,7 +9,7 @@ use Rattle.laws.proofs.Choice.{by-bool, yes-no}
 use Rattle.laws.specs.Quoted.{code, within}
 use Rattle.digits.specs.Digits.{digitOf}
 use Rattle.laws.specs.Choice.{if_then_else_}
-use Rattle.standard.specs.Characters.{isSign}
+use Rattle.laws.specs.Letters.{isSign}
 use Rattle.difference.proofs.Runs.{all, all-head, all-tail}
 use Rattle.difference.specs.Conditions.{capital, isCapital, isN, somewhere}
 use Rattle.difference.proofs.Derived.{plain}

@@ -27,7 +27,7 @@ use Rattle.numbers.specs.Reals.{decimal, dotted, exponent, exponentMarker, inte
 use Rattle.digits.specs.Digits.{digits, negative, sign, spanAt, uinteger, wholeOf}
 use Rattle.standard.specs.Grammar.{imaginary}
 use Rattle.standard.specs.Reals.{infnan, ratio, real, ureal}
-use Rattle.standard.specs.Characters.{lower}
+use Rattle.laws.specs.Letters.{lower}
 use Rattle.laws.proofs.Compared.{same-is}
 use Rattle.laws.proofs.Runs.{span-le}
 use Rattle.difference.specs.R7rs.{DecimalAt, ImaginaryAt, Infnan, RealAt, SuffixAt, URealAt, intOf, pointed}

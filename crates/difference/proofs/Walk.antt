@@ -17,7 +17,7 @@ use Rattle.laws.specs.Quoted.{code, codes, within}
 use Rattle.digits.specs.Digits.{digitOf, sign}
 use Rattle.numbers.specs.Reals.{exponentMarker}
 use Rattle.laws.specs.Choice.{if_then_else_}
-use Rattle.standard.specs.Characters.{isSign, lower}
+use Rattle.laws.specs.Letters.{isSign, lower}
 use Rattle.standard.specs.Grammar.{joint}
 use Rattle.laws.specs.Texts.{span}
 use Rattle.numbers.specs.Grammar.{startsE, toSign}

@@ -26,7 +26,7 @@ use Rattle.numbers.specs.Grammar.{complexOf, init, justOf, polarOf, prefix, rad
 use Rattle.digits.specs.Digits.{digitOf, sign}
 use Rattle.numbers.specs.Reals.{exponentMarker}
 use Rattle.laws.specs.Choice.{if_then_else_}
-use Rattle.standard.specs.Characters.{isSign, lower, toLower}
+use Rattle.laws.specs.Letters.{isSign, lower, toLower}
 use Rattle.standard.specs.Reals.{real}
 use Rattle.difference.specs.R7rs.{ComplexAt, ImaginaryAt, Infnan, Number, RealAt}
 use Rattle.difference.specs.Productions.{Letter, Prefix}

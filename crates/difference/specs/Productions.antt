@@ -7,7 +7,7 @@ use mathlib.Core.Bool.{Bool, true, false}
 use mathlib.Core.List.{List, [], _∷_}
 use Rattle.laws.specs.Quoted.{code, codes}
 use Rattle.digits.specs.Digits.{digitOf}
-use Rattle.standard.specs.Characters.{lower}
+use Rattle.laws.specs.Letters.{lower}
 
 -- "case is not significant": c is the letter x, in either case
 pub data Letter (x : String) (c : ℕ) : Type 0 where

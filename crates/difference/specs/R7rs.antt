@@ -17,7 +17,7 @@ use Rattle.numbers.specs.declared.Real.{Real}
 use Rattle.numbers.specs.declared.Real.the-variants.{Integer, Rational, Decimal, PosInf, NegInf, PosNan, NegNan, ImpliedZero, ImpliedOne}
 use Rattle.numbers.specs.declared.Parts.{Parts}
 use Rattle.numbers.specs.declared.Parts.the-variants.{Just, Complex, Polar}
-use Rattle.standard.specs.Characters.{lower}
+use Rattle.laws.specs.Letters.{lower}
 use Rattle.difference.specs.Productions.{Letter, Digits, UInteger, Sign, Prefix}
 
 -- the parts of digits after a sign: "Small within signed 64 bits, else Big with its digit places" (01, Integer)

@@ -2,3 +2,4 @@ pub mod Choice
 pub mod Quoted
 pub mod Texts
 pub mod Lent
+pub mod Letters

@@ -7,7 +7,7 @@ use Rattle.numbers.specs.declared.MaybeParts.the-variants.{NoParts}
 use Rattle.numbers.specs.Reals.{exponentMarker}
 use Rattle.numbers.specs.Grammar.{justOf, complexOf, polarOf, toSign, startsE}
 use Rattle.numbers.proofs.Cuts.{init-is}
-use Rattle.standard.specs.Characters.{lower, isSign}
+use Rattle.laws.specs.Letters.{lower, isSign}
 use Rattle.standard.specs.Reals.{real}
 use Rattle.standard.specs.Grammar.{endsI, imaginary, aloneOf, pairOf, joint, rectangular, complex}
 use Rattle.laws.specs.Quoted.{codes, code}

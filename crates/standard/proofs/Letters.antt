@@ -1,5 +1,5 @@
 -- A letter's case, and a text compared with a word without regard to it: what a loop that walks both needs at each turn.
-use Rattle.standard.specs.Characters.{toLower, lower}
+use Rattle.laws.specs.Letters.{toLower, lower}
 use Rattle.laws.specs.Quoted.{code, within}
 use Rattle.laws.specs.Texts.{same}
 use Rattle.laws.proofs.Choice.{by-bool, within-below, within-from, within-is}

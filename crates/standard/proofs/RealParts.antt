@@ -4,7 +4,7 @@ use Rattle.numbers.specs.declared.MaybeReal.{MaybeReal}
 use Rattle.numbers.specs.declared.MaybeReal.the-variants.{AReal, NoReal}
 use Rattle.numbers.specs.Reals.{decimal, integralOf, rationalOf, orElse}
 use Rattle.numbers.specs.Reals as bought
-use Rattle.standard.specs.Characters.{lower}
+use Rattle.laws.specs.Letters.{lower}
 use Rattle.standard.specs.Reals.{infnan, ratio, ureal, real}
 use Rattle.laws.specs.Quoted.{code}
 use Rattle.laws.specs.Texts.{before, starts}

@@ -19,7 +19,7 @@ use Rattle.numbers.specs.declared.Parts.the-variants.{Just, Complex, Polar}
 use Rattle.numbers.specs.Reals as bought
 use Rattle.numbers.specs.Grammar as bought-grammar
 use Rattle.numbers.specs.Call.{Answer, parts, noNumber, error, refused, zeroDenominator, number}
-use Rattle.standard.specs.Characters.{lower, isSign}
+use Rattle.laws.specs.Letters.{lower, isSign}
 use Rattle.standard.specs.Reals.{infnan, ratio, ureal, real}
 use Rattle.standard.specs.Grammar.{endsI, imaginary, aloneOf, pairOf, joint, rectangular, complex, numberParts, parseStandard}
 use Rattle.standard.specs.Call as call

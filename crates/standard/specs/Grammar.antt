@@ -17,7 +17,7 @@ use Rattle.numbers.specs.declared.MaybeParts.{MaybeParts}
 use Rattle.numbers.specs.declared.MaybeParts.the-variants.{NoParts}
 use Rattle.numbers.specs.declared.Parsed.{Parsed}
 use Rattle.numbers.specs.Grammar.{justOf, complexOf, polarOf, init, cut, judged, prefix}
-use Rattle.standard.specs.Characters.{lower, isSign}
+use Rattle.laws.specs.Letters.{lower, isSign}
 use Rattle.standard.specs.Reals.{real}
 
 -- whether the last character is `i`, in either case: `+I` is a number

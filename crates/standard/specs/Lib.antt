@@ -1,4 +1,3 @@
-pub mod Characters
 pub mod Reals
 pub mod Grammar
 pub mod Call

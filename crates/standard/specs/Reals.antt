@@ -15,7 +15,7 @@ use Rattle.numbers.specs.declared.MaybeReal.{MaybeReal}
 use Rattle.numbers.specs.declared.MaybeReal.the-variants.{NoReal}
 use Rattle.numbers.specs.Reals.{decimal, integralOf, rationalOf, orElse}
 use Rattle.numbers.specs.Reals as bought
-use Rattle.standard.specs.Characters.{lower}
+use Rattle.laws.specs.Letters.{lower}
 
 -- <infnan> → +inf.0 | -inf.0 | +nan.0 | -nan.0, letters in either case: `+INF.0` is a number
 unfoldable pub infnan : List ℕ → MaybeReal

@@ -10,7 +10,7 @@ ghost use mathlib.Core.Bool.{not};
 ghost use Prim.Native.Nat.{_+_, _-_, _≤_, _<_};
 ghost use lib.ListN.{length, drop};
 ghost use Rattle.laws.specs.Texts.{span};
-ghost use Rattle.standard.specs.Characters.{isSign};
+ghost use Rattle.laws.specs.Letters.{isSign};
 ghost use Rattle.standard.specs.Grammar.{endsI, imaginary, aloneOf, pairOf, joint, rectangular, complex};
 
 // Whether the last byte is `i` in either case, and stands at a place or past it.

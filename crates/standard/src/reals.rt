@@ -7,7 +7,7 @@ ghost use mathlib.Core.List.{map};
 ghost use Prim.Native.Nat.{_≤_};
 ghost use lib.ListN.{drop};
 ghost use Rattle.laws.specs.Texts.{same};
-ghost use Rattle.standard.specs.Characters.{lower};
+ghost use Rattle.laws.specs.Letters.{lower};
 ghost use Rattle.standard.specs.Reals.{infnan, ratio, ureal, real};
 
 // What a letter of ASCII in upper case lacks to its lower case.

@@ -17,7 +17,7 @@ use Rattle.numbers.specs.declared.Parts.the-variants.{Just, Complex, Polar}
 use Rattle.numbers.specs.Reals as bought-reals
 use Rattle.numbers.specs.Grammar as bought-grammar
 use Rattle.numbers.specs.Call.{parts, noNumber, refused, number}
-use Rattle.standard.specs.Characters.{lower, isSign}
+use Rattle.laws.specs.Letters.{lower, isSign}
 use Rattle.standard.specs.Reals.{infnan, ratio, ureal, real}
 use Rattle.standard.specs.Grammar.{endsI, imaginary, aloneOf, pairOf, joint, rectangular, complex, numberParts, parseStandard}
 use Rattle.standard.specs.Call.{bought, standard, byStandard, numberBy}

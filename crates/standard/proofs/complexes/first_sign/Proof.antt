@@ -7,7 +7,7 @@ use native.Mathlib.Omega.{arith}
 use lib.ListN.{length, drop}
 use Rattle.laws.specs.Texts.{span}
 use Rattle.laws.proofs.Runs.{span-end}
-use Rattle.standard.specs.Characters.{isSign}
+use Rattle.laws.specs.Letters.{isSign}
 use Rattle.standard.proofs.Cuts.{sign-found, sign-not}
 use Rattle.standard.proofs.complexes.first_sign.Statement.{statement}
 use Rattle.standard.proofs.complexes.first_sign.Tie as tie

@@ -1,6 +1,6 @@
 -- The bytes passed are equal without regard to case, so the part is w exactly if from each place on the rest is the rest of w.
 use Rattle.laws.specs.Texts.{same}
-use Rattle.standard.specs.Characters.{lower}
+use Rattle.laws.specs.Letters.{lower}
 use Rattle.standard.proofs.Letters.{spells-short, spells-end, spells-not, spells-more}
 use mathlib.Core.Path.{_≡_, refl, sym, _∙_}
 use mathlib.Core.List.{map}
