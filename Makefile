@@ -11,7 +11,8 @@ made = lib/$(TARGET) target/$(TARGET)
 ifeq ($(TARGET),x86_64-linux-gnu)
 made += target/staticlib
 endif
-archive = $(firstword $(wildcard $(addsuffix /libmihadrena.a,$(made))))
+# the archive's file, asked when it is wanted: the rule before it may have made it
+archive = $$(ls $(addsuffix /libmihadrena.a,$(made)) 2>/dev/null | head -n 1)
 part = $(shell sed -n 's/^.define MIHADRENA_VERSION_$(1) //p' include/mihadrena.h)
 version = $(call part,MAJOR).$(call part,MINOR).$(call part,PATCH)
 filled = sed -e 's|@PREFIX@|$(PREFIX)|g' -e 's|@VERSION@|$(version)|g'
@@ -21,7 +22,7 @@ to = $(DESTDIR)$(PREFIX)
 plancheck:
 	@test -n "$(archive)" || .ci/archive $(if $(filter-out x86_64-linux-gnu,$(TARGET)),--target $(TARGET))
 	mkdir -p target
-	$(CC) -std=c99 -O2 -Iinclude plancheck/plancheck.c $$(ls $(addsuffix /libmihadrena.a,$(made)) 2>/dev/null | head -n 1) -o target/plancheck
+	$(CC) -std=c99 -O2 -Iinclude plancheck/plancheck.c "$(archive)" -o target/plancheck
 
 install: plancheck
 	mkdir -p $(to)/bin $(to)/share/man/man1
@@ -29,7 +30,7 @@ install: plancheck
 	cp plancheck/plancheck.1 $(to)/share/man/man1/
 	mkdir -p $(to)/include $(to)/lib/pkgconfig $(to)/lib/cmake/mihadrena $(to)/share/doc/mihadrena
 	cp include/mihadrena.h include/mihadrena_plan.h $(to)/include/
-	cp $(archive) $(to)/lib/
+	cp "$(archive)" $(to)/lib/
 	$(filled) dist/mihadrena.pc.in > $(to)/lib/pkgconfig/mihadrena.pc
 	$(filled) dist/mihadrena-config.cmake.in > $(to)/lib/cmake/mihadrena/mihadrena-config.cmake
 	$(filled) dist/mihadrena-config-version.cmake.in > $(to)/lib/cmake/mihadrena/mihadrena-config-version.cmake

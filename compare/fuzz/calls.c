@@ -266,10 +266,36 @@ static void call_names(void)
     mihadrena_names_place(words, MIHADRENA_NAMES_WORDS, bytes, MIHADRENA_NAMES_BYTES, (uint32_t)number_below(1100), places, places + 1);
 }
 
+/* A finding's places lie in its text, and findings come in the order of their places. A forged finding is rendered too. */
+static void call_find(void)
+{
+    size_t records = number_below(16384), room = number_below(128), out = number_below(2048), called = some(16);
+    uint32_t style = (uint32_t)number_below(4), colour = (uint32_t)number_below(2), forged = (uint32_t)number_below(64);
+    const uint8_t *name = readable(called);
+    size_t bytes = left;
+    const uint8_t *plan = readable(bytes);
+    uint32_t *findings = writable(4 * room), before = 0;
+    uint8_t *shown = writable(out);
+    uint64_t *values = writable(16);
+    if (mihadrena_find(plan, bytes, writable(4 * records), records, findings, room, values, 2) != MIHADRENA_SERVED) return;
+    for (size_t i = 0; i < values[0] && i < room / MIHADRENA_FINDING_WORDS; i++) {
+        const uint32_t *one = findings + i * MIHADRENA_FINDING_WORDS;
+        if (one[3] < before || one[3] > one[4] || one[4] > bytes || one[5] > one[6] || one[6] > bytes) fail("a finding out of place");
+        before = one[3];
+        if (mihadrena_render(one, MIHADRENA_FINDING_WORDS, plan, bytes, name, called, MIHADRENA_STYLE_FULL, colour, shown, out) == 0)
+            fail("a finding that has no words");
+        mihadrena_render(one, MIHADRENA_FINDING_WORDS, plan, bytes, name, called, style, colour, shown, out);
+    }
+    if (room > 1) findings[1] = forged;
+    mihadrena_render(findings, room, plan, bytes, name, called, style, colour, shown, out);
+    mihadrena_summary(name, called, (size_t)values[0], (size_t)values[1], number_below(64), style, shown, out);
+}
+
 int LLVMFuzzerTestOneInput(const uint8_t *data, size_t size)
 {
     static void (*const calls[])(void) = {call_read,  call_fields,  call_pieces, call_reader, call_numbers,
-                                          call_lines, call_records, call_nodes,  call_file,   call_names};
+                                          call_lines, call_records, call_nodes,  call_file,   call_names,
+                                          call_find};
     input = data;
     left = size < 4096 ? size : 4096;
     used = lent = 0;
