@@ -148,6 +148,11 @@ among-own : (rows : List Row) {raw : List ℕ} {k : ℕ} → allOwn rows ≡ tru
 among-own (r ∷ rs) h here = by-bool (oneOf ownKinds (r .number)) (λ e. e) (λ e. no-yes (rw e at h))
 among-own (r ∷ rs) h (there a) = among-own rs (by-bool (oneOf ownKinds (r .number)) (λ e. rw e at h) (λ e. no-yes (rw e at h))) a
 
+-- the table of words with a kind of their own is the reader's
+own-words : ownWords ≡ words
+unfolding words
+own-words = refl
+
 -- a dot is a Dot
 not-dot : (raw : List ℕ) → eqb (wordKind raw) kind.Identifier ≡ true → raw ≡ spelled "." → ⊥
 unfolding wordKind words lookup same bytesOf utf8
