@@ -10,5 +10,7 @@ pub mod Records
 pub mod CleanExactly
 pub mod Order
 pub mod Within
+pub mod Opened
+pub mod Spans
 pub mod Placed
 pub mod InOrder
