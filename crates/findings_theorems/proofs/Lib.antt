@@ -14,3 +14,4 @@ pub mod Opened
 pub mod Spans
 pub mod Placed
 pub mod InOrder
+pub mod InText
