@@ -44,7 +44,8 @@ use Rattle.findings_theorems.proofs.Opened.{Long, read-long}
 abbrev pub four : ℕ
 four = kind.firstError + kind.IncompleteComment
 
--- the place of an item of kind k in a text of n bytes: errors 1 to 4 start before the end, a comment that is not closed two bytes before
+-- the place of an item of kind k in a text of n bytes; with no error, or one of 1 to 4, it starts before the end, and a comment that is not
+-- closed two bytes before
 abbrev pub Spans : ℕ → ℕ → Place → Type 0
 Spans n k l = (l .from ≤ l .to) × (l .to ≤ n) × (k ≤ four → l .from < n) × (k ≡ four → l .from + 2 ≤ n)
 
