@@ -10,7 +10,6 @@ use lib.Dec.{eqb, leb, ltb}
 use native.Mathlib.Omega.{arith}
 use native.Mathlib.Numerals.{add-one}
 use borrow.Author.Tests.{eqb-true, eq-eqb}
-use Rattle.laws.specs.Choice.{if_then_else_}
 use Rattle.laws.specs.Quoted.{code, within}
 use Rattle.laws.proofs.Choice.{by-bool, if-all, if-is}
 use Rattle.chars.specs.Utf8.{Sequence, read, broken, short, Front, char, bad, cut, none, front, onward, sequences, firstBad}
@@ -204,13 +203,13 @@ list-between rows (At i f) h p = if-is (Between (rowAt rows p .start) (rowAt row
 
 -- ---- the rows of the mended reading
 
-row-start : (d : ℕ) (i : Item) → getD (rowOf d i) 2 0 ≡ i .start
+pub row-start : (d : ℕ) (i : Item) → getD (rowOf d i) 2 0 ≡ i .start
 row-start d i = by-bool (leb kind.firstError (i .kind)) (λ b. rw b) (λ b. rw b)
 
-row-end : (d : ℕ) (i : Item) → getD (rowOf d i) 3 0 ≡ i .end
+pub row-end : (d : ℕ) (i : Item) → getD (rowOf d i) 3 0 ≡ i .end
 row-end d i = by-bool (leb kind.firstError (i .kind)) (λ b. rw b) (λ b. rw b)
 
-row-from : (d : ℕ) (i : Item) → getD (rowOf d i) 4 0 ≡ i .place .from
+pub row-from : (d : ℕ) (i : Item) → getD (rowOf d i) 4 0 ≡ i .place .from
 row-from d i = by-bool (leb kind.firstError (i .kind)) (λ b. rw b) (λ b. rw b)
 
 abbrev ListNext : List ℕ → List ℕ → Type 0
@@ -237,38 +236,38 @@ module _ (s : List ℕ) where
 
   -- ---- all of them
 
-  abbrev is : List Item
+  abbrev pub is : List Item
   is = mendedOf s
 
-  abbrev rows : List ℕ
+  abbrev pub rows : List ℕ
   rows = laidWords is
 
   abbrev startAt : ℕ → ℕ
   startAt p = rowAt rows p .start
 
   module _ (p : ℕ) (h : p < length is) where
-    abbrev w : List ℕ
+    abbrev pub w : List ℕ
     w = words.rowAt (rowsFrom 0 is) p
 
-    start-is : rowAt rows p .start ≡ getD w 2 0
+    pub start-is : rowAt rows p .start ≡ getD w 2 0
     start-is = ap (λ (r : Row). r .start) (row-is is p h) ∙ word-is is p 2 h (omega arith)
 
-    end-is : rowAt rows p .end ≡ getD w 3 0
+    pub end-is : rowAt rows p .end ≡ getD w 3 0
     end-is = ap (λ (r : Row). r .end) (row-is is p h) ∙ word-is is p 3 h (omega arith)
 
-    from-is : rowAt rows p .from ≡ getD w 4 0
+    pub from-is : rowAt rows p .from ≡ getD w 4 0
     from-is = ap (λ (r : Row). r .from) (row-is is p h) ∙ word-is is p 4 h (omega arith)
 
     whole : Whole s rows p
     whole =
         let t : Stands is w = stands 0 is p h in
-        let k : Placed (t .item) = t .among Placed (mended-placed s) in
+        let k : Placed s (t .item) = t .among (Placed s) (mended-placed s) in
         let a : getD w 2 0 ≡ t .item .start = ap (λ (l : List ℕ). getD l 2 0) (t .words) ∙ row-start (t .depth) (t .item) in
         let b : getD w 3 0 ≡ t .item .end = ap (λ (l : List ℕ). getD l 3 0) (t .words) ∙ row-end (t .depth) (t .item) in
         let c : getD w 4 0 ≡ t .item .place .from = ap (λ (l : List ℕ). getD l 4 0) (t .words) ∙ row-from (t .depth) (t .item) in
         (omega (arith, k .some, start-is, end-is), omega (arith, k .from, start-is, from-is), omega (arith, k .to, end-is, from-is))
 
-  abbrev tells : ℕ → List Finding
+  abbrev pub tells : ℕ → List Finding
   tells = toldAt s rows (listOf s rows) (swallower s rows) (leftOver s rows)
 
   abbrev own : ℕ → Told

@@ -10,5 +10,8 @@ pub mod Records
 pub mod CleanExactly
 pub mod Order
 pub mod Within
+pub mod Opened
+pub mod Spans
 pub mod Placed
 pub mod InOrder
+pub mod InText
