@@ -98,6 +98,35 @@ static inline size_t mihadrena_sibling(const mihadrena_plan *plan, size_t within
     return mihadrena_next_sibling((const uint32_t *)mihadrena_shown(plan->nodes), plan->tree * MIHADRENA_NODE_WORDS, within, at);
 }
 
+/* -- A plan that is read one item a call ------------------------------------------------------------------------------------ */
+
+/* A reader over a source, with memory for the text of one item. */
+typedef struct mihadrena_reader {
+    const uint8_t *source;
+    size_t source_length;
+    uint64_t position[MIHADRENA_READER_WORDS];
+    uint8_t *text;
+    size_t text_room;
+    mihadrena_record record; /* the item that a step gave */
+    uint64_t values[MIHADRENA_READER_VALUES];
+} mihadrena_reader;
+
+/* mihadrena_reader_open over the reader's source. */
+static inline uint32_t mihadrena_reader_start(mihadrena_reader *reader, uint32_t mode, bool skip_comments)
+{
+    return mihadrena_reader_open((const uint8_t *)mihadrena_shown(reader->source), reader->source_length, mode, skip_comments,
+                                 reader->position, MIHADRENA_READER_WORDS, reader->values, MIHADRENA_READER_VALUES);
+}
+
+/* mihadrena_reader_next: MIHADRENA_ITEM with `record` and its text, then MIHADRENA_FINISHED. After MIHADRENA_TOO_FEW values[1] is how many bytes
+ * `text` needs; the reader stands at that item still. */
+static inline uint32_t mihadrena_reader_step(mihadrena_reader *reader)
+{
+    return mihadrena_reader_next((const uint8_t *)mihadrena_shown(reader->source), reader->source_length, reader->position,
+                                 MIHADRENA_READER_WORDS, (uint8_t *)mihadrena_lent(reader->text), reader->text_room,
+                                 (uint32_t *)&reader->record, MIHADRENA_RECORD_WORDS, reader->values, MIHADRENA_READER_VALUES);
+}
+
 /* -- A plan that comes in pieces ------------------------------------------------------------------------------------------- */
 
 /* A reading in pieces with its memory: about 8.5 kilobytes. */

@@ -6,9 +6,10 @@
 #include <inttypes.h>
 #include <stdio.h>
 #include <stdlib.h>
+#include <string.h>
 
 #include "file.h"
-#include "mihadrena.h"
+#include "mihadrena_plan.h"
 
 static void fail(const char *what)
 {
@@ -36,33 +37,31 @@ int main(int count, char **words)
     uint8_t *source = file_bytes(words[1], &length);
     if (source == NULL)
         fail("cannot read the file");
-    uint64_t position[MIHADRENA_READER_WORDS];
-    uint64_t values[MIHADRENA_READER_VALUES];
-    uint32_t answer = mihadrena_reader_open(source, length, MIHADRENA_REPORT, false, position, MIHADRENA_READER_WORDS, values,
-                                            MIHADRENA_READER_VALUES);
-    mihadrena_record record;
-    size_t text_length = 0;
+    mihadrena_reader reader;
+    memset(&reader, 0, sizeof reader);
+    reader.source = source;
+    reader.source_length = length;
+    reader.text = malloc(1);
     size_t items = 0;
-    uint8_t *text = malloc(1);
+    uint32_t answer = mihadrena_reader_start(&reader, MIHADRENA_REPORT, false);
     while (answer == MIHADRENA_SERVED || answer == MIHADRENA_ITEM || answer == MIHADRENA_TOO_FEW) {
         if (answer == MIHADRENA_TOO_FEW) {
-            text_length = (size_t)values[1];
-            text = realloc(text, text_length);
+            reader.text_room = (size_t)reader.values[1];
+            reader.text = realloc(reader.text, reader.text_room);
         }
-        if (text == NULL)
+        if (reader.text == NULL)
             fail("no memory");
-        answer = mihadrena_reader_next(source, length, position, MIHADRENA_READER_WORDS, text, text_length, (uint32_t *)&record,
-                                       MIHADRENA_RECORD_WORDS, values, MIHADRENA_READER_VALUES);
+        answer = mihadrena_reader_step(&reader);
         if (answer == MIHADRENA_ITEM) {
-            print_item(&record, source, length, text, text_length);
+            print_item(&reader.record, source, length, reader.text, reader.text_room);
             items++;
         }
     }
     if (answer != MIHADRENA_FINISHED)
-        printf("refused %" PRIu32 " %" PRIu64 "\n", answer, values[0]);
+        printf("refused %" PRIu32 " %" PRIu64 "\n", answer, reader.values[0]);
     else
-        printf("end %zu, text memory of %zu bytes\n", items, text_length);
-    free(text);
+        printf("end %zu, text memory of %zu bytes\n", items, reader.text_room);
+    free(reader.text);
     free(source);
     return EXIT_SUCCESS;
 }
