@@ -1,23 +1,21 @@
 -- Light items: ten numbers that the byte machine takes one after the other (`light-item`), and the reader's passes over them.
 use mathlib.Core.Path.{_≡_, refl, sym, ap, _∙_}
 use mathlib.Core.List.{List, [], _∷_, _++_}
-use mathlib.Core.Bool.{true}
 use Prim.Native.Nat.{ℕ, _+_, _-_, _*_, _≤_, _<_}
 use native.Mathlib.Omega.{arith}
 use lib.Bits.{bitOr, or-add-and, and-le-l, and-le-r}
 use lib.ListN.{length, getD, drop, length-append, length-drop}
-use borrow.Author.Tests.{le-ltb, eq-eqb}
-use Rattle.laws.specs.Lent.{written}
+use borrow.Author.Tests.{le-ltb}
 use Rattle.items.specs.Items.{recordWords, wordsOf}
 use Rattle.items.specs.declared.Record.{Record}
 use Rattle.items_files.specs.Groups.{most}
-use Rattle.items_files.specs.Layout.{before, base, after, first}
+use Rattle.items_files.specs.Layout.{before, base, after}
 use Rattle.items_files.specs.Numbers.{fifth, numberOf}
-use Rattle.items_files.specs.Read.{between, readFrom, opening, wordsIn, sound}
-use Rattle.items_files.specs.Glance.{briefGroups, briefEnd, BriefNumber, BriefTo, PairAt, LightHead, LightParts, lightRecord, front, Through, ItemAt, LightTo}
+use Rattle.items_files.specs.Read.{between, readFrom}
+use Rattle.items_files.specs.Glance.{briefGroups, briefEnd, BriefNumber, PairAt, LightHead, LightParts, lightRecord, front, Through, ItemAt, LightTo}
 use Rattle.items_files.specs.declared.Before.{Before}
 use Rattle.items_files.specs.declared.Number.the-variants.{Whole}
-use Rattle.items_files.proofs.Reader.{reads, one-group, next-place, push-front, front-front, Scanning, scanning-few, Numbering, numbering-start, numbering-on, numbering-whole}
+use Rattle.items_files.proofs.Reader.{reads, one-group, next-place, push-front, front-front, Scanning, Numbering, numbering-start, numbering-on, numbering-whole}
 
 -- ---- words one after the other
 
@@ -119,33 +117,25 @@ module _ (s : List ℕ) where
       (through-byte s (before 2 (getD s (at + 1) 0) (b .start)) {b′ = before 3 start start} {next = at + 3} (omega (arith, o .room)) (o .step) (omega arith) refl (omega (arith, o .step, o .start)) refl)
       (through-byte s (before 3 start start) {b′ = before 4 end start} {next = at + 4} (omega (arith, o .room)) (o .extent) (omega arith) refl (omega (arith, o .step, o .extent, o .start)) refl)))
 
-  module _ {at v i : ℕ} (n : BriefNumber s at v i) (p : PairAt s i) (h : at < length s) (room : i + 1 < length s) (last start : ℕ) where
-    -- the place and the text's source
-    place-words : Through s (before 4 last start) at (v ∷ (v + getD s i 0) ∷ getD s (i + 1) 0 ∷ []) (before 7 (getD s (i + 1) 0) start) (i + 2)
-    unfolding base after
-    place-words =
-        through-both s
-        (through-number s (before 4 last start) {b′ = before 5 v start} h (n .whole) (omega arith) (omega (arith, n .low)) refl)
-        (through-both s
-        (through-byte s (before 5 v start) {b′ = before 6 (v + getD s i 0) start} {next = i + 1} (omega arith) (p .0) refl refl (omega (arith, n .low, p .0)) refl)
-        (through-byte s (before 6 (v + getD s i 0) start) {b′ = before 7 (getD s (i + 1) 0) start} {next = i + 2} room (p .1) (omega arith) (omega arith) (omega (arith, p .1)) refl))
-
-    -- the text and the depth
-    text-words : Through s (before 7 last start) at (v ∷ (v + getD s i 0) ∷ getD s (i + 1) 0 ∷ []) (before 0 (getD s (i + 1) 0) start) (i + 2)
-    unfolding base after
-    text-words =
-        through-both s
-        (through-number s (before 7 last start) {b′ = before 8 v start} h (n .whole) (omega arith) (omega (arith, n .low)) refl)
-        (through-both s
-        (through-byte s (before 8 v start) {b′ = before 9 (v + getD s i 0) start} {next = i + 1} (omega arith) (p .0) refl refl (omega (arith, n .low, p .0)) refl)
-        (through-byte s (before 9 (v + getD s i 0) start) {b′ = before 0 (getD s (i + 1) 0) start} {next = i + 2} room (p .1) (omega arith) (omega arith) (omega (arith, p .1)) refl))
+  -- a start, the end that is stored less it, and a word that is stored whole: place and source, or text and depth
+  three-words : {at v i : ℕ} → BriefNumber s at v i → PairAt s i → at < length s → i + 1 < length s → (b b₁ b₂ : Before) {b₃ : Before} → base b ≡ 0
+      → b₁ ≡ after b v → base b₁ ≡ v → b₂ ≡ after b₁ (v + getD s i 0) → base b₂ ≡ 0 → b₃ ≡ after b₂ (getD s (i + 1) 0)
+      → Through s b at (v ∷ (v + getD s i 0) ∷ getD s (i + 1) 0 ∷ []) b₃ (i + 2)
+  three-words n p h room b b₁ b₂ z a z₁ a₁ z₂ a₂ =
+      through-both s
+      (through-number s b h (n .whole) (omega arith) (omega (arith, n .low)) a)
+      (through-both s
+      (through-byte s b₁ (omega arith) (p .0) refl (omega arith) (omega (arith, n .low, p .0)) a₁)
+      (through-byte s b₂ room (p .1) (omega arith) (omega arith) (omega (arith, p .1)) a₂))
 
 pub light-item : (s : List ℕ) (at : ℕ) (b : Before) {from i first j : ℕ} → LightParts s at b from i first j
     → ItemAt s at b (lightRecord s at b from i first j) (j + 2)
+unfolding base after
 light-item s at b {from} {i} {first} {j} l =
     let x = next-place s (at + 4) from i (omega (arith, l .head .room)) (l .place .whole) in
     let y = next-place s (i + 2) first j (omega (arith, l .head .room, l .place .near)) (l .text .whole) in
     let start : ℕ = b .start + getD s (at + 2) 0 in
+    let end : ℕ = start + getD s (at + 3) 0 in
     record {
       ahead = omega (arith, x .0, y .0);
       inside = omega (arith, l .head .room, l .place .near, l .text .near);
@@ -153,8 +143,10 @@ light-item s at b {from} {i} {first} {j} l =
           through-both s
           (head-words s at b (l .head))
           (through-both s
-          (place-words s (l .place) (l .place-pair) (omega (arith, l .head .room)) (omega (arith, l .head .room, l .place .near)) (start + getD s (at + 3) 0) start)
-          (text-words s (l .text) (l .text-pair) (omega (arith, l .head .room, l .place .near)) (omega (arith, l .head .room, l .place .near, l .text .near)) (getD s (i + 1) 0) start));
+          (three-words s (l .place) (l .place-pair) (omega (arith, l .head .room)) (omega (arith, l .head .room, l .place .near)) (before 4 end start)
+          (before 5 from start) (before 6 (from + getD s i 0) start) {b₃ = before 7 (getD s (i + 1) 0) start} refl refl refl refl refl refl)
+          (three-words s (l .text) (l .text-pair) (omega (arith, l .head .room, l .place .near)) (omega (arith, l .head .room, l .place .near, l .text .near))
+          (before 7 (getD s (i + 1) 0) start) (before 8 first start) (before 9 (first + getD s j 0) start) refl refl refl refl refl refl));
     }
 
 pub light-to : (s : List ℕ) (at : ℕ) (b : Before) {from i first j : ℕ} → LightParts s at b from i first j → LightTo s at b (j + 2)

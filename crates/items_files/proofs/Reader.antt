@@ -19,7 +19,7 @@ use Rattle.items_files.specs.Layout.{base, after, first}
 use Rattle.items_files.specs.Answers.{served, refused}
 use Rattle.items_files.specs.Numbers.{fifth, numberOf}
 use Rattle.items_files.specs.Read.{Reading, reading, Took, goesOn, word, bad, entered, taken, between, Found, all, fails, push, told, ended, readFrom, sizes, wordsIn, sound, opening}
-use Rattle.items_files.specs.Glance.{front, Through}
+use Rattle.items_files.specs.Glance.{front}
 use Rattle.items_files.specs.declared.Before.{Before}
 use Rattle.items_files.specs.declared.Number.{Number}
 use Rattle.items_files.specs.declared.Number.the-variants.{Whole, Wrong, Cut}
