@@ -3,6 +3,7 @@ pub mod Laid
 pub mod Records
 pub mod Writer
 pub mod Reader
+pub mod LightItems
 pub mod Filler
 pub mod Trips
 pub mod Calls

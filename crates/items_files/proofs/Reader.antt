@@ -19,6 +19,7 @@ use Rattle.items_files.specs.Layout.{base, after, first}
 use Rattle.items_files.specs.Answers.{served, refused}
 use Rattle.items_files.specs.Numbers.{fifth, numberOf}
 use Rattle.items_files.specs.Read.{Reading, reading, Took, goesOn, word, bad, entered, taken, between, Found, all, fails, push, told, ended, readFrom, sizes, wordsIn, sound, opening}
+use Rattle.items_files.specs.Glance.{front}
 use Rattle.items_files.specs.declared.Before.{Before}
 use Rattle.items_files.specs.declared.Number.{Number}
 use Rattle.items_files.specs.declared.Number.the-variants.{Whole, Wrong, Cut}
@@ -231,13 +232,17 @@ one-group s at h l =
 
 -- ---- reading on
 
-abbrev pub front : List ℕ → Found → Found
-front done (all ws) = all (done ++ ws)
-front done (fails n j) = fails n j
-
 pub front-nil : (f : Found) → f ≡ front [] f
 front-nil (all ws) = refl
 front-nil (fails n j) = refl
+
+pub front-front : (done ws : List ℕ) (f : Found) → front done (front ws f) ≡ front (done ++ ws) f
+front-front done ws (all vs) = ap all (sym (append-assoc done ws vs))
+front-front done ws (fails n j) = refl
+
+pub push-front : (w : ℕ) (f : Found) → push w f ≡ front (w ∷ []) f
+push-front w (all ws) = refl
+push-front w (fails n j) = refl
 
 pub front-push : (done : List ℕ) (w : ℕ) (f : Found) → front done (push w f) ≡ front (done ++ (w ∷ [])) f
 front-push done w (all ws) = ap all (sym (append-assoc done (w ∷ []) ws))

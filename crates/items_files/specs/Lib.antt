@@ -4,4 +4,5 @@ pub mod Answers
 pub mod Write
 pub mod Numbers
 pub mod Read
+pub mod Glance
 pub mod Examples

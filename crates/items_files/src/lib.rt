@@ -1,11 +1,13 @@
 // Item files: a list of records as numbers in groups of seven bits, and back (02 (x)). specs/Layout says which numbers an item has,
 // specs/Groups how a number is stored, specs/Write and specs/Read what the two calls answer and write.
+use items::Record;
 use meaning::records::WORDS;
 ghost use mathlib.Core.Path.{_≡_};
 ghost use Rattle.items_files.specs.Answers.{wrote, got, outcome};
 ghost use Rattle.items_files.specs.Write.{writeOf};
 ghost use Rattle.items_files.specs.Read.{readOf};
 
+mod glance;
 mod layout;
 mod loading;
 mod storing;
@@ -23,6 +25,19 @@ pub enum Number {
     Whole(u32, usize),
     Wrong,
     Cut,
+}
+
+// A brief number, one below 268,435,456 and so of up to four groups, with the place after it; or any other, or none.
+pub enum Brief {
+    Value(u32, usize),
+    Other,
+}
+
+// A light item, as nearly all are: the starts of its place and of its text are brief and its other numbers have one group each. With it
+// the place after it; or any other, or none.
+pub enum Light {
+    Item(Record, usize),
+    Other,
 }
 
 // What the writer's first pass finds: the bytes of the file, or the first record that goes back.

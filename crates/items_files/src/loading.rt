@@ -1,8 +1,11 @@
 // The reader's two passes: the first looks at every number and writes nothing, the second writes the words.
-use crate::Before;
+use crate::Light;
 use crate::Number;
 use crate::Scanned;
+use crate::glance;
 use crate::layout;
+use meaning::records::WORDS;
+use meaning::records::put;
 ghost use mathlib.Core.Bool.{true};
 ghost use mathlib.Core.Path.{_≡_};
 ghost use Prim.Native.Nat.{_≤_, _<_};
@@ -66,30 +69,33 @@ fn number_at(file: &[u8], at: usize) -> Number
 pub fn scan(file: &[u8]) -> Scanned
     ensures { λ r. ⌜ counted r ≡ sizes (readFrom opening 0 (now (file .entry))) ⌝ }
 {
-    let mut b = Before {
-        which: 0,
-        last: 0,
-        start: 0,
-    };
+    let mut b = layout::at_first();
     let mut n: usize = 0;
     let mut i: usize = 0;
     while i < file.len() {
-        let number = number_at(file, i);
-        match number {
-            Number::Whole(value, next) => {
-                let word = layout::base_of(b) as u64 + value as u64;
-                if MOST < word {
-                    return Scanned::Over(n);
+        let past = glance::item_end(file, i, b);
+        if 0 < past {
+            b = layout::after_item(b.start + file[i + 2] as u32, file[past - 1] as u32);
+            n += WORDS;
+            i = past;
+        } else {
+            let number = number_at(file, i);
+            match number {
+                Number::Whole(value, next) => {
+                    let word = layout::base_of(b) as u64 + value as u64;
+                    if MOST < word {
+                        return Scanned::Over(n);
+                    }
+                    b = layout::after_word(b, word as u32);
+                    n += 1;
+                    i = next;
                 }
-                b = layout::after_word(b, word as u32);
-                n += 1;
-                i = next;
-            }
-            Number::Wrong => {
-                return Scanned::Wrong(n);
-            }
-            Number::Cut => {
-                return Scanned::Cut(n);
+                Number::Wrong => {
+                    return Scanned::Wrong(n);
+                }
+                Number::Cut => {
+                    return Scanned::Cut(n);
+                }
             }
         }
     }
@@ -104,28 +110,35 @@ pub fn fill(file: &[u8], records: &mut [u32])
     requires { ⌜ (sound (readFrom opening 0 (now file)) ≡ true) × (length (wordsIn (readFrom opening 0 (now file))) ≤ length (now records)) ⌝ }
     ensures { λ _. ⌜ now (records .exit) ≡ written (wordsIn (readFrom opening 0 (now (file .entry)))) (now (records .entry)) ⌝ }
 {
-    let mut b = Before {
-        which: 0,
-        last: 0,
-        start: 0,
-    };
+    let mut b = layout::at_first();
     let mut n: usize = 0;
     let mut i: usize = 0;
     while i < file.len() {
-        let number = number_at(file, i);
-        match number {
-            Number::Whole(value, next) => {
-                let w = layout::base_of(b) + value;
-                records[n] = w;
-                b = layout::after_word(b, w);
-                n += 1;
-                i = next;
+        let light = glance::item_at(file, i, b);
+        match light {
+            Light::Item(record, past) => {
+                put(&mut records[n..], record);
+                b = layout::after_item(record.nine.start, record.depth);
+                n += WORDS;
+                i = past;
             }
-            Number::Wrong => {
-                return;
-            }
-            Number::Cut => {
-                return;
+            Light::Other => {
+                let number = number_at(file, i);
+                match number {
+                    Number::Whole(value, next) => {
+                        let w = layout::base_of(b) + value;
+                        records[n] = w;
+                        b = layout::after_word(b, w);
+                        n += 1;
+                        i = next;
+                    }
+                    Number::Wrong => {
+                        return;
+                    }
+                    Number::Cut => {
+                        return;
+                    }
+                }
             }
         }
     }
