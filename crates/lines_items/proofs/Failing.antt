@@ -26,7 +26,7 @@ abbrev pub IsChar : ℕ → Type 0
 IsChar c = isScalar c ≡ true
 
 -- a byte that stands at a place
-stands-at : (a : ℕ) (l : List ℕ) (k : ℕ) (t : List ℕ) → drop a l ≡ k ∷ t → (a < length l) × (getD l a 0 ≡ k)
+pub stands-at : (a : ℕ) (l : List ℕ) (k : ℕ) (t : List ℕ) → drop a l ≡ k ∷ t → (a < length l) × (getD l a 0 ≡ k)
 stands-at zero [] k t e = let z : _≡_ {A = ℕ} 0 1 = cc in absurd (omega arith)
 stands-at (suc a) [] k t e = let z : _≡_ {A = ℕ} 0 1 = cc in absurd (omega arith)
 stands-at zero (b ∷ l) k t e = (omega arith, cc)

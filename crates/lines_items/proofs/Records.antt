@@ -18,7 +18,6 @@ use Rattle.laws.proofs.Choice.{by-bool, no-yes, yes-no, if-all, if-is}
 use Rattle.chars.specs.Utf8.{chars}
 use Rattle.chars.specs.Encode.{width, bytesOf}
 use Rattle.chars.specs.Blank.{isBlank}
-use Rattle.chars.proofs.Good.{Scalars, good-scalars}
 use Rattle.items.specs.declared.Outcome.{Outcome}
 use Rattle.items.specs.declared.Outcome.the-variants.{Token, Str, HereStr, Word, Run, Lined, Keyword, Character, Error, ErrorAt}
 use Rattle.items.specs.declared.CharValue.{CharValue}
@@ -38,6 +37,7 @@ use Rattle.coverage.proofs.Located.{itemsThere}
 use Rattle.error_places.specs.Failing.{Pointed}
 use Rattle.error_places.specs.Delimited.{Delimited}
 use Rattle.error_places.proofs.Names.{delimited-there}
+use Rattle.error_places.proofs.Rows.{every-scalar}
 use Rattle.error_places.proofs.Places.{extent-points, points-at-what-fails}
 use Rattle.lines.specs.Place.{isIndex, locateOf}
 use Rattle.lines.specs.Place.{At}
@@ -242,7 +242,7 @@ module _ (M : ℕ → Type 0) (report : Bool) where
       (λ e. rw (e, items) (half-at (h .0) 0 (c ∷ cs) h))
 
 -- two facts of every item make one
-every-both : (P Q R : Item → Type 0) → ((i : Item) → P i → Q i → R i) → (is : List Item) → Every P is → Every Q is → Every R is
+pub every-both : (P Q R : Item → Type 0) → ((i : Item) → P i → Q i → R i) → (is : List Item) → Every P is → Every Q is → Every R is
 every-both P Q R f [] h g = tt
 every-both P Q R f (i ∷ is) h g = (f i (h .0) (g .0), every-both P Q R f is (h .1) (g .1))
 
@@ -285,14 +285,10 @@ Answered s index p = (line : ℕ) × (col : ℕ) × (locateOf s index p ≡ At l
 answered-along : (s index : List ℕ) → isIndex s index ≡ true → Along (Answered s index) 0 (chars s)
 answered-along s index e = along (Answered s index) 0 (chars s) (λ k. answered-between s index _ e (k, omega arith))
 
-every-scalar : (cs : List ℕ) → Scalars cs → Every IsChar cs
-every-scalar [] h = tt
-every-scalar (c ∷ cs) h = (h .0, every-scalar cs (h .1))
-
 -- of every item of a text, in both modes
 pub items-answered : (report : Bool) (s index : List ℕ) → isIndex s index ≡ true → Every (Marked (Answered s index)) (items report (chars s))
 items-answered report s index e =
-    marked (Answered s index) report (chars s) (every-scalar (chars s) (good-scalars s (index-is s index e .1))) (answered-along s index e)
+    marked (Answered s index) report (chars s) (every-scalar s (index-is s index e .1)) (answered-along s index e)
 
 -- of every record that a whole-text call gives, comments kept or skipped
 pub record-answered : (s index : List ℕ) (mode : ℕ) (skip : Bool) → isIndex s index ≡ true → Every (Marked (Answered s index)) (itemsIn s mode skip)
