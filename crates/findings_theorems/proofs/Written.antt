@@ -70,7 +70,7 @@ module _ (s : List ℕ) where
 
     -- finding j of those that are written, and its place in the word k
     module _ (j : ℕ) (there : j < n) (fits : j * findingWords + findingWords ≤ length memory) (k : ℕ) (from : firstPlace ≤ k) (to : k < findingWords) where
-      abbrev place : ℕ
+      abbrev pub place : ℕ
       place = getD (callOf s rows memory .findings) (j * findingWords + k) 0
 
       pub places-in-text : Between s place
