@@ -31,7 +31,7 @@ static size_t most = 100;
 /* The memory that grows from file to file. */
 static uint8_t *source, *out;
 static uint32_t *records, *findings;
-static size_t source_room, out_room, records_room;
+static size_t source_room, out_room, records_room, findings_room;
 
 /* Room for n bytes at least; without memory the program ends. */
 static void *room(void *memory, size_t n)
@@ -64,13 +64,34 @@ static bool read_source(FILE *file, size_t *length)
     }
 }
 
-/* Finds with an eighth of the bytes as rows, which is enough for most plans, and else with as many as are needed. */
+/* Finds with an eighth of the bytes as rows, which is enough for most plans, and else with as many as are needed. With --plain there must be
+ * room for all findings, since some of those that are not told are errors. */
 static void find(size_t length, uint64_t values[2])
 {
     if (records_room < MIHADRENA_RECORD_WORDS * (length / 8 + 1))
         records = room(records, (records_room = MIHADRENA_RECORD_WORDS * (length / 8 + 1)) * sizeof *records);
-    while (mihadrena_find(source, length, records, records_room, findings, most * MIHADRENA_FINDING_WORDS, values, 2) != MIHADRENA_SERVED)
-        records = room(records, (records_room = MIHADRENA_RECORD_WORDS * (size_t)values[0]) * sizeof *records);
+    for (;;) {
+        if (mihadrena_find(source, length, records, records_room, findings, findings_room, values, 2) != MIHADRENA_SERVED)
+            records = room(records, (records_room = MIHADRENA_RECORD_WORDS * (size_t)values[0]) * sizeof *records);
+        else if (plain && findings_room < MIHADRENA_FINDING_WORDS * (size_t)values[0])
+            findings = room(findings, (findings_room = MIHADRENA_FINDING_WORDS * (size_t)values[0]) * sizeof *findings);
+        else
+            return;
+    }
+}
+
+/* Makes every W07 an error; how many there are. */
+static size_t make_errors(size_t found)
+{
+    size_t made = 0;
+    for (size_t i = 0; i < found; i++) {
+        uint32_t *finding = findings + i * MIHADRENA_FINDING_WORDS;
+        if (finding[0] == MIHADRENA_WARNING && finding[1] == MIHADRENA_PLAIN_OTHERWISE) {
+            finding[0] = MIHADRENA_WARNING_AS_ERROR;
+            made++;
+        }
+    }
+    return made;
 }
 
 /* Writes what a call rendered, once there is room for all of it. */
@@ -92,16 +113,10 @@ static int check(FILE *file, const char *name)
     if (!read_source(file, &length))
         return failed(name);
     find(length, values);
-    size_t found = values[0], errors = values[1], told = found < most ? found : most;
-    for (size_t i = 0; i < told; i++) {
-        uint32_t *finding = findings + i * MIHADRENA_FINDING_WORDS;
-        if (plain && finding[0] == MIHADRENA_WARNING && finding[1] == MIHADRENA_PLAIN_OTHERWISE) {
-            finding[0] = MIHADRENA_WARNING_AS_ERROR;
-            errors++;
-        }
-        while (!show(mihadrena_render(finding, MIHADRENA_FINDING_WORDS, source, length, title, width, style, colour, out, out_room)))
+    size_t found = values[0], errors = values[1] + (plain ? make_errors(found) : 0), told = found < most ? found : most;
+    for (size_t i = 0; i < told; i++)
+        while (!show(mihadrena_render(findings + i * MIHADRENA_FINDING_WORDS, MIHADRENA_FINDING_WORDS, source, length, title, width, style, colour, out, out_room)))
             ;
-    }
     while (!show(mihadrena_summary(title, width, found, errors, told, style, out, out_room)))
         ;
     return found == 0 ? CLEAN : FOUND;
@@ -173,7 +188,7 @@ int main(int count, char **words)
         return misused();
     source = room(NULL, source_room = 65536);
     out = room(NULL, out_room = 4096);
-    findings = room(NULL, most * MIHADRENA_FINDING_WORDS * sizeof *findings);
+    findings = room(NULL, (findings_room = most * MIHADRENA_FINDING_WORDS) * sizeof *findings);
     progress = count - i > 1 && isatty(STDERR_FILENO);
     time_t start = time(NULL);
     if (i == count)

@@ -150,7 +150,7 @@ module _ (F : ℕ → ℕ → ℕ → ℕ → ℕ → Type 0) (whole : List ℕ)
     (tell : (s : ℕ) (i : SoFar) (rest cs : List ℕ) → drop s whole ≡ i .bytes ++ rest → i .at ≡ s + length (i .bytes) → i .bytes ≡ bytesOf cs → Every IsChar cs
     → (d a b : ℕ) → FailingDigits s (i .bytes) d a b
     → F s (i .at) d a b) where
-  extent-eleven : (last : Place) (at c : ℕ) (cs : List ℕ) → drop at whole ≡ bytesOf (c ∷ cs) → Every IsChar (c ∷ cs) → Every (Eleven F) (itemsThere true last at c cs)
+  pub extent-eleven : (last : Place) (at c : ℕ) (cs : List ℕ) → drop at whole ≡ bytesOf (c ∷ cs) → Every IsChar (c ∷ cs) → Every (Eleven F) (itemsThere true last at c cs)
   unfolding extentItems
   extent-eleven last at c cs e good =
       let r : Read = readItem true at c cs in

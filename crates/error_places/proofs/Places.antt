@@ -11,15 +11,16 @@ use Rattle.chars.specs.Encode.{utf8, bytesOf}
 use Rattle.chars.proofs.Round.{back, one-read}
 use Rattle.digits.specs.declared.Hex.the-variants as hex
 use Rattle.digits.specs.Hex.{hexValue, empty, badDigit, overflow}
-use Rattle.items.specs.Items.{items}
-use Rattle.items.specs.Readers.{pastFailing}
+use Rattle.items.specs.Items.{Place, items}
+use Rattle.items.specs.Readers.{SoFar, pastFailing}
 use Rattle.items.proofs.Every.{Every}
 use Rattle.coverage.proofs.Bytes.{passed}
+use Rattle.coverage.proofs.Located.{itemsThere}
 use Rattle.error_places.specs.Failing.{NoDigits, BadDigit, Overflow, Fails, Pointed}
 use Rattle.error_places.proofs.Ascii.{Split, split}
 use Rattle.error_places.proofs.Digits.{every-right, digit-small, BadAt, bad-at, Over, Many, Known, known, empty-value, over-value}
 use Rattle.error_places.proofs.Phases.{Stops, Digits}
-use Rattle.error_places.proofs.Eleven.{IsChar, every-left, eleven-items}
+use Rattle.error_places.proofs.Eleven.{IsChar, every-left, FailingDigits, extent-eleven, eleven-items}
 
 -- the digits are whole characters
 pub record Whole (ds : List ℕ) : Type 0 where
@@ -134,10 +135,19 @@ digits-fail whole s raw rest stands d a b g w =
     fails-there whole s (g .x) (g .k) (g .ascii) (g .ds) (g .ys ++ rest) there (g .zs) a b (g .p)
     (omega (arith, g .from, length-append (g .x) (g .k ∷ []))) d (subst Known (g .fails) (known (g .ds))) w (g .fails) (g .to)
 
+module _ (whole : List ℕ) where
+  abbrev FailsThere : ℕ → ℕ → ℕ → ℕ → ℕ → Type 0
+  FailsThere s e d a b = Fails whole a b d
+
+  extent-told : (s : ℕ) (i : SoFar) (rest cs : List ℕ) → drop s whole ≡ i .bytes ++ rest → i .at ≡ s + length (i .bytes) → i .bytes ≡ bytesOf cs → Every IsChar cs
+      → (d a b : ℕ) → FailingDigits s (i .bytes) d a b → FailsThere s (i .at) d a b
+  extent-told s i rest cs stands long is good d a b g = digits-fail whole s (i .bytes) rest stands d a b (g .0) (digits-whole s (i .bytes) cs is good d a b (g .0))
+
+  -- every item of an extent, wherever it starts, that is error 11 points at what fails
+  pub extent-points : (last : Place) (at c : ℕ) (cs : List ℕ) → drop at whole ≡ bytesOf (c ∷ cs) → Every IsChar (c ∷ cs)
+      → Every (Pointed whole) (itemsThere true last at c cs)
+  extent-points = extent-eleven FailsThere whole extent-told
+
 -- every item of a text that is error 11 points at what fails
 pub points-at-what-fails : (cs : List ℕ) → Every IsChar cs → Every (Pointed (bytesOf cs)) (items true cs)
-points-at-what-fails cs good =
-    eleven-items (λ s e d a b. Fails (bytesOf cs) a b d) (bytesOf cs)
-    (λ s i rest chars stands long is scalars d a b g. digits-fail (bytesOf cs) s (i .bytes) rest stands d a b (g .0)
-    (digits-whole s (i .bytes) chars is scalars d a b (g .0)))
-    cs refl good
+points-at-what-fails cs good = eleven-items (FailsThere (bytesOf cs)) (bytesOf cs) (extent-told (bytesOf cs)) cs refl good

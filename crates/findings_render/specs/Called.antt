@@ -5,8 +5,8 @@ use mathlib.Core.List.{List, []}
 use lib.Dec.{eqb}
 use Rattle.laws.specs.Choice.{if_then_else_}
 use Rattle.laws.specs.Quoted.{code}
-use Rattle.findings_render.specs.declared.Told.{Told}
-use Rattle.findings_render.specs.Messages.{toldOf, isTold}
+use Rattle.findings_render_messages.specs.declared.Told.{Told}
+use Rattle.findings_render_messages.specs.Messages.{toldOf, isTold}
 use Rattle.findings_render.specs.Rendered.{lines}
 use Rattle.findings_render.specs.Json.{json}
 

@@ -6,13 +6,13 @@ use lib.Dec.{eqb, ltb}
 use lib.ListN.{take}
 use Rattle.laws.specs.Choice.{if_then_else_}
 use Rattle.laws.specs.Quoted.{codes, code}
-use Rattle.findings_render.specs.declared.Seen.{Seen}
-use Rattle.findings_render.specs.declared.Told.{Told}
-use Rattle.findings_render.specs.Laid.{marked}
-use Rattle.findings_render.specs.Printed.{digits, number}
-use Rattle.findings_render.specs.Shown.{asByte, walked}
-use Rattle.findings_render.specs.Spots.{lineNumber, columnNumber}
-use Rattle.findings_render.specs.Messages.{codeOf, textOf, isTold}
+use Rattle.findings_render_parts.specs.declared.Seen.{Seen}
+use Rattle.findings_render_messages.specs.declared.Told.{Told}
+use Rattle.findings_render_parts.specs.Laid.{marked}
+use Rattle.findings_render_parts.specs.Printed.{digits, number}
+use Rattle.findings_render_parts.specs.Shown.{asByte, walked}
+use Rattle.findings_render_parts.specs.Spots.{lineNumber, columnNumber}
+use Rattle.findings_render_messages.specs.Messages.{codeOf, textOf, isTold}
 use Rattle.findings_render.specs.Rendered.{severityWord}
 
 -- a file's name may have any bytes: a control character stands as `\u001B`, a byte of no character as the replacement character

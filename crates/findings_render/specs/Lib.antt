@@ -1,8 +1,3 @@
-pub mod Laid
-pub mod Printed
-pub mod Shown
-pub mod Spots
-pub mod Messages
 pub mod Rendered
 pub mod Summed
 pub mod Json

@@ -10,12 +10,12 @@ use lib.Dec.{eqb, ltb}
 use lib.ListN.{take, drop}
 use Rattle.laws.specs.Choice.{if_then_else_}
 use Rattle.laws.specs.Quoted.{codes, code}
-use Rattle.findings_render.specs.declared.Told.{Told}
-use Rattle.findings_render.specs.declared.Window.{Window}
-use Rattle.findings_render.specs.Printed.{number, aligned}
-use Rattle.findings_render.specs.Shown.{shown, under, carets}
-use Rattle.findings_render.specs.Spots.{lineNumber, columnNumber, windowOf}
-use Rattle.findings_render.specs.Messages.{codeOf, textOf, isTold}
+use Rattle.findings_render_messages.specs.declared.Told.{Told}
+use Rattle.findings_render_parts.specs.declared.Window.{Window}
+use Rattle.findings_render_parts.specs.Printed.{number, aligned}
+use Rattle.findings_render_parts.specs.Shown.{shown, under, carets}
+use Rattle.findings_render_parts.specs.Spots.{lineNumber, columnNumber, windowOf}
+use Rattle.findings_render_messages.specs.Messages.{codeOf, textOf, isTold}
 
 -- some bytes, or none
 abbrev pub onlyIf : Bool → List ℕ → List ℕ

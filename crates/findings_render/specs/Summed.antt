@@ -5,7 +5,7 @@ use mathlib.Core.List.{List, [], _++_}
 use lib.Dec.{eqb, ltb}
 use Rattle.laws.specs.Choice.{if_then_else_}
 use Rattle.laws.specs.Quoted.{codes}
-use Rattle.findings_render.specs.Printed.{number}
+use Rattle.findings_render_parts.specs.Printed.{number}
 use Rattle.findings_render.specs.Rendered.{onlyIf}
 
 -- `1 error`, `2 errors`

@@ -1,24 +1,23 @@
 // A finding as an object of JSON.
-use crate::Seen;
-use crate::Told;
-use crate::characters::part;
-use crate::characters::seen_at;
-use crate::laying::put;
 use crate::lines::put_severity_word;
-use crate::messages::HELP;
-use crate::messages::MESSAGE;
-use crate::messages::NOTE;
-use crate::messages::code_of;
-use crate::messages::is_told;
-use crate::messages::put_text;
-use crate::numbers::put_digits;
-use crate::numbers::put_number;
-use crate::places::column_number;
-use crate::places::line_number;
+use findings_render_messages::HELP;
+use findings_render_messages::MESSAGE;
+use findings_render_messages::NOTE;
+use findings_render_messages::Told;
+use findings_render_messages::code_of;
+use findings_render_messages::is_told;
+use findings_render_messages::put_text;
+use findings_render_parts::Seen;
+use findings_render_parts::characters::part;
+use findings_render_parts::characters::seen_at;
+use findings_render_parts::laying::put;
+use findings_render_parts::numbers::put_digits;
+use findings_render_parts::numbers::put_number;
+use findings_render_parts::places::column_number;
+use findings_render_parts::places::line_number;
 ghost use mathlib.Core.Bool.{false};
-ghost use Prim.Native.Nat.{_≤_};
-ghost use lib.ListN.{length};
-ghost use Rattle.findings_render.specs.Laid.{Laid};
+ghost use Rattle.findings_render_parts.specs.Laid.{Laid};
+ghost use Rattle.findings_render_parts.specs.Spots.{IsPlace};
 ghost use Rattle.findings_render.specs.Json.{nameOne, nameString, spotFields, byteFields, placeFields, wordFields, helpField, seeField, json};
 
 const AS_BYTE: u32 = 5;
@@ -60,7 +59,7 @@ fn put_spot_fields(
     s: &[u8],
     p: usize,
 ) -> usize
-    requires { ⌜ (p ≤ length (now s)) × (p ≤ 4294967295) ⌝ }
+    requires { ⌜ IsPlace (now s) p ⌝ }
     ensures { λ r. ⌜ Laid false (spotFields (now (line .entry)) (now (column .entry)) (now (s .entry)) p) at (now (out .entry)) r (now (out .exit)) ⌝ }
 {
     let first = put(out, at, false, line);
@@ -79,7 +78,7 @@ fn put_byte_fields(out: &mut [u8], at: usize, p: usize, q: usize) -> usize
 }
 
 fn put_place_fields(out: &mut [u8], at: usize, t: Told, s: &[u8]) -> usize
-    requires { ⌜ ((t .start ≤ length (now s)) × (t .start ≤ 4294967295)) × ((t .end ≤ length (now s)) × (t .end ≤ 4294967295)) ⌝ }
+    requires { ⌜ IsPlace (now s) (t .start) × IsPlace (now s) (t .end) ⌝ }
     ensures { λ r. ⌜ Laid false (placeFields t (now (s .entry))) at (now (out .entry)) r (now (out .exit)) ⌝ }
 {
     let begun = put_spot_fields(out, at, b"\",\"line\":", b",\"column\":", s, t.start);
@@ -112,7 +111,7 @@ fn put_help_field(out: &mut [u8], at: usize, t: Told, s: &[u8]) -> usize
 }
 
 fn put_see_field(out: &mut [u8], at: usize, t: Told, s: &[u8]) -> usize
-    requires { ⌜ (t .from ≤ length (now s)) × (t .from ≤ 4294967295) ⌝ }
+    requires { ⌜ IsPlace (now s) (t .from) ⌝ }
     ensures { λ r. ⌜ Laid false (seeField t (now (s .entry))) at (now (out .entry)) r (now (out .exit)) ⌝ }
 {
     if !is_told(t, NOTE) {
@@ -126,8 +125,8 @@ fn put_see_field(out: &mut [u8], at: usize, t: Told, s: &[u8]) -> usize
 }
 
 pub fn put_json(out: &mut [u8], at: usize, t: Told, s: &[u8], name: &[u8]) -> usize
-    requires { ⌜ ((t .start ≤ length (now s)) × (t .start ≤ 4294967295)) × ((t .end ≤ length (now s)) × (t .end ≤ 4294967295)) ⌝ }
-    requires { ⌜ (t .from ≤ length (now s)) × (t .from ≤ 4294967295) ⌝ }
+    requires { ⌜ IsPlace (now s) (t .start) × IsPlace (now s) (t .end) ⌝ }
+    requires { ⌜ IsPlace (now s) (t .from) ⌝ }
     ensures { λ r. ⌜ Laid false (json t (now (s .entry)) (now (name .entry))) at (now (out .entry)) r (now (out .exit)) ⌝ }
 {
     let begun = put(out, at, false, b"{\"file\":\"");

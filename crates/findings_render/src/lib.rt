@@ -2,53 +2,23 @@
 // a finding, the text that it was found in and the name that the text goes by; what is found is for others.
 use crate::json::put_json;
 use crate::lines::put_lines;
-use crate::messages::MESSAGE;
-use crate::messages::is_told;
+use findings_render_messages::MESSAGE;
+use findings_render_messages::Told;
+use findings_render_messages::is_told;
 ghost use mathlib.Core.Path.{_≡_};
 ghost use mathlib.Core.Bool.{false};
-ghost use Prim.Native.Nat.{_≤_};
-ghost use lib.ListN.{length, getD};
-ghost use Rattle.findings_render.specs.Laid.{Laid, counted, over};
-ghost use Rattle.findings_render.specs.Messages.{cut, toldOf};
+ghost use lib.ListN.{getD};
+ghost use Rattle.findings_render_parts.specs.Laid.{Laid, counted, over};
+ghost use Rattle.findings_render_parts.specs.Spots.{IsPlace};
+ghost use Rattle.findings_render_messages.specs.Messages.{cut, toldOf};
 ghost use Rattle.findings_render.specs.Called.{inStyle, rendered};
 
-mod characters;
 mod json;
-mod laying;
 mod lines;
-mod messages;
-mod numbers;
 mod picture;
-mod places;
 mod summing;
 
 pub use summing::summary;
-
-// What stands at a place of a text: how many bytes it has, how it is shown, and its number.
-pub struct Seen {
-    pub size: usize,
-    pub kind: u32,
-    pub code: u32,
-}
-
-// What is shown of a line: where it starts and ends, and from where to where it is shown.
-pub struct Window {
-    pub start: usize,
-    pub from: usize,
-    pub to: usize,
-    pub end: usize,
-}
-
-// A finding's words, and its places as far as the text goes.
-pub struct Told {
-    pub severity: u32,
-    pub code: u32,
-    pub detail: u32,
-    pub start: usize,
-    pub end: usize,
-    pub from: usize,
-    pub to: usize,
-}
 
 // Styles: with a picture and help; the headline and the note alone; an object of JSON.
 pub const FULL: u32 = 0;
@@ -69,7 +39,7 @@ fn word(finding: &[u32], k: usize) -> u32
 
 // A place, or the text's end.
 fn within(s: &[u8], place: u32) -> usize
-    ensures { λ r. ⌜ (r ≡ cut (now (s .entry)) place) × (r ≤ length (now (s .entry))) × (r ≤ 4294967295) ⌝ }
+    ensures { λ r. ⌜ (r ≡ cut (now (s .entry)) place) × IsPlace (now (s .entry)) r ⌝ }
 {
     if s.len() < place as usize {
         return s.len();
@@ -79,9 +49,9 @@ fn within(s: &[u8], place: u32) -> usize
 
 fn read_words(finding: &[u32], s: &[u8]) -> Told
     ensures { λ r. ⌜ (r ≡ toldOf (now (finding .entry)) (now (s .entry)))
-        × ((r .start ≤ length (now (s .entry))) × (r .start ≤ 4294967295))
-        × ((r .end ≤ length (now (s .entry))) × (r .end ≤ 4294967295))
-        × ((r .from ≤ length (now (s .entry))) × (r .from ≤ 4294967295)) ⌝ }
+        × IsPlace (now (s .entry)) (r .start)
+        × IsPlace (now (s .entry)) (r .end)
+        × IsPlace (now (s .entry)) (r .from) ⌝ }
 {
     Told {
         severity: word(finding, 0),
@@ -95,8 +65,8 @@ fn read_words(finding: &[u32], s: &[u8]) -> Told
 }
 
 fn put_style(out: &mut [u8], style: u32, colour: bool, t: Told, s: &[u8], name: &[u8]) -> usize
-    requires { ⌜ ((t .start ≤ length (now s)) × (t .start ≤ 4294967295)) × ((t .end ≤ length (now s)) × (t .end ≤ 4294967295)) ⌝ }
-    requires { ⌜ (t .from ≤ length (now s)) × (t .from ≤ 4294967295) ⌝ }
+    requires { ⌜ IsPlace (now s) (t .start) × IsPlace (now s) (t .end) ⌝ }
+    requires { ⌜ IsPlace (now s) (t .from) ⌝ }
     ensures { λ r. ⌜ Laid false (inStyle style colour t (now (s .entry)) (now (name .entry))) 0 (now (out .entry)) r (now (out .exit)) ⌝ }
 {
     if style == FULL {

@@ -1,30 +1,29 @@
 // A finding's lines: the headline, its picture and help, and the note at the second place.
-use crate::Told;
-use crate::laying::put;
-use crate::messages::HELP;
-use crate::messages::MESSAGE;
-use crate::messages::NOTE;
-use crate::messages::code_of;
-use crate::messages::is_told;
-use crate::messages::put_text;
-use crate::numbers::put_number;
 use crate::picture::put_if;
 use crate::picture::put_picture;
-use crate::places::column_number;
-use crate::places::line_number;
+use findings_render_messages::HELP;
+use findings_render_messages::MESSAGE;
+use findings_render_messages::NOTE;
+use findings_render_messages::Told;
+use findings_render_messages::code_of;
+use findings_render_messages::is_told;
+use findings_render_messages::put_text;
+use findings_render_parts::laying::put;
+use findings_render_parts::numbers::put_number;
+use findings_render_parts::places::column_number;
+use findings_render_parts::places::line_number;
 ghost use mathlib.Core.Path.{_≡_};
 ghost use mathlib.Core.Bool.{false};
-ghost use Prim.Native.Nat.{_≤_};
-ghost use lib.ListN.{length};
 ghost use Rattle.laws.specs.Choice.{if_then_else_};
-ghost use Rattle.findings_render.specs.Laid.{Laid};
+ghost use Rattle.findings_render_parts.specs.Laid.{Laid};
+ghost use Rattle.findings_render_parts.specs.Spots.{IsPlace};
 ghost use Rattle.findings_render.specs.Rendered.{onlyIf, isError, red, magenta, spot, severityWord, severity, headline, help, note, body, lines, picture};
 
 const WARNING: u32 = 1;
 
 // `NAME:LINE:COLUMN: `
 fn put_spot(out: &mut [u8], at: usize, name: &[u8], s: &[u8], p: usize) -> usize
-    requires { ⌜ (p ≤ length (now s)) × (p ≤ 4294967295) ⌝ }
+    requires { ⌜ IsPlace (now s) p ⌝ }
     ensures { λ r. ⌜ Laid false (spot (now (name .entry)) (now (s .entry)) p) at (now (out .entry)) r (now (out .exit)) ⌝ }
 {
     let named = put(out, at, false, name);
@@ -63,7 +62,7 @@ fn put_severity(out: &mut [u8], at: usize, colour: bool, t: Told) -> usize
 }
 
 fn put_headline(out: &mut [u8], at: usize, colour: bool, t: Told, s: &[u8], name: &[u8]) -> usize
-    requires { ⌜ (t .start ≤ length (now s)) × (t .start ≤ 4294967295) ⌝ }
+    requires { ⌜ IsPlace (now s) (t .start) ⌝ }
     ensures { λ r. ⌜ Laid false (headline colour t (now (s .entry)) (now (name .entry))) at (now (out .entry)) r (now (out .exit)) ⌝ }
 {
     let placed = put_spot(out, at, name, s, t.start);
@@ -95,7 +94,7 @@ fn put_picture_if(
     p: usize,
     q: usize,
 ) -> usize
-    requires { ⌜ (p ≤ length (now s)) × (p ≤ 4294967295) ⌝ }
+    requires { ⌜ IsPlace (now s) p ⌝ }
     ensures { λ r. ⌜ Laid false (onlyIf full (picture colour (now (s .entry)) p q)) at (now (out .entry)) r (now (out .exit)) ⌝ }
 {
     if full {
@@ -113,7 +112,7 @@ fn put_note(
     s: &[u8],
     name: &[u8],
 ) -> usize
-    requires { ⌜ (t .from ≤ length (now s)) × (t .from ≤ 4294967295) ⌝ }
+    requires { ⌜ IsPlace (now s) (t .from) ⌝ }
     ensures { λ r. ⌜ Laid false (note full colour t (now (s .entry)) (now (name .entry))) at (now (out .entry)) r (now (out .exit)) ⌝ }
 {
     if !is_told(t, NOTE) {
@@ -128,7 +127,7 @@ fn put_note(
 
 // What stands under the headline, in full.
 fn put_body_if(out: &mut [u8], at: usize, full: bool, colour: bool, t: Told, s: &[u8]) -> usize
-    requires { ⌜ (t .start ≤ length (now s)) × (t .start ≤ 4294967295) ⌝ }
+    requires { ⌜ IsPlace (now s) (t .start) ⌝ }
     ensures { λ r. ⌜ Laid false (onlyIf full (body colour t (now (s .entry)))) at (now (out .entry)) r (now (out .exit)) ⌝ }
 {
     if !full {
@@ -147,7 +146,7 @@ pub fn put_lines(
     s: &[u8],
     name: &[u8],
 ) -> usize
-    requires { ⌜ ((t .start ≤ length (now s)) × (t .start ≤ 4294967295)) × ((t .from ≤ length (now s)) × (t .from ≤ 4294967295)) ⌝ }
+    requires { ⌜ IsPlace (now s) (t .start) × IsPlace (now s) (t .from) ⌝ }
     ensures { λ r. ⌜ Laid false (lines full colour t (now (s .entry)) (now (name .entry))) at (now (out .entry)) r (now (out .exit)) ⌝ }
 {
     let headed = put_headline(out, at, colour, t, s, name);

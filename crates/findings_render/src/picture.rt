@@ -1,19 +1,18 @@
 // The line of a place with carets under it.
-use crate::Window;
-use crate::characters::part;
-use crate::characters::put_carets;
-use crate::characters::put_shown;
-use crate::characters::put_under;
-use crate::laying::put;
-use crate::numbers::put_aligned;
-use crate::places::line_number;
-use crate::places::window;
+use findings_render_parts::Window;
+use findings_render_parts::characters::part;
+use findings_render_parts::characters::put_carets;
+use findings_render_parts::characters::put_shown;
+use findings_render_parts::characters::put_under;
+use findings_render_parts::laying::put;
+use findings_render_parts::numbers::put_aligned;
+use findings_render_parts::places::line_number;
+use findings_render_parts::places::window;
 ghost use mathlib.Core.Path.{_≡_};
 ghost use mathlib.Core.Bool.{false, not};
-ghost use Prim.Native.Nat.{_≤_};
 ghost use lib.Dec.{eqb};
-ghost use lib.ListN.{length};
-ghost use Rattle.findings_render.specs.Laid.{Laid};
+ghost use Rattle.findings_render_parts.specs.Laid.{Laid};
+ghost use Rattle.findings_render_parts.specs.Spots.{IsPlace};
 ghost use Rattle.findings_render.specs.Rendered.{onlyIf, least, lineOf, underLine, picture};
 
 // A text, or nothing.
@@ -76,7 +75,7 @@ fn put_under_line(
 
 // Both, for a place.
 pub fn put_picture(out: &mut [u8], at: usize, colour: bool, s: &[u8], p: usize, q: usize) -> usize
-    requires { ⌜ (p ≤ length (now s)) × (p ≤ 4294967295) ⌝ }
+    requires { ⌜ IsPlace (now s) p ⌝ }
     ensures { λ r. ⌜ Laid false (picture colour (now (s .entry)) p q) at (now (out .entry)) r (now (out .exit)) ⌝ }
 {
     let w = window(s, p);

@@ -1,12 +1,12 @@
 // The last lines of a file.
-use crate::laying::put;
-use crate::numbers::put_number;
 use crate::picture::differ;
 use crate::picture::put_if;
-use crate::places::minus;
+use findings_render_parts::laying::put;
+use findings_render_parts::numbers::put_number;
+use findings_render_parts::places::minus;
 ghost use mathlib.Core.Path.{_≡_};
 ghost use mathlib.Core.Bool.{false};
-ghost use Rattle.findings_render.specs.Laid.{Laid, counted, over};
+ghost use Rattle.findings_render_parts.specs.Laid.{Laid, counted, over};
 ghost use Rattle.findings_render.specs.Summed.{countOf, counts, more, last, summed};
 
 // The first style that has no last lines.

@@ -1,6 +1,6 @@
 // The calls of the crate `findings_render` for programs in C and Rust: what they write and answer is what its functions do.
 ghost use mathlib.Core.Path.{_≡_};
-ghost use Rattle.findings_render.specs.Laid.{counted, over};
+ghost use Rattle.findings_render_parts.specs.Laid.{counted, over};
 ghost use Rattle.findings_render.specs.Called.{rendered};
 ghost use Rattle.findings_render.specs.Summed.{summed};
 

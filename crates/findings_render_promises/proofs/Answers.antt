@@ -2,7 +2,7 @@
 use Prim.Native.Nat.{ℕ}
 use mathlib.Core.List.{List}
 use mathlib.Core.Path.{_≡_, sym, _∙_}
-use Rattle.findings_render.specs.Laid.{counted, over}
+use Rattle.findings_render_parts.specs.Laid.{counted, over}
 
 pub one-answer-written : (bs old : List ℕ) (n m : ℕ) (out memory : List ℕ)
     → (n ≡ counted bs) × (out ≡ over bs old) → (m ≡ counted bs) × (memory ≡ over bs old) → (n ≡ m) × (out ≡ memory)

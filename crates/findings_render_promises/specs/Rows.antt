@@ -9,11 +9,11 @@ use Rattle.laws.specs.Quoted.{codes, within}
 use Rattle.laws.specs.Texts.{span, begins}
 use Rattle.chars.specs.Encode.{isScalar, utf8, width, encode, bytesOf}
 use Rattle.chars.specs.Utf8.{first, rest, front}
-use Rattle.findings_render.specs.Laid.{isMarked, letter, markedByte, marked, counted, over}
-use Rattle.findings_render.specs.Printed.{digit, digits, tensUpTo, digitCount, number, aligned, hexCount}
-use Rattle.findings_render.specs.Shown.{ranges, kindIn, walked, byItsNumber, asItsByte, shownOne, columns, isCopied, underOne, isNil, carets}
-use Rattle.findings_render.specs.Spots.{countIn, startOf, lineNumber, columnNumber, cutReturn, endOf, nextCharacter, shownFrom, shownTo, windowOf}
-use Rattle.findings_render.specs.Messages.{table, behind, pieceOf, toldOf, letterOf, variantOf, codeOf, keyOf, insertedMore, inserted, filled, textOf, isTold}
+use Rattle.findings_render_parts.specs.Laid.{isMarked, letter, markedByte, marked, counted, over}
+use Rattle.findings_render_parts.specs.Printed.{digit, digits, tensUpTo, digitCount, number, aligned, hexCount}
+use Rattle.findings_render_parts.specs.Shown.{ranges, kindIn, walked, byItsNumber, asItsByte, shownOne, columns, isCopied, underOne, isNil, carets}
+use Rattle.findings_render_parts.specs.Spots.{countIn, startOf, lineNumber, columnNumber, cutReturn, endOf, nextCharacter, shownFrom, shownTo, windowOf}
+use Rattle.findings_render_messages.specs.Messages.{table, behind, pieceOf, toldOf, letterOf, variantOf, codeOf, keyOf, insertedMore, inserted, filled, textOf, isTold}
 use Rattle.findings_render.specs.Rendered.{lineOf, underLine, picture, spot, severityWord, severity, headline, help, note, body, lines}
 use Rattle.findings_render.specs.Json.{nameOne, spotFields, byteFields, placeFields, wordFields, helpField, seeField, json}
 use Rattle.findings_render.specs.Called.{rendered}

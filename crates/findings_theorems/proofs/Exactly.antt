@@ -41,7 +41,7 @@ Data words = (n p : ℕ) → nestedOf words [] .answer ≡ Refused n p → n ≡
 
 -- ---- the first that passes a test
 
-first-passes : (f : ℕ → Bool) (n i : ℕ) → firstFrom f n i < i + n → f (firstFrom f n i) ≡ true
+pub first-passes : (f : ℕ → Bool) (n i : ℕ) → firstFrom f n i < i + n → f (firstFrom f n i) ≡ true
 unfolding firstFrom
 first-passes f zero i h = absurd (omega arith)
 first-passes f (suc n) i h = by-bool (f i)

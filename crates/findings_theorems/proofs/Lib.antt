@@ -10,8 +10,13 @@ pub mod Records
 pub mod CleanExactly
 pub mod Order
 pub mod Within
-pub mod Opened
 pub mod Spans
 pub mod Placed
 pub mod InOrder
+pub mod Places
 pub mod InText
+pub mod Characters
+pub mod Openers
+pub mod Between
+pub mod PlacesBetween
+pub mod Written

@@ -46,8 +46,8 @@ module _ (s : List ℕ) where
   -- an opening quote that nothing closes
   unclosed-span : (quote start : ℕ) → start < length s → Spanned (length s) (unclosedAt quote start (length s))
   unclosed-span quote start h =
-      if-all (λ (k : ℕ). Spans (length s) (kind.firstError + k) (range start (length s))) (eqb quote (code "\""))
-      (omega arith, omega arith, (λ q. h), (λ q. absurd (omega arith))) (omega arith, omega arith, (λ q. h), (λ q. absurd (omega arith)))
+      if-all (λ (k : ℕ). Spans (length s) start (kind.firstError + k) (range start (length s))) (eqb quote (code "\""))
+      (omega arith, omega arith, (λ q. refl), (λ q. absurd (omega arith))) (omega arith, omega arith, (λ q. refl), (λ q. absurd (omega arith)))
 
   module _ (p : Spot) (report : p .report ≡ true) (x : Item) (t : Spot) (e : nextAt s p ≡ gives x t) where
     abbrev m : Moved s p x t

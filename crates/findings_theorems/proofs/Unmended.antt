@@ -38,7 +38,7 @@ abbrev pub reported : List ℕ → List Item
 reported s = kept true (items true (chars s))
 
 -- a slip is an error
-slip-wrong : (s : List ℕ) (k at : ℕ) → slips s k at ≡ true → kind.firstError ≤ k
+pub slip-wrong : (s : List ℕ) (k at : ℕ) → slips s k at ≡ true → kind.firstError ≤ k
 unfolding slips
 slip-wrong s k at e =
     by-bool (ltb k kind.firstError)

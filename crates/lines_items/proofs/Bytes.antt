@@ -19,7 +19,7 @@ abbrev pub Starts : ℕ → Type 0
 Starts b = (b < 0x80) ⊎ (0xC0 ≤ b)
 
 -- b stands within a character
-abbrev Within : ℕ → Type 0
+abbrev pub Within : ℕ → Type 0
 Within b = (0x80 ≤ b) × (b < 0xC0)
 
 within-starts : {P : Type 0} (b : ℕ) → Within b → Starts b → P
@@ -27,7 +27,7 @@ within-starts b h (inl g) = absurd (omega arith)
 within-starts b h (inr g) = absurd (omega arith)
 
 -- the bytes of the character c
-data Spelt (c : ℕ) : List ℕ → Type 0 where
+pub data Spelt (c : ℕ) : List ℕ → Type 0 where
   low : c < 0x80 → Spelt c (c ∷ [])
   high : (x : ℕ) (u : List ℕ) → 0xC0 ≤ x → Every Within u → Spelt c (x ∷ u)
 
@@ -38,7 +38,7 @@ shaped c x u e h r = rw e (high x u h r)
 within : (y : ℕ) → Within (0x80 + y % 64)
 within y = (omega arith, omega arith)
 
-spelt : (c : ℕ) → Spelt c (utf8 c)
+pub spelt : (c : ℕ) → Spelt c (utf8 c)
 spelt c =
     by-bool (ltb c 0x80)
     (λ e. let h : c < 0x80 = ltb-true c 0x80 e in rw (utf8-one c h) (low h))

@@ -26,7 +26,7 @@ abbrev pub IsChar : ℕ → Type 0
 IsChar c = isScalar c ≡ true
 
 -- a byte that stands at a place
-stands-at : (a : ℕ) (l : List ℕ) (k : ℕ) (t : List ℕ) → drop a l ≡ k ∷ t → (a < length l) × (getD l a 0 ≡ k)
+pub stands-at : (a : ℕ) (l : List ℕ) (k : ℕ) (t : List ℕ) → drop a l ≡ k ∷ t → (a < length l) × (getD l a 0 ≡ k)
 stands-at zero [] k t e = let z : _≡_ {A = ℕ} 0 1 = cc in absurd (omega arith)
 stands-at (suc a) [] k t e = let z : _≡_ {A = ℕ} 0 1 = cc in absurd (omega arith)
 stands-at zero (b ∷ l) k t e = (omega arith, cc)
@@ -40,7 +40,7 @@ same-char x c l t g h e =
 
 module _ (M : ℕ → Type 0) where
   -- a character that stands in the bytes of characters is one of them
-  char-there : (at : ℕ) (cs : List ℕ) → Every IsChar cs → Along M at cs → (a c : ℕ) (t : List ℕ) → IsChar c → drop a (bytesOf cs) ≡ utf8 c ++ t
+  pub char-there : (at : ℕ) (cs : List ℕ) → Every IsChar cs → Along M at cs → (a c : ℕ) (t : List ℕ) → IsChar c → drop a (bytesOf cs) ≡ utf8 c ++ t
       → M (at + a) × M (at + a + width c)
   unfolding bytesOf
   char-there at [] good h a c t g e = absurd (omega (arith, ap length e, length-drop {A = ℕ} a [], length-append (utf8 c) t, width-utf8 c, wide c))
@@ -78,7 +78,7 @@ module _ (M : ℕ → Type 0) where
     whole = bytesOf cs
 
     -- a byte of ASCII
-    byte-there : (n : ℕ) → n < length whole → getD whole n 0 < 0x80 → M n × M (suc n)
+    pub byte-there : (n : ℕ) → n < length whole → getD whole n 0 < 0x80 → M n × M (suc n)
     byte-there n l g =
         let here : M (0 + n) = at-byte M 0 (0 + length whole) whole refl (at-start M 0 cs h) (at-end M 0 cs h) (placed M 0 cs h) (tidy cs) n l (inl g) in
         let next : M (0 + suc n) = past-byte M 0 (0 + length whole) whole refl (at-start M 0 cs h) (at-end M 0 cs h) (placed M 0 cs h) (tidy cs) n l g in

@@ -1,8 +1,9 @@
 -- What an outcome says of the places of its item. The range that an error sets starts and ends between two characters: at its backslash,
 -- at the place read to, or past the next character; so a law M of those places holds at both ends. Error 11 in report mode is left to
--- Failing. A here-string's third byte is ASCII, so its delimiter starts with a character. A phase keeps M of the place of its backslash, and every step of the machine keeps that.
+-- Failing. A here-string's third byte is ASCII, so its delimiter starts with a character; the second byte of a character, and of a comment that
+-- nests and is not closed, is ASCII too. A phase keeps M of the place of its backslash, and every step of the machine keeps that.
 use Prim.Native.Nat.{ℕ, _+_, _-_, _<_}
-use mathlib.Core.Path.{_≡_, refl, ap, subst}
+use mathlib.Core.Path.{_≡_, refl, sym, ap, subst}
 use mathlib.Core.Bool.{Bool, true}
 use mathlib.Core.List.{List, [], _∷_, _++_}
 use mathlib.Core.Logic.{_⊎_, inl, inr}
@@ -13,8 +14,9 @@ use native.Mathlib.Omega.{arith}
 use borrow.Author.Tests.{eqb-true}
 use Rattle.laws.specs.Quoted.{code, codes, oneOf}
 use Rattle.laws.specs.Texts.{begins, same}
-use Rattle.laws.proofs.Choice.{by-bool, if-all, if-is}
+use Rattle.laws.proofs.Choice.{if-all, if-is}
 use Rattle.chars.specs.Encode.{utf8, width, spelled, isScalar}
+use Rattle.chars.proofs.Width.{utf8-one}
 use Rattle.digits.specs.declared.Hex.{Hex}
 use Rattle.digits.specs.declared.Hex.the-variants as hex
 use Rattle.digits.specs.Hex.{hexValue}
@@ -43,52 +45,57 @@ use Rattle.items.specs.Readers.{SoFar, soFar, eat, firstIs, lastIs, linedOf, cl
 use Rattle.items.specs.Readers.{boolKind, quoteKind, formKind, orElse, hashKind, hereEnds, readItem}
 use Rattle.items.proofs.Cases.{by-next}
 use Rattle.items.proofs.Same.{item-same}
+use Rattle.error_places.proofs.Characters.{begins-is}
 use Rattle.lines_items.proofs.Along.{Along, at-start}
 
--- the third byte is there, and ASCII
-abbrev pub Third : List ℕ → Type 0
-Third raw = (2 < length raw) × (getD raw 2 0 < 0x80)
+-- the byte n is there, and ASCII
+abbrev Low : ℕ → List ℕ → Type 0
+Low n raw = (n < length raw) × (getD raw n 0 < 0x80)
 
--- `#` and `<` have one byte
+abbrev pub Second : List ℕ → Type 0
+Second raw = Low 1 raw
+
+abbrev pub Third : List ℕ → Type 0
+Third raw = Low 2 raw
+
+-- error 4 has its second byte
+abbrev pub Opened : List ℕ → ℕ → Type 0
+Opened raw n = n ≡ kind.IncompleteComment → Second raw
+
+-- `#` has one byte
 hash-width : length (utf8 (code "#")) ≡ 1
 unfolding utf8
 hash-width = refl
 
-angle-bytes : utf8 (code "<") ≡ code "<" ∷ []
-unfolding utf8
-angle-bytes = refl
+-- after `#`, what may open a comment that nests is `|`, and what may open a here-string is `<`
+abbrev Opens : ℕ → AfterHash → Type 0
+Opens c radix = Unit {0}
+Opens c opensNest = c ≡ code "|"
+Opens c datum = Unit {0}
+Opens c twice = Unit {0}
+Opens c angle = c ≡ code "<"
+Opens c value = Unit {0}
 
--- any class but that of `<`
-abbrev No : AfterHash → Type 0
-No radix = Unit {0}
-No opensNest = Unit {0}
-No datum = Unit {0}
-No twice = Unit {0}
-No angle = ⊥
-No value = Unit {0}
-
-not-angle : (k : AfterHash) → No k → k ≡ angle → ⊥
-not-angle k n e = subst No e n
-
--- after `#`, what may open a here-string is `<`
-angle-is : (c : ℕ) → afterHash c ≡ angle → c ≡ code "<"
+opens : (c : ℕ) → Opens c (afterHash c)
 unfolding afterHash
-angle-is c h =
-    by-bool (eqb c (code "<")) (λ e. eqb-true c (code "<") e)
-    (λ e. let P : AfterHash → Type 0 = λ k. k ≡ angle → ⊥ in
-    let other : (k : AfterHash) → No k → P k = not-angle in
-    absurd (if-all P (oneOf (codes "xXdDoObB") c) (other radix tt) (if-all P (eqb c (code "|")) (other opensNest tt) (if-all P (eqb c (code ";")) (other datum tt)
-    (if-all P (eqb c (code "#")) (other twice tt) (rw e (other value tt))))) h))
+opens c =
+    let P : AfterHash → Type 0 = Opens c in
+    if-all P (oneOf (codes "xXdDoObB") c) tt (if-is P (eqb c (code "|")) (λ e. eqb-true c (code "|") e) (λ _.
+    if-all P (eqb c (code ";")) tt (if-all P (eqb c (code "#")) tt (if-is P (eqb c (code "<")) (λ e. eqb-true c (code "<") e) (λ _. tt)))))
 
--- what fails at a place is a digit
+-- what begins with `#\` has its second byte
+second-begins : (raw : List ℕ) → begins (spelled "#\\") raw ≡ true → Second raw
+second-begins raw h = subst Second (sym (begins-is raw h)) (omega arith, omega arith)
+
+-- what fails at a place is a digit, and else the code
 abbrev Digit : CharValue → Type 0
 Digit (Scalar v) = Unit {0}
-Digit (Wrong n d) = Unit {0}
+Digit (Wrong n d) = n ≡ kind.InvalidHexCodePoint
 Digit (WrongAt n d p) = n ≡ kind.InvalidHexEscapeLiteral
 
 digit-fails : (h : Hex) → Digit (scalarOf h)
 unfolding scalarOf
-digit-fails (hex.Value v) = if-all Digit (isScalar v) tt tt
+digit-fails (hex.Value v) = if-all Digit (isScalar v) tt refl
 digit-fails (hex.Wrong d p) = refl
 
 module _ (M : ℕ → Type 0) (report : Bool) where
@@ -96,7 +103,7 @@ module _ (M : ℕ → Type 0) (report : Bool) where
   abbrev pub Aside : ℕ → Type 0
   Aside n = (report ≡ true) × (n ≡ kind.InvalidHexEscapeLiteral)
 
-  -- of an item with the bytes raw: M holds at both ends of the range that it sets, and a here-string has its third byte
+  -- of an item with the bytes raw: M holds at both ends of the range that it sets; a here-string has its third byte, a character its second
   abbrev pub Known : List ℕ → Outcome → Type 0
   Known raw (Token k d) = Unit {0}
   Known raw Str = Unit {0}
@@ -105,9 +112,9 @@ module _ (M : ℕ → Type 0) (report : Bool) where
   Known raw Run = Unit {0}
   Known raw Lined = Unit {0}
   Known raw Keyword = Unit {0}
-  Known raw Character = Unit {0}
-  Known raw (Error n d) = Unit {0}
-  Known raw (ErrorAt n d a b) = Aside n ⊎ (M a × M b)
+  Known raw Character = Second raw
+  Known raw (Error n d) = Opened raw n
+  Known raw (ErrorAt n d a b) = Opened raw n × (Aside n ⊎ (M a × M b))
 
   abbrev KnownKind : List ℕ → HashKind → Type 0
   KnownKind raw (Decided o) = Known raw o
@@ -130,9 +137,9 @@ module _ (M : ℕ → Type 0) (report : Bool) where
   Keeps raw ph.HashEscape = Unit {0}
   Keeps raw ph.HashTick = Unit {0}
   Keeps raw ph.HashComma = Unit {0}
-  Keeps raw (ph.Nest d) = Unit {0}
-  Keeps raw (ph.NestBar d) = Unit {0}
-  Keeps raw (ph.NestSharp d) = Unit {0}
+  Keeps raw (ph.Nest d) = Second raw
+  Keeps raw (ph.NestBar d) = Second raw
+  Keeps raw (ph.NestSharp d) = Second raw
   Keeps raw (ph.Quoted k) = Unit {0}
   Keeps raw (ph.Closed k) = Unit {0}
   Keeps raw (ph.TrimBefore k) = Unit {0}
@@ -152,20 +159,21 @@ module _ (M : ℕ → Type 0) (report : Bool) where
   known-lined : (raw : List ℕ) → Known raw (linedOf raw)
   unfolding linedOf
   known-lined raw =
-      if-all (Known raw) (leb (length raw) 1) tt
-      (if-all (Known raw) (firstIs (code "+") raw) tt (if-all (Known raw) (firstIs (code "|") raw) (if-all (Known raw) (lastIs (code "|") raw) tt tt) tt))
+      let other : Known raw (Error kind.IncompleteIdentifier 0) = λ e. absurd (omega arith) in
+      if-all (Known raw) (leb (length raw) 1) other
+      (if-all (Known raw) (firstIs (code "+") raw) tt (if-all (Known raw) (firstIs (code "|") raw) (if-all (Known raw) (lastIs (code "|") raw) tt other) other))
 
   known-closed : (k : Quotes) (raw : List ℕ) → Known raw (closed k raw)
   known-closed Double raw = tt
   known-closed Lines raw = known-lined raw
 
   known-unclosed : (k : Quotes) (raw : List ℕ) → Known raw (unclosed k raw)
-  known-unclosed Double raw = tt
+  known-unclosed Double raw = λ e. absurd (omega arith)
   known-unclosed Lines raw = known-lined raw
 
   known-cut : (k : Quotes) (raw : List ℕ) → Known raw (cut k)
-  known-cut Double raw = tt
-  known-cut Lines raw = tt
+  known-cut Double raw = λ e. absurd (omega arith)
+  known-cut Lines raw = λ e. absurd (omega arith)
 
   known-bool : (raw : List ℕ) → KnownKind raw (boolKind raw)
   unfolding boolKind
@@ -183,8 +191,9 @@ module _ (M : ℕ → Type 0) (report : Bool) where
   unfolding formKind
   known-form raw =
       if-all (KnownKind raw) (begins (spelled "#:") raw) tt
-      (if-all (KnownKind raw) (begins (spelled "#\\") raw) (if-all (KnownKind raw) (leb (length raw) 2) tt tt)
-      (if-all (KnownKind raw) (same raw (spelled "#")) tt (if-all (KnownKind raw) (same raw (spelled "#u8")) tt tt)))
+      (if-is (KnownKind raw) (begins (spelled "#\\") raw)
+      (λ b. if-all (KnownKind raw) (leb (length raw) 2) (λ e. absurd (omega arith)) (second-begins raw b))
+      (λ b. if-all (KnownKind raw) (same raw (spelled "#")) tt (if-all (KnownKind raw) (same raw (spelled "#u8")) tt tt)))
 
   known-else : (raw : List ℕ) (j k : HashKind) → KnownKind raw j → KnownKind raw k → KnownKind raw (orElse j k)
   known-else raw (Decided o) k p q = p
@@ -208,20 +217,30 @@ module _ (M : ℕ → Type 0) (report : Bool) where
     abbrev Goes : Next → Type 0
     Goes = Next-of i c
 
-    goes-nest : (k : InNest) (d : ℕ) → Goes (onNest k d)
-    goes-nest bar d = tt
-    goes-nest sharp d = tt
-    goes-nest inside d = tt
+    -- a byte of the item stays, and one of ASCII comes to it
+    stays-low : {n : ℕ} → Low n (i .bytes) → Low n (eat i c .bytes)
+    stays-low {n} h = (omega (arith, h .0, length-append (i .bytes) (utf8 c)), rw (List·getD-append (i .bytes) (utf8 c) 0 n (h .0)) (h .1))
 
-    goes-bar : (k : InNest) (d : ℕ) → Goes (onBar k d)
-    goes-bar bar d = tt
-    goes-bar sharp d = if-all Goes (leb d 1) tt tt
-    goes-bar inside d = tt
+    comes-low : {n : ℕ} → c < 0x80 → length (i .bytes) ≡ n → Low n (eat i c .bytes)
+    comes-low {n} l h =
+        let u : eat i c .bytes ≡ i .bytes ++ (c ∷ []) = ap (λ (b : List ℕ). i .bytes ++ b) (utf8-one c l) in
+        let last : n ≡ length (i .bytes) + 0 = omega (arith, h) in
+        rw u (omega (arith, h, length-append (i .bytes) (c ∷ [])), rw last (rw (getD-append-add (i .bytes) (c ∷ []) 0 0) l))
 
-    goes-sharp : (k : InNest) (d : ℕ) → Goes (onSharp k d)
-    goes-sharp bar d = tt
-    goes-sharp sharp d = tt
-    goes-sharp inside d = tt
+    goes-nest : (k : InNest) (d : ℕ) → Second (i .bytes) → Goes (onNest k d)
+    goes-nest bar d h = stays-low h
+    goes-nest sharp d h = stays-low h
+    goes-nest inside d h = stays-low h
+
+    goes-bar : (k : InNest) (d : ℕ) → Second (i .bytes) → Goes (onBar k d)
+    goes-bar bar d h = stays-low h
+    goes-bar sharp d h = if-all Goes (leb d 1) tt (stays-low h)
+    goes-bar inside d h = stays-low h
+
+    goes-sharp : (k : InNest) (d : ℕ) → Second (i .bytes) → Goes (onSharp k d)
+    goes-sharp bar d h = stays-low h
+    goes-sharp sharp d h = stays-low h
+    goes-sharp inside d h = stays-low h
 
     -- a backslash stands at the place read to
     goes-quoted : (k : InQuotes) (q : Quotes) → Goes (onQuoted k q i c)
@@ -235,34 +254,34 @@ module _ (M : ℕ → Type 0) (report : Bool) where
     goes-escape hexU q from h = h
     goes-escape blank q from h = tt
     goes-escape newline q from h = tt
-    goes-escape invalid q from h = inr (h, past)
+    goes-escape invalid q from h = ((λ e. absurd (omega arith)), inr (h, past))
 
     -- in report mode it is aside, in plain mode it sets the whole escape
     known-failing : (raw : List ℕ) (n d from to at : ℕ) (rest : List ℕ) → n ≡ kind.InvalidHexEscapeLiteral → M from → M to
         → Known raw (failing report n d from to at rest)
-    known-failing raw n d from to at rest e h g = if-is (Known raw) report (λ r. inl (r, e)) (λ r. inr (h, g))
+    known-failing raw n d from to at rest e h g = if-is (Known raw) report (λ r. ((λ f. absurd (omega arith)), inl (r, e))) (λ r. ((λ f. absurd (omega arith)), inr (h, g)))
 
     goes-brace : (k : InHex) (q : Quotes) (from : ℕ) → M from → Goes (onBrace report k q from i c)
     goes-brace closes q from h = known-failing (eat i c .bytes) _ _ from _ (i .at) [] refl h past
-    goes-brace stops q from h = inr (h, here)
+    goes-brace stops q from h = ((λ e. absurd (omega arith)), inr (h, here))
     goes-brace digit q from h = h
 
     goes-close : (v : CharValue) → Digit v → (q : Quotes) (from m : ℕ) → M from → Goes (closeHex report v q from m (eat i c .at) i)
     goes-close (Scalar x) f q from m h = tt
-    goes-close (Wrong n d) f q from m h = inr (h, past)
+    goes-close (Wrong n d) f q from m h = ((λ e. absurd (omega arith)), inr (h, past))
     goes-close (WrongAt n d p) f q from m h =
         let rest : List ℕ = drop p (drop m (i .bytes)) in known-failing (eat i c .bytes) n d from _ (i .at - length rest) rest f h past
 
     goes-hex : (k : InHex) (q : Quotes) (closer from m : ℕ) → M from → Goes (onHex report k q closer from m i c)
     goes-hex closes q closer from m h =
         goes-close (scalarOf (hexValue (drop m (i .bytes)))) (digit-fails (hexValue (drop m (i .bytes)))) q from m h
-    goes-hex stops q closer from m h = inr (h, here)
+    goes-hex stops q closer from m h = ((λ e. absurd (omega arith)), inr (h, here))
     goes-hex digit q closer from m h = h
 
     goes-before : (k : InTrim) (q : Quotes) → Goes (onTrimBefore k q i c)
     goes-before space q = tt
     goes-before line q = tt
-    goes-before solid q = inr (here, past)
+    goes-before solid q = ((λ e. absurd (omega arith)), inr (here, past))
 
     goes-trim : (k : InTrim) (q : Quotes) → Goes (onTrimAfter k q i c)
     goes-trim space q = tt
@@ -294,38 +313,28 @@ module _ (M : ℕ → Type 0) (report : Bool) where
     goes-hash stopsHash = goes-then (hashKind (i .bytes)) (known-kind (i .bytes))
     goes-hash staysHash = tt
 
-    goes-after : (k : AfterHash) → afterHash c ≡ k → length (i .bytes) ≡ 1 → Goes (onAfterHash k (i .bytes) c)
+    goes-after : (k : AfterHash) → Opens c k → length (i .bytes) ≡ 1 → Goes (onAfterHash k (i .bytes) c)
     goes-after radix e h = tt
-    goes-after opensNest e h = tt
+    goes-after opensNest e h = comes-low (omega arith) h
     goes-after datum e h = tt
-    goes-after twice e h = tt
-    goes-after angle e h = rw (angle-is c e) (omega (arith, h, length-append (i .bytes) (utf8 (code "<")), ap length angle-bytes))
+    goes-after twice e h = λ f. absurd (omega arith)
+    goes-after angle e h = omega (arith, h, length-append (i .bytes) (utf8 c), ap length (utf8-one c (omega arith)))
     goes-after value e h = goes-hash (inHash c)
 
-    -- the third byte stays
-    third-stays : Third (i .bytes) → Third (eat i c .bytes)
-    third-stays h = (omega (arith, h .0, length-append (i .bytes) (utf8 c)), rw (List·getD-append (i .bytes) (utf8 c) 0 2 (h .0)) (h .1))
-
-    third-comes : c ≡ code "<" → length (i .bytes) ≡ 2 → Third (eat i c .bytes)
-    third-comes e h =
-        let u : eat i c .bytes ≡ i .bytes ++ (code "<" ∷ []) = rw (e, angle-bytes) in
-        let two : 2 ≡ length (i .bytes) + 0 = omega (arith, h) in
-        rw u (omega (arith, h, length-append (i .bytes) (code "<" ∷ [])), rw two (rw (getD-append-add (i .bytes) (code "<" ∷ []) 0 0) (omega arith)))
-
     goes-delim : (k : InDelim) → Third (i .bytes) → Goes (onDelim k c)
-    goes-delim endsDelim h = third-stays h
-    goes-delim returns h = third-stays h
-    goes-delim blankDelim h = tt
-    goes-delim ofDelim h = third-stays h
+    goes-delim endsDelim h = stays-low h
+    goes-delim returns h = stays-low h
+    goes-delim blankDelim h = λ e. absurd (omega arith)
+    goes-delim ofDelim h = stays-low h
 
     goes-on : (p : Phase) → Keeps (i .bytes) p → Goes (stepOf report p i c)
     goes-on ph.InLine h = if-all Goes (eqb c (code "\n")) tt tt
     goes-on ph.AfterComma h = if-all Goes (eqb c (code "@")) tt tt
-    goes-on ph.AfterHash h = goes-after (afterHash c) refl h
-    goes-on ph.AfterAngle h = if-is Goes (eqb c (code "<")) (λ e. third-comes (eqb-true c (code "<") e) h) (λ e. goes-enter)
+    goes-on ph.AfterHash h = goes-after (afterHash c) (opens c) h
+    goes-on ph.AfterAngle h = if-is Goes (eqb c (code "<")) (λ e. comes-low (omega (arith, eqb-true c (code "<") e)) h) (λ e. goes-enter)
     goes-on ph.HereDelim h = goes-delim (inDelim c) h
-    goes-on ph.HereStart h = third-stays h
-    goes-on ph.HereBody h = if-all Goes (hereEnds (i .bytes)) h (third-stays h)
+    goes-on ph.HereStart h = stays-low h
+    goes-on ph.HereBody h = if-all Goes (hereEnds (i .bytes)) h (stays-low h)
     goes-on ph.InWord h = goes-word (inWord c)
     goes-on ph.WordEscape h = tt
     goes-on ph.InRun h = goes-run (inRun report (i .bytes) c)
@@ -333,9 +342,9 @@ module _ (M : ℕ → Type 0) (report : Bool) where
     goes-on ph.HashEscape h = tt
     goes-on ph.HashTick h = goes-then (hashKind (i .bytes)) (known-kind (i .bytes))
     goes-on ph.HashComma h = if-all Goes (eqb c (code "@")) tt (goes-then (hashKind (i .bytes)) (known-kind (i .bytes)))
-    goes-on (ph.Nest d) h = goes-nest (inNest c) d
-    goes-on (ph.NestBar d) h = goes-bar (inNest c) d
-    goes-on (ph.NestSharp d) h = goes-sharp (inNest c) d
+    goes-on (ph.Nest d) h = goes-nest (inNest c) d h
+    goes-on (ph.NestBar d) h = goes-bar (inNest c) d h
+    goes-on (ph.NestSharp d) h = goes-sharp (inNest c) d h
     goes-on (ph.Quoted k) h = goes-quoted (inQuotes k c) k
     goes-on (ph.Closed k) h = known-closed k (i .bytes)
     goes-on (ph.TrimBefore k) h = goes-before (inTrim c) k
@@ -352,9 +361,9 @@ module _ (M : ℕ → Type 0) (report : Bool) where
   known-finish raw ph.AfterComma h = tt
   known-finish raw ph.AfterHash h = known-last raw (hashKind raw) (known-kind raw)
   known-finish raw ph.AfterAngle h = tt
-  known-finish raw ph.HereDelim h = tt
-  known-finish raw ph.HereStart h = tt
-  known-finish raw ph.HereBody h = if-all (Known raw) (hereEnds raw) h tt
+  known-finish raw ph.HereDelim h = λ e. absurd (omega arith)
+  known-finish raw ph.HereStart h = λ e. absurd (omega arith)
+  known-finish raw ph.HereBody h = if-all (Known raw) (hereEnds raw) h (λ e. absurd (omega arith))
   known-finish raw ph.InWord h = tt
   known-finish raw ph.WordEscape h = tt
   known-finish raw ph.InRun h = tt
@@ -362,9 +371,9 @@ module _ (M : ℕ → Type 0) (report : Bool) where
   known-finish raw ph.HashEscape h = known-last raw (hashKind raw) (known-kind raw)
   known-finish raw ph.HashTick h = known-last raw (hashKind raw) (known-kind raw)
   known-finish raw ph.HashComma h = known-last raw (hashKind raw) (known-kind raw)
-  known-finish raw (ph.Nest d) h = tt
-  known-finish raw (ph.NestBar d) h = tt
-  known-finish raw (ph.NestSharp d) h = tt
+  known-finish raw (ph.Nest d) h = λ _. h
+  known-finish raw (ph.NestBar d) h = λ _. h
+  known-finish raw (ph.NestSharp d) h = λ _. h
   known-finish raw (ph.Quoted k) h = known-unclosed k raw
   known-finish raw (ph.Closed k) h = known-closed k raw
   known-finish raw (ph.TrimBefore k) h = known-cut k raw

@@ -14,11 +14,10 @@ use native.Mathlib.Omega.{arith}
 use native.Mathlib.Nat.{le-refl}
 use borrow.Author.Tests.{eqb-true}
 use Rattle.laws.specs.Quoted.{code}
-use Rattle.laws.proofs.Choice.{by-bool, if-all, if-is}
+use Rattle.laws.proofs.Choice.{by-bool, no-yes, yes-no, if-all, if-is}
 use Rattle.chars.specs.Utf8.{chars}
 use Rattle.chars.specs.Encode.{width, bytesOf}
 use Rattle.chars.specs.Blank.{isBlank}
-use Rattle.chars.proofs.Good.{Scalars, good-scalars}
 use Rattle.items.specs.declared.Outcome.{Outcome}
 use Rattle.items.specs.declared.Outcome.the-variants.{Token, Str, HereStr, Word, Run, Lined, Keyword, Character, Error, ErrorAt}
 use Rattle.items.specs.declared.CharValue.{CharValue}
@@ -34,10 +33,12 @@ use Rattle.items.proofs.Outcomes.{read-fine}
 use Rattle.items.proofs.Own.{Fails, character-fails, delimiter-small}
 use Rattle.items.proofs.Skipped.{kept-every}
 use Rattle.items.proofs.Splits.{read-splits, read-at}
+use Rattle.coverage.proofs.Located.{itemsThere}
 use Rattle.error_places.specs.Failing.{Pointed}
 use Rattle.error_places.specs.Delimited.{Delimited}
 use Rattle.error_places.proofs.Names.{delimited-there}
-use Rattle.error_places.proofs.Places.{points-at-what-fails}
+use Rattle.error_places.proofs.Rows.{every-scalar}
+use Rattle.error_places.proofs.Places.{extent-points, points-at-what-fails}
 use Rattle.lines.specs.Place.{isIndex, locateOf}
 use Rattle.lines.specs.Place.{At}
 use Rattle.lines.proofs.Between.{answered-between}
@@ -45,7 +46,7 @@ use Rattle.lines.proofs.Index.{index-is}
 use Rattle.lines_items.proofs.Along.{Along, along, at-start, read-along}
 use Rattle.lines_items.proofs.Bytes.{Placed, Tidy, placed, tidy, placed-take, tidy-take}
 use Rattle.lines_items.proofs.First.{first-byte}
-use Rattle.lines_items.proofs.Outcomes.{Known, read-known}
+use Rattle.lines_items.proofs.Outcomes.{Aside, Known, read-known}
 use Rattle.lines_items.proofs.Failing.{IsChar, fails-marked}
 use Rattle.lines_items.proofs.Texts.{InSource, at-byte, past-byte, meaning-texts}
 
@@ -125,8 +126,11 @@ module _ (M : ℕ → Type 0) (report : Bool) where
         (λ r. inr (starts, ends))
 
     error-sets : (n d a b : ℕ) → Known M report (i .bytes) (ErrorAt n d a b) → Sets (meaningOf report (ErrorAt n d a b) s (i .at) (i .bytes)) (range a b)
-    error-sets n d a b (inl h) = inl (h .0, (ap (λ (k : ℕ). kind.firstError + k) (h .1), tt))
-    error-sets n d a b (inr h) = inr h
+    error-sets n d a b h = go (h .1)
+      where
+        go : Aside M report n ⊎ Ranged (range a b) → Sets (meaningOf report (ErrorAt n d a b) s (i .at) (i .bytes)) (range a b)
+        go (inl k) = inl (k .0, (ap (λ (k : ℕ). kind.firstError + k) (k .1), tt))
+        go (inr k) = inr k
 
     -- the range that stands after an item: one set before, its extent, or its own
     after-sets : (o : Outcome) → Known M report (i .bytes) o → Sets (meaningOf report o s (i .at) (i .bytes)) (rangeAfter report last s o i)
@@ -238,7 +242,7 @@ module _ (M : ℕ → Type 0) (report : Bool) where
       (λ e. rw (e, items) (half-at (h .0) 0 (c ∷ cs) h))
 
 -- two facts of every item make one
-every-both : (P Q R : Item → Type 0) → ((i : Item) → P i → Q i → R i) → (is : List Item) → Every P is → Every Q is → Every R is
+pub every-both : (P Q R : Item → Type 0) → ((i : Item) → P i → Q i → R i) → (is : List Item) → Every P is → Every Q is → Every R is
 every-both P Q R f [] h g = tt
 every-both P Q R f (i ∷ is) h g = (f i (h .0) (g .0), every-both P Q R f is (h .1) (g .1))
 
@@ -254,15 +258,24 @@ module _ (M : ℕ → Type 0) where
       go (inl k) = with (f (k .0) (k .1))
       go (inr r) = with r
 
-  -- a law of the places between the characters of a text holds at every place of its items
+  module _ (cs : List ℕ) (good : Every IsChar cs) (h : Along M 0 cs) where
+    pointed-marked : (i : Item) → Half M true i → Pointed (bytesOf cs) i → Marked M i
+    pointed-marked i k p = filled true i (λ _ e. fails-marked M cs good h (i .place .from) (i .place .to) (i .detail) (p e)) k
+
+    -- a law of the places between the characters of a text holds at every place of an extent's items in report mode, wherever it starts
+    pub extent-marked : (last : Place) (at c : ℕ) (ds : List ℕ) → Along M at (c ∷ ds) → drop at (bytesOf cs) ≡ bytesOf (c ∷ ds) → Every IsChar (c ∷ ds)
+        → Every (Marked M) (itemsThere true last at c ds)
+    extent-marked last at c ds along stands chars =
+        every-both (Half M true) (Pointed (bytesOf cs)) (Marked M) pointed-marked (itemsThere true last at c ds)
+        (item-half M true (at-start M 0 cs h) last (λ z. yes-no z) at c ds along) (extent-points (bytesOf cs) last at c ds stands chars)
+
+  -- and of all its items
   pub marked : (report : Bool) (cs : List ℕ) → Every IsChar cs → Along M 0 cs → Every (Marked M) (items report cs)
   marked false cs good h =
       every-then (Half M false) (Marked M)
-      (λ i k. filled false i (λ z. let n : _≡_ {A = ℕ} 0 1 = cc in absurd (omega arith)) k) (items false cs) (halves M false cs h)
+      (λ i k. filled false i (λ z. no-yes z) k) (items false cs) (halves M false cs h)
   marked true cs good h =
-      every-both (Half M true) (Pointed (bytesOf cs)) (Marked M)
-      (λ i k p. filled true i (λ _ e. fails-marked M cs good h (i .place .from) (i .place .to) (i .detail) (p e)) k)
-      (items true cs) (halves M true cs h) (points-at-what-fails cs good)
+      every-both (Half M true) (Pointed (bytesOf cs)) (Marked M) (pointed-marked cs good h) (items true cs) (halves M true cs h) (points-at-what-fails cs good)
 
 -- ---- the question
 
@@ -272,14 +285,10 @@ Answered s index p = (line : ℕ) × (col : ℕ) × (locateOf s index p ≡ At l
 answered-along : (s index : List ℕ) → isIndex s index ≡ true → Along (Answered s index) 0 (chars s)
 answered-along s index e = along (Answered s index) 0 (chars s) (λ k. answered-between s index _ e (k, omega arith))
 
-every-scalar : (cs : List ℕ) → Scalars cs → Every IsChar cs
-every-scalar [] h = tt
-every-scalar (c ∷ cs) h = (h .0, every-scalar cs (h .1))
-
 -- of every item of a text, in both modes
 pub items-answered : (report : Bool) (s index : List ℕ) → isIndex s index ≡ true → Every (Marked (Answered s index)) (items report (chars s))
 items-answered report s index e =
-    marked (Answered s index) report (chars s) (every-scalar (chars s) (good-scalars s (index-is s index e .1))) (answered-along s index e)
+    marked (Answered s index) report (chars s) (every-scalar s (index-is s index e .1)) (answered-along s index e)
 
 -- of every record that a whole-text call gives, comments kept or skipped
 pub record-answered : (s index : List ℕ) (mode : ℕ) (skip : Bool) → isIndex s index ≡ true → Every (Marked (Answered s index)) (itemsIn s mode skip)

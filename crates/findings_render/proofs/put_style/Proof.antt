@@ -1,6 +1,6 @@
 -- By the style.
 use borrow.Author.Tests.{eq-eqb, ne-eqb}
-use Rattle.findings_render.proofs.OneByOne.{nothing}
+use Rattle.findings_render_parts.proofs.OneByOne.{nothing}
 use borrow.Author.Needs.{needs}
 use Rattle.findings_render.proofs.put_style.Statement.{statement}
 use Rattle.findings_render.proofs.put_style.Tie as tie

@@ -1,5 +1,5 @@
 -- Word by word.
-use Rattle.findings_render.specs.Messages.{toldOf}
+use Rattle.findings_render_messages.specs.Messages.{toldOf}
 use Rattle.findings_render.proofs.read_words.Statement.{statement}
 use Rattle.findings_render.proofs.read_words.Tie as tie
 
@@ -60,9 +60,9 @@ returns c =
         after-word2 .word2 .ensures,
         after-word .word .ensures,
       ),
-      (after-within .within .ensures .1, after-within .within .ensures .2),
-      (after-within2 .within2 .ensures .1, after-within2 .within2 .ensures .2),
-      (c .before .before .within3 .ensures .1, c .before .before .within3 .ensures .2),
+      after-within .within .ensures .1,
+      after-within2 .within2 .ensures .1,
+      c .before .before .within3 .ensures .1,
     )
 
 pub read-words-spec : {M : Type 1} → statement M

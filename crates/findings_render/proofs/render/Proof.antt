@@ -3,10 +3,10 @@ use mathlib.Core.Path.{sym, _∙_}
 use native.Mathlib.Omega.{arith}
 use Prim.Native.Nat.{_≤_}
 use lib.ListN.{length}
-use Rattle.findings_render.specs.Laid.{top}
+use Rattle.findings_render_parts.specs.Laid.{top}
 use borrow.Author.Tests.{not-true, not-false}
 use Rattle.findings_render.specs.Called.{rendered}
-use Rattle.findings_render.proofs.OneByOne.{nothing, whole}
+use Rattle.findings_render_parts.proofs.OneByOne.{nothing, whole}
 use borrow.Author.Needs.{needs}
 use Rattle.findings_render.proofs.render.Statement.{statement}
 use Rattle.findings_render.proofs.render.Tie as tie

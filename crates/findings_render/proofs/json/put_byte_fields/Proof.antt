@@ -1,6 +1,6 @@
 -- One after the other.
 use Rattle.findings_render.specs.Json.{byteFields}
-use Rattle.findings_render.proofs.OneByOne.{joined}
+use Rattle.findings_render_parts.proofs.OneByOne.{joined}
 use borrow.Author.Needs.{needs}
 use Rattle.findings_render.proofs.json.put_byte_fields.Statement.{statement}
 use Rattle.findings_render.proofs.json.put_byte_fields.Tie as tie

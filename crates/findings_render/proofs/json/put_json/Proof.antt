@@ -1,7 +1,7 @@
 -- One after the other.
 use mathlib.Core.Path.{_∙_}
 use Rattle.findings_render.specs.Json.{json}
-use Rattle.findings_render.proofs.OneByOne.{joined}
+use Rattle.findings_render_parts.proofs.OneByOne.{joined}
 use borrow.Author.Needs.{needs}
 use Rattle.findings_render.proofs.json.put_json.Statement.{statement}
 use Rattle.findings_render.proofs.json.put_json.Tie as tie

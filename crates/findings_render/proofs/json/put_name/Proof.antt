@@ -5,8 +5,8 @@ use native.Mathlib.Omega.{arith}
 use lib.ListN.{length, drop}
 use Rattle.laws.proofs.Lent.{part-rest}
 use Rattle.findings_render.specs.Json.{nameOne, nameString}
-use Rattle.findings_render.proofs.OneByOne.{Left, left-start, left-on, left-end}
-use Rattle.findings_render.proofs.Walks.{walked-on, walked-end}
+use Rattle.findings_render_parts.proofs.OneByOne.{Left, left-start, left-on, left-end}
+use Rattle.findings_render_parts.proofs.Walks.{walked-on, walked-end}
 use borrow.Author.Needs.{needs}
 use Rattle.findings_render.proofs.json.put_name.Statement.{statement}
 use Rattle.findings_render.proofs.json.put_name.Tie as tie

@@ -3,7 +3,7 @@ use mathlib.Core.Path.{_∙_}
 use native.Mathlib.Nat.{sub-zero}
 use borrow.Author.Tests.{eq-eqb, ne-eqb, lt-ltb, le-ltb}
 use Rattle.findings_render.specs.Json.{nameOne}
-use Rattle.findings_render.proofs.OneByOne.{joined, as-laid, as-quoted}
+use Rattle.findings_render_parts.proofs.OneByOne.{joined, as-laid, as-quoted}
 use borrow.Author.Needs.{needs}
 use Rattle.findings_render.proofs.json.put_name_one.Statement.{statement}
 use Rattle.findings_render.proofs.json.put_name_one.Tie as tie

@@ -2,7 +2,7 @@
 use mathlib.Core.Path.{sym, _∙_}
 use borrow.Author.Tests.{not-true, not-false}
 use Rattle.findings_render.specs.Json.{seeField}
-use Rattle.findings_render.proofs.OneByOne.{joined, as-quoted}
+use Rattle.findings_render_parts.proofs.OneByOne.{joined, as-quoted}
 use borrow.Author.Needs.{needs}
 use Rattle.findings_render.proofs.json.put_see_field.Statement.{statement}
 use Rattle.findings_render.proofs.json.put_see_field.Tie as tie

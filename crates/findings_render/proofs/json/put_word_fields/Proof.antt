@@ -1,7 +1,7 @@
 -- One after the other.
 use mathlib.Core.Path.{_∙_}
 use Rattle.findings_render.specs.Json.{wordFields}
-use Rattle.findings_render.proofs.OneByOne.{joined, as-quoted}
+use Rattle.findings_render_parts.proofs.OneByOne.{joined, as-quoted}
 use borrow.Author.Needs.{needs}
 use Rattle.findings_render.proofs.json.put_word_fields.Statement.{statement}
 use Rattle.findings_render.proofs.json.put_word_fields.Tie as tie

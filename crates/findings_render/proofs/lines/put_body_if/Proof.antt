@@ -1,7 +1,7 @@
 -- By the test.
 use borrow.Author.Tests.{not-true, not-false}
 use Rattle.findings_render.specs.Rendered.{body}
-use Rattle.findings_render.proofs.OneByOne.{nothing, joined}
+use Rattle.findings_render_parts.proofs.OneByOne.{nothing, joined}
 use borrow.Author.Needs.{needs}
 use Rattle.findings_render.proofs.lines.put_body_if.Statement.{statement}
 use Rattle.findings_render.proofs.lines.put_body_if.Tie as tie

@@ -1,5 +1,5 @@
 -- By the test.
-use Rattle.findings_render.proofs.OneByOne.{nothing}
+use Rattle.findings_render_parts.proofs.OneByOne.{nothing}
 use borrow.Author.Needs.{needs}
 use Rattle.findings_render.proofs.lines.put_picture_if.Statement.{statement}
 use Rattle.findings_render.proofs.lines.put_picture_if.Tie as tie

@@ -1,8 +1,8 @@
 use mathlib.Core.Path.{ap, _∙_}
 -- One after the other.
-use Rattle.findings_render.specs.Shown.{shown}
+use Rattle.findings_render_parts.specs.Shown.{shown}
 use Rattle.findings_render.specs.Rendered.{lineOf}
-use Rattle.findings_render.proofs.OneByOne.{joined, as-laid}
+use Rattle.findings_render_parts.proofs.OneByOne.{joined, as-laid}
 use borrow.Author.Needs.{needs}
 use Rattle.findings_render.proofs.picture.put_line.Statement.{statement}
 use Rattle.findings_render.proofs.picture.put_line.Tie as tie

@@ -1,8 +1,8 @@
 -- One after the other.
 use mathlib.Core.Path.{ap, _∙_}
-use Rattle.findings_render.specs.Shown.{under, carets}
+use Rattle.findings_render_parts.specs.Shown.{under, carets}
 use Rattle.findings_render.specs.Rendered.{underLine}
-use Rattle.findings_render.proofs.OneByOne.{joined, as-laid}
+use Rattle.findings_render_parts.proofs.OneByOne.{joined, as-laid}
 use borrow.Author.Needs.{needs}
 use Rattle.findings_render.proofs.picture.put_under_line.Statement.{statement}
 use Rattle.findings_render.proofs.picture.put_under_line.Tie as tie

@@ -1,6 +1,6 @@
 -- One after the other.
 use Rattle.findings_render.specs.Summed.{countOf}
-use Rattle.findings_render.proofs.OneByOne.{joined}
+use Rattle.findings_render_parts.proofs.OneByOne.{joined}
 use borrow.Author.Needs.{needs}
 use Rattle.findings_render.proofs.summing.put_count.Statement.{statement}
 use Rattle.findings_render.proofs.summing.put_count.Tie as tie

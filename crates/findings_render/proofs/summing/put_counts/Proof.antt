@@ -1,7 +1,7 @@
 -- By the test.
 use borrow.Author.Tests.{eq-eqb, ne-eqb}
 use Rattle.findings_render.specs.Summed.{counts}
-use Rattle.findings_render.proofs.OneByOne.{joined}
+use Rattle.findings_render_parts.proofs.OneByOne.{joined}
 use borrow.Author.Needs.{needs}
 use Rattle.findings_render.proofs.summing.put_counts.Statement.{statement}
 use Rattle.findings_render.proofs.summing.put_counts.Tie as tie

@@ -1,7 +1,7 @@
 -- By the test.
 use borrow.Author.Tests.{lt-ltb, le-ltb}
 use Rattle.findings_render.specs.Summed.{more}
-use Rattle.findings_render.proofs.OneByOne.{nothing, joined}
+use Rattle.findings_render_parts.proofs.OneByOne.{nothing, joined}
 use borrow.Author.Needs.{needs}
 use Rattle.findings_render.proofs.summing.put_more.Statement.{statement}
 use Rattle.findings_render.proofs.summing.put_more.Tie as tie

@@ -2,7 +2,7 @@
 use native.Mathlib.Omega.{arith}
 use borrow.Author.Tests.{lt-ltb, le-ltb}
 use Rattle.findings_render.specs.Summed.{summed}
-use Rattle.findings_render.proofs.OneByOne.{nothing, joined, whole}
+use Rattle.findings_render_parts.proofs.OneByOne.{nothing, joined, whole}
 use borrow.Author.Needs.{needs}
 use Rattle.findings_render.proofs.summing.summary.Statement.{statement}
 use Rattle.findings_render.proofs.summing.summary.Tie as tie

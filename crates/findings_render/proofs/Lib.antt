@@ -1,6 +1,0 @@
-pub mod OneByOne
-pub mod Tables
-pub mod Digits
-pub mod Walks
-pub mod Spotted
-pub mod Worded

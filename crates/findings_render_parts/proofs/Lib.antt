@@ -1,0 +1,5 @@
+pub mod OneByOne
+pub mod Tables
+pub mod Digits
+pub mod Walks
+pub mod Spotted

@@ -1,0 +1,4 @@
+pub mod Laid
+pub mod Printed
+pub mod Shown
+pub mod Spots

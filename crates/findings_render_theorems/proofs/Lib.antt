@@ -1,0 +1,4 @@
+pub mod Counts
+pub mod Lines
+pub mod Columns
+pub mod Same
