@@ -46,14 +46,37 @@ static void tell_sum(const void *from, size_t bytes)
     tell(&sum, sizeof sum);
 }
 
+static void tell_size(size_t answer)
+{
+    tell(&answer, sizeof answer);
+}
+
+/* The way through the nodes of nested lists, and from each record to the bracket that it lies in. */
+static void walk(size_t items, size_t nodes)
+{
+    const uint32_t *from = (const uint32_t *)records;
+    tell_size(mihadrena_records_fit(from, items * MIHADRENA_RECORD_WORDS, length, length));
+    tell_size(mihadrena_records_fit(from, items * MIHADRENA_RECORD_WORDS, length / 2, 0));
+    for (size_t i = 0; i <= items; i++) {
+        tell_size(mihadrena_opener(from, items * MIHADRENA_RECORD_WORDS, i));
+    }
+    for (size_t i = 0; i <= nodes; i++) {
+        size_t child = mihadrena_first_child(words, nodes * MIHADRENA_NODE_WORDS, i);
+        tell_size(child);
+        tell_size(mihadrena_next_sibling(words, nodes * MIHADRENA_NODE_WORDS, i, child));
+    }
+}
+
 /* What is made of the records of a text that was read: nested lists, a text, an item file and the records of that. */
 static void use_records(size_t items)
 {
     const uint32_t *from = (const uint32_t *)records;
     size_t from_length = items * MIHADRENA_RECORD_WORDS;
     fill(words, items * sizeof(mihadrena_node));
-    tell_answer(mihadrena_nest(from, from_length, words, items * MIHADRENA_NODE_WORDS, values, MIHADRENA_NEST_VALUES));
+    uint32_t nested = mihadrena_nest(from, from_length, words, items * MIHADRENA_NODE_WORDS, values, MIHADRENA_NEST_VALUES);
+    tell_answer(nested);
     tell(words, items * sizeof(mihadrena_node));
+    walk(items, nested == MIHADRENA_SERVED ? values[0] : 0);
     size_t room = 8 * length + 8;
     fill(out, room);
     tell_answer(mihadrena_write(from, from_length, source, length, text, length, out, room, values, MIHADRENA_WRITE_VALUES));
@@ -71,6 +94,9 @@ static void use_records(size_t items)
         double value = 0;
         uint64_t place = 0;
         tell_answer(mihadrena_record_coordinate(source, length, records[i].kind, records[i].start, records[i].end, &value, &place));
+        tell(&value, sizeof value);
+        tell(&place, sizeof place);
+        tell_answer(mihadrena_record_value(source, length, records[i].kind, records[i].start, records[i].end, &value, &place));
         tell(&value, sizeof value);
         tell(&place, sizeof place);
     }
@@ -125,6 +151,31 @@ static void read_in_pieces(uint32_t mode, bool skip, size_t size)
     }
 }
 
+/* What there is to find in the text, rendered in each style, with and without colour. */
+static void find(void)
+{
+    static const uint8_t name[] = "plan.scm";
+    size_t room = 64 * MIHADRENA_FINDING_WORDS;
+    fill(records, (length + 1) * sizeof records[0]);
+    fill(words, room * sizeof words[0]);
+    tell_answer(mihadrena_find(source, length, (uint32_t *)records, (length + 1) * MIHADRENA_RECORD_WORDS, words, room, values,
+                               MIHADRENA_FIND_VALUES));
+    tell(records, (length + 1) * sizeof records[0]);
+    tell(words, room * sizeof words[0]);
+    size_t told = values[0] < 64 ? values[0] : 64;
+    for (uint32_t style = MIHADRENA_STYLE_FULL; style <= MIHADRENA_STYLE_JSON; style++) {
+        for (size_t i = 0; i < 2 * told; i++) {
+            fill(out, 1024);
+            tell_size(mihadrena_render(words + i / 2 * MIHADRENA_FINDING_WORDS, MIHADRENA_FINDING_WORDS, source, length, name,
+                                       sizeof name - 1, style, i % 2 == 1, out, 1024));
+            tell(out, 1024);
+        }
+        fill(out, 1024);
+        tell_size(mihadrena_summary(name, sizeof name - 1, values[0], values[1], told, style, out, 1024));
+        tell(out, 1024);
+    }
+}
+
 static void ask_the_rest(void)
 {
     size_t room = length + 1;
@@ -162,12 +213,14 @@ static void answer_text(void)
             read_in_pieces(mode, skip, 4096);
         }
     }
+    find();
     ask_the_rest();
 }
 
 int main(void)
 {
     uint8_t head[4];
+    tell_size(mihadrena_version());
     while (fread(head, 1, sizeof head, stdin) == sizeof head) {
         length = head[0] | (size_t)head[1] << 8 | (size_t)head[2] << 16 | (size_t)head[3] << 24;
         if (length >= LONGEST || fread(source, 1, length, stdin) != length) {

@@ -269,8 +269,9 @@ static void call_names(void)
 /* A finding's places lie in its text, and findings come in the order of their places. A forged finding is rendered too. */
 static void call_find(void)
 {
-    size_t records = number_below(16384), room = number_below(128), out = number_below(2048), called = some(16);
+    size_t records = number_below(16384), room = number_below(128), out = number_below(2048);
     uint32_t style = (uint32_t)number_below(4), colour = (uint32_t)number_below(2), forged = (uint32_t)number_below(64);
+    size_t called = some(16);
     const uint8_t *name = readable(called);
     size_t bytes = left;
     const uint8_t *plan = readable(bytes);
