@@ -1,5 +1,5 @@
 // Reads a text by the piece calls under a cutting, and writes down what they give: an aid of the programs that run the piece calls, and
-// no part of the reader. Its functions promise that they end and stay within what they are lent.
+// no part of the reader. What it writes down is said by the calls' definition: specs/Notes.
 use items::Nine;
 use items::Record;
 use meaning::records::WORDS;
@@ -12,6 +12,9 @@ use piecewise::opening::open;
 ghost use mathlib.Core.Path.{_≡_};
 ghost use lib.ListN.{length, take};
 ghost use Rattle.laws.specs.Lent.{written};
+ghost use Rattle.piecewise.specs.Answers.{whatOf};
+ghost use Rattle.cuttings.specs.Inner.{unwritten, isUnwritten, Gives};
+ghost use Rattle.cuttings.specs.Notes as notes;
 ghost use Rattle.cuttings.specs.Parts.{partOf, recordAt};
 
 // How a text is cut: a first piece of so many bytes, then pieces of `low` bytes, of one byte more each time up to `high`, then of `low`
@@ -54,7 +57,9 @@ const TEXT: usize = 4100;
 const MOST: u64 = 1_000_000;
 
 // Nothing is read yet.
-fn unread() -> Reading {
+fn unread() -> Reading
+    ensures { λ r. ⌜ r ≡ notes.unread ⌝ }
+{
     Reading {
         items: 0,
         bytes: 0,
@@ -67,7 +72,9 @@ fn unread() -> Reading {
 }
 
 // Whether a text memory holds the mark alone.
-fn marked(text: &[u8]) -> bool {
+fn marked(text: &[u8]) -> bool
+    ensures { λ r. ⌜ r ≡ isUnwritten (now (text .entry)) ⌝ }
+{
     let mut i = 0;
     while i < text.len() {
         if text[i] != MARK {
@@ -93,7 +100,9 @@ pub fn copy(from: &[u8], to: &mut [u8])
 }
 
 // The reading with an end that should not come: a memory has no room for what was given.
-fn broken(before: Reading) -> Reading {
+fn broken(before: Reading) -> Reading
+    ensures { λ r. ⌜ r ≡ notes.broken before ⌝ }
+{
     Reading {
         items: before.items,
         bytes: before.bytes,
@@ -114,7 +123,11 @@ fn note_item(
     records: &mut [u32],
     counts: &mut [usize],
     texts: &mut [u8],
-) -> Reading {
+) -> Reading
+    requires { ⌜ Gives (Got.Item r) (now text) ⌝ }
+    ensures { λ a. ⌜ notes.notes a (now (records .exit)) (now (counts .exit)) (now (texts .exit))
+        ≡ notes.note (notes.notes before (now (records .entry)) (now (counts .entry)) (now (texts .entry))) (whatOf (Got.Item r) (now (text .entry))) taken ⌝ }
+{
     let items = before.items;
     let bytes = before.bytes;
     let past = r.nine.past as usize;
@@ -156,7 +169,10 @@ fn note_other(
     taken: usize,
     over: bool,
     text: &[u8],
-) -> Reading {
+) -> Reading
+    requires { ⌜ now text ≡ unwritten ⌝ }
+    ensures { λ r. ⌜ r ≡ notes.noteOther before refusal place taken over ⌝ }
+{
     Reading {
         items: before.items,
         bytes: before.bytes,
@@ -177,7 +193,11 @@ fn note(
     records: &mut [u32],
     counts: &mut [usize],
     texts: &mut [u8],
-) -> Reading {
+) -> Reading
+    requires { ⌜ Gives got (now text) ⌝ }
+    ensures { λ r. ⌜ notes.notes r (now (records .exit)) (now (counts .exit)) (now (texts .exit))
+        ≡ notes.note (notes.notes before (now (records .entry)) (now (counts .entry)) (now (texts .entry))) (whatOf got (now (text .entry))) taken ⌝ }
+{
     match got {
         Got::Item(r) => note_item(before, r, taken, text, records, counts, texts),
         Got::More => note_other(before, 0, 0, taken, false, text),
@@ -244,7 +264,10 @@ fn call_piece(
     records: &mut [u32],
     counts: &mut [usize],
     texts: &mut [u8],
-) -> Stand {
+) -> Stand
+    ensures { λ r. ⌜ notes.standing r (now (records .exit)) (now (counts .exit)) (now (texts .exit))
+        ≡ notes.pieceNoted (now (source .entry)) to (notes.standing stand (now (records .entry)) (now (counts .entry)) (now (texts .entry))) ⌝ }
+{
     let mut text = [MARK; TEXT];
     let state = stand.state;
     let before = stand.reading;
@@ -260,7 +283,10 @@ fn call_piece(
 }
 
 // One end call.
-fn call_end(stand: Stand, records: &mut [u32], counts: &mut [usize], texts: &mut [u8]) -> Stand {
+fn call_end(stand: Stand, records: &mut [u32], counts: &mut [usize], texts: &mut [u8]) -> Stand
+    ensures { λ r. ⌜ notes.standing r (now (records .exit)) (now (counts .exit)) (now (texts .exit))
+        ≡ notes.endNoted (notes.standing stand (now (records .entry)) (now (counts .entry)) (now (texts .entry))) ⌝ }
+{
     let mut text = [MARK; TEXT];
     let state = stand.state;
     let before = stand.reading;
@@ -283,13 +309,19 @@ fn hand_over(
     records: &mut [u32],
     counts: &mut [usize],
     texts: &mut [u8],
-) -> Stand {
+) -> Stand
+    ensures { λ r. ⌜ notes.standing r (now (records .exit)) (now (counts .exit)) (now (texts .exit))
+        ≡ notes.handOver (now (source .entry)) to notes.most (notes.standing stand (now (records .entry)) (now (counts .entry)) (now (texts .entry))) ⌝ }
+{
     let mut now = stand;
     let mut calls = MOST;
     while calls > 0 {
         now = call_piece(now, source, to, records, counts, texts);
         let reading = now.reading;
-        if reading.over || to <= reading.taken {
+        if reading.over {
+            return now;
+        }
+        if to <= reading.taken {
             return now;
         }
         calls = calls - 1;
@@ -298,7 +330,9 @@ fn hand_over(
 }
 
 // The place where a piece of so many bytes ends.
-fn piece_end(source: &[u8], from: usize, size: usize) -> usize {
+fn piece_end(source: &[u8], from: usize, size: usize) -> usize
+    ensures { λ r. ⌜ r ≡ notes.pieceEnd (length (now (source .entry))) from size ⌝ }
+{
     if source.len() < from {
         return from;
     }
@@ -309,7 +343,9 @@ fn piece_end(source: &[u8], from: usize, size: usize) -> usize {
 }
 
 // How many bytes the piece after one of `size` bytes has.
-fn next_size(cutting: Cutting, size: usize) -> usize {
+fn next_size(cutting: Cutting, size: usize) -> usize
+    ensures { λ r. ⌜ r ≡ notes.nextSize cutting size ⌝ }
+{
     if size < cutting.low {
         return cutting.low;
     }
@@ -327,13 +363,19 @@ fn hand_all(
     records: &mut [u32],
     counts: &mut [usize],
     texts: &mut [u8],
-) -> Stand {
+) -> Stand
+    ensures { λ r. ⌜ notes.standing r (now (records .exit)) (now (counts .exit)) (now (texts .exit))
+        ≡ notes.handAll (now (source .entry)) cutting notes.most (cutting .first) (notes.standing stand (now (records .entry)) (now (counts .entry)) (now (texts .entry))) ⌝ }
+{
     let mut now = stand;
     let mut size = cutting.first;
     let mut pieces = MOST;
     while pieces > 0 {
         let reading = now.reading;
-        if reading.over || source.len() <= reading.taken {
+        if reading.over {
+            return now;
+        }
+        if source.len() <= reading.taken {
             return now;
         }
         let to = piece_end(source, reading.taken, size);
@@ -345,7 +387,10 @@ fn hand_all(
 }
 
 // Declares the end, until all items are given.
-fn hand_end(stand: Stand, records: &mut [u32], counts: &mut [usize], texts: &mut [u8]) -> Stand {
+fn hand_end(stand: Stand, records: &mut [u32], counts: &mut [usize], texts: &mut [u8]) -> Stand
+    ensures { λ r. ⌜ notes.standing r (now (records .exit)) (now (counts .exit)) (now (texts .exit))
+        ≡ notes.handEnd notes.most (notes.standing stand (now (records .entry)) (now (counts .entry)) (now (texts .entry))) ⌝ }
+{
     let mut now = stand;
     let mut calls = MOST;
     while calls > 0 {
@@ -369,7 +414,10 @@ pub fn read(
     records: &mut [u32],
     counts: &mut [usize],
     texts: &mut [u8],
-) -> Reading {
+) -> Reading
+    ensures { λ r. ⌜ notes.notes r (now (records .exit)) (now (counts .exit)) (now (texts .exit))
+        ≡ notes.readOf (now (source .entry)) cutting mode skip (now (records .entry)) (now (counts .entry)) (now (texts .entry)) ⌝ }
+{
     let opened = open(mode, skip);
     let state = opened.state;
     let first = Stand {

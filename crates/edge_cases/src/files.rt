@@ -3,11 +3,14 @@ use cuttings::copy;
 use cuttings::part;
 use texts::find;
 ghost use mathlib.Core.Path.{_≡_};
+ghost use mathlib.Core.List.{map};
 ghost use Prim.Native.Nat.{_+_, _%_, _^_};
 ghost use lib.ListN.{drop, getD};
 ghost use Rattle.laws.specs.Quoted.{code};
 ghost use Rattle.laws.specs.Texts.{before};
+ghost use Rattle.io.specs.Counts.{Counts};
 ghost use Rattle.cuttings.specs.Parts.{partOf};
+ghost use Rattle.edge_cases.specs.Fields.{stillOf, pastTabs, fieldOf, realOf, putAt, pastPut};
 
 const TAB: u8 = b'\t';
 
@@ -23,7 +26,9 @@ pub const ROOM: usize = 2048;
 pub const MOST: u32 = 1000;
 
 // Reads a file to the front of a memory; how many bytes it has.
-pub fn load(name: &[u8], file: &mut [u8]) -> usize {
+pub fn load(name: &[u8], file: &mut [u8]) -> usize
+    ensures { λ r. ⌜ Counts r (now (file .exit)) ⌝ }
+{
     let fd = os::open_read(name);
     if fd < 0 {
         os::fail(name);
@@ -48,24 +53,39 @@ pub fn past_line(file: &[u8], at: usize) -> usize
     std::num::wrapping_add_usize(find(file, at, NEWLINE), 1)
 }
 
+// How many of so many tabs are left to pass after a byte.
+fn still(tabs: u32, byte: u8) -> u32
+    ensures { λ r. ⌜ r ≡ stillOf tabs byte ⌝ }
+{
+    if byte != TAB {
+        return tabs;
+    }
+    if tabs == 0 {
+        return 0;
+    }
+    tabs - 1
+}
+
 // The place in a line past so many tabs.
-fn past_tabs(line: &[u8], tabs: u32) -> usize {
+fn past_tabs(line: &[u8], tabs: u32) -> usize
+    ensures { λ r. ⌜ r ≡ pastTabs tabs (now (line .entry)) ⌝ }
+{
     let mut left = tabs;
     let mut i = 0;
     while i < line.len() {
         if left == 0 {
             return i;
         }
-        if line[i] == TAB {
-            left = left - 1;
-        }
+        left = still(left, line[i]);
         i += 1;
     }
     i
 }
 
 // The field of a line after so many tabs.
-pub fn field(line: &[u8], tabs: u32) -> &[u8] {
+pub fn field(line: &[u8], tabs: u32) -> &[u8]
+    ensures { λ r. ⌜ now r ≡ fieldOf (now (line .entry)) tabs ⌝ }
+{
     let from = past_tabs(line, tabs);
     part(line, from, find(line, from, TAB))
 }
@@ -81,7 +101,10 @@ pub fn first(field: &[u8]) -> u8
 }
 
 // Writes bytes from a place on, as far as there is room; the place past them.
-pub fn put(source: &mut [u8], at: usize, bytes: &[u8]) -> usize {
+pub fn put(source: &mut [u8], at: usize, bytes: &[u8]) -> usize
+    ensures { λ r. ⌜ (r ≡ pastPut (now (source .entry)) at (now (bytes .entry)))
+        × (now (source .exit) ≡ putAt (now (source .entry)) at (now (bytes .entry))) ⌝ }
+{
     if source.len() < at {
         return at;
     }
@@ -90,7 +113,9 @@ pub fn put(source: &mut [u8], at: usize, bytes: &[u8]) -> usize {
 }
 
 // What a byte stands for.
-fn real(byte: u8) -> u8 {
+fn real(byte: u8) -> u8
+    ensures { λ r. ⌜ r ≡ realOf byte ⌝ }
+{
     if byte == FOR_NEWLINE {
         return NEWLINE;
     }
@@ -98,7 +123,9 @@ fn real(byte: u8) -> u8 {
 }
 
 // Puts the newlines in.
-pub fn newlines(source: &mut [u8]) {
+pub fn newlines(source: &mut [u8])
+    ensures { λ _. ⌜ now (source .exit) ≡ map realOf (now (source .entry)) ⌝ }
+{
     let mut i = 0;
     while i < source.len() {
         let byte = real(source[i]);

@@ -6,11 +6,14 @@ use cuttings::record_at;
 use items::Record;
 use items::modes::PLAIN;
 use libc::STDOUT_FILENO;
+ghost use mathlib.Core.Path.{_≡_};
 
 // The words or bytes of the memories that a reading is written to.
 const ROOM: usize = 8192;
 
-pub fn print(text: &[u8]) {
+pub fn print(text: &[u8])
+    ensures { λ _. ⌜ now (text .exit) ≡ now (text .entry) ⌝ }
+{
     io::write_all(STDOUT_FILENO, text);
 }
 
@@ -46,7 +49,9 @@ fn run(count: u64, byte: u8) {
 }
 
 // Bytes, each run of the same byte as its count and the byte: 2*97 1*98 for aab.
-pub fn runs(bytes: &[u8]) {
+pub fn runs(bytes: &[u8])
+    ensures { λ _. ⌜ now (bytes .exit) ≡ now (bytes .entry) ⌝ }
+{
     let mut count: u64 = 0;
     let mut i = 0;
     while i < bytes.len() {
@@ -123,7 +128,9 @@ fn ending(r: Reading) {
 }
 
 // Reads a text in plain mode under a cutting, and prints what is given.
-pub fn reading(source: &[u8], cutting: Cutting, skip: bool) {
+pub fn reading(source: &[u8], cutting: Cutting, skip: bool)
+    ensures { λ _. ⌜ now (source .exit) ≡ now (source .entry) ⌝ }
+{
     let mut records = [0u32; ROOM];
     let mut counts = [0usize; ROOM];
     let mut texts = [0u8; ROOM];

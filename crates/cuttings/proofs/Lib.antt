@@ -1,0 +1,4 @@
+pub mod Sized
+pub mod Unwritten
+pub mod Noted
+pub mod Handed
