@@ -9,7 +9,7 @@
 //! --file     of the part `writing`: this file in the place of families; may be said more than once
 //! --huge     texts of 4 GiB too: A3, refusal 20 and the longest text
 //!
-//! `judge --scale [--share N] [--jobs N]` compares at scale, in processes of its own: see scale.rs.
+//! `judge --scale [--share N] [--jobs N] [--from N]` compares at scale, in processes of its own: see scale.rs.
 mod chars;
 mod coverage;
 mod differences;
@@ -145,6 +145,6 @@ fn usage() -> ExitCode {
         "usage: judge [--seed N] [--count N] [--limit N] [--family NAME] [--file FILE].. [--huge] [{}]",
         names.join("|")
     );
-    eprintln!("       judge --scale [--share N] [--jobs N]");
+    eprintln!("       judge --scale [--share N] [--jobs N] [--from N]");
     ExitCode::FAILURE
 }

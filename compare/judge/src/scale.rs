@@ -1,8 +1,9 @@
-//! The comparison at scale: `judge --scale [--share N] [--jobs N]` runs this program again and again, a batch of texts each time, since
-//! the Rust keeps every name that it has read. Each batch draws its texts from a seed of its own.
+//! The comparison at scale: `judge --scale [--share N] [--jobs N] [--from N]` runs this program again and again, a batch of texts each
+//! time, since the Rust keeps every name that it has read. Each batch draws its texts from a seed of its own.
 //!
 //! --share    one in N of the random texts, no more than one in N of a batch of a family that lists, no text of 4 GiB: for a quick look
 //! --jobs     so many processes at a time (1)
+//! --from     leaves out the batches before the N-th: a run that was stopped goes on
 //!
 //! Standard error has a line of progress, standard output a line for each family and the sum. At the end stand the differences that were
 //! met; one that docs/DIFFERENCES.md does not list makes the exit status non-zero, as does any other difference.
@@ -111,17 +112,19 @@ const JOBS: &[Job] = &[
 struct Scale {
     share: u64,
     jobs: u64,
+    from: u64,
 }
 
 /// None if a word is unknown.
 pub fn run(words: &[String]) -> Option<ExitCode> {
-    let mut scale = Scale { share: 1, jobs: 1 };
+    let mut scale = Scale { share: 1, jobs: 1, from: 1 };
     for pair in words.chunks(2) {
         let [name, number] = pair else { return None };
         let number: u64 = number.parse().ok().filter(|&number| number > 0)?;
         match name.as_str() {
             "--share" => scale.share = number,
             "--jobs" => scale.jobs = number,
+            "--from" => scale.from = number,
             _ => return None,
         }
     }
@@ -136,7 +139,8 @@ struct Batch {
 
 impl Scale {
     fn run(&self) -> ExitCode {
-        let batches: Vec<Batch> = JOBS.iter().enumerate().flat_map(|(at, job)| self.batches(at, job)).collect();
+        let all = JOBS.iter().enumerate().flat_map(|(at, job)| self.batches(at, job));
+        let batches: Vec<Batch> = all.skip(usize::try_from(self.from - 1).expect("a count")).collect();
         let progress = Mutex::new(Progress::new(&batches));
         thread::scope(|scope| {
             for _ in 0..self.jobs {

@@ -5,7 +5,7 @@ abbrev major : ℕ
 major = 0
 
 abbrev minor : ℕ
-minor = 21
+minor = 22
 
 abbrev patch : ℕ
 patch = 0
