@@ -55,7 +55,7 @@ fn suffix_at(t: &[u8], from: usize) -> Suffix
 }
 
 // A decimal of its sign, the places of its digits and its suffix.
-fn point_of(negative: bool, whole: Span, fraction: Span, x: Suffix) -> MaybeReal
+pub(crate) fn point_of(negative: bool, whole: Span, fraction: Span, x: Suffix) -> MaybeReal
     ensures { λ r. ⌜ r ≡ pointOf negative whole fraction x ⌝ }
 {
     match x {
@@ -211,7 +211,7 @@ fn denominator_at(t: &[u8], from: usize, radix: u64) -> MaybeInt
 }
 
 // The integer or rational from a place on, after its sign.
-fn exact_at(t: &[u8], from: usize, radix: u64, neg: bool) -> MaybeReal
+pub(crate) fn exact_at(t: &[u8], from: usize, radix: u64, neg: bool) -> MaybeReal
     requires { ⌜ (1 ≤ radix) × (radix ≤ 16) ⌝ }
     ensures { λ r. ⌜ r ≡ exact radix neg from (drop from (now (t .entry))) ⌝ }
 {
