@@ -38,7 +38,7 @@ all-map P Q f [] h = tt
 all-map P Q f (c ∷ s) h = (f c (h .0), all-map P Q f s (h .1))
 
 -- a digit; a digit, a dot or a slash
-abbrev pub Digit : ℕ → Type 0
+abbrev Digit : ℕ → Type 0
 Digit c = (code "0" ≤ c) × (c ≤ code "9")
 
 abbrev pub Numeral : ℕ → Type 0
@@ -69,7 +69,7 @@ module _ (s : List ℕ) (h : uinteger 10 s ≡ true) where
   unfolding uinteger
   whole = eqb-true _ _ (rw (lt-ltb 0 (length s) some) at h)
 
-  pub uinteger-digits : All Digit s
+  uinteger-digits : All Digit s
   uinteger-digits = digits-all s whole
 
   uinteger-numerals : All Numeral s
@@ -101,7 +101,7 @@ ratio-numerals (c ∷ s) h =
     ((omega arith, omega arith), uinteger-numerals s (and-true (ltb (code "0") (getD s 0 0)) (uinteger 10 s) (a .1) .1))
 
 -- the three shapes
-by-shape : {A : Type 0} (s : List ℕ) → unsignedPlain s ≡ true → (uinteger 10 s ≡ true → A) → (fraction (drop (digits 10 s) s) ≡ true → A)
+pub by-shape : {A : Type 0} (s : List ℕ) → unsignedPlain s ≡ true → (uinteger 10 s ≡ true → A) → (fraction (drop (digits 10 s) s) ≡ true → A)
     → (0 < digits 10 s → ratio (drop (digits 10 s) s) ≡ true → A) → A
 by-shape s h f g k = by-bool (uinteger 10 s) f
     (λ e. let x = rw e at h in by-bool (fraction (drop (digits 10 s) s)) g
@@ -122,19 +122,22 @@ unfolding span
 before-all b [] h = refl
 before-all b (c ∷ s) h = simp (ne-eqb c b (h .0)) (ap suc (before-all b s (h .1)))
 
-sign-all : (skip : Bool) (s : List ℕ) → Avoids (code "+") s → Avoids (code "-") s → toSign skip s ≡ length s
+pub sign-all : (skip : Bool) (s : List ℕ) → Avoids (code "+") s → Avoids (code "-") s → toSign skip s ≡ length s
 unfolding toSign
 sign-all true [] h g = refl
 sign-all false [] h g = refl
 sign-all true (c ∷ s) h g = ap suc (sign-all false s (h .1) (g .1))
 sign-all false (c ∷ s) h g = simp (ne-eqb c (code "+") (h .0), ne-eqb c (code "-") (g .0)) (ap suc (sign-all _ s (h .1) (g .1)))
 
-avoids-start : (b k : ℕ) (s : List ℕ) → Avoids b s → starts b (drop k s) ≡ false
+pub avoids-start : (b k : ℕ) (s : List ℕ) → Avoids b s → starts b (drop k s) ≡ false
 unfolding starts
 avoids-start b zero [] h = refl
 avoids-start b (suc k) [] h = refl
 avoids-start b zero (c ∷ s) h = ne-eqb c b (h .0)
 avoids-start b (suc k) (c ∷ s) h = avoids-start b k s (h .1)
+
+pub uinteger-avoids : (s : List ℕ) → uinteger 10 s ≡ true → Avoids (code "/") s
+uinteger-avoids s h = all-map Digit (λ d. d ≡ code "/" → ⊥) (λ d n e. omega arith) s (uinteger-digits s h)
 
 -- ---- a first character, which may be a sign, and numerals are one real
 
@@ -212,7 +215,7 @@ whole-good : (neg : Bool) (p : ℕ) (s : List ℕ) → uinteger 10 s ≡ true �
 unfolding wholeOf
 whole-good neg p s h = rw h tt
 
-before-slash : (s : List ℕ) → starts (code "/") (drop (digits 10 s) s) ≡ true → before (code "/") s ≡ digits 10 s
+pub before-slash : (s : List ℕ) → starts (code "/") (drop (digits 10 s) s) ≡ true → before (code "/") s ≡ digits 10 s
 unfolding span starts
 before-slash [] h = refl
 before-slash (c ∷ s) h = by-bool (ltb (digitOf c) 10)
@@ -253,7 +256,7 @@ module _ (neg : Bool) (p : ℕ) (s : List ℕ) where
   integer-good : uinteger 10 s ≡ true → Good (exact 10 neg p s)
   unfolding exact integralOf wholeOf zeroReal
   integer-good h =
-      simp (before-all (code "/") s (all-map Digit (λ d. d ≡ code "/" → ⊥) (λ d n e. omega arith) s (uinteger-digits s h)), le-ltb (length s) (length s) (omega arith), h) refl
+      simp (before-all (code "/") s (uinteger-avoids s h), le-ltb (length s) (length s) (omega arith), h) refl
 
   pub decimal-good : fraction (drop (digits 10 s) s) ≡ true → Good (decimal neg p s)
   unfolding decimal

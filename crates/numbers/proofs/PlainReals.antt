@@ -15,7 +15,7 @@ use Rattle.numbers.specs.Reals.{suffix, pointOf, decimal, infnan, integr
 use Rattle.numbers.proofs.Ascii.{Ascii, ascii-good}
 use Rattle.numbers.proofs.Call.{served}
 use Rattle.numbers.proofs.Decimals.{suffix-past, dotted-fraction, decimal-dot}
-use Rattle.numbers.proofs.Plain.{All, Digit, Numeral, all-map, some, whole, uinteger-digits, before-all, Good, no-decimal, decimal-good, ratio-decimal, real-good, plain-first, plain-some, plain-one}
+use Rattle.numbers.proofs.Plain.{All, Numeral, some, whole, uinteger-avoids, before-all, Good, no-decimal, decimal-good, ratio-decimal, real-good, plain-first, plain-some, plain-one}
 use Rattle.numbers.proofs.PlainPlaces.{plain-digits, plain-fraction, plain-ratio, plain-none}
 use Rattle.refusal.specs.Refusals.{limit}
 use Rattle.laws.specs.Quoted.{code}
@@ -53,19 +53,20 @@ plain-finite (c ∷ d ∷ s) h =
 
 -- ---- after the sign
 
+pub first-good : (x y : MaybeReal) → Good x → orElse x y ≡ x
+unfolding orElse
+first-good (AReal r) y g = refl
+first-good NoReal y g = absurd g
+
 module _ (neg : Bool) (p : ℕ) (s : List ℕ) where
   ureal-whole : uinteger 10 s ≡ true → ureal 10 neg p s ≡ integralOf (wholeOf 10 neg p s)
   unfolding ureal orElse exact
   ureal-whole h =
-      simp (no-decimal neg p s h, before-all (code "/") s (all-map Digit (λ d. d ≡ code "/" → ⊥) (λ d n e. omega arith) s (uinteger-digits s h)), le-ltb (length s) (length s) (omega arith))
+      simp (no-decimal neg p s h, before-all (code "/") s (uinteger-avoids s h), le-ltb (length s) (length s) (omega arith))
 
   ureal-decimal : fraction (drop (digits 10 s) s) ≡ true → ureal 10 neg p s ≡ decimal neg p s
-  unfolding ureal orElse
-  ureal-decimal h = first (decimal neg p s) (exact 10 neg p s) (decimal-good neg p s h)
-    where
-      first : (x y : MaybeReal) → Good x → orElse x y ≡ x
-      first (AReal r) y g = refl
-      first NoReal y g = absurd g
+  unfolding ureal
+  ureal-decimal h = first-good (decimal neg p s) (exact 10 neg p s) (decimal-good neg p s h)
 
   ureal-ratio : ratio (drop (digits 10 s) s) ≡ true → ureal 10 neg p s ≡ exact 10 neg p s
   unfolding ureal orElse
