@@ -2,7 +2,7 @@
 -- are places before.
 use Rattle.digits.specs.declared.Int.the-variants.{Small}
 use Rattle.digits.specs.declared.MaybeInt.the-variants.{AnInt}
-use Rattle.digits.specs.Digits.{digitOf, digits, uinteger, value, runValue, short, signed, top, wholeOf}
+use Rattle.digits.specs.Digits.{digits, uinteger, value, runValue, short, signed, top, wholeOf}
 use Rattle.digits.proofs.Digits.{digit-decimal, decimal-digit}
 use Rattle.digits.proofs.Integers.{fit-fits, top-le, whole-small}
 use Rattle.laws.specs.Quoted.{code, within}
@@ -13,7 +13,7 @@ use Prim.Native.Nat.{ℕ, _+_, _-_, _*_, _^_, _≤_, _<_}
 use mathlib.Core.Path.{_≡_, sym, ap, _∙_}
 use mathlib.Core.Bool.{Bool, true, false}
 use mathlib.Core.List.{List}
-use lib.ListN.{length, getD, take, drop, length-drop}
+use lib.ListN.{length, getD, drop}
 use lib.Seq.{take-all}
 use lib.IntN.{ℤ}
 use lib.Dec.{lit≤, lit<, ltb}

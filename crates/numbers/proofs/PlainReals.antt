@@ -9,9 +9,9 @@ use Rattle.numbers.specs.declared.MaybeReal.{MaybeReal}
 use Rattle.numbers.specs.declared.MaybeReal.the-variants.{AReal, NoReal}
 use Rattle.numbers.specs.AfterPlus.{isReal}
 use Rattle.numbers.specs.Call.{parts, given, number}
-use Rattle.numbers.specs.Grammar.{justOf, zeroReal, zeroParts, judged, parseNumber}
+use Rattle.numbers.specs.Grammar.{justOf, zeroReal, zeroParts, judged}
 use Rattle.numbers.specs.Plain.{fraction, ratio, plain, plainReal, brief}
-use Rattle.numbers.specs.Reals.{suffix, pointOf, decimal, infnan, integralOf, exact, orElse, ureal, real}
+use Rattle.numbers.specs.Reals.{pointOf, decimal, infnan, integralOf, exact, orElse, ureal, real}
 use Rattle.numbers.proofs.Ascii.{Ascii, ascii-good}
 use Rattle.numbers.proofs.Call.{served}
 use Rattle.numbers.proofs.Decimals.{suffix-past, dotted-fraction, decimal-dot}
@@ -26,17 +26,16 @@ use Rattle.laws.proofs.Places.{cut-at}
 use Rattle.chars.specs.declared.Utf8.the-variants as utf8
 use Rattle.chars.specs.Utf8.{firstBad}
 use Rattle.digits.specs.declared.Int.{Int}
-use Rattle.digits.specs.declared.MaybeInt.{MaybeInt}
-use Rattle.digits.specs.declared.MaybeInt.the-variants.{AnInt, NoInt}
-use Rattle.digits.specs.Digits.{digits, sign, negative, uinteger, short, wholeOf}
+use Rattle.digits.specs.declared.MaybeInt.the-variants.{AnInt}
+use Rattle.digits.specs.Digits.{digits, sign, uinteger, short, wholeOf}
 use Rattle.digits.proofs.Digits.{uinteger-run, uinteger-in}
-use Prim.Native.Nat.{ℕ, suc, _+_, _-_, _≤_, _<_}
+use Prim.Native.Nat.{ℕ, _+_, _-_, _≤_, _<_}
 use mathlib.Core.Path.{_≡_, refl, sym, ap, _∙_}
 use mathlib.Core.Bool.{Bool, true, false, _&&_}
 use mathlib.Core.List.{List, [], _∷_}
 use lib.ListN.{length, getD, drop}
 use lib.Seq.{drop-drop}
-use lib.Dec.{eqb, ltb, leb}
+use lib.Dec.{ltb, leb}
 use native.Mathlib.Omega.{arith}
 use native.Mathlib.Nat.{zero-add}
 use borrow.Author.Tests.{eq-eqb, ne-eqb, lt-ltb, le-ltb, le-leb, lt-leb, leb-true}

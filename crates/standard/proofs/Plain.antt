@@ -5,9 +5,9 @@ use Rattle.numbers.specs.declared.MaybeReal.{MaybeReal}
 use Rattle.numbers.specs.declared.MaybeReal.the-variants.{AReal}
 use Rattle.numbers.specs.Call.{parts, given}
 use Rattle.numbers.specs.Grammar.{justOf, startsE, judged, prefix}
-use Rattle.numbers.specs.Plain.{fraction, ratio, unsignedPlain, plain, plainReal}
+use Rattle.numbers.specs.Plain.{ratio, unsignedPlain, plain, plainReal}
 use Rattle.numbers.specs.Reals as bought
-use Rattle.numbers.proofs.Plain.{All, Numeral, all-map, by-shape, uinteger-avoids, before-all, sign-all, avoids-start, no-decimal, decimal-good, before-slash, plain-first, plain-some}
+use Rattle.numbers.proofs.Plain.{All, Numeral, all-map, by-shape, uinteger-avoids, before-all, sign-all, avoids-start, decimal-good, before-slash, plain-first, plain-some}
 use Rattle.numbers.proofs.PlainReals.{first-good, plain-good, plain-told}
 use Rattle.standard.specs.Reals.{infnan, ureal, real}
 use Rattle.standard.specs.Reals as standard
@@ -18,7 +18,7 @@ use Rattle.standard.proofs.Letters.{lower-below}
 use Rattle.refusal.specs.Refusals.{limit}
 use Rattle.laws.specs.Letters.{lower}
 use Rattle.laws.specs.Quoted.{code}
-use Rattle.laws.specs.Texts.{before, starts}
+use Rattle.laws.specs.Texts.{starts}
 use Rattle.laws.proofs.Choice.{and-true, no-yes}
 use Rattle.laws.proofs.Compared.{starts-in}
 use Rattle.digits.specs.Digits.{digits, sign, negative, uinteger, wholeOf, integer}
@@ -28,9 +28,9 @@ use mathlib.Core.Bool.{Bool, true, false, _&&_}
 use mathlib.Core.List.{List, [], _∷_, map}
 use lib.ListN.{length, getD, drop}
 use lib.Seq.{drop-drop}
-use lib.Dec.{eqb, ltb}
+use lib.Dec.{ltb}
 use native.Mathlib.Omega.{arith}
-use native.Mathlib.Nat.{zero-add, add-zero}
+use native.Mathlib.Nat.{add-zero}
 use borrow.Author.Tests.{ne-eqb, lt-ltb, le-ltb, ltb-true}
 
 -- ---- no letters

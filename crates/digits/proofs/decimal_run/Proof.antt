@@ -3,7 +3,6 @@
 use Rattle.digits.specs.Digits.{digits, runValue}
 use Rattle.digits.proofs.Digits.{decimal-hit, decimal-stop, run-end}
 use Rattle.digits.proofs.DecimalRuns.{run-grows, run-holds, run-value-more, run-value-stop, run-value-end}
-use Rattle.laws.specs.Quoted.{code}
 use Rattle.laws.proofs.Choice.{within-is}
 use Prim.Native.Nat.{_+_, _-_, _^_, _<_}
 use mathlib.Core.Path.{_≡_, refl, sym, _∙_}
