@@ -1,9 +1,8 @@
 -- A decimal is a text of ASCII, so it has no bad sequence: each production passes digits, a sign, a dot or a marker.
-use Prim.Native.Nat.{ℕ, suc, _+_, _<_}
-use mathlib.Core.Path.{_≡_, refl, sym, ap, _∙_}
+use Prim.Native.Nat.{ℕ, _+_, _<_}
+use mathlib.Core.Path.{_≡_, sym, _∙_}
 use mathlib.Core.Bool.{Bool, true}
 use mathlib.Core.List.{List, [], _∷_}
-use native.Mathlib.Nat.{zero-add}
 use native.Mathlib.Omega.{arith}
 use lib.Dec.{eqb, ltb}
 use lib.ListN.{length, drop}
@@ -14,8 +13,7 @@ use Rattle.laws.specs.Texts.{span, starts}
 use Rattle.laws.proofs.Choice.{by-bool, if-all, if-is, within-is}
 use Rattle.laws.proofs.Places.{past}
 use Rattle.chars.specs.declared.Utf8.the-variants as utf8
-use Rattle.chars.specs.Utf8.{ascii, sequences, firstBad}
-use Rattle.chars.proofs.Ascii.{ascii-yes, ascii-pass}
+use Rattle.chars.specs.Utf8.{firstBad}
 use Rattle.digits.specs.declared.Span.{Span}
 use Rattle.digits.specs.Digits.{digitOf, digits, sign, negative, uinteger, spanAt}
 use Rattle.digits.proofs.Digits.{decimal-digit}
@@ -28,10 +26,7 @@ use Rattle.numbers.specs.declared.MaybeReal.the-variants.{AReal, NoReal}
 use Rattle.numbers.specs.declared.MaybePoint.{MaybePoint}
 use Rattle.numbers.specs.declared.MaybePoint.the-variants.{APoint, NoPoint}
 use Rattle.numbers.specs.Reals.{exponentMarker, exponent, suffix, pointOf, dotted, undotted, decimal, pointIn, oneDecimal}
-
-abbrev Ascii : List ℕ → Type 0
-Ascii [] = Unit {0}
-Ascii (c ∷ s) = (c < 0x80) × Ascii s
+use Rattle.numbers.proofs.Ascii.{Ascii, ascii-good}
 
 -- P, where there is a suffix, a real, a decimal
 abbrev IfSuffix : Type 0 → Suffix → Type 0
@@ -163,19 +158,6 @@ one-decimal-ascii s =
     told-if (Ascii s) (decimal (negative s) (sign s) (drop (sign s) s))
     (real-after (Ascii (drop (sign s) s)) (Ascii s) (decimal (negative s) (sign s) (drop (sign s) s)) (sign-ascii s)
     (decimal-ascii (negative s) (sign s) (drop (sign s) s)))
-
--- a text of ASCII is passed to its end
-ascii-span : (s : List ℕ) → Ascii s → span ascii s ≡ length s
-unfolding span
-ascii-span [] h = refl
-ascii-span (c ∷ s) h = rw (ascii-yes c (h .0)) (ap suc (ascii-span s (h .1)))
-
-ascii-good : (s : List ℕ) → Ascii s → firstBad s ≡ utf8.Good
-unfolding firstBad sequences
-ascii-good s h =
-    let e = ascii-span s h in
-    let z : 0 + length s ≡ length s = zero-add (length s) in
-    sym (rw (past s (length s) (omega arith)) at (rw (e, z) at (ascii-pass s 0)))
 
 -- so a decimal is UTF-8
 pub decimal-good : (s : List ℕ) (d : Point) → oneDecimal s ≡ APoint d → firstBad s ≡ utf8.Good

@@ -104,7 +104,7 @@ signed-fits false m h = sfits-of h
 signed-fits true zero h = sfits-of (lit< tt)
 signed-fits true (suc k) h = sfits-of (omega arith)
 
-top-le : (neg : Bool) → top neg ≤ 2 ^ 63 + 1
+pub top-le : (neg : Bool) → top neg ≤ 2 ^ 63 + 1
 top-le true = lit≤ tt
 top-le false = lit≤ tt
 

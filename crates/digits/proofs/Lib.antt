@@ -2,4 +2,5 @@ pub mod Digits
 pub mod Integers
 pub mod HexDigits
 pub mod Zeros
+pub mod DecimalRuns
 pub mod SmallBig

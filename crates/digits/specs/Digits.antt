@@ -3,7 +3,7 @@
 use Prim.Native.Nat.{ℕ, _+_, _-_, _*_, _^_}
 use mathlib.Core.Bool.{Bool, true, false, _&&_}
 use mathlib.Core.List.{List, [], _∷_}
-use lib.ListN.{length, drop}
+use lib.ListN.{length, take, drop}
 use lib.Dec.{ltb, leb, eqb}
 use lib.IntN.{ℤ, pos, negℤ}
 use Rattle.laws.specs.Choice.{if_then_else_}
@@ -48,6 +48,14 @@ uinteger R s = if ltb 0 (length s) then eqb (digits R s) (length s) else false
 unfoldable pub value : ℕ → ℕ → List ℕ → ℕ
 value R n [] = n
 value R n (c ∷ s) = value R (n * R + digitOf c) s
+
+-- the value of the decimal digits that s starts with, after digits of the value n: runValue 0 (codes "47.5") is 47
+abbrev pub runValue : ℕ → List ℕ → ℕ
+runValue n s = value 10 n (take (digits 10 s) s)
+
+-- how many bytes a short text has at most: as many decimal digits have a value within signed 64 bits
+abbrev pub short : ℕ
+short = 18
 
 -- a magnitude that may be that of a signed 64-bit number
 unfoldable pub fit : ℕ → Magnitude

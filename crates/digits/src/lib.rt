@@ -2,10 +2,10 @@
 // 01, "Rules that bite"): specs/Digits and specs/Hex say what each function answers. A part of a text is a slice that starts where the
 // text starts, so that an index is a place of the text, and the place where the part starts. Internal: the number call is in `numbers`.
 ghost use mathlib.Core.Path.{_≡_};
-ghost use Prim.Native.Nat.{_+_, _≤_, _<_};
-ghost use lib.ListN.{drop};
+ghost use Prim.Native.Nat.{_+_, _^_, _≤_, _<_};
+ghost use lib.ListN.{length, drop};
 ghost use Rattle.laws.specs.Quoted.{within};
-ghost use Rattle.digits.specs.Digits.{digitOf, digits, sign, uinteger, value, fit, signed, top, wholeOf, integer};
+ghost use Rattle.digits.specs.Digits.{digitOf, digits, sign, uinteger, value, runValue, short, fit, signed, top, wholeOf, integer};
 
 mod hexadecimal;
 
@@ -15,6 +15,12 @@ pub use hexadecimal::hex_value;
 pub struct Span {
     pub start: usize,
     pub end: usize,
+}
+
+// A run of digits: where it ends, and their value.
+pub struct Run {
+    pub end: usize,
+    pub value: u64,
 }
 
 // An integer. Small: its value. Big, as 9223372036854775808 is: whether it has a minus sign, and where its digits stand.
@@ -45,6 +51,12 @@ const NO_DIGIT: u64 = 16;
 
 // The value of the letter A as a digit.
 const LETTER: u64 = 10;
+
+// The radix of a text that names none.
+const DECIMAL: u64 = 10;
+
+// The decimal digits of a text of so many bytes, whatever they are, have a value within signed 64 bits.
+pub const SHORT: usize = 18;
 
 // The first magnitude past signed 64 bits, and the first one after a minus sign.
 const TOP: u64 = 0x8000_0000_0000_0000;
@@ -107,6 +119,25 @@ pub fn decimal_end(t: &[u8], from: usize) -> usize
     i
 }
 
+// The run of decimal digits from a place on in a short text, after digits of the value before that stand before the place.
+pub fn decimal_run(t: &[u8], from: usize, before: u64) -> Run
+    requires { ⌜ (length (now t) ≤ short) × (before < 10 ^ from) ⌝ }
+    ensures { λ r. ⌜ (r .end ≡ from + digits 10 (drop from (now (t .entry)))) × (r .value ≡ runValue before (drop from (now (t .entry)))) × (r .value < 10 ^ r .end) ⌝ }
+{
+    let mut v = before;
+    let mut i = from;
+    while i < t.len() {
+        let c = t[i];
+        if within(b'0', b'9', c) {
+            v = v * DECIMAL + (c - b'0') as u64;
+            i += 1;
+        } else {
+            return Run { end: i, value: v };
+        }
+    }
+    Run { end: i, value: v }
+}
+
 // Where the sign at a place ends, if one is there.
 pub fn sign_end(t: &[u8], from: usize) -> usize
     ensures { λ r. ⌜ r ≡ from + sign (drop from (now (t .entry))) ⌝ }
@@ -154,7 +185,7 @@ fn magnitude_at(t: &[u8], from: usize, radix: u64) -> Magnitude
 }
 
 // The signed number of a magnitude.
-fn small(neg: bool, m: u64) -> i64
+pub fn small(neg: bool, m: u64) -> i64
     requires { ⌜ m < top neg ⌝ }
     ensures { λ r. ⌜ r ≡ signed neg m ⌝ }
 {

@@ -6,5 +6,7 @@ pub mod Call
 pub mod Inside
 pub mod Zero
 pub mod Plain
+pub mod Ascii
+pub mod PlainReals
 pub mod PlainPlaces
 pub mod AfterPlus

@@ -29,11 +29,11 @@ use lib.Dec.{eqb, ltb}
 use native.Mathlib.Omega.{arith}
 use borrow.Author.Tests.{eq-eqb, ne-eqb, lt-ltb, le-ltb, le-leb, eqb-true, ltb-true}
 
-abbrev All : (ℕ → Type 0) → List ℕ → Type 0
+abbrev pub All : (ℕ → Type 0) → List ℕ → Type 0
 All P [] = Unit {0}
 All P (c ∷ s) = P c × All P s
 
-all-map : (P Q : ℕ → Type 0) → ((c : ℕ) → P c → Q c) → (s : List ℕ) → All P s → All Q s
+pub all-map : (P Q : ℕ → Type 0) → ((c : ℕ) → P c → Q c) → (s : List ℕ) → All P s → All Q s
 all-map P Q f [] h = tt
 all-map P Q f (c ∷ s) h = (f c (h .0), all-map P Q f s (h .1))
 
@@ -41,7 +41,7 @@ all-map P Q f (c ∷ s) h = (f c (h .0), all-map P Q f s (h .1))
 abbrev Digit : ℕ → Type 0
 Digit c = (code "0" ≤ c) × (c ≤ code "9")
 
-abbrev Numeral : ℕ → Type 0
+abbrev pub Numeral : ℕ → Type 0
 Numeral c = (code "." ≤ c) × (c ≤ code "9")
 
 digit-is : (c : ℕ) → ltb (digitOf c) 10 ≡ true → Digit c
@@ -61,11 +61,11 @@ digits-all (c ∷ s) h = by-bool (ltb (digitOf c) 10)
     (λ e. let k : 0 ≡ suc (length s) = rw (e, span) at h in absurd (omega arith))
 
 module _ (s : List ℕ) (h : uinteger 10 s ≡ true) where
-  some : 0 < length s
+  pub some : 0 < length s
   unfolding uinteger
   some = by-bool (ltb 0 (length s)) (λ e. ltb-true _ _ e) (λ e. no-yes (rw e at h))
 
-  whole : digits 10 s ≡ length s
+  pub whole : digits 10 s ≡ length s
   unfolding uinteger
   whole = eqb-true _ _ (rw (lt-ltb 0 (length s) some) at h)
 
@@ -101,7 +101,7 @@ ratio-numerals (c ∷ s) h =
     ((omega arith, omega arith), uinteger-numerals s (and-true (ltb (code "0") (getD s 0 0)) (uinteger 10 s) (a .1) .1))
 
 -- the three shapes
-by-shape : {A : Type 0} (s : List ℕ) → unsignedPlain s ≡ true → (uinteger 10 s ≡ true → A) → (fraction (drop (digits 10 s) s) ≡ true → A)
+pub by-shape : {A : Type 0} (s : List ℕ) → unsignedPlain s ≡ true → (uinteger 10 s ≡ true → A) → (fraction (drop (digits 10 s) s) ≡ true → A)
     → (0 < digits 10 s → ratio (drop (digits 10 s) s) ≡ true → A) → A
 by-shape s h f g k = by-bool (uinteger 10 s) f
     (λ e. let x = rw e at h in by-bool (fraction (drop (digits 10 s) s)) g
@@ -114,27 +114,30 @@ plain-numerals s h =
 
 -- ---- what numerals are not
 
-abbrev Avoids : ℕ → List ℕ → Type 0
+abbrev pub Avoids : ℕ → List ℕ → Type 0
 Avoids b s = All (λ c. c ≡ b → ⊥) s
 
-before-all : (b : ℕ) (s : List ℕ) → Avoids b s → before b s ≡ length s
+pub before-all : (b : ℕ) (s : List ℕ) → Avoids b s → before b s ≡ length s
 unfolding span
 before-all b [] h = refl
 before-all b (c ∷ s) h = simp (ne-eqb c b (h .0)) (ap suc (before-all b s (h .1)))
 
-sign-all : (skip : Bool) (s : List ℕ) → Avoids (code "+") s → Avoids (code "-") s → toSign skip s ≡ length s
+pub sign-all : (skip : Bool) (s : List ℕ) → Avoids (code "+") s → Avoids (code "-") s → toSign skip s ≡ length s
 unfolding toSign
 sign-all true [] h g = refl
 sign-all false [] h g = refl
 sign-all true (c ∷ s) h g = ap suc (sign-all false s (h .1) (g .1))
 sign-all false (c ∷ s) h g = simp (ne-eqb c (code "+") (h .0), ne-eqb c (code "-") (g .0)) (ap suc (sign-all _ s (h .1) (g .1)))
 
-avoids-start : (b k : ℕ) (s : List ℕ) → Avoids b s → starts b (drop k s) ≡ false
+pub avoids-start : (b k : ℕ) (s : List ℕ) → Avoids b s → starts b (drop k s) ≡ false
 unfolding starts
 avoids-start b zero [] h = refl
 avoids-start b (suc k) [] h = refl
 avoids-start b zero (c ∷ s) h = ne-eqb c b (h .0)
 avoids-start b (suc k) (c ∷ s) h = avoids-start b k s (h .1)
+
+pub uinteger-avoids : (s : List ℕ) → uinteger 10 s ≡ true → Avoids (code "/") s
+uinteger-avoids s h = all-map Digit (λ d. d ≡ code "/" → ⊥) (λ d n e. omega arith) s (uinteger-digits s h)
 
 -- ---- a first character, which may be a sign, and numerals are one real
 
@@ -162,7 +165,7 @@ module _ (c : ℕ) (s : List ℕ) (l : code "+" ≤ c) (u : c ≤ code "9") (h :
 
 -- ---- the real, and no zero denominator
 
-abbrev Good : MaybeReal → Type 0
+abbrev pub Good : MaybeReal → Type 0
 Good (AReal r) = zeroReal r ≡ false
 Good NoReal = ⊥
 
@@ -212,7 +215,7 @@ whole-good : (neg : Bool) (p : ℕ) (s : List ℕ) → uinteger 10 s ≡ true �
 unfolding wholeOf
 whole-good neg p s h = rw h tt
 
-before-slash : (s : List ℕ) → starts (code "/") (drop (digits 10 s) s) ≡ true → before (code "/") s ≡ digits 10 s
+pub before-slash : (s : List ℕ) → starts (code "/") (drop (digits 10 s) s) ≡ true → before (code "/") s ≡ digits 10 s
 unfolding span starts
 before-slash [] h = refl
 before-slash (c ∷ s) h = by-bool (ltb (digitOf c) 10)
@@ -246,16 +249,16 @@ denominator-good q (c ∷ s) h g =
 
 module _ (neg : Bool) (p : ℕ) (s : List ℕ) where
   -- digits alone are no decimal, for want of a dot
-  no-decimal : uinteger 10 s ≡ true → decimal neg p s ≡ NoReal
+  pub no-decimal : uinteger 10 s ≡ true → decimal neg p s ≡ NoReal
   unfolding decimal starts suffix undotted
   no-decimal h = simp (whole s h, drop-length s)
 
   integer-good : uinteger 10 s ≡ true → Good (exact 10 neg p s)
   unfolding exact integralOf wholeOf zeroReal
   integer-good h =
-      simp (before-all (code "/") s (all-map Digit (λ d. d ≡ code "/" → ⊥) (λ d n e. omega arith) s (uinteger-digits s h)), le-ltb (length s) (length s) (omega arith), h) refl
+      simp (before-all (code "/") s (uinteger-avoids s h), le-ltb (length s) (length s) (omega arith), h) refl
 
-  decimal-good : fraction (drop (digits 10 s) s) ≡ true → Good (decimal neg p s)
+  pub decimal-good : fraction (drop (digits 10 s) s) ≡ true → Good (decimal neg p s)
   unfolding decimal
   decimal-good h =
       let n : ℕ = digits 10 s in
@@ -263,7 +266,7 @@ module _ (neg : Bool) (p : ℕ) (s : List ℕ) where
       rw (a .0) (dotted-good neg p n (p + n + 1) (drop (n + 1) s) (ap (uinteger 10) (sym (drop-drop 1 n s)) ∙ a .1))
 
   -- digits and a slash are no decimal either
-  ratio-decimal : ratio (drop (digits 10 s) s) ≡ true → decimal neg p s ≡ NoReal
+  pub ratio-decimal : ratio (drop (digits 10 s) s) ≡ true → decimal neg p s ≡ NoReal
   unfolding decimal starts suffix undotted exponentMarker
   ratio-decimal h = at-slash (drop (digits 10 s) s) (and-true (starts (code "/") (drop (digits 10 s) s)) _ h .0)
     where
@@ -290,7 +293,7 @@ module _ (neg : Bool) (p : ℕ) (s : List ℕ) where
       (λ e. good-or (decimal neg p s) (exact 10 neg p s) (decimal-good e))
       (λ k e. or-good (decimal neg p s) (exact 10 neg p s) (rw (ratio-decimal e) tt) (ratio-good k e))
 
-real-good : (s : List ℕ) → plain s ≡ true → Good (real 10 0 s)
+pub real-good : (s : List ℕ) → plain s ≡ true → Good (real 10 0 s)
 unfolding real plain
 real-good s h = or-good (infnan s) (ureal 10 (negative s) (0 + sign s) (drop (sign s) s)) (infnan-harmless s) (ureal-good (negative s) (0 + sign s) (drop (sign s) s) h)
 
@@ -301,14 +304,22 @@ good-number NoReal h = absurd h
 
 -- ---- the sign taken off
 
-plain-one : (s : List ℕ) → plain s ≡ true → parseNumber s ≡ judged (justOf (real 10 0 s))
-unfolding plain sign uinteger starts span
-plain-one [] h = no-yes h
-plain-one (c ∷ s) h = by-bool (eqb c (code "+"))
-    (λ e. let d = eqb-true c (code "+") e in one-real c s (omega arith) (omega arith) (plain-numerals s (rw (e, sign) at h)))
+-- a first character, which may be a sign, and numerals
+pub plain-first : (c : ℕ) (s : List ℕ) → plain (c ∷ s) ≡ true → (code "+" ≤ c) × (c ≤ code "9") × All Numeral s
+unfolding plain sign
+plain-first c s h = by-bool (eqb c (code "+"))
+    (λ e. let d = eqb-true c (code "+") e in (omega arith, omega arith, plain-numerals s (rw (e, sign) at h)))
     (λ e. by-bool (eqb c (code "-"))
-    (λ f. let d = eqb-true c (code "-") f in one-real c s (omega arith) (omega arith) (plain-numerals s (simp (e, f) at h)))
-    (λ f. let n = plain-numerals (c ∷ s) (simp (e, f) at h) in one-real c s (omega arith) (omega arith) (n .1)))
+    (λ f. let d = eqb-true c (code "-") f in (omega arith, omega arith, plain-numerals s (simp (e, f) at h)))
+    (λ f. let n = plain-numerals (c ∷ s) (simp (e, f) at h) in (omega arith, n .0 .1, n .1)))
+
+pub plain-some : plain [] ≡ false
+unfolding plain sign uinteger starts span
+plain-some = refl
+
+pub plain-one : (s : List ℕ) → plain s ≡ true → parseNumber s ≡ judged (justOf (real 10 0 s))
+plain-one [] h = no-yes (sym plain-some ∙ h)
+plain-one (c ∷ s) h = let n = plain-first c s h in one-real c s (n .0) (n .1) (n .2)
 
 pub plain-is : (s : List ℕ) → plain s ≡ true → (p : Parts) × (parseNumber s ≡ Is p)
 plain-is s h = let g = good-number (real 10 0 s) (real-good s h) in (g .0, plain-one s h ∙ g .1)

@@ -6,19 +6,23 @@ use Rattle.numbers.specs.declared.MaybeReal.{MaybeReal}
 use Rattle.numbers.specs.declared.MaybeReal.the-variants.{AReal, NoReal}
 use Rattle.numbers.specs.Reals.{decimal, pointIn, oneDecimal, infnan, integralOf, rationalOf, denominator, exact, orElse, ureal, real}
 use Rattle.laws.specs.Quoted.{codes, code}
-use Rattle.laws.specs.Texts.{before, starts, same}
-use Rattle.laws.proofs.Places.{cut-before, cut-at, cut-after, cut-in, cut-out}
+use Rattle.laws.specs.Texts.{span, before, starts, same}
+use Rattle.laws.proofs.Choice.{by-bool, if-all}
+use Rattle.laws.proofs.Places.{past, here, cut-before, cut-at, cut-after, cut-in, cut-out}
 use Rattle.digits.specs.declared.Int.{Int}
 use Rattle.digits.specs.declared.MaybeInt.{MaybeInt}
 use Rattle.digits.specs.declared.MaybeInt.the-variants.{AnInt, NoInt}
-use Rattle.digits.specs.Digits.{sign, wholeOf, integer}
-use Prim.Native.Nat.{ℕ, _+_, _≤_, _<_}
-use mathlib.Core.Path.{_≡_, ap, _∙_}
+use Rattle.digits.specs.Digits.{digitOf, digits, sign, uinteger, wholeOf, integer}
+use Prim.Native.Nat.{ℕ, zero, suc, _+_, _≤_, _<_}
+use mathlib.Core.Path.{_≡_, refl, sym, ap, _∙_}
 use mathlib.Core.Bool.{Bool, true, false}
-use mathlib.Core.List.{List}
-use lib.ListN.{length, take, drop}
+use mathlib.Core.List.{List, [], _∷_}
+use lib.ListN.{length, getD, take, drop}
+use lib.Seq.{take-length}
+use lib.Dec.{eqb, ltb, leb}
 use native.Mathlib.Nat.{zero-add}
-use borrow.Author.Tests.{eq-eqb, ne-eqb}
+use native.Mathlib.Omega.{arith}
+use borrow.Author.Tests.{eq-eqb, ne-eqb, lt-ltb, le-leb, lt-leb, eqb-true, ltb-true, ltb-false}
 
 module _ (s : List ℕ) where
   pub infnan-1 : true ≡ same s (codes "+inf.0") → AReal PosInf ≡ infnan s
@@ -70,6 +74,35 @@ module _ (n d : MaybeInt) where
 pub denominator-is : (R p : ℕ) (s : List ℕ) {d : MaybeInt} → d ≡ integer R p s → d ≡ denominator R p s
 unfolding denominator
 denominator-is R p s e = e
+
+-- what begins with no digit is neither
+module _ (R : ℕ) (neg : Bool) where
+  whole-none : (p k : ℕ) (s : List ℕ) → digits R s ≡ 0 → wholeOf R neg p (take k s) ≡ NoInt
+  unfolding wholeOf uinteger span
+  whole-none p zero s h = refl
+  whole-none p (suc k) [] h = refl
+  whole-none p (suc k) (c ∷ s) h = by-bool (ltb (digitOf c) R)
+      (λ e. let k : suc (digits R s) ≡ 0 = rw (e, span) at h in absurd (omega arith))
+      (λ e. simp (e, lt-ltb 0 (suc (length (take k s))) (omega arith), ne-eqb 0 (suc (length (take k s))) (λ z. omega arith)))
+
+  pub exact-none : (p : ℕ) (s : List ℕ) → true ≡ eqb (digits R s) 0 → NoReal ≡ exact R neg p s
+  unfolding exact integralOf rationalOf
+  exact-none p s h =
+      let z = eqb-true (digits R s) 0 (sym h) in
+      let w : wholeOf R neg p s ≡ NoInt = rw (take-length s) at (whole-none p (length s) s z) in
+      rw (whole-none p (before (code "/") s) s z, w) (if-all (λ x. NoReal ≡ x) (ltb (before (code "/") s) (length s)) refl refl)
+
+-- whether no digit stands at a place
+module _ (R : ℕ) (t : List ℕ) (p : ℕ) where
+  pub no-digit-past : length t ≤ p → true ≡ eqb (digits R (drop p t)) 0
+  unfolding span
+  no-digit-past h = simp (past t p h)
+
+  pub no-digit-here : p < length t → (d : ℕ) → d ≡ digitOf (getD t p 0) → leb R d ≡ eqb (digits R (drop p t)) 0
+  unfolding span
+  no-digit-here h d e = rw (e, here t p h) (by-bool (ltb (digitOf (getD t p 0)) R)
+      (λ b. simp (b, lt-leb R (digitOf (getD t p 0)) (ltb-true (digitOf (getD t p 0)) R b), ne-eqb (suc (digits R (drop (p + 1) t))) 0 (λ z. omega arith)))
+      (λ b. simp (b, le-leb R (digitOf (getD t p 0)) (ltb-false (digitOf (getD t p 0)) R b))))
 
 -- a rational or an integer, the first slash at k
 module _ (R : ℕ) (neg : Bool) (t : List ℕ) (p k : ℕ) (e : k ≡ p + before (code "/") (drop p t)) (r : MaybeReal) (n : MaybeInt) where

@@ -1,13 +1,17 @@
 -- The plainest numbers: `14`, `-14`, `14.7` and `1/2`. Each is a number (proofs/Plain, plain-is), so a text of this shape need not be
 -- taken apart to know that it is one.
-use Prim.Native.Nat.{ℕ}
+use Prim.Native.Nat.{ℕ, _-_}
 use mathlib.Core.Bool.{Bool, _&&_, _||_}
 use mathlib.Core.List.{List}
-use lib.ListN.{getD, drop}
-use lib.Dec.{ltb}
+use lib.ListN.{length, getD, drop}
+use lib.Dec.{ltb, leb}
+use Rattle.laws.specs.Choice.{if_then_else_}
 use Rattle.laws.specs.Quoted.{code}
 use Rattle.laws.specs.Texts.{starts}
-use Rattle.digits.specs.Digits.{digits, sign, uinteger}
+use Rattle.digits.specs.Digits.{digits, sign, uinteger, short}
+use Rattle.numbers.specs.declared.MaybeReal.{MaybeReal}
+use Rattle.numbers.specs.declared.MaybeReal.the-variants.{NoReal}
+use Rattle.numbers.specs.Reals.{real}
 
 -- a dot, and digits after it
 abbrev pub fraction : List ℕ → Bool
@@ -23,3 +27,11 @@ unsignedPlain s = uinteger 10 s || (fraction (drop (digits 10 s) s) || (ltb 0 (d
 
 unfoldable pub plain : List ℕ → Bool
 plain s = unsignedPlain (drop (sign s) s)
+
+-- the real that one of the plainest numbers is
+unfoldable pub plainReal : List ℕ → MaybeReal
+plainReal s = if plain s then real 10 0 s else NoReal
+
+-- whether a text may be one of them by its length and its two ends: it is short, and past `9` no character is theirs
+unfoldable pub brief : List ℕ → Bool
+brief s = ltb 0 (length s) && (leb (length s) short && (leb (getD s (length s - 1) 0) (code "9") && leb (getD s 0 0) (code "9")))

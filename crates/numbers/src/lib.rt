@@ -13,9 +13,12 @@ ghost use Rattle.numbers.specs.Plain.{fraction, ratio, plain};
 ghost use Rattle.numbers.specs.Call.{answered, given, number};
 
 mod complexes;
+mod plainest;
 mod plus;
 mod reals;
 
+pub use plainest::is_brief;
+pub use plainest::plain_real;
 pub use plus::plus_number;
 pub use reals::one_decimal;
 
@@ -295,12 +298,20 @@ pub fn serve(p: Parsed) -> NumberAnswer
     }
 }
 
-// The number call on any bytes.
+// The number call on any bytes. One of the plainest numbers is ASCII, so its text need not be asked whether it is UTF-8.
 pub fn number(t: &[u8]) -> NumberAnswer
     ensures { λ r. ⌜ answered r ≡ number (now (t .entry)) ⌝ }
 {
     if LIMIT < t.len() {
         return NumberAnswer::TooLong;
+    }
+    if is_brief(t) {
+        match plain_real(t) {
+            MaybeReal::AReal(x) => {
+                return NumberAnswer::Is(Parts::Just(x));
+            }
+            MaybeReal::NoReal => {}
+        }
     }
     match chars::first_bad(t) {
         Utf8::Bad(at) => NumberAnswer::NotUtf8(at),

@@ -10,7 +10,9 @@ use digits::MaybeInt;
 use digits::Span;
 ghost use mathlib.Core.Path.{_≡_};
 ghost use Prim.Native.Nat.{_-_, _≤_};
+ghost use lib.Dec.{eqb};
 ghost use lib.ListN.{drop};
+ghost use Rattle.digits.specs.Digits.{digits};
 ghost use Rattle.numbers.specs.Reals.{exponentMarker, exponent, suffix, pointOf, dotted, undotted, decimal, pointIn, oneDecimal, infnan, integralOf, rationalOf, denominator, exact, ureal, real};
 
 // Whether a byte marks an exponent.
@@ -55,7 +57,7 @@ fn suffix_at(t: &[u8], from: usize) -> Suffix
 }
 
 // A decimal of its sign, the places of its digits and its suffix.
-fn point_of(negative: bool, whole: Span, fraction: Span, x: Suffix) -> MaybeReal
+pub(crate) fn point_of(negative: bool, whole: Span, fraction: Span, x: Suffix) -> MaybeReal
     ensures { λ r. ⌜ r ≡ pointOf negative whole fraction x ⌝ }
 {
     match x {
@@ -210,11 +212,24 @@ fn denominator_at(t: &[u8], from: usize, radix: u64) -> MaybeInt
     digits::integer(t, from, radix)
 }
 
+// Whether no digit stands at a place.
+fn no_digit_at(t: &[u8], from: usize, radix: u64) -> bool
+    ensures { λ r. ⌜ r ≡ eqb (digits radix (drop from (now (t .entry)))) 0 ⌝ }
+{
+    if t.len() <= from {
+        return true;
+    }
+    radix <= digits::digit(t[from])
+}
+
 // The integer or rational from a place on, after its sign.
-fn exact_at(t: &[u8], from: usize, radix: u64, neg: bool) -> MaybeReal
+pub(crate) fn exact_at(t: &[u8], from: usize, radix: u64, neg: bool) -> MaybeReal
     requires { ⌜ (1 ≤ radix) × (radix ≤ 16) ⌝ }
     ensures { λ r. ⌜ r ≡ exact radix neg from (drop from (now (t .entry))) ⌝ }
 {
+    if no_digit_at(t, from, radix) {
+        return MaybeReal::NoReal;
+    }
     let k = texts::find(t, from, b'/');
     if k < t.len() {
         rational(

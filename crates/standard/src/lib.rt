@@ -3,8 +3,10 @@
 // standard's grammar, and on which texts the two differ. A part of the text is a slice that starts where the text starts, so that an
 // index is a place of the text, and the place where the part starts.
 use chars::Utf8;
+use numbers::MaybeReal;
 use numbers::NumberAnswer;
 use numbers::Parsed;
+use numbers::Parts;
 use refusal::LIMIT;
 ghost use mathlib.Core.Path.{_≡_};
 ghost use Rattle.numbers.specs.Call.{answered};
@@ -50,12 +52,20 @@ pub fn parse_standard(t: &[u8]) -> Parsed
     }
 }
 
-// The number call with the standard's reader on any bytes.
+// The number call with the standard's reader on any bytes. Both readers answer the plainest numbers alike.
 fn by_standard(t: &[u8]) -> NumberAnswer
     ensures { λ r. ⌜ answered r ≡ byStandard (now (t .entry)) ⌝ }
 {
     if LIMIT < t.len() {
         return NumberAnswer::TooLong;
+    }
+    if numbers::is_brief(t) {
+        match numbers::plain_real(t) {
+            MaybeReal::AReal(x) => {
+                return NumberAnswer::Is(Parts::Just(x));
+            }
+            MaybeReal::NoReal => {}
+        }
     }
     match chars::first_bad(t) {
         Utf8::Bad(at) => NumberAnswer::NotUtf8(at),
