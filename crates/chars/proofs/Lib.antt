@@ -15,3 +15,4 @@ pub mod FirstBad
 pub mod Ascii
 pub mod Lay
 pub mod Blanks
+pub mod Wide

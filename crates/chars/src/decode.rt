@@ -3,6 +3,7 @@ use crate::Begun;
 use crate::Decoded;
 use crate::Step;
 use crate::Utf8;
+use crate::letters::wide_at;
 ghost use mathlib.Core.Path.{_≡_};
 ghost use Prim.Native.Nat.{_+_};
 ghost use lib.Dec.{leb};
@@ -12,9 +13,9 @@ ghost use Rattle.chars.specs.Utf8.{ascii, first, placed, front, firstBad
 ghost use Rattle.chars.specs.Machine.{step};
 
 // UTF8-tail, and the six bits that it holds.
-const TAIL_LOW: u8 = 0x80;
+pub(crate) const TAIL_LOW: u8 = 0x80;
 
-const TAIL_HIGH: u8 = 0xBF;
+pub(crate) const TAIL_HIGH: u8 = 0xBF;
 
 const SIX_BITS: u8 = 64;
 
@@ -198,26 +199,36 @@ fn ascii_end(s: &[u8], at: usize) -> usize
     i
 }
 
-// Whether a text is UTF-8, else where its first bad sequence starts: refusal 21 and its place.
+// Whether a text is UTF-8, else where its first bad sequence starts: refusal 21 and its place. A character is passed by the direct tests;
+// what they leave is read byte by byte.
 pub fn first_bad(s: &[u8]) -> Utf8
     ensures { λ r. ⌜ r ≡ firstBad (now (s .entry)) ⌝ }
 {
     let mut i = 0;
     while i < s.len() {
-        let j = ascii_end(s, i);
-        match decode_at(s, j) {
-            Decoded::Char { code: _, next } => {
-                i = next;
+        let n = wide_at(s, i);
+        if n == 0 {
+            let j = ascii_end(s, i);
+            if i < j {
+                i = j;
+            } else {
+                match decode_at(s, j) {
+                    Decoded::Char { code: _, next } => {
+                        i = next;
+                    }
+                    Decoded::Bad => {
+                        return Utf8::Bad(j);
+                    }
+                    Decoded::Cut => {
+                        return Utf8::Bad(j);
+                    }
+                    Decoded::End => {
+                        return Utf8::Good;
+                    }
+                }
             }
-            Decoded::Bad => {
-                return Utf8::Bad(j);
-            }
-            Decoded::Cut => {
-                return Utf8::Bad(j);
-            }
-            Decoded::End => {
-                return Utf8::Good;
-            }
+        } else {
+            i += n;
         }
     }
     Utf8::Good
