@@ -16,3 +16,4 @@ pub mod Ascii
 pub mod Lay
 pub mod Blanks
 pub mod Wide
+pub mod Pairs

@@ -1,7 +1,7 @@
 -- A character past ASCII by direct tests of its bytes: what they say is what the table says.
 use Prim.Native.Nat.{ℕ, zero, suc, _+_, _-_, _*_, _/_, _%_, _≤_, _<_}
 use native.Mathlib.Omega.{arith}
-use mathlib.Core.Path.{_≡_, sym, ap, subst, _∙_}
+use mathlib.Core.Path.{_≡_, refl, sym, ap, subst, _∙_}
 use mathlib.Core.List.{List, [], _∷_}
 use mathlib.Core.Bool.{true, false}
 use lib.Dec.{eqb, ltb}
@@ -10,8 +10,8 @@ use lib.Seq.{drop-cons, drop-drop}
 use borrow.Author.Tests.{eqb-true, eqb-false, ltb-true, ltb-false}
 use Rattle.laws.specs.Quoted.{within}
 use Rattle.laws.proofs.Choice.{by-bool, within-is}
-use Rattle.chars.specs.Utf8.{more, first, char, sequences, verdict}
-use Rattle.chars.specs.Wide.{second3, second4, PastAscii, Wide, Solid}
+use Rattle.chars.specs.Utf8.{more, first, char, front, sequences, verdict}
+use Rattle.chars.specs.Wide.{second3, second4, PastAscii, Wide, Wides, empty, longer, Solid, Passed}
 use Rattle.chars.proofs.Table.{within-in, first-c2, first-e0, first-e1, first-ed, first-ee, first-f0, first-f1, first-f4}
 use Rattle.chars.proofs.Sequences.{char-some, sequences-char}
 use Rattle.chars.specs.Blank.{isBlank}
@@ -126,11 +126,27 @@ is-past l (suc n) h w = w
 pub past-fits : (l : List ℕ) (n : ℕ) → PastAscii l n → n ≤ length l
 past-fits l n w = subst (Spells l) (w .reads) (spells l) .2
 
--- the verdict is that on the text past the character
-pub wide-pass : (s : List ℕ) (at n : ℕ) → PastAscii (drop at s) n
-    → verdict (sequences 0 (at + n) (drop (at + n) s)) ≡ verdict (sequences 0 at (drop at s))
-wide-pass s at n w =
-    sym (ap verdict (sequences-char at (drop at s) (w .letter) n (w .reads)) ∙ ap (λ (l : List ℕ). verdict (sequences 0 (at + n) l)) (drop-drop n at s))
+-- ---- passing
+
+pub passed-none : (s : List ℕ) (at : ℕ) → Passed s at at
+passed-none s at = (omega arith, refl)
+
+pub passed-on : (s : List ℕ) (at m r : ℕ) → Passed s at m → Passed s m r → Passed s at r
+passed-on s at m r x y = (omega (arith, x .0, y .0), y .1 ∙ x .1)
+
+passed-char : (s : List ℕ) (at c n : ℕ) → front (drop at s) ≡ char c n → Passed s at (at + n)
+passed-char s at c n e =
+    (omega arith, sym (ap verdict (sequences-char at (drop at s) c n e) ∙ ap (λ (l : List ℕ). verdict (sequences 0 (at + n) l)) (drop-drop n at s)))
+
+pub passed-wide : (s : List ℕ) (at n : ℕ) → PastAscii (drop at s) n → Passed s at (at + n)
+passed-wide s at n w = passed-char s at (w .letter) n (w .reads)
+
+pub passed-wides : (s : List ℕ) (at r : ℕ) → Wides s at r → Passed s at r
+passed-wides s at r empty = passed-none s at
+passed-wides s at r (longer {m} {n} x w) = passed-on s at m (m + n) (passed-wides s at m x) (passed-wide s m n w)
+
+pub passed-small : (s : List ℕ) (at : ℕ) → at < length s → getD s at 0 < 0x80 → Passed s at (at + 1)
+passed-small s at h l = passed-char s at (getD s at 0) 1 (rw (first-byte s at h) (one-read (getD s at 0) (drop (at + 1) s) l))
 
 -- ---- a first byte that no blank has
 

@@ -6,7 +6,7 @@ ghost use mathlib.Core.Path.{_≡_};
 ghost use Prim.Native.Nat.{_≤_, _<_};
 ghost use lib.ListN.{length, getD, drop};
 ghost use Rattle.laws.specs.Quoted.{within};
-ghost use Rattle.chars.specs.Wide.{second3, second4, Wide, Solid};
+ghost use Rattle.chars.specs.Wide.{second3, second4, Wide, Wides, Solid};
 
 // Whether a byte is one of those from a to b.
 pub fn between(a: u8, b: u8, c: u8) -> bool
@@ -107,7 +107,7 @@ fn four_at(s: &[u8], at: usize) -> usize
 }
 
 // How many bytes the character past ASCII has that stands at a place; 0 where none stands there.
-pub fn wide_at(s: &[u8], at: usize) -> usize
+fn wide_at(s: &[u8], at: usize) -> usize
     ensures { λ r. ⌜ Wide (drop at (now (s .entry))) r ⌝ }
 {
     if s.len() <= at {
@@ -126,7 +126,21 @@ pub fn wide_at(s: &[u8], at: usize) -> usize
     four_at(s, at)
 }
 
-// The same, where the character's first byte tells that it is no blank: those past ASCII begin with one of four.
+// Past the characters past ASCII from a place on.
+pub fn wide_end(s: &[u8], from: usize) -> usize
+    ensures { λ r. ⌜ Wides (now (s .entry)) from r ⌝ }
+{
+    let mut i = from;
+    loop {
+        let n = wide_at(s, i);
+        if n == 0 {
+            return i;
+        }
+        i += n;
+    }
+}
+
+// As `wide_at`, where the character's first byte tells that it is no blank: those past ASCII begin with one of four.
 pub fn letter_at(s: &[u8], at: usize) -> usize
     ensures { λ r. ⌜ Wide (drop at (now (s .entry))) r × Solid (drop at (now (s .entry))) r ⌝ }
 {

@@ -52,4 +52,4 @@ pub use encode::is_scalar;
 pub use encode::put_char;
 pub use letters::between;
 pub use letters::letter_at;
-pub use letters::wide_at;
+pub use letters::wide_end;

@@ -10,7 +10,7 @@ use borrow.Author.Tests.{ne-eqb}
 use Rattle.laws.specs.Quoted.{code}
 use Rattle.laws.specs.Texts.{span}
 use Rattle.chars.specs.Blank.{isBlank}
-use Rattle.chars.specs.Wide.{PastAscii}
+use Rattle.chars.specs.Wide.{PastAscii, Wides, empty, longer}
 use Rattle.chars.proofs.Chars.{char-at}
 use Rattle.texts.specs.Runs.{plain}
 use Rattle.items.specs.declared.Phase.{Phase}
@@ -39,6 +39,12 @@ pub passes-letter : (s : List ℕ) (p : Phase) (at n : ℕ) → at ≤ length s 
 passes-letter s p at n h w stays =
     let k = char-at s at (w .letter) (at + n) (rw (w .reads)) h in
     (omega arith, k .inside, λ report a b. turn-eat s report a p at (w .letter) (at + n) k p b (stays report _))
+
+pub passes-wides : (s : List ℕ) (p : Phase) (at r : ℕ) → Lasts p → at ≤ length s → Wides s at r → Passes s p at r
+passes-wides s p at r k h empty = passes-none s p at h
+passes-wides s p at r k h (longer {m} {n} x w) =
+    let y = passes-wides s p at m k h x in
+    passes-on s p at m (m + n) y (passes-letter s p m n (y .1) w (λ report i. k report i (w .letter) (w .past)))
 
 pub passes-plain : (s : List ℕ) (p : Phase) (a b at r : ℕ) → Holds p a b → at ≤ length s → r ≡ at + span (plain a b) (drop at s) → Passes s p at r
 passes-plain s p a b at r holds h e =

@@ -4,7 +4,7 @@ use crate::words::breaks_word;
 use crate::words::stays_run;
 use chars::between;
 use chars::letter_at;
-use chars::wide_at;
+use chars::wide_end;
 use items::Phase;
 use items::Quotes;
 use texts::plain_end;
@@ -18,7 +18,7 @@ ghost use Rattle.items.specs.declared.Phase.{Phase};
 ghost use Rattle.items.specs.declared.Phase.the-variants.{InWord};
 ghost use Rattle.steps.specs.Runs.{ofWord, ofRun, keeps};
 ghost use Rattle.steps.specs.Scan.{Passes};
-ghost use Rattle.steps.specs.Held.{Lasts, Holds};
+ghost use Rattle.steps.specs.Held.{Holds};
 
 // Below it a byte is a character of ASCII.
 pub(crate) const ASCII_END: u8 = 0x80;
@@ -119,21 +119,6 @@ pub fn ascii_run(s: &[u8], at: usize, phase: Phase) -> usize
     }
 }
 
-// Past the characters past ASCII from a place on.
-fn past_letters(s: &[u8], from: usize) -> usize
-    requires { ⌜ from ≤ length (now s) ⌝ }
-    ensures { λ r. ⌜ ((p : Phase) → Lasts p → Passes (now (s .entry)) p from r) ⌝ }
-{
-    let mut i = from;
-    loop {
-        let n = wide_at(s, i);
-        if n == 0 {
-            return i;
-        }
-        i += n;
-    }
-}
-
 // Past the run, from a place on, of the characters that are neither a nor b, which are of ASCII.
 pub(crate) fn past_plain(s: &[u8], from: usize, a: u8, b: u8) -> usize
     requires { ⌜ from ≤ length (now s) ⌝ }
@@ -142,7 +127,7 @@ pub(crate) fn past_plain(s: &[u8], from: usize, a: u8, b: u8) -> usize
     let mut i = from;
     loop {
         let j = plain_end(s, i, a, b);
-        let k = past_letters(s, j);
+        let k = wide_end(s, j);
         if k <= j {
             return k;
         }

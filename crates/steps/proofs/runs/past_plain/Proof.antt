@@ -10,7 +10,7 @@ use Rattle.items.specs.declared.Phase.{Phase}
 use Rattle.items.specs.declared.Phase.the-variants as ph
 use Rattle.steps.specs.Scan.{Passes}
 use Rattle.steps.specs.Held.{Holds}
-use Rattle.steps.proofs.Letters.{passes-none, passes-on, passes-plain, line-lasts}
+use Rattle.steps.proofs.Letters.{passes-none, passes-on, passes-plain, passes-wides, line-lasts}
 use Rattle.steps.proofs.runs.past_plain.Statement.{statement}
 use Rattle.steps.proofs.runs.past_plain.Tie as tie
 
@@ -31,19 +31,19 @@ inside c =
       length-drop (c .before .loop .i) (now (f .s)),
     )
 
-within : (c : tie.After-past-letters Inv-loop μ-loop) → c .past-letters .result ≤ length (now (c .before .before .before .before .args .s))
-within c = c .past-letters .ensures ph.InLine line-lasts .1
+within : (c : tie.After-wide-end Inv-loop μ-loop) → c .wide-end .result ≤ length (now (c .before .before .before .before .args .s))
+within c = passes-wides _ ph.InLine _ _ line-lasts (inside (c .before)) (c .wide-end .ensures) .1
 
-far : (c : tie.After-past-letters Inv-loop μ-loop) (p : Phase) → Holds p (c .before .before .before .before .args .a) (c .before .before .before .before .args .b)
-    → Passes (now (c .before .before .before .before .args .s)) p (c .before .before .before .before .args .from) (c .past-letters .result)
+far : (c : tie.After-wide-end Inv-loop μ-loop) (p : Phase) → Holds p (c .before .before .before .before .args .a) (c .before .before .before .before .args .b)
+    → Passes (now (c .before .before .before .before .args .s)) p (c .before .before .before .before .args .from) (c .wide-end .result)
 far c p h =
     let f = c .before .before .before .before .args in
     let l = c .before .before .loop in
     let j = c .before .plain-end in
-    passes-on (now (f .s)) p (f .from) (j .result) (c .past-letters .result)
+    passes-on (now (f .s)) p (f .from) (j .result) (c .wide-end .result)
     (passes-on (now (f .s)) p (f .from) (l .i) (j .result) (l .inv .1 p h)
     (passes-plain (now (f .s)) p (f .a) (f .b) (l .i) (j .result) h (l .inv .0) (j .ensures)))
-    (c .past-letters .ensures p (h .lasts))
+    (passes-wides (now (f .s)) p (j .result) (c .wide-end .result) (h .lasts) (inside (c .before)) (c .wide-end .ensures))
 
 pub past-plain-spec : {M : Type 1} → statement M
 past-plain-spec =
@@ -53,7 +53,7 @@ past-plain-spec =
     μ-loop
     (λ c. (c .before .pre, λ p h. passes-none _ p _ (c .before .pre)))
     (λ c κs. search needs)
-    (λ c κs. inside c)
+    (λ c κs. search needs)
     (λ c. far (c .before))
     (λ c. omega (arith, within (c .before), c .before .before .plain-end .ensures))
     (λ c. (within (c .before), far (c .before))))
