@@ -4,7 +4,7 @@ use native.Mathlib.Omega.{arith}
 use native.Mathlib.Nat.{add-zero}
 use mathlib.Core.Path.{_≡_, ap, sym, _∙_}
 use mathlib.Core.List.{List, [], _∷_}
-use mathlib.Core.Bool.{true, false, _&&_}
+use mathlib.Core.Bool.{Bool, true, false, _&&_}
 use lib.Bits.{bitOr, or-add-and, and-le-l, and-le-r, or-lt}
 use lib.Dec.{ltb, leb}
 use lib.ListN.{length, getD, drop}
@@ -12,8 +12,9 @@ use lib.Seq.{drop-drop}
 use borrow.Author.Tests.{lt-ltb, le-ltb, ltb-true, ltb-false}
 use Rattle.laws.specs.Texts.{span}
 use Rattle.laws.proofs.Choice.{by-bool, within-is}
-use Rattle.laws.proofs.Blocks.{block-next}
+use Rattle.laws.proofs.Blocks.{block-next, block-on}
 use Rattle.chars.specs.Utf8.{ascii, sequences, verdict}
+use Rattle.chars.specs.Wide.{Passed}
 use Rattle.chars.proofs.Table.{within-in, within-above}
 use Rattle.chars.proofs.Sequences.{sequences-char}
 use Rattle.chars.proofs.Round.{one-read}
@@ -58,5 +59,12 @@ pass (b ∷ l) at = by-bool (ascii b)
     rw e (rw z (pass l (at + 1) ∙ sym (ap verdict (sequences-char at (b ∷ l) b 1 (one-read b l (omega arith)))))))
     (λ e. rw e (rw add-zero))
 
-pub ascii-pass : (s : List ℕ) (i : ℕ) → verdict (sequences 0 (i + span ascii (drop i s)) (drop (i + span ascii (drop i s)) s)) ≡ verdict (sequences 0 i (drop i s))
+ascii-pass : (s : List ℕ) (i : ℕ) → verdict (sequences 0 (i + span ascii (drop i s)) (drop (i + span ascii (drop i s)) s)) ≡ verdict (sequences 0 i (drop i s))
 ascii-pass s i = rw (← drop-drop (span ascii (drop i s)) i s) (pass (drop i s) i)
+
+pub passed-run : (s : List ℕ) (at r : ℕ) → r ≡ at + span ascii (drop at s) → Passed s at r
+passed-run s at r e = (omega (arith, e), ap (λ (k : ℕ). verdict (sequences 0 k (drop k s))) e ∙ ascii-pass s at)
+
+pub passed-block : (s : List ℕ) (at : ℕ) {r : Bool} → r ≡ leb 16 (span ascii (drop at s)) → r ≡ true → Passed s at (at + 16)
+passed-block s at e t =
+    (omega arith, sym (ascii-pass s (at + 16)) ∙ ap (λ (k : ℕ). verdict (sequences 0 k (drop k s))) (block-on ascii s at 16 e t) ∙ ascii-pass s at)

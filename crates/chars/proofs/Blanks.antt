@@ -56,3 +56,9 @@ pub between-blanks : (c : ℕ) → 0x0D < c → c < 0x2000 → (c ≡ 0x20 → �
 unfolding isBlank
 between-blanks c l h d1 d2 d3 d4 =
     search (is-above c 0x0E l, ne-eqb c 0x20 d1, ne-eqb c 0x85 d2, ne-eqb c 0xA0 d3, ne-eqb c 0x1680 d4, is-below c 0x2000 h)
+
+-- ---- past the last of them
+
+pub past-blanks : (c : ℕ) → 0x3000 < c → isBlank c ≡ false
+unfolding isBlank
+past-blanks c l = search (is-above c 0x3001 l)

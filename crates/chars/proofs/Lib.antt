@@ -15,3 +15,5 @@ pub mod FirstBad
 pub mod Ascii
 pub mod Lay
 pub mod Blanks
+pub mod Wide
+pub mod Pairs

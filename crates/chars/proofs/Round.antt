@@ -23,17 +23,17 @@ pub one-read : (b : ℕ) (t : List ℕ) → b < 0x80 → front (b ∷ t) ≡ cha
 unfolding front
 one-read b t h = rw (first-ascii b h)
 
-two-read : (b x : ℕ) (t : List ℕ) → first b ≡ more 1 0x80 0xBF (b - 0xC0) → 0x80 ≤ x → x ≤ 0xBF
+pub two-read : (b x : ℕ) (t : List ℕ) → first b ≡ more 1 0x80 0xBF (b - 0xC0) → 0x80 ≤ x → x ≤ 0xBF
     → front (b ∷ x ∷ t) ≡ char ((b - 0xC0) * 64 + x % 64) 2
 unfolding front rest
 two-read b x t e l h = rw (e, within-in 0x80 0xBF x l h)
 
-three-read : (b lo hi x y : ℕ) (t : List ℕ) → first b ≡ more 2 lo hi (b - 0xE0) → lo ≤ x → x ≤ hi → 0x80 ≤ y → y ≤ 0xBF
+pub three-read : (b lo hi x y : ℕ) (t : List ℕ) → first b ≡ more 2 lo hi (b - 0xE0) → lo ≤ x → x ≤ hi → 0x80 ≤ y → y ≤ 0xBF
     → front (b ∷ x ∷ y ∷ t) ≡ char (((b - 0xE0) * 64 + x % 64) * 64 + y % 64) 3
 unfolding front rest
 three-read b lo hi x y t e l h l′ h′ = rw (e, within-in lo hi x l h, within-in 0x80 0xBF y l′ h′)
 
-four-read : (b lo hi x y z : ℕ) (t : List ℕ) → first b ≡ more 3 lo hi (b - 0xF0) → lo ≤ x → x ≤ hi → 0x80 ≤ y → y ≤ 0xBF → 0x80 ≤ z → z ≤ 0xBF
+pub four-read : (b lo hi x y z : ℕ) (t : List ℕ) → first b ≡ more 3 lo hi (b - 0xF0) → lo ≤ x → x ≤ hi → 0x80 ≤ y → y ≤ 0xBF → 0x80 ≤ z → z ≤ 0xBF
     → front (b ∷ x ∷ y ∷ z ∷ t) ≡ char ((((b - 0xF0) * 64 + x % 64) * 64 + y % 64) * 64 + z % 64) 4
 unfolding front rest
 four-read b lo hi x y z t e l h l′ h′ l″ h″ = rw (e, within-in lo hi x l h, within-in 0x80 0xBF y l′ h′, within-in 0x80 0xBF z l″ h″)

@@ -2,4 +2,5 @@ pub mod Utf8
 pub mod Encode
 pub mod Blank
 pub mod Machine
+pub mod Wide
 pub mod Examples

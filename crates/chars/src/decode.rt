@@ -3,6 +3,8 @@ use crate::Begun;
 use crate::Decoded;
 use crate::Step;
 use crate::Utf8;
+use crate::letters::wide_end;
+use texts::pairs_at;
 ghost use mathlib.Core.Path.{_≡_};
 ghost use Prim.Native.Nat.{_+_};
 ghost use lib.Dec.{leb};
@@ -10,11 +12,12 @@ ghost use lib.ListN.{drop};
 ghost use Rattle.laws.specs.Texts.{span};
 ghost use Rattle.chars.specs.Utf8.{ascii, first, placed, front, firstBad};
 ghost use Rattle.chars.specs.Machine.{step};
+ghost use Rattle.chars.specs.Wide.{Passed};
 
 // UTF8-tail, and the six bits that it holds.
-const TAIL_LOW: u8 = 0x80;
+pub(crate) const TAIL_LOW: u8 = 0x80;
 
-const TAIL_HIGH: u8 = 0xBF;
+pub(crate) const TAIL_HIGH: u8 = 0xBF;
 
 const SIX_BITS: u8 = 64;
 
@@ -198,25 +201,48 @@ fn ascii_end(s: &[u8], at: usize) -> usize
     i
 }
 
-// Whether a text is UTF-8, else where its first bad sequence starts: refusal 21 and its place.
+// Past the blocks, from a place on, of ASCII and of characters of one byte or two.
+fn past_blocks(s: &[u8], from: usize) -> usize
+    ensures { λ r. ⌜ Passed (now (s .entry)) from r ⌝ }
+{
+    let mut i = from;
+    loop {
+        if ascii_block(s, i) {
+            i += BLOCK;
+        } else {
+            let n = pairs_at(s, i);
+            if n == 0 {
+                return i;
+            }
+            i += n;
+        }
+    }
+}
+
+// Whether a text is UTF-8, else where its first bad sequence starts: refusal 21 and its place. What is good is passed by direct tests; what
+// they leave is read byte by byte.
 pub fn first_bad(s: &[u8]) -> Utf8
     ensures { λ r. ⌜ r ≡ firstBad (now (s .entry)) ⌝ }
 {
     let mut i = 0;
     while i < s.len() {
-        let j = ascii_end(s, i);
-        match decode_at(s, j) {
-            Decoded::Char { code: _, next } => {
-                i = next;
-            }
-            Decoded::Bad => {
-                return Utf8::Bad(j);
-            }
-            Decoded::Cut => {
-                return Utf8::Bad(j);
-            }
-            Decoded::End => {
-                return Utf8::Good;
+        let j = wide_end(s, ascii_end(s, past_blocks(s, i)));
+        if i < j {
+            i = j;
+        } else {
+            match decode_at(s, i) {
+                Decoded::Char { code: _, next } => {
+                    i = next;
+                }
+                Decoded::Bad => {
+                    return Utf8::Bad(i);
+                }
+                Decoded::Cut => {
+                    return Utf8::Bad(i);
+                }
+                Decoded::End => {
+                    return Utf8::Good;
+                }
             }
         }
     }

@@ -41,6 +41,7 @@ pub enum Utf8 {
 mod blank;
 mod decode;
 pub mod encode;
+mod letters;
 
 pub use blank::is_blank;
 pub use decode::byte_step;
@@ -49,3 +50,6 @@ pub use decode::first_bad;
 pub use encode::char_width;
 pub use encode::is_scalar;
 pub use encode::put_char;
+pub use letters::between;
+pub use letters::letter_at;
+pub use letters::wide_end;

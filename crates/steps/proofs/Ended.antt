@@ -1,16 +1,15 @@
 -- An item whose run of characters ends at the end of the text, or before a character of ASCII that stops it there, ends there.
 use Prim.Native.Nat.{ℕ, suc, _+_, _≤_, _<_}
-use mathlib.Core.Path.{_≡_, refl, sym, ap, subst, _∙_}
-use mathlib.Core.Bool.{Bool, true, false, not, _&&_}
+use mathlib.Core.Path.{_≡_, refl, sym, _∙_}
+use mathlib.Core.Bool.{Bool, true, false}
 use mathlib.Core.List.{List, [], _∷_}
-use lib.Dec.{eqb, ltb}
-use lib.ListN.{length, getD, drop, length-drop, drop-of-length-le}
-use lib.Seq.{getD-drop, drop-cons}
+use lib.ListN.{length, getD, drop, length-drop}
+use lib.Seq.{getD-drop}
 use native.Mathlib.Omega.{arith}
-use borrow.Author.Tests.{lt-ltb, ltb-true, ltb-false, ne-eqb, eqb-true, eqb-false, not-true}
+use borrow.Author.Tests.{lt-ltb, ne-eqb}
 use Rattle.laws.specs.Quoted.{code}
 use Rattle.laws.specs.Texts.{span}
-use Rattle.laws.proofs.Choice.{by-bool, if-is, and-true}
+use Rattle.laws.proofs.Choice.{by-bool}
 use Rattle.chars.proofs.Chars.{char-at}
 use Rattle.items.specs.declared.Outcome.{Outcome}
 use Rattle.items.specs.declared.Outcome.the-variants.{Word, Run, Str}
@@ -21,12 +20,13 @@ use Rattle.items.specs.declared.Next.the-variants.{Eat, Stop}
 use Rattle.items.specs.Classes.{inQuotes, breaksWord, staysRun, endsRun, inWord, inRun}
 use Rattle.items.specs.Readers.{SoFar, comment}
 use Rattle.items.specs.Machine.{stepOf, finishOf, scanOf}
-use Rattle.steps.specs.Scan.{part, scanned, answer}
+use Rattle.steps.specs.Scan.{part, scanned, answer, Passes}
 use Rattle.steps.specs.Runs.{keeps, ofWord, ofRun}
 use Rattle.steps.specs.declared.Ending.{Ending}
-use Rattle.steps.specs.Ended.{EndsAs, wordTold, runTold, stringTold, lineTold, toldAt, pastRun, wordEnding, runEnding, stringEnding, lineEnding}
+use Rattle.steps.specs.declared.Ending.the-variants.{At, Unknown}
+use Rattle.steps.specs.Ended.{EndsAs}
 use Rattle.steps.proofs.Turn.{turn-eat, turn-stop, turn-out}
-use Rattle.steps.proofs.Kept.{run-on, ascii-found, done-scan}
+use Rattle.steps.proofs.Kept.{ascii-found, done-scan}
 
 -- where a run ends before the text does, its test fails
 span-fails : (f : ℕ → Bool) (t : List ℕ) → span f t < length t → f (getD t (span f t) 0) ≡ false
@@ -36,32 +36,31 @@ span-fails f (c ∷ t) h = by-bool (f c)
     (λ e. let k : suc (suc (span f t)) ≤ suc (length t) = rw e at h in rw e (span-fails f t (omega arith)))
     (λ e. rw e e)
 
-module _ (s : List ℕ) (report : Bool) (from : ℕ) (p : Phase) (e : ℕ) (ends : e ≡ from + span (keeps p) (drop from s)) where
-  not-kept : e < length s → keeps p (getD s e 0) ≡ false
-  not-kept h =
-      let n : span (keeps p) (drop from s) < length (drop from s) = omega (arith, length-drop from s) in
-      rw ends (rw (← (getD-drop from s (span (keeps p) (drop from s)) 0)) (span-fails (keeps p) (drop from s) n))
+pub not-kept : (s : List ℕ) (from : ℕ) (p : Phase) (e : ℕ) → e ≡ from + span (keeps p) (drop from s) → e < length s → keeps p (getD s e 0) ≡ false
+not-kept s from p e ends h =
+    let n : span (keeps p) (drop from s) < length (drop from s) = omega (arith, length-drop from s) in
+    rw ends (rw (← (getD-drop from s (span (keeps p) (drop from s)) 0)) (span-fails (keeps p) (drop from s) n))
 
-  module _ (a : ℕ) (before : a ≤ from) where
-    past-run : answer s report a p from ≡ answer s report a p e
-    past-run = run-on s report a p from before ∙ ap (answer s report a p) (sym ends)
+-- ---- an item that is passed up to the place e
 
-    ended-out : length s ≤ e → answer s report a p from ≡ record { what = finishOf p (part s a e); end = e }
-    ended-out h = past-run ∙ turn-out s report a p e h
+module _ (s : List ℕ) (report : Bool) (from : ℕ) (p : Phase) (e : ℕ) (pass : Passes s p from e) (a : ℕ) (before : a ≤ from) where
+  ended-out : length s ≤ e → answer s report a p from ≡ record { what = finishOf p (part s a e); end = e }
+  ended-out h = pass .2 report a before ∙ turn-out s report a p e h
 
-    ended-stop : (o : Outcome) → e < length s → getD s e 0 < 0x80 → ((i : SoFar) → stepOf report p i (getD s e 0) ≡ Stop o)
-        → answer s report a p from ≡ record { what = o; end = e }
-    ended-stop o h k st =
-        past-run ∙ turn-stop s report a p e (getD s e 0) (e + 1) (char-at s e (getD s e 0) (e + 1) (ascii-found s e h k) (omega arith)) o (st _)
+  ended-stop : (o : Outcome) → e < length s → getD s e 0 < 0x80 → ((i : SoFar) → stepOf report p i (getD s e 0) ≡ Stop o)
+      → answer s report a p from ≡ record { what = o; end = e }
+  ended-stop o h k st =
+      pass .2 report a before
+      ∙ turn-stop s report a p e (getD s e 0) (e + 1) (char-at s e (getD s e 0) (e + 1) (ascii-found s e h k) (omega arith)) o (st _)
 
-    -- before a character that is eaten into a phase from which the item is whole, whatever follows
-    ended-eat : (o : Outcome) (q : Phase) → e < length s → getD s e 0 < 0x80 → ((i : SoFar) → stepOf report p i (getD s e 0) ≡ Eat q)
-        → ((i : SoFar) (cs : List ℕ) → scanned (scanOf report q i cs) ≡ record { what = o; end = i .at })
-        → answer s report a p from ≡ record { what = o; end = e + 1 }
-    ended-eat o q h k st fin =
-        past-run
-        ∙ turn-eat s report a p e (getD s e 0) (e + 1) (char-at s e (getD s e 0) (e + 1) (ascii-found s e h k) (omega arith)) q (omega arith) (st _)
-        ∙ fin _ _
+  -- before a character that is eaten into a phase from which the item is whole, whatever follows
+  ended-eat : (o : Outcome) (q : Phase) → e < length s → getD s e 0 < 0x80 → ((i : SoFar) → stepOf report p i (getD s e 0) ≡ Eat q)
+      → ((i : SoFar) (cs : List ℕ) → scanned (scanOf report q i cs) ≡ record { what = o; end = i .at })
+      → answer s report a p from ≡ record { what = o; end = e + 1 }
+  ended-eat o q h k st fin =
+      pass .2 report a before
+      ∙ turn-eat s report a p e (getD s e 0) (e + 1) (char-at s e (getD s e 0) (e + 1) (ascii-found s e h k) (omega arith)) q (omega (arith, pass .0)) (st _)
+      ∙ fin _ _
 
 -- ---- what closes a string and a comment
 
@@ -90,64 +89,39 @@ run-stops : (report : Bool) (c : ℕ) → c < 0x80 → endsRun report c ≡ true
 unfolding inRun
 run-stops report c h f e i = let z : staysRun c ≡ false = rw (lt-ltb c 0x80 h) at e in rw (z, f)
 
--- ---- what is told past a run that ends at the place e: at the end of the text, or by the byte there
+-- ---- a word, a number run, a string and a comment
 
-module _ (s : List ℕ) (from : ℕ) (p : Phase) (told : ℕ → List ℕ → Ending) (e : ℕ) (ends : e ≡ from + span (keeps p) (drop from s)) where
-  pub told-out : length s ≤ e → told e [] ≡ pastRun p told s from
-  told-out h = ap (told e) (sym (drop-of-length-le s h)) ∙ ap (toldAt told s) ends
+module _ (s : List ℕ) (from e : ℕ) where
+  module _ (pass : Passes s ph.InWord from e) (report : Bool) where
+    pub word-out : length s ≤ e → EndsAs s report ph.InWord Word from (At e)
+    word-out h a k = ended-out s report from ph.InWord e pass a k h
 
-  pub told-byte : e < length s → {r : Ending} → r ≡ told e (getD s e 0 ∷ drop (suc e) s) → r ≡ pastRun p told s from
-  told-byte h k = k ∙ ap (told e) (sym (drop-cons s e 0 h)) ∙ ap (toldAt told s) ends
+    pub word-before : e < length s → getD s e 0 < 0x80 → (getD s e 0 ≡ code "\\" → ⊥) → ofWord (getD s e 0) ≡ false → EndsAs s report ph.InWord Word from (At e)
+    word-before h l n f a k = ended-stop s report from ph.InWord e pass a k Word h l (word-stops report (getD s e 0) l n f)
 
--- ---- the item ends where it is told to
+  module _ (pass : Passes s ph.InRun from e) (report : Bool) where
+    pub run-out : length s ≤ e → EndsAs s report ph.InRun Run from (At e)
+    run-out h a k = ended-out s report from ph.InRun e pass a k h
 
-module _ (s : List ℕ) (report : Bool) (from : ℕ) (p : Phase) (o : Outcome) (told : ℕ → List ℕ → Ending) where
-  -- it does, if what each of the two tells is so
-  told-ends : ((e : ℕ) → e ≡ from + span (keeps p) (drop from s) → length s ≤ e → EndsAs s report p o from (told e []))
-      → ((e : ℕ) → e ≡ from + span (keeps p) (drop from s) → e < length s → EndsAs s report p o from (told e (getD s e 0 ∷ drop (suc e) s)))
-      → EndsAs s report p o from (pastRun p told s from)
-  told-ends out byte =
-      let e : ℕ = from + span (keeps p) (drop from s) in
-      by-bool (ltb e (length s))
-      (λ t. let h = ltb-true e (length s) t in subst (λ (y : Ending). EndsAs s report p o from y) (told-byte s from p told e refl h refl) (byte e refl h))
-      (λ t. let h = ltb-false e (length s) t in subst (λ (y : Ending). EndsAs s report p o from y) (told-out s from p told e refl h) (out e refl h))
+    pub run-before : e < length s → getD s e 0 < 0x80 → endsRun report (getD s e 0) ≡ true → ofRun (getD s e 0) ≡ false → EndsAs s report ph.InRun Run from (At e)
+    run-before h l n f a k = ended-stop s report from ph.InRun e pass a k Run h l (run-stops report (getD s e 0) l n f)
 
-module _ (s : List ℕ) (report : Bool) (from : ℕ) where
-  pub word-ends : EndsAs s report ph.InWord Word from (wordEnding s from)
-  word-ends = told-ends s report from ph.InWord Word wordTold
-      (λ e ends h a k. ended-out s report from ph.InWord e ends a k h)
-      (λ e ends h. let c : ℕ = getD s e 0 in
-      if-is (λ (y : Ending). EndsAs s report ph.InWord Word from y) (ltb c 0x80 && not (eqb c (code "\\")))
-      (λ t a k. let b = and-true (ltb c 0x80) (not (eqb c (code "\\"))) t in
-      let l = ltb-true c 0x80 (b .0) in
-      ended-stop s report from ph.InWord e ends a k Word h l
-      (word-stops report c l (eqb-false c (code "\\") (not-true (eqb c (code "\\")) (b .1))) (not-kept s report from ph.InWord e ends h)))
-      (λ t. tt))
+  pub string-before : Passes s (ph.Quoted Double) from e → (report : Bool) → e < length s → getD s e 0 ≡ code "\""
+      → EndsAs s report (ph.Quoted Double) Str from (At (e + 1))
+  string-before pass report h q a k =
+      ended-eat s report from (ph.Quoted Double) e pass a k Str (ph.Closed Double) h (omega (arith, q)) (quote-closes report _ q) (string-whole report)
 
-  pub run-ends : EndsAs s report ph.InRun Run from (runEnding s report from)
-  run-ends = told-ends s report from ph.InRun Run (runTold report)
-      (λ e ends h a k. ended-out s report from ph.InRun e ends a k h)
-      (λ e ends h. let c : ℕ = getD s e 0 in
-      if-is (λ (y : Ending). EndsAs s report ph.InRun Run from y) (ltb c 0x80 && endsRun report c)
-      (λ t a k. let b = and-true (ltb c 0x80) (endsRun report c) t in
-      let l = ltb-true c 0x80 (b .0) in
-      ended-stop s report from ph.InRun e ends a k Run h l (run-stops report c l (b .1) (not-kept s report from ph.InRun e ends h)))
-      (λ t. tt))
+  module _ (pass : Passes s ph.InLine from e) (report : Bool) where
+    pub line-out : length s ≤ e → EndsAs s report ph.InLine comment from (At e)
+    line-out h a k = ended-out s report from ph.InLine e pass a k h
 
-  pub string-ends : EndsAs s report (ph.Quoted Double) Str from (stringEnding s from)
-  string-ends = told-ends s report from (ph.Quoted Double) Str stringTold
-      (λ e ends h. tt)
-      (λ e ends h. let c : ℕ = getD s e 0 in
-      if-is (λ (y : Ending). EndsAs s report (ph.Quoted Double) Str from y) (eqb c (code "\""))
-      (λ t a k. let q = eqb-true c (code "\"") t in
-      ended-eat s report from (ph.Quoted Double) e ends a k Str (ph.Closed Double) h (omega (arith, q)) (quote-closes report c q) (string-whole report))
-      (λ t. tt))
+    pub line-before : e < length s → getD s e 0 ≡ code "\n" → EndsAs s report ph.InLine comment from (At (e + 1))
+    line-before h q a k =
+        ended-eat s report from ph.InLine e pass a k comment (ph.Done comment) h (omega (arith, q)) (newline-closes report _ q)
+        (λ i cs. sym (done-scan report comment i cs))
 
-  pub line-ends : EndsAs s report ph.InLine comment from (lineEnding s from)
-  line-ends = told-ends s report from ph.InLine comment lineTold
-      (λ e ends h a k. ended-out s report from ph.InLine e ends a k h)
-      (λ e ends h. let c : ℕ = getD s e 0 in
-      if-is (λ (y : Ending). EndsAs s report ph.InLine comment from y) (eqb c (code "\n"))
-      (λ t a k. let q = eqb-true c (code "\n") t in
-      ended-eat s report from ph.InLine e ends a k comment (ph.Done comment) h (omega (arith, q)) (newline-closes report c q) (λ i cs. sym (done-scan report comment i cs)))
-      (λ t. tt))
+-- ---- past a part of the run
+
+pub ends-past : (s : List ℕ) (report : Bool) (p : Phase) (o : Outcome) (from e : ℕ) (r : Ending) → Passes s p from e → EndsAs s report p o e r → EndsAs s report p o from r
+ends-past s report p o from e (At x) pass k = λ a h. pass .2 report a h ∙ k a (omega (arith, pass .0))
+ends-past s report p o from e Unknown pass k = tt

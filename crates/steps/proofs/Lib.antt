@@ -2,5 +2,6 @@ pub mod Characters
 pub mod Delimiter
 pub mod Turn
 pub mod Kept
+pub mod Letters
 pub mod Item
 pub mod Ended

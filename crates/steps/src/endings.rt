@@ -3,20 +3,26 @@
 use crate::Ending;
 use crate::runs::ASCII_END;
 use crate::runs::number_end;
+use crate::runs::past_plain;
+use crate::runs::past_word;
 use crate::runs::word_end;
 use crate::words::ends_run;
 use texts::plain_end;
-ghost use mathlib.Core.Path.{_≡_};
+ghost use mathlib.Core.Bool.{Bool};
 ghost use Prim.Native.Nat.{_≤_};
 ghost use lib.ListN.{length};
-ghost use Rattle.steps.specs.Ended.{wordEnding, runEnding, stringEnding, lineEnding};
+ghost use Rattle.items.specs.Readers.{comment};
+ghost use Rattle.items.specs.declared.Outcome.the-variants.{Word, Run, Str};
+ghost use Rattle.items.specs.declared.Phase.the-variants.{InWord, InRun, InLine, Quoted};
+ghost use Rattle.items.specs.declared.Quotes.the-variants.{Double};
+ghost use Rattle.steps.specs.Ended.{EndsAs};
 
-// The end of a word that stands at a place.
-pub fn word_ending(s: &[u8], from: usize) -> Ending
+// The end of a word that stands at a place, where characters past ASCII may follow.
+fn word_on(s: &[u8], from: usize) -> Ending
     requires { ⌜ from ≤ length (now s) ⌝ }
-    ensures { λ r. ⌜ r ≡ wordEnding (now (s .entry)) from ⌝ }
+    ensures { λ r. ⌜ ((report : Bool) → EndsAs (now (s .entry)) report InWord Word from r) ⌝ }
 {
-    let end = word_end(s, from);
+    let end = past_word(s, from);
     if s.len() <= end {
         return Ending::At(end);
     }
@@ -30,10 +36,29 @@ pub fn word_ending(s: &[u8], from: usize) -> Ending
     Ending::At(end)
 }
 
+// The end of a word that stands at a place. Most have no character past ASCII.
+pub fn word_ending(s: &[u8], from: usize) -> Ending
+    requires { ⌜ from ≤ length (now s) ⌝ }
+    ensures { λ r. ⌜ ((report : Bool) → EndsAs (now (s .entry)) report InWord Word from r) ⌝ }
+{
+    let end = word_end(s, from);
+    if s.len() <= end {
+        return Ending::At(end);
+    }
+    let b = s[end];
+    if ASCII_END <= b {
+        return word_on(s, end);
+    }
+    if b == b'\\' {
+        return Ending::Unknown;
+    }
+    Ending::At(end)
+}
+
 // The end of a number run that stands at a place.
 pub fn run_ending(s: &[u8], report: bool, from: usize) -> Ending
     requires { ⌜ from ≤ length (now s) ⌝ }
-    ensures { λ r. ⌜ r ≡ runEnding (now (s .entry)) report from ⌝ }
+    ensures { λ r. ⌜ EndsAs (now (s .entry)) report InRun Run from r ⌝ }
 {
     let end = number_end(s, from);
     if s.len() <= end {
@@ -49,12 +74,12 @@ pub fn run_ending(s: &[u8], report: bool, from: usize) -> Ending
     Ending::Unknown
 }
 
-// The end of a string that stands at a place.
-pub fn string_ending(s: &[u8], from: usize) -> Ending
+// The end of a string that stands at a place, where characters past ASCII may follow.
+fn string_on(s: &[u8], from: usize) -> Ending
     requires { ⌜ from ≤ length (now s) ⌝ }
-    ensures { λ r. ⌜ r ≡ stringEnding (now (s .entry)) from ⌝ }
+    ensures { λ r. ⌜ ((report : Bool) → EndsAs (now (s .entry)) report (Quoted Double) Str from r) ⌝ }
 {
-    let end = plain_end(s, from, b'"', b'\\');
+    let end = past_plain(s, from, b'"', b'\\');
     if s.len() <= end {
         return Ending::Unknown;
     }
@@ -64,12 +89,31 @@ pub fn string_ending(s: &[u8], from: usize) -> Ending
     Ending::Unknown
 }
 
-// The end of a comment that goes to the end of its line, from a place in it.
-pub fn line_ending(s: &[u8], from: usize) -> Ending
+// The end of a string that stands at a place. Most have no character past ASCII.
+pub fn string_ending(s: &[u8], from: usize) -> Ending
     requires { ⌜ from ≤ length (now s) ⌝ }
-    ensures { λ r. ⌜ r ≡ lineEnding (now (s .entry)) from ⌝ }
+    ensures { λ r. ⌜ ((report : Bool) → EndsAs (now (s .entry)) report (Quoted Double) Str from r) ⌝ }
 {
-    let end = plain_end(s, from, b'\n', b'\n');
+    let end = plain_end(s, from, b'"', b'\\');
+    if s.len() <= end {
+        return Ending::Unknown;
+    }
+    let b = s[end];
+    if b == b'"' {
+        return Ending::At(end + 1);
+    }
+    if ASCII_END <= b {
+        return string_on(s, end);
+    }
+    Ending::Unknown
+}
+
+// The end of a comment that goes to the end of its line, from a place in it, where characters past ASCII may follow.
+fn line_on(s: &[u8], from: usize) -> Ending
+    requires { ⌜ from ≤ length (now s) ⌝ }
+    ensures { λ r. ⌜ ((report : Bool) → EndsAs (now (s .entry)) report InLine comment from r) ⌝ }
+{
+    let end = past_plain(s, from, b'\n', b'\n');
     if s.len() <= end {
         return Ending::At(end);
     }
@@ -77,4 +121,20 @@ pub fn line_ending(s: &[u8], from: usize) -> Ending
         return Ending::At(end + 1);
     }
     Ending::Unknown
+}
+
+// The end of a comment that goes to the end of its line, from a place in it. Most have no character past ASCII.
+pub fn line_ending(s: &[u8], from: usize) -> Ending
+    requires { ⌜ from ≤ length (now s) ⌝ }
+    ensures { λ r. ⌜ ((report : Bool) → EndsAs (now (s .entry)) report InLine comment from r) ⌝ }
+{
+    let end = plain_end(s, from, b'\n', b'\n');
+    if s.len() <= end {
+        return Ending::At(end);
+    }
+    let b = s[end];
+    if b == b'\n' {
+        return Ending::At(end + 1);
+    }
+    line_on(s, end)
 }

@@ -1,17 +1,24 @@
-// Runs: the characters of ASCII that leave an item in the phase that it is in, passed without a step for each of them.
+// Runs: the characters that leave an item in the phase that it is in, passed without a step for each of them. Those of ASCII are told by
+// their byte, others by direct tests of their bytes.
 use crate::words::breaks_word;
 use crate::words::stays_run;
+use chars::between;
+use chars::letter_at;
+use chars::wide_end;
 use items::Phase;
 use items::Quotes;
 use texts::plain_end;
 ghost use mathlib.Core.Path.{_≡_};
-ghost use Prim.Native.Nat.{_+_, _≤_};
-ghost use lib.ListN.{length, drop};
-ghost use Rattle.laws.specs.Quoted.{within};
+ghost use mathlib.Core.Bool.{false};
+ghost use Prim.Native.Nat.{_+_, _≤_, _<_};
+ghost use lib.ListN.{length, getD, drop};
 ghost use Rattle.laws.specs.Texts.{span};
 ghost use Rattle.items.specs.Classes.{delimOf};
+ghost use Rattle.items.specs.declared.Phase.{Phase};
+ghost use Rattle.items.specs.declared.Phase.the-variants.{InWord};
 ghost use Rattle.steps.specs.Runs.{ofWord, ofRun, keeps};
 ghost use Rattle.steps.specs.Scan.{Passes};
+ghost use Rattle.steps.specs.Held.{Holds};
 
 // Below it a byte is a character of ASCII.
 pub(crate) const ASCII_END: u8 = 0x80;
@@ -24,16 +31,6 @@ fn delimiter(k: Quotes) -> u8
         Quotes::Double => b'"',
         Quotes::Lines => b'|',
     }
-}
-
-// Whether a byte is one of those from a to b.
-fn between(a: u8, b: u8, c: u8) -> bool
-    ensures { λ r. ⌜ r ≡ within a b c ⌝ }
-{
-    if c < a {
-        return false;
-    }
-    c <= b
 }
 
 // Whether a word goes on with a byte. Most are small letters, and most words end before a space or a bracket.
@@ -122,16 +119,64 @@ pub fn ascii_run(s: &[u8], at: usize, phase: Phase) -> usize
     }
 }
 
-// Past the run of characters that leave an item in its phase. Most places without one are told by their first byte.
+// Past the run, from a place on, of the characters that are neither a nor b, which are of ASCII.
+pub(crate) fn past_plain(s: &[u8], from: usize, a: u8, b: u8) -> usize
+    requires { ⌜ from ≤ length (now s) ⌝ }
+    ensures { λ r. ⌜ ((p : Phase) → Holds p a b → Passes (now (s .entry)) p from r) ⌝ }
+{
+    let mut i = from;
+    loop {
+        let j = plain_end(s, i, a, b);
+        let k = wide_end(s, j);
+        if k <= j {
+            return k;
+        }
+        i = k;
+    }
+}
+
+// Past the characters past ASCII from a place on whose first bytes tell that they are no blanks.
+fn past_word_letters(s: &[u8], from: usize) -> usize
+    requires { ⌜ from ≤ length (now s) ⌝ }
+    ensures { λ r. ⌜ Passes (now (s .entry)) InWord from r ⌝ }
+{
+    let mut i = from;
+    loop {
+        let n = letter_at(s, i);
+        if n == 0 {
+            return i;
+        }
+        i += n;
+    }
+}
+
+// Past the run of the characters that a word goes on with, from a place on.
+pub(crate) fn past_word(s: &[u8], from: usize) -> usize
+    requires { ⌜ from ≤ length (now s) ⌝ }
+    ensures { λ r. ⌜ Passes (now (s .entry)) InWord from r × (r < length (now (s .entry)) → ofWord (getD (now (s .entry)) r 0) ≡ false) ⌝ }
+{
+    let mut i = from;
+    loop {
+        let j = word_end(s, i);
+        let k = past_word_letters(s, j);
+        if k <= j {
+            return k;
+        }
+        i = k;
+    }
+}
+
+// Past the run of characters that leave an item in its phase.
 pub(crate) fn run_end(s: &[u8], at: usize, phase: Phase) -> usize
     requires { ⌜ at ≤ length (now s) ⌝ }
     ensures { λ r. ⌜ Passes (now (s .entry)) phase at r ⌝ }
 {
-    if s.len() <= at {
-        return at;
+    match phase {
+        Phase::InLine => past_plain(s, at, b'\n', b'\n'),
+        Phase::Nest(_) => past_plain(s, at, b'|', b'#'),
+        Phase::Quoted(k) => past_plain(s, at, delimiter(k), b'\\'),
+        Phase::InWord => past_word(s, at),
+        Phase::InRun => number_end(s, at),
+        _ => at,
     }
-    if ASCII_END <= s[at] {
-        return at;
-    }
-    ascii_run(s, at, phase)
 }

@@ -4,8 +4,10 @@ ghost use mathlib.Core.Path.{_≡_};
 ghost use lib.ListN.{drop};
 ghost use Rattle.laws.specs.Texts.{starts, begins, same};
 
+mod pairs;
 mod runs;
 
+pub use pairs::pairs_at;
 pub use runs::blank_end;
 pub use runs::find;
 pub use runs::plain_end;

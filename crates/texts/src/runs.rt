@@ -8,7 +8,7 @@ ghost use Rattle.laws.specs.Texts.{before, span};
 ghost use Rattle.texts.specs.Runs.{other, plain, blank, block};
 
 // How many bytes are tested at once.
-const BLOCK: usize = 16;
+pub(crate) const BLOCK: usize = 16;
 
 // Below it a byte is a character of ASCII.
 const ASCII_END: u8 = 0x80;
@@ -18,7 +18,7 @@ const TAB: u8 = 0x09;
 const CARRIAGE_RETURN: u8 = 0x0D;
 
 // Whether both hold.
-fn both(x: bool, y: bool) -> bool
+pub(crate) fn both(x: bool, y: bool) -> bool
     ensures { λ r. ⌜ r ≡ (x && y) ⌝ }
 {
     if x {

@@ -1,14 +1,13 @@
 -- The comment ends where its line does (Tells), and has no other meaning.
 use borrow.Author.Needs.{needs}
 use native.Mathlib.Omega.{arith}
-use mathlib.Core.Path.{sym, subst, _∙_}
+use mathlib.Core.Path.{sym, subst}
 use Prim.Native.Nat.{_+_}
 use denote.Ref.{now}
 use Rattle.items.specs.Readers.{comment}
 use Rattle.items.specs.declared.Phase.the-variants as ph
 use Rattle.steps.specs.Ended.{EndsAs}
 use Rattle.steps.specs.declared.Ending.{Ending}
-use Rattle.steps.proofs.Ended.{line-ends}
 use Rattle.lexer.specs.Glance.{GlanceAt}
 use Rattle.telling.specs.declared.Quick.{Quick}
 use Rattle.lexer.proofs.Tells.{begins-inside, ends-here, line-told}
@@ -41,7 +40,7 @@ returns-2 c report =
     (line-told (now (a .args .source)) report (a .args .skip) (a .args .at) (e .0 .0) (c .before .before .before .before .before .if1 .left) (a .pre .1)
     (ends-here (now (a .args .source)) report (a .args .at) ph.InLine comment (e .0 .0)
     (subst (λ (y : Ending). EndsAs (now (a .args .source)) report ph.InLine comment (a .args .at + 1) y)
-    (sym (c .before .before .before .before .line-ending .ensures) ∙ e .1) (line-ends (now (a .args .source)) report (a .args .at + 1)))))
+    (e .1) (c .before .before .before .before .line-ending .ensures report))))
 
 returns-3 : tie.Need-returns-3
 returns-3 c report = tt

@@ -1,14 +1,13 @@
 -- The run ends the item (Tells), and its bytes tell the rest.
 use borrow.Author.Needs.{needs}
 use native.Mathlib.Omega.{arith}
-use mathlib.Core.Path.{refl, sym, subst, _∙_}
+use mathlib.Core.Path.{refl, sym, subst}
 use Prim.Native.Nat.{_+_}
 use denote.Ref.{now}
 use Rattle.items.specs.declared.Outcome.the-variants.{Run}
 use Rattle.items.specs.declared.Phase.the-variants as ph
 use Rattle.steps.specs.Ended.{EndsAs}
 use Rattle.steps.specs.declared.Ending.{Ending}
-use Rattle.steps.proofs.Ended.{run-ends}
 use Rattle.lexer.proofs.Tells.{Spans, begins-inside, ends-here, spans, ended-told}
 use Rattle.lexer.proofs.glance.quick_run.Statement.{statement}
 use Rattle.lexer.proofs.glance.quick_run.Tie as tie
@@ -18,8 +17,7 @@ within c =
     let a = c .before .before .before .before .before in
     spans (now (a .args .source)) (a .args .report) (a .args .at) (c .before .end .given .0 .0) Run ph.InRun (a .pre .1)
     (ends-here (now (a .args .source)) (a .args .report) (a .args .at) ph.InRun Run (c .before .end .given .0 .0) (subst (λ (y : Ending). EndsAs
-    (now (a .args .source)) (a .args .report) ph.InRun Run (a .args .at + 1) y) (sym (c .before .before .before .run-ending .ensures)
-    ∙ c .before .end .given .1) (run-ends (now (a .args .source)) (a .args .report) (a .args .at + 1)))) (a .pre .0)
+    (now (a .args .source)) (a .args .report) ph.InRun Run (a .args .at + 1) y) (c .before .end .given .1) (c .before .before .before .run-ending .ensures))) (a .pre .0)
 
 add-run-ending : tie.Need-add-run-ending
 add-run-ending c = let a = c .before in omega (arith, a .pre .0, begins-inside (now (a .args .source)) (a .args .at) ph.InRun (a .pre .1))
@@ -52,7 +50,7 @@ returns c skip =
     ended-told (now (a .args .source)) (a .args .report) (a .args .at) (told .end .given .0 .0) Run ph.InRun (a .pre .1)
     (ends-here (now (a .args .source)) (a .args .report) (a .args .at) ph.InRun Run
     (told .end .given .0 .0) (subst (λ (y : Ending). EndsAs (now (a .args .source)) (a .args .report) ph.InRun Run (a .args .at + 1) y)
-    (sym (told .before .before .run-ending .ensures) ∙ told .end .given .1) (run-ends (now (a .args .source)) (a .args .report) (a .args .at + 1))))
+    (told .end .given .1) (told .before .before .run-ending .ensures)))
     (a .pre .0) (λ last i. refl) (c .tell-run .result) (c .tell-run .ensures) skip
 
 returns-2 : tie.Need-returns-2

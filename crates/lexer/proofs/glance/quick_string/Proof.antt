@@ -1,7 +1,7 @@
 -- The run ends the item (Tells), and its bytes tell the rest.
 use borrow.Author.Needs.{needs}
 use native.Mathlib.Omega.{arith}
-use mathlib.Core.Path.{refl, sym, subst, _∙_}
+use mathlib.Core.Path.{refl, sym, subst}
 use mathlib.Core.Bool.{false}
 use Prim.Native.Nat.{_+_}
 use denote.Ref.{now}
@@ -10,7 +10,6 @@ use Rattle.items.specs.declared.Outcome.the-variants.{Str}
 use Rattle.items.specs.declared.Phase.the-variants as ph
 use Rattle.steps.specs.Ended.{EndsAs}
 use Rattle.steps.specs.declared.Ending.{Ending}
-use Rattle.steps.proofs.Ended.{string-ends}
 use Rattle.lexer.proofs.Tells.{Spans, begins-inside, ends-here, spans, ended-told}
 use Rattle.lexer.proofs.glance.quick_string.Statement.{statement}
 use Rattle.lexer.proofs.glance.quick_string.Tie as tie
@@ -20,8 +19,7 @@ within c =
     let a = c .before .before .before .before .before in
     spans (now (a .args .source)) false (a .args .at) (c .before .end .given .0 .0) Str (ph.Quoted Double) (a .pre .1)
     (ends-here (now (a .args .source)) false (a .args .at) (ph.Quoted Double) Str (c .before .end .given .0 .0) (subst (λ (y : Ending). EndsAs
-    (now (a .args .source)) false (ph.Quoted Double) Str (a .args .at + 1) y) (sym (c .before .before .before .string-ending .ensures)
-    ∙ c .before .end .given .1) (string-ends (now (a .args .source)) false (a .args .at + 1)))) (a .pre .0)
+    (now (a .args .source)) false (ph.Quoted Double) Str (a .args .at + 1) y) (c .before .end .given .1) (c .before .before .before .string-ending .ensures false))) (a .pre .0)
 
 add-string-ending : tie.Need-add-string-ending
 add-string-ending c = let a = c .before in omega (arith, a .pre .0, begins-inside (now (a .args .source)) (a .args .at) (ph.Quoted Double) (a .pre .1))
@@ -54,7 +52,7 @@ returns c report skip =
     ended-told (now (a .args .source)) report (a .args .at) (told .end .given .0 .0) Str (ph.Quoted Double) (a .pre .1)
     (ends-here (now (a .args .source)) report (a .args .at) (ph.Quoted Double) Str
     (told .end .given .0 .0) (subst (λ (y : Ending). EndsAs (now (a .args .source)) report (ph.Quoted Double) Str (a .args .at + 1) y)
-    (sym (told .before .before .string-ending .ensures) ∙ told .end .given .1) (string-ends (now (a .args .source)) report (a .args .at + 1))))
+    (told .end .given .1) (told .before .before .string-ending .ensures report)))
     (a .pre .0) (λ last i. refl) (c .tell-string .result) (c .tell-string .ensures) skip
 
 returns-2 : tie.Need-returns-2

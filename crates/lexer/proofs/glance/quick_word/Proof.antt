@@ -1,7 +1,7 @@
 -- The run ends the item (Tells), and its bytes tell the rest.
 use borrow.Author.Needs.{needs}
 use native.Mathlib.Omega.{arith}
-use mathlib.Core.Path.{refl, sym, subst, _∙_}
+use mathlib.Core.Path.{refl, sym, subst}
 use mathlib.Core.Bool.{false}
 use Prim.Native.Nat.{_+_}
 use denote.Ref.{now}
@@ -9,7 +9,6 @@ use Rattle.items.specs.declared.Outcome.the-variants.{Word}
 use Rattle.items.specs.declared.Phase.the-variants as ph
 use Rattle.steps.specs.Ended.{EndsAs}
 use Rattle.steps.specs.declared.Ending.{Ending}
-use Rattle.steps.proofs.Ended.{word-ends}
 use Rattle.lexer.proofs.Tells.{Spans, begins-inside, ends-here, spans, ended-told}
 use Rattle.lexer.proofs.glance.quick_word.Statement.{statement}
 use Rattle.lexer.proofs.glance.quick_word.Tie as tie
@@ -20,7 +19,7 @@ within c =
     spans (now (a .args .source)) false (a .args .at) (c .before .end .given .0 .0) Word ph.InWord (a .pre .1)
     (ends-here (now (a .args .source)) false (a .args .at) ph.InWord Word
     (c .before .end .given .0 .0) (subst (λ (y : Ending). EndsAs (now (a .args .source)) false ph.InWord Word (a .args .at + 1) y)
-    (sym (c .before .before .before .word-ending .ensures) ∙ c .before .end .given .1) (word-ends (now (a .args .source)) false (a .args .at + 1))))
+    (c .before .end .given .1) (c .before .before .before .word-ending .ensures false)))
     (a .pre .0)
 
 add-word-ending : tie.Need-add-word-ending
@@ -54,7 +53,7 @@ returns c report skip =
     ended-told (now (a .args .source)) report (a .args .at) (told .end .given .0 .0) Word ph.InWord (a .pre .1)
     (ends-here (now (a .args .source)) report (a .args .at) ph.InWord Word
     (told .end .given .0 .0) (subst (λ (y : Ending). EndsAs (now (a .args .source)) report ph.InWord Word (a .args .at + 1) y)
-    (sym (told .before .before .word-ending .ensures) ∙ told .end .given .1) (word-ends (now (a .args .source)) report (a .args .at + 1))))
+    (told .end .given .1) (told .before .before .word-ending .ensures report)))
     (a .pre .0) (λ last i. refl) (c .tell-word .result) (c .tell-word .ensures) skip
 
 returns-2 : tie.Need-returns-2

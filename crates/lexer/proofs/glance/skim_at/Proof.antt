@@ -1,20 +1,16 @@
 -- The arms are rows of `firstOf`: a character that is an item of its own, a word, a number run (Skims).
 use borrow.Author.Needs.{needs}
 use native.Mathlib.Omega.{arith}
-use mathlib.Core.Path.{_≡_, refl, sym, subst}
-use Prim.Native.Nat.{_+_, _≤_}
+use mathlib.Core.Path.{_≡_, refl}
+use Prim.Native.Nat.{_≤_}
 use denote.Ref.{now}
 use lib.ListN.{getD}
 use Rattle.laws.specs.Quoted.{code}
 use Rattle.chars.specs.Blank.{isBlank}
 use Rattle.items.specs.Kinds as kind
 use Rattle.items.specs.Classes.{startsRun, firstOf}
-use Rattle.items.specs.declared.Outcome.the-variants.{Word, Run}
 use Rattle.items.specs.declared.Phase.the-variants as ph
 use Rattle.items.specs.declared.Quotes.the-variants.{Double}
-use Rattle.steps.specs.Ended.{EndsAs}
-use Rattle.steps.specs.declared.Ending.{Ending}
-use Rattle.steps.proofs.Ended.{word-ends, run-ends}
 use Rattle.meaning.specs.Meant.{means}
 use Rattle.meaning.specs.declared.Text.the-variants.{Nowhere}
 use Rattle.lexer.specs.Glance.{Begins}
@@ -152,16 +148,14 @@ returns-12 c =
     let a = c .before .before .before .before .before .before in
     let w = c .before in
     run-skims (now (a .args .source)) (a .args .report) (a .args .skip) (a .args .at) (a .pre .0) (digit w) (λ e. omega (arith, e, w .before .if1 .left)) (c .run-ending .result)
-    (subst (λ (y : Ending). EndsAs (now (a .args .source)) (a .args .report) ph.InRun Run (a .args .at + 1) y)
-    (sym (c .run-ending .ensures)) (run-ends (now (a .args .source)) (a .args .report) (a .args .at + 1)))
+    (c .run-ending .ensures)
 
 returns-13 : tie.Need-returns-13
 returns-13 c =
     let a = c .before .before .before .before .before .before .before .before in
     let w = c .before in
     word-skims (now (a .args .source)) (a .args .report) (a .args .skip) (a .args .at) (a .pre .0) (letter w) (λ e. omega (arith, e, w .before .if3 .left)) (c .word-ending .result)
-    (subst (λ (y : Ending). EndsAs (now (a .args .source)) (a .args .report) ph.InWord Word (a .args .at + 1) y)
-    (sym (c .word-ending .ensures)) (word-ends (now (a .args .source)) (a .args .report) (a .args .at + 1)))
+    (c .word-ending .ensures (a .args .report))
 
 returns-14 : tie.Need-returns-14
 returns-14 c = tt

@@ -1,13 +1,7 @@
 -- The comment ends where its line does, and is kept (Skims).
 use native.Mathlib.Omega.{arith}
-use mathlib.Core.Path.{sym, subst}
-use Prim.Native.Nat.{_+_}
 use denote.Ref.{now}
-use Rattle.items.specs.Readers.{comment}
 use Rattle.items.specs.declared.Phase.the-variants as ph
-use Rattle.steps.specs.Ended.{EndsAs}
-use Rattle.steps.specs.declared.Ending.{Ending}
-use Rattle.steps.proofs.Ended.{line-ends}
 use Rattle.lexer.proofs.Tells.{begins-inside}
 use Rattle.lexer.proofs.Skims.{line-skims}
 use Rattle.lexer.proofs.glance.skim_line.Statement.{statement}
@@ -26,8 +20,7 @@ returns-2 : tie.Need-returns-2
 returns-2 c report =
     let a = c .before .before .before in
     line-skims (now (a .args .source)) report (a .args .skip) (a .args .at) (a .pre .0) (c .before .if1 .left)
-    (a .pre .1) (c .line-ending .result) (subst (λ (y : Ending). EndsAs (now (a .args .source)) report ph.InLine comment (a .args .at + 1) y)
-    (sym (c .line-ending .ensures)) (line-ends (now (a .args .source)) report (a .args .at + 1)))
+    (a .pre .1) (c .line-ending .result) (c .line-ending .ensures report)
 
 pub skim-line-spec : {M : Type 1} → statement M
 skim-line-spec = tie.close (tie.spec returns add-line-ending line-ending-requires returns-2)

@@ -10,7 +10,6 @@ use Rattle.items.specs.declared.Phase.the-variants as ph
 use Rattle.items.specs.declared.Quotes.the-variants.{Double}
 use Rattle.steps.specs.Ended.{EndsAs}
 use Rattle.steps.specs.declared.Ending.{Ending}
-use Rattle.steps.proofs.Ended.{string-ends}
 use Rattle.steps.specs.declared.Ending.the-variants as ending
 use Rattle.lexer.proofs.Tells.{Spans, begins-inside, ends-here, spans}
 use Rattle.lexer.proofs.Skims.{string-skims}
@@ -22,8 +21,7 @@ ended : (c : tie.After-known-told) (report : Bool) → EndsAs (now (c .before .b
 ended c report =
     let a = c .before .before .before .before .before in
     subst (λ (y : Ending). EndsAs (now (a .args .source)) report (ph.Quoted Double) Str (a .args .at + 1) y)
-    (sym (c .before .before .before .string-ending .ensures) ∙ c .before .end .given .1)
-    (string-ends (now (a .args .source)) report (a .args .at + 1))
+    (c .before .end .given .1) (c .before .before .before .string-ending .ensures report)
 
 within : (c : tie.After-known-told) → Spans (now (c .before .before .before .before .before .args .source)) (c .before .before .before .before .before .args .at) (c .before .end .given .0 .0)
 within c =

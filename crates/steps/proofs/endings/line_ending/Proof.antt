@@ -1,44 +1,41 @@
--- Past the run of the comment's bytes the newline is the definition's test.
+-- Past the comment's run of ASCII the text ends, or the newline closes it, or it goes on past ASCII (Ended).
 use borrow.Author.Needs.{needs}
-use borrow.Author.Tests.{eq-eqb, ne-eqb}
+use native.Mathlib.Omega.{arith}
 use denote.Ref.{now}
-use lib.ListN.{getD}
-use Rattle.laws.specs.Quoted.{code}
+use Rattle.items.specs.Readers.{comment}
 use Rattle.items.specs.declared.Phase.the-variants as ph
-use Rattle.steps.specs.Ended.{lineTold}
-use Rattle.steps.proofs.Ended.{told-out, told-byte}
+use Rattle.steps.specs.Scan.{Passes}
+use Rattle.steps.proofs.Kept.{passes}
+use Rattle.steps.proofs.Ended.{line-out, line-before, ends-past}
 use Rattle.steps.proofs.endings.line_ending.Statement.{statement}
 use Rattle.steps.proofs.endings.line_ending.Tie as tie
 
-plain-end-requires : tie.Need-plain-end-requires
-plain-end-requires c κs = search needs
+pass : (w : tie.After-plain-end) → Passes (now (w .before .before .args .s)) ph.InLine (w .before .before .args .from) (w .plain-end .result)
+pass w =
+    let f = w .before .before in
+    passes (now (f .args .s)) (f .args .from) ph.InLine (w .plain-end .result) (f .pre) (omega (arith, w .plain-end .ensures)) (omega (arith, w .plain-end .ensures))
 
 returns : tie.Need-returns
-returns c =
+returns c report =
     let f = c .before .before .before .args in
-    told-out (now (f .s)) (f .from) ph.InLine lineTold (c .before .plain-end .result) (c .before .plain-end .ensures) (c .if1 .taken)
-
-shared-slice-read-if2 : tie.Need-shared-slice-read-if2
-shared-slice-read-if2 c = search needs
-
-add-t8 : tie.Need-add-t8
-add-t8 c = search needs
+    line-out (now (f .s)) (f .from) (c .before .plain-end .result) (pass (c .before)) report (c .if1 .taken)
 
 returns-2 : tie.Need-returns-2
-returns-2 c =
+returns-2 c report =
     let w = c .before .before .before in
     let f = w .before .before .args in
-    let e = w .plain-end in
-    told-byte (now (f .s)) (f .from) ph.InLine lineTold (e .result) (e .ensures) (c .before .before .if1 .left)
-    (rw (eq-eqb (getD (now (f .s)) (e .result) 0) (code "\n") (c .if2 .taken)))
+    line-before (now (f .s)) (f .from) (w .plain-end .result) (pass w) report (c .before .before .if1 .left) (c .if2 .taken)
+
+line-on-requires : tie.Need-line-on-requires
+line-on-requires c κs = pass (c .before .before .before) .1
 
 returns-3 : tie.Need-returns-3
-returns-3 c =
-    let w = c .before .before .before in
+returns-3 c report =
+    let w = c .before .before .before .before in
     let f = w .before .before .args in
-    let e = w .plain-end in
-    told-byte (now (f .s)) (f .from) ph.InLine lineTold (e .result) (e .ensures) (c .before .before .if1 .left)
-    (rw (ne-eqb (getD (now (f .s)) (e .result) 0) (code "\n") (c .if2 .left)))
+    ends-past (now (f .s)) report ph.InLine comment (f .from) (w .plain-end .result) (c .line-on .result) (pass w) (c .line-on .ensures report)
 
 pub line-ending-spec : {M : Type 1} → statement M
-line-ending-spec = tie.close (tie.spec plain-end-requires returns shared-slice-read-if2 add-t8 returns-2 returns-3)
+line-ending-spec =
+    tie.close
+    (tie.spec (λ c κs. search needs) returns (λ c. search needs) (λ c. search needs) returns-2 line-on-requires returns-3)

@@ -1,45 +1,37 @@
--- Past the run of the string's bytes the quote is the definition's test.
+-- Past the string's run of ASCII the quote closes it, or it goes on past ASCII (Ended).
 use borrow.Author.Needs.{needs}
-use borrow.Author.Tests.{eq-eqb, ne-eqb}
+use native.Mathlib.Omega.{arith}
 use denote.Ref.{now}
-use lib.ListN.{getD}
-use Rattle.laws.specs.Quoted.{code}
+use Rattle.items.specs.declared.Outcome.the-variants.{Str}
 use Rattle.items.specs.declared.Quotes.the-variants.{Double}
 use Rattle.items.specs.declared.Phase.the-variants as ph
-use Rattle.steps.specs.Ended.{stringTold}
-use Rattle.steps.proofs.Ended.{told-out, told-byte}
+use Rattle.steps.specs.Scan.{Passes}
+use Rattle.steps.proofs.Kept.{passes}
+use Rattle.steps.proofs.Ended.{string-before, ends-past}
 use Rattle.steps.proofs.endings.string_ending.Statement.{statement}
 use Rattle.steps.proofs.endings.string_ending.Tie as tie
 
-plain-end-requires : tie.Need-plain-end-requires
-plain-end-requires c κs = search needs
-
-returns : tie.Need-returns
-returns c =
-    let f = c .before .before .before .args in
-    told-out (now (f .s)) (f .from) (ph.Quoted Double) stringTold (c .before .plain-end .result) (c .before .plain-end .ensures) (c .if1 .taken)
-
-shared-slice-read-if2 : tie.Need-shared-slice-read-if2
-shared-slice-read-if2 c = search needs
-
-add-t8 : tie.Need-add-t8
-add-t8 c = search needs
+pass : (w : tie.After-plain-end) → Passes (now (w .before .before .args .s)) (ph.Quoted Double) (w .before .before .args .from) (w .plain-end .result)
+pass w =
+    let f = w .before .before in
+    passes (now (f .args .s)) (f .args .from) (ph.Quoted Double) (w .plain-end .result) (f .pre) (omega (arith, w .plain-end .ensures)) (omega (arith, w .plain-end .ensures))
 
 returns-2 : tie.Need-returns-2
-returns-2 c =
+returns-2 c report =
     let w = c .before .before .before in
     let f = w .before .before .args in
-    let e = w .plain-end in
-    told-byte (now (f .s)) (f .from) (ph.Quoted Double) stringTold (e .result) (e .ensures) (c .before .before .if1 .left)
-    (rw (eq-eqb (getD (now (f .s)) (e .result) 0) (code "\"") (c .if2 .taken)))
+    string-before (now (f .s)) (f .from) (w .plain-end .result) (pass w) report (c .before .before .if1 .left) (c .if2 .taken)
+
+string-on-requires : tie.Need-string-on-requires
+string-on-requires c κs = pass (c .before .before .before .before) .1
 
 returns-3 : tie.Need-returns-3
-returns-3 c =
-    let w = c .before .before .before in
+returns-3 c report =
+    let w = c .before .before .before .before .before in
     let f = w .before .before .args in
-    let e = w .plain-end in
-    told-byte (now (f .s)) (f .from) (ph.Quoted Double) stringTold (e .result) (e .ensures) (c .before .before .if1 .left)
-    (rw (ne-eqb (getD (now (f .s)) (e .result) 0) (code "\"") (c .if2 .left)))
+    ends-past (now (f .s)) report (ph.Quoted Double) Str (f .from) (w .plain-end .result) (c .string-on .result) (pass w) (c .string-on .ensures report)
 
 pub string-ending-spec : {M : Type 1} → statement M
-string-ending-spec = tie.close (tie.spec plain-end-requires returns shared-slice-read-if2 add-t8 returns-2 returns-3)
+string-ending-spec =
+    tie.close
+    (tie.spec (λ c κs. search needs) (λ c report. tt) (λ c. search needs) (λ c. search needs) returns-2 string-on-requires returns-3 (λ c report. tt))

@@ -1,49 +1,43 @@
--- Past the run of the word's bytes the tests are those of the definition, in its order.
+-- Past the word's run of ASCII it ends with the text, or before a byte that stops it; or it goes on past ASCII (Ended).
 use borrow.Author.Needs.{needs}
-use borrow.Author.Tests.{lt-ltb, le-ltb, eq-eqb, ne-eqb}
+use native.Mathlib.Omega.{arith}
 use denote.Ref.{now}
-use lib.ListN.{getD}
-use Rattle.laws.specs.Quoted.{code}
+use Rattle.items.specs.declared.Outcome.the-variants.{Word}
 use Rattle.items.specs.declared.Phase.the-variants as ph
-use Rattle.steps.specs.Ended.{wordTold}
-use Rattle.steps.proofs.Ended.{told-out, told-byte}
+use Rattle.steps.specs.Scan.{Passes}
+use Rattle.steps.proofs.Kept.{passes}
+use Rattle.steps.proofs.Ended.{word-out, word-before, not-kept, ends-past}
 use Rattle.steps.proofs.endings.word_ending.Statement.{statement}
 use Rattle.steps.proofs.endings.word_ending.Tie as tie
 
-word-end-requires : tie.Need-word-end-requires
-word-end-requires c κs = search needs
+pass : (w : tie.After-word-end) → Passes (now (w .before .before .args .s)) ph.InWord (w .before .before .args .from) (w .word-end .result)
+pass w =
+    let f = w .before .before in
+    passes (now (f .args .s)) (f .args .from) ph.InWord (w .word-end .result) (f .pre) (omega (arith, w .word-end .ensures)) (omega (arith, w .word-end .ensures))
 
 returns : tie.Need-returns
-returns c =
+returns c report =
     let f = c .before .before .before .args in
-    told-out (now (f .s)) (f .from) ph.InWord wordTold (c .before .word-end .result) (c .before .word-end .ensures) (c .if1 .taken)
+    word-out (now (f .s)) (f .from) (c .before .word-end .result) (pass (c .before)) report (c .if1 .taken)
 
-shared-slice-read-b : tie.Need-shared-slice-read-b
-shared-slice-read-b c = search needs
+word-on-requires : tie.Need-word-on-requires
+word-on-requires c κs = pass (c .before .before .before) .1
 
 returns-2 : tie.Need-returns-2
-returns-2 c =
-    let w = c .before .before .before in
-    let f = w .before .before .args in
-    let e = w .word-end in
-    told-byte (now (f .s)) (f .from) ph.InWord wordTold (e .result) (e .ensures) (c .before .before .if1 .left)
-    (rw (le-ltb (getD (now (f .s)) (e .result) 0) 0x80 (c .if2 .taken)))
-
-returns-3 : tie.Need-returns-3
-returns-3 c =
+returns-2 c report =
     let w = c .before .before .before .before in
     let f = w .before .before .args in
-    let e = w .word-end in
-    told-byte (now (f .s)) (f .from) ph.InWord wordTold (e .result) (e .ensures) (c .before .before .before .if1 .left)
-    (rw (lt-ltb (getD (now (f .s)) (e .result) 0) 0x80 (c .before .if2 .left), eq-eqb (getD (now (f .s)) (e .result) 0) (code "\\") (c .if3 .taken)))
+    ends-past (now (f .s)) report ph.InWord Word (f .from) (w .word-end .result) (c .word-on .result) (pass w) (c .word-on .ensures report)
 
 returns-4 : tie.Need-returns-4
-returns-4 c =
+returns-4 c report =
     let w = c .before .before .before .before in
     let f = w .before .before .args in
-    let e = w .word-end in
-    told-byte (now (f .s)) (f .from) ph.InWord wordTold (e .result) (e .ensures) (c .before .before .before .if1 .left)
-    (rw (lt-ltb (getD (now (f .s)) (e .result) 0) 0x80 (c .before .if2 .left), ne-eqb (getD (now (f .s)) (e .result) 0) (code "\\") (c .if3 .left)))
+    let h = c .before .before .before .if1 .left in
+    word-before (now (f .s)) (f .from) (w .word-end .result) (pass w) report h (c .before .if2 .left) (c .if3 .left)
+    (not-kept (now (f .s)) (f .from) ph.InWord (w .word-end .result) (w .word-end .ensures) h)
 
 pub word-ending-spec : {M : Type 1} → statement M
-word-ending-spec = tie.close (tie.spec word-end-requires returns shared-slice-read-b returns-2 returns-3 returns-4)
+word-ending-spec =
+    tie.close
+    (tie.spec (λ c κs. search needs) returns (λ c. search needs) word-on-requires returns-2 (λ c report. tt) returns-4)

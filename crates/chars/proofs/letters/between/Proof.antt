@@ -1,8 +1,8 @@
 -- The two tests of the definition, in its order.
 use borrow.Author.Tests.{lt-leb, le-leb}
 use Rattle.laws.specs.Quoted.{within}
-use Rattle.steps.proofs.runs.between.Statement.{statement}
-use Rattle.steps.proofs.runs.between.Tie as tie
+use Rattle.chars.proofs.letters.between.Statement.{statement}
+use Rattle.chars.proofs.letters.between.Tie as tie
 
 returns : tie.Need-returns
 unfolding within
