@@ -115,7 +115,7 @@ module _ (s : List ℕ) where
 
   -- ---- with skipped comments
 
-  next-all : (m : ℕ) (p q : Spot) → nextAt s p ≡ nextAt s q → allFrom (suc m) s p ≡ allFrom (suc m) s q
+  pub next-all : (m : ℕ) (p q : Spot) → nextAt s p ≡ nextAt s q → allFrom (suc m) s p ≡ allFrom (suc m) s q
   unfolding allFrom
   next-all m p q e = ap (λ (t : Turn). andThen t (λ u. allFrom m s u)) e
 

@@ -131,9 +131,3 @@ bare-nine s free extent place m h = go (m .text) h
     go Nowhere k = (refl, refl)
     go (Source a b) k = (refl, refl)
     go (Decoded n) k = absurd k
-
--- a place past blanks is no earlier
-pub glance-ahead : (s : List ℕ) (report skip : Bool) (at a e : ℕ) (m : Means) → Glanced s report skip a e m
-    → startFrom a (chars (drop a s)) ≡ startFrom at (chars (drop at s)) → at ≤ a
-glance-ahead s report skip at a e m G w =
-    started s (chars (drop at s)) at refl (G .begins .c) a (a + 1) (sym w ∙ start-first s a (G .begins .c) (a + 1) (G .begins .first)) .ahead

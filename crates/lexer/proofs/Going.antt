@@ -8,7 +8,7 @@ use Rattle.lexer.specs.Writing.{Going}
 use Rattle.lexer.specs.declared.Spot.{Spot}
 use Rattle.lexer.specs.declared.Needed.{Needed}
 use Rattle.lexer.specs.declared.Found.the-variants.{One, End}
-use Rattle.lexer.proofs.All.{all-gives, all-ends}
+use Rattle.lexer.proofs.All.{all-gives, all-ends, next-all}
 use Rattle.lexer.proofs.Moves.{Moved}
 use Rattle.lexer.proofs.Nexts.{found-gives, found-ends, next-moved}
 use Rattle.lexer.proofs.Memory.{free-packed, texts-more}
@@ -41,6 +41,21 @@ module _ (s : List ℕ) (start p : Spot) (free : ℕ) (done : List Item) (g : Go
   counted n h e =
       let a : allItems s start ≡ done = going-end e in
       ap (λ (x : ℕ). needs x free) (sym h) ∙ ap (needs (length done)) (sym (g .bytes)) ∙ ap neededOf (sym a)
+
+  -- a spot further on with the same next item
+  pub going-past : (q : Spot) → nextAt s p ≡ nextAt s q → sizeOf s q ≤ sizeOf s p → p .at ≤ q .at → Going s start q free done
+  going-past q e h k = go (g .left) refl
+    where
+      go : (n : ℕ) → g .left ≡ n → Going s start q free done
+      go zero z = absurd (omega (arith, g .enough))
+      go (suc n) z = record {
+        left = suc n;
+        enough = omega (arith, g .enough);
+        few = omega (arith, g .few);
+        behind = omega (arith, g .behind);
+        bytes = g .bytes;
+        items = g .items ∙ ap (λ (m : ℕ). done ++ allFrom m s p) z ∙ ap (λ (l : List Item). done ++ l) (next-all s n p q e);
+      }
 
   module _ (r : Nine) (q : Spot) (e : One r q ≡ foundOf free (nextAt s p)) where
     abbrev pub it : Item

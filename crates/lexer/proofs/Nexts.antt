@@ -78,6 +78,16 @@ module _ (s : List ℕ) where
   unfolding nextAt
   next-at-ends p e = next-ends (sizeOf s p) p e
 
+  -- spots with the same turn have the same next item
+  pub next-same : (p q : Spot) → p .skip ≡ q .skip → turn s p ≡ turn s q → nextAt s p ≡ nextAt s q
+  next-same p q k e = go (turn s q) refl
+    where
+      go : (t : Turn) → turn s q ≡ t → nextAt s p ≡ nextAt s q
+      go ends f = next-at-ends p (e ∙ f) ∙ sym (next-at-ends q f)
+      go (gives i u) f = by-bool (q .skip && eqb (i .kind) kind.Comment)
+          (λ b. next-at-skips p u i (e ∙ f) (rw k b) ∙ sym (next-at-skips q u i f b))
+          (λ b. next-at-gives p u i (e ∙ f) (rw k b) ∙ sym (next-at-gives q u i f b))
+
   -- the next item goes forward as a turn does
   then-moved : (p t q : Spot) (x i : Item) → Moved s p x t → Moved s t i q → Moved s p i q
   then-moved p t q x i a b = record {

@@ -18,8 +18,7 @@ use Rattle.steps.proofs.Kept.{done-scan}
 use Rattle.meaning.specs.Meant.{means}
 use Rattle.meaning.specs.declared.Text.the-variants.{Nowhere}
 use Rattle.telling.specs.Tells.{Tells}
-use Rattle.lexer.specs.Glance.{Begins, Glanced, GlanceAt, Told, GlanceFrom}
-use Rattle.lexer.specs.Reading.{startFrom}
+use Rattle.lexer.specs.Glance.{Begins, Glanced, GlanceAt}
 use Rattle.telling.specs.declared.Quick.{Quick}
 use Rattle.telling.specs.declared.Quick.the-variants.{Item, Bracket, Other}
 use Rattle.lexer.proofs.Scans.{inside, scan-fits, end-inside}
@@ -114,12 +113,3 @@ line-told s report skip at e k B h = (
   },
   λ depth. refl,
 )
-
--- past blanks
-pub from-there : (s : List ℕ) (report skip : Bool) (from at : ℕ) → startFrom at (chars (drop at s)) ≡ startFrom from (chars (drop from s))
-    → (q : Quick) → GlanceAt s report skip at q → GlanceFrom s report skip from q
-from-there s report skip from at w Other t = tt
-from-there s report skip from at w (Item m a e) t =
-    (subst (λ (x : ℕ). Told s report skip from x e m) (sym (t .0)) (record { starts = w; fine = t .1; item = t .2 }), t .3)
-from-there s report skip from at w (Bracket m a e) t =
-    subst (λ (x : ℕ). Told s report skip from x e m) (sym (t .0)) (record { starts = w; fine = t .1; item = t .2 })

@@ -1,14 +1,16 @@
 -- A turn, by the first character that is no blank: what the turn gives there, and that the items of the definition from the same place
 -- on are those of that extent and the ones after it.
-use Rattle.chars.specs.Utf8.{chars}
+use Rattle.chars.specs.Utf8.{sequences, chars}
 use Rattle.chars.specs.Encode.{width}
 use Rattle.chars.specs.Blank.{isBlank}
 use Rattle.items.specs.Readers.{Read, readItem}
 use Rattle.items.specs.Items.{Place, Item, rangeAfter, extentItems, itemsFrom}
 use Rattle.items.proofs.Run.{turns-enough, read-left}
 use Rattle.laws.proofs.Choice.{by-bool}
-use Rattle.lexer.specs.Reading.{ends, turnAt, turnFrom, turn, startFrom}
+use Rattle.laws.proofs.Places.{past}
+use Rattle.lexer.specs.Reading.{ends, moved, turnAt, turnFrom, turn, startFrom}
 use Rattle.lexer.specs.declared.Spot.{Spot}
+use Rattle.lexer.specs.declared.Start.{Start}
 use Rattle.lexer.specs.declared.Start.the-variants.{At, Nothing}
 use Rattle.lexer.proofs.Here.{Here, char-here}
 use Prim.Native.Nat.{ℕ, _+_, _≤_}
@@ -94,3 +96,19 @@ turn-started s p c a n S = S .turn p
 pub turn-nothing : (s : List ℕ) (p : Spot) → startFrom (p .at) (chars (drop (p .at) s)) ≡ Nothing → turn s p ≡ ends
 unfolding turn
 turn-nothing s p f = none-started (chars (drop (p .at) s)) (p .at) f .0 p
+
+-- past blanks a turn is what it was before them
+pub turn-past : (s : List ℕ) (p : Spot) (at next : ℕ) (last : Place) (second : Bool) → startFrom next (chars (drop next s)) ≡ startFrom at (chars (drop at s))
+    → turn s (moved p next last second) ≡ turn s (moved p at last second)
+turn-past s p at next last second e = go (startFrom at (chars (drop at s))) refl
+  where
+    go : (o : Start) → startFrom at (chars (drop at s)) ≡ o → turn s (moved p next last second) ≡ turn s (moved p at last second)
+    go (At c a n) f =
+        turn-started s (moved p next last second) c a n (started s (chars (drop next s)) next refl c a n (e ∙ f))
+        ∙ sym (turn-started s (moved p at last second) c a n (started s (chars (drop at s)) at refl c a n f))
+    go Nothing f = turn-nothing s (moved p next last second) (e ∙ f) ∙ sym (turn-nothing s (moved p at last second) f)
+
+-- past the last character there is no turn
+pub turn-end : (s : List ℕ) (p : Spot) → length s ≤ p .at → turn s p ≡ ends
+unfolding startFrom chars sequences
+turn-end s p h = turn-nothing s p (ap (λ (l : List ℕ). startFrom (p .at) (chars l)) (past s (p .at) h))

@@ -5,20 +5,26 @@ use Rattle.items.specs.Items.{Item, depthAfter, depthPast, recordWords, recordO
 use Rattle.items.specs.declared.Nine.{Nine}
 use Rattle.items.proofs.Fit.{records-length}
 use Rattle.meaning.specs.Records.{packed}
-use Rattle.lexer.specs.Reading.{nextAt, allFrom, allItems, foundOf}
+use Rattle.lexer.specs.Reading.{sizeOf, nextAt, allFrom, allItems, foundOf}
 use Rattle.lexer.specs.Inner.{bytesFor, freeAfter, deepAt, neededOf}
 use Rattle.lexer.specs.Writing.{Going, Writing, Roomy}
 use Rattle.lexer.specs.declared.Spot.{Spot}
 use Rattle.lexer.specs.declared.Found.the-variants.{One, End}
+use Rattle.lexer.proofs.Turns.{turn-end}
 use Rattle.lexer.proofs.Moves.{Moved, Whole}
+use Rattle.lexer.proofs.Nexts.{next-at-ends}
 use Rattle.lexer.proofs.Memory.{record-packed, bytes-packed, texts-join, texts-more, records-more, past-more}
-use Rattle.lexer.proofs.Going.{going, going-end, counted, going-on, it, it-packed, it-moved}
+use Rattle.lexer.proofs.Going.{going, going-end, going-past, counted, going-on, it, it-packed, it-moved}
 use Prim.Native.Nat.{ℕ, _+_, _-_, _/_, _≤_, _<_}
 use mathlib.Core.Path.{_≡_, refl, sym, ap, _∙_, subst}
 use mathlib.Core.List.{List, [], _∷_, _++_, append-nil}
 use lib.ListN.{length, length-append, take, drop}
 use native.Mathlib.Omega.{arith}
 use borrow.Rule.Slice.PartMut.{putMid}
+
+-- past the last byte there is no further item
+pub past-end : (s : List ℕ) (p : Spot) (free : ℕ) → length s ≤ p .at → End ≡ foundOf free (nextAt s p)
+past-end s p free h = sym (ap (foundOf free) (next-at-ends s p (turn-end s p h)))
 
 -- what an item's nine words say of its text, for the decoder
 pub nine-fits : (s : List ℕ) (free n : ℕ) (r : Nine) (i : Item) → r ≡ packed free i → Whole s i → length (memoryOf (i .text)) ≤ n
@@ -48,6 +54,17 @@ module _ (s : List ℕ) (start : Spot) (recs₀ text₀ : List ℕ) (roomy : Roo
 
     pub text-length : length text ≡ length text₀
     text-length = ap length (g .bytes) ∙ length-written (texts (g .done)) text₀ (front (g .going) .1)
+
+    -- a spot further on with the same next item
+    pub writing-past : (q : Spot) → nextAt s p ≡ nextAt s q → sizeOf s q ≤ sizeOf s p → p .at ≤ q .at → Writing s start recs₀ text₀ recs text q free depth w
+    writing-past q e h k = record {
+      done = g .done;
+      going = going-past s start p free (g .done) (g .going) q e h k;
+      deep = g .deep;
+      count = g .count;
+      rows = g .rows;
+      bytes = g .bytes;
+    }
 
     -- what was written, by the words and the bytes that it took
     pub written-all : (n : ℕ) → n ≡ w / recordWords → End ≡ foundOf free (nextAt s p) → record { items = n; text = free } ≡ neededOf (allItems s start)

@@ -65,17 +65,6 @@ GlanceAt s report skip at (Item m a e) = (a ≡ at) × (m .kind < kind.firstErro
 GlanceAt s report skip at (Bracket m a e) = (a ≡ at) × (m .kind < kind.firstError) × Glanced s report skip at e m
 GlanceAt s report skip at Other = Unit
 
--- the same past the blanks from a place on
-pub record Told (s : List ℕ) (report skip : Bool) (from a e : ℕ) (m : Means) : Type 0 where
-  pub starts : startFrom a (chars (drop a s)) ≡ startFrom from (chars (drop from s))
-  pub fine : m .kind < kind.firstError
-  pub item : Glanced s report skip a e m
-
-abbrev pub GlanceFrom : List ℕ → Bool → Bool → ℕ → Quick → Type 0
-GlanceFrom s report skip from (Item m a e) = Told s report skip from a e m × Level (m .kind)
-GlanceFrom s report skip from (Bracket m a e) = Told s report skip from a e m
-GlanceFrom s report skip from Other = Unit
-
 -- ---- where an item ends, whatever it means
 
 abbrev pub SkimAt : List ℕ → Bool → Bool → ℕ → Ending → Type 0

@@ -1,11 +1,15 @@
 -- Writing on: what the two lent memories hold while the items from a spot on are read, and what a function promises that writes some more.
 use Prim.Native.Nat.{ℕ, _+_, _*_, _≤_, _<_}
 use mathlib.Core.Path.{_≡_}
+use mathlib.Core.Bool.{false}
 use mathlib.Core.List.{List, _++_}
 use lib.ListN.{length}
+use lib.Dec.{eqb}
+use Rattle.laws.specs.Choice.{if_then_else_}
 use Rattle.laws.specs.Lent.{written}
 use Rattle.items.specs.Items.{Item, depthPast, recordWords, records, texts}
-use Rattle.lexer.specs.Reading.{sizeOf, allFrom, allItems}
+use Rattle.meaning.specs.Places.{placeIn}
+use Rattle.lexer.specs.Reading.{moved, sizeOf, allFrom, allItems}
 use Rattle.lexer.specs.declared.Spot.{Spot}
 
 -- of the items from the spot `start` on some are done, and the others are those from the spot p on
@@ -45,3 +49,7 @@ pub record Onward (s : List ℕ) (p : Spot) (recs : List ℕ) (free depth w : �
   pub ahead : sizeOf s q ≤ sizeOf s p
   pub on : (start : Spot) (recs₀ text₀ text : List ℕ) → Roomy s start recs₀ text₀ → Writing s start recs₀ text₀ recs text p free depth w
       → Writing s start recs₀ text₀ recs' text q free depth' w'
+
+-- the spot that a writing got to by items that one look told: where it wrote none, the first of an extent's two items is still given
+abbrev pub toldTo : Spot → ℕ → ℕ → ℕ → Spot
+toldTo p at from w = moved p at (placeIn (p .last)) (if eqb w from then p .second else false)

@@ -26,7 +26,7 @@ ghost use Rattle.items.specs.declared.Quotes.the-variants.{Double};
 ghost use Rattle.meaning.specs.Meant.{means};
 ghost use Rattle.meaning.specs.declared.Text.the-variants.{Nowhere};
 ghost use Rattle.telling.specs.declared.Quick.the-variants.{Bracket};
-ghost use Rattle.lexer.specs.Glance.{Begins, Sharp, Spells, GlanceAt, GlanceFrom, SkimAt, SkimFrom};
+ghost use Rattle.lexer.specs.Glance.{Begins, Sharp, Spells, GlanceAt, SkimAt, SkimFrom};
 
 // How many bytes a boolean of one letter is.
 const BOOLEAN: usize = 2;
@@ -136,7 +136,7 @@ fn quick_hash(source: &[u8], at: usize) -> Quick
 }
 
 // The item that starts at a place, by its first byte.
-fn quick_at(source: &[u8], report: bool, skip: bool, at: usize) -> Quick
+pub fn quick_at(source: &[u8], report: bool, skip: bool, at: usize) -> Quick
     requires { ⌜ (length (now source) ≤ limit) × (at < length (now source)) ⌝ }
     ensures { λ r. ⌜ GlanceAt (now (source .entry)) report skip at r ⌝ }
 {
@@ -156,18 +156,6 @@ fn quick_at(source: &[u8], report: bool, skip: bool, at: usize) -> Quick
         b'#' => quick_hash(source, at),
         _ => Quick::Other,
     }
-}
-
-// The next item from a place on.
-pub fn quick_item(source: &[u8], report: bool, skip: bool, from: usize) -> Quick
-    requires { ⌜ length (now source) ≤ limit ⌝ }
-    ensures { λ r. ⌜ GlanceFrom (now (source .entry)) report skip from r ⌝ }
-{
-    let at = past_blanks(source, from);
-    if source.len() <= at {
-        return Quick::Other;
-    }
-    quick_at(source, report, skip, at)
 }
 
 // The end of a string that starts at a place, if it has no escape.

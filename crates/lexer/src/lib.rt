@@ -59,9 +59,9 @@ pub enum Found {
     End,
 }
 
-// How far writing got: the spot, the words that the records take, and how many brackets are open there.
+// How far writing got: the place, the words that the records take, and how many brackets are open there.
 pub struct Wrote {
-    pub spot: Spot,
+    pub at: usize,
     pub words: usize,
     pub depth: u32,
 }

@@ -76,7 +76,7 @@ fn blank_at(source: &[u8], at: usize) -> bool
 
 // Past the blanks of ASCII from a place on: the first few byte by byte, since most runs are short, and the rest by blocks.
 fn past_more(source: &[u8], from: usize) -> usize
-    ensures { λ r. ⌜ startFrom r (chars (drop r (now (source .entry)))) ≡ startFrom from (chars (drop from (now (source .entry)))) ⌝ }
+    ensures { λ r. ⌜ (from ≤ r) × (startFrom r (chars (drop r (now (source .entry)))) ≡ startFrom from (chars (drop from (now (source .entry))))) ⌝ }
 {
     let mut at = from;
     let mut n: usize = 0;
@@ -93,7 +93,7 @@ fn past_more(source: &[u8], from: usize) -> usize
 
 // Past the blanks of ASCII from a place on. Most items have none before them, or one.
 pub fn past_blanks(source: &[u8], at: usize) -> usize
-    ensures { λ r. ⌜ startFrom r (chars (drop r (now (source .entry)))) ≡ startFrom at (chars (drop at (now (source .entry)))) ⌝ }
+    ensures { λ r. ⌜ (at ≤ r) × (startFrom r (chars (drop r (now (source .entry)))) ≡ startFrom at (chars (drop at (now (source .entry))))) ⌝ }
 {
     if blank_at(source, at) {
         let next = at + 1;

@@ -5,11 +5,12 @@ use crate::OpenAnswer;
 use crate::ReadAnswer;
 use crate::Spot;
 use crate::Wrote;
-use crate::glance::quick_item;
+use crate::glance::quick_at;
 use crate::glance::skim_item;
 use crate::opening::OUTSIDE;
 use crate::opening::open;
 use crate::reading::next_item;
+use crate::reading::past_blanks;
 use crate::reading::stand;
 use escapes::decode;
 use items::Nine;
@@ -26,7 +27,7 @@ use meaning::records::put;
 use steps::Ending;
 use telling::Quick;
 ghost use mathlib.Core.Path.{_≡_};
-ghost use Prim.Native.Nat.{_*_, _^_, _≤_, _<_};
+ghost use Prim.Native.Nat.{_*_, _/_, _^_, _≤_, _<_};
 ghost use lib.ListN.{length};
 ghost use Rattle.laws.specs.Lent.{written};
 ghost use Rattle.items.specs.Items.{range, records, recordWords, texts};
@@ -36,7 +37,7 @@ ghost use Rattle.meaning.specs.Records.{nineFor, TextFits};
 ghost use Rattle.lexer.specs.Reading.{allItems};
 ghost use Rattle.lexer.specs.Answers.{answerOf};
 ghost use Rattle.lexer.specs.Inner.{neededOf, quotesOf, bytesFor, freeAfter, deepAt, Few};
-ghost use Rattle.lexer.specs.Writing.{Amid, Onward};
+ghost use Rattle.lexer.specs.Writing.{Amid, Onward, toldTo};
 
 // How many bytes a quote is.
 const QUOTE: usize = 1;
@@ -124,38 +125,61 @@ fn record_at(m: Means, start: usize, end: usize, free: usize, depth: u32) -> Rec
     }
 }
 
-// Writes the records of the items from a spot on, from a word of the records on, as far as one look tells each: none has a decoded text.
+// Writes the records of the items from a spot on, from a word of the records on, as far as one look tells each: none has a decoded text. Where
+// it stops there is no blank of ASCII.
 fn put_told(source: &[u8], p: Spot, recs: &mut [u32], free: usize, from: usize, deep: u32) -> Wrote
     requires { ⌜ (length (now source) ≤ limit) × Amid (now source) p (now recs) free deep from ⌝ }
-    ensures { λ r. ⌜ Onward (now (source .entry)) p (now (recs .entry)) free deep from (r .spot) (now (recs .exit)) (r .depth) (r .words) ⌝ }
+    ensures { λ r. ⌜ Onward (now (source .entry)) p (now (recs .entry)) free deep from (toldTo p (r .at) from (r .words)) (now (recs .exit)) (r .depth) (r .words) ⌝ }
 {
-    let mut at = p.at;
-    let mut second = p.second;
     let mut depth = deep;
     let mut w = from;
-    loop {
-        match quick_item(source, p.report, p.skip, at) {
+    let mut at = past_blanks(source, p.at);
+    while at < source.len() {
+        match quick_at(source, p.report, p.skip, at) {
             Quick::Item(m, start, end) => {
                 put(&mut recs[w..], record_at(m, start, end, free, depth));
                 w += WORDS;
-                at = end;
-                second = false;
+                at = past_blanks(source, end);
             }
             Quick::Bracket(m, start, end) => {
                 put(&mut recs[w..], record_at(m, start, end, free, depth));
                 depth = depth_after(m.kind, depth);
                 w += WORDS;
-                at = end;
-                second = false;
+                at = past_blanks(source, end);
             }
             Quick::Other => {
                 return Wrote {
-                    spot: stand(p, at, second),
+                    at: at,
                     words: w,
                     depth: depth,
                 };
             }
         }
+    }
+    Wrote {
+        at: at,
+        words: w,
+        depth: depth,
+    }
+}
+
+// The spot that a writing got to from another one, which stood at a word of the records.
+fn spot_past(p: Spot, told: Wrote, from: usize) -> Spot
+    ensures { λ r. ⌜ r ≡ toldTo p (told .at) from (told .words) ⌝ }
+{
+    if told.words == from {
+        return stand(p, told.at, p.second);
+    }
+    stand(p, told.at, false)
+}
+
+// What so many words of records and bytes of text are.
+fn taken(words: usize, bytes: usize) -> Needed
+    ensures { λ r. ⌜ r ≡ record { items = words / recordWords; text = bytes } ⌝ }
+{
+    Needed {
+        items: words / WORDS,
+        text: bytes,
     }
 }
 
@@ -174,9 +198,13 @@ pub fn write(source: &[u8], spot: Spot, recs: &mut [u32], text: &mut [u8]) -> Ne
     let mut w: usize = 0;
     loop {
         let told = put_told(source, p, recs, free, w, depth);
+        if source.len() <= told.at {
+            return taken(told.words, free);
+        }
+        p = spot_past(p, told, w);
         w = told.words;
         depth = told.depth;
-        match next_item(source, told.spot, free) {
+        match next_item(source, p, free) {
             Found::One(r, q) => {
                 let row = Record {
                     nine: r,
@@ -190,10 +218,7 @@ pub fn write(source: &[u8], spot: Spot, recs: &mut [u32], text: &mut [u8]) -> Ne
                 p = q;
             }
             Found::End => {
-                return Needed {
-                    items: w / WORDS,
-                    text: free,
-                };
+                return taken(w, free);
             }
         }
     }

@@ -115,8 +115,8 @@ pub fn count_part(part: &[u8], known: bool, mode: u32, skip: bool) -> Part
 {
     match seen(part, known) {
         Utf8::Good => {
-            let at = first_place(part, mode, skip);
-            let n = count(part, spot_at(at, mode, skip));
+            let position = begin(part, mode, skip);
+            let n = count(part, position.spot);
             read_well(n.items, n.text)
         }
         Utf8::Bad(at) => not_utf8(at),

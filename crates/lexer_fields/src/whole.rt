@@ -65,16 +65,9 @@ fn write(
     let mut free: usize = 0;
     while i < ends.len() {
         let end = ends[i] as usize;
-        let p = write_part(
-            &source[from..end],
-            known,
-            mode,
-            skip,
-            &mut recs[w..],
-            &mut text[free..],
-        );
-        let row = i * ROW;
-        put_row(&mut rows[row..], n as u32, free as u32, p.mark, p.place);
+        let part = &source[from..end];
+        let p = write_part(part, known, mode, skip, &mut recs[w..], &mut text[free..]);
+        put_row(&mut rows[i * ROW..], n as u32, free as u32, p.mark, p.place);
         n = n + p.items;
         w = n * WORDS;
         free = free + p.text;

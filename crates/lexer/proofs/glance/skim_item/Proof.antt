@@ -18,7 +18,7 @@ returns-2 : tie.Need-returns-2
 returns-2 c =
     let a = c .before .before .before .before in
     skim-there (now (a .args .source)) (a .args .report) (a .args .skip)
-    (a .args .from) (c .before .before .past-blanks .result) (c .before .before .past-blanks .ensures) (c .skim-at .result) (c .skim-at .ensures)
+    (a .args .from) (c .before .before .past-blanks .result) (c .before .before .past-blanks .ensures .1) (c .skim-at .result) (c .skim-at .ensures)
 
 pub skim-item-spec : {M : Type 1} → statement M
 skim-item-spec = tie.close (tie.spec past-blanks-requires returns skim-at-requires returns-2)

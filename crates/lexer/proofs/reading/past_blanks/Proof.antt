@@ -38,14 +38,16 @@ past-more-requires c κs = search needs
 
 returns : tie.Need-returns
 returns c =
-    let a = c .before .before .before .before .before .before .args in
-    c .past-more .ensures ∙ blanks (now (a .source)) 1 (a .at + 1) (some-more (c .before)) ∙ blanks (now (a .source)) 1 (a .at) (some (c .before .before .before))
+    let a = c .before .before .before .before .before .before .args in (
+      omega (arith, c .past-more .ensures .0),
+      c .past-more .ensures .1 ∙ blanks (now (a .source)) 1 (a .at + 1) (some-more (c .before)) ∙ blanks (now (a .source)) 1 (a .at) (some (c .before .before .before)),
+    )
 
 returns-2 : tie.Need-returns-2
-returns-2 c = let a = c .before .before .before .before .before .args in blanks (now (a .source)) 1 (a .at) (some (c .before .before))
+returns-2 c = let a = c .before .before .before .before .before .args in (omega arith, blanks (now (a .source)) 1 (a .at) (some (c .before .before)))
 
 returns-3 : tie.Need-returns-3
-returns-3 c = refl
+returns-3 c = (omega arith, refl)
 
 pub past-blanks-spec : {M : Type 1} → statement M
 past-blanks-spec = tie.close (tie.spec blank-at-requires add-next blank-at-requires-2 add-past-more past-more-requires returns returns-2 returns-3)

@@ -16,7 +16,7 @@ use Rattle.lexer.proofs.reading.past_more.Statement.{statement}
 use Rattle.lexer.proofs.reading.past_more.Tie as tie
 
 abbrev Inv-loop : tie.InvT-loop
-Inv-loop source from at₀ n₀ at n = startFrom at (chars (drop at source)) ≡ startFrom from (chars (drop from source))
+Inv-loop source from at₀ n₀ at n = (from ≤ at) × (startFrom at (chars (drop at source)) ≡ startFrom from (chars (drop from source)))
 
 abbrev μ-loop : tie.MeasureT-loop
 μ-loop source from at₀ n₀ at n = 8 - n
@@ -25,7 +25,7 @@ some : (c : tie.Then1 Inv-loop μ-loop) → 1 ≤ span blank (drop (c .before .b
 some c = leb-true 1 (span blank (drop (c .before .before .before .loop .at) (now (c .before .before .before .before .before .args .source)))) (sym (c .before .blank-at .ensures) ∙ c .if1 .taken)
 
 loop-holds : tie.Need-loop-holds Inv-loop μ-loop
-loop-holds c = refl
+loop-holds c = (omega arith, refl)
 
 blank-at-requires : tie.Need-blank-at-requires Inv-loop μ-loop
 blank-at-requires c κs = search needs
@@ -44,7 +44,10 @@ loop-less c = search needs
 
 loop-again : tie.Need-loop-again Inv-loop μ-loop
 loop-again c =
-    blanks (now (c .before .before .before .before .before .args .source)) 1 (c .before .before .before .loop .at) (some c) ∙ c .before .before .before .loop .inv
+    let l = c .before .before .before in (
+      omega (arith, l .loop .inv .0),
+      blanks (now (l .before .before .args .source)) 1 (l .loop .at) (some c) ∙ l .loop .inv .1,
+    )
 
 returns : tie.Need-returns Inv-loop μ-loop
 returns c = c .before .before .before .loop .inv
@@ -55,8 +58,10 @@ blank-end-requires c κs = search needs
 returns-2 : tie.Need-returns-2 Inv-loop μ-loop
 returns-2 c =
     let l = c .before .before in
-    let s = now (l .before .before .args .source) in
-    ap (λ (i : ℕ). startFrom i (chars (drop i s))) (c .blank-end .ensures) ∙ start-run s (l .loop .at) ∙ l .loop .inv
+    let s = now (l .before .before .args .source) in (
+      omega (arith, c .blank-end .ensures, l .loop .inv .0),
+      ap (λ (i : ℕ). startFrom i (chars (drop i s))) (c .blank-end .ensures) ∙ start-run s (l .loop .at) ∙ l .loop .inv .1,
+    )
 
 pub past-more-spec : {M : Type 1} → statement M
 past-more-spec =

@@ -1,5 +1,5 @@
--- Each turn writes the record of the item that one look told, so that any writing that stood at the spot goes on past it (Quickly). An item
--- that is no bracket leaves the depth as it is.
+-- Each turn writes the record of the item that one look told, so that any writing that stood at the spot goes on past it and past the blanks
+-- after it (Quickly). An item that is no bracket leaves the depth as it is.
 use mathlib.Core.Path.{_≡_, sym, ap, _∙_, subst}
 use Prim.Native.Nat.{_+_, _-_, _≤_}
 use native.Mathlib.Omega.{arith}
@@ -10,80 +10,76 @@ use Rattle.laws.proofs.Lent.{length-part}
 use Rattle.items.specs.Items.{recordWords, wordsOf}
 use Rattle.items.specs.declared.Record.{Record}
 use Rattle.lexer.specs.Reading.{sizeOf}
-use Rattle.lexer.specs.Writing.{Onward}
-use Rattle.lexer.specs.Glance.{GlanceFrom}
-use Rattle.lexer.specs.declared.Spot.{Spot}
+use Rattle.lexer.specs.Writing.{Onward, toldTo}
+use Rattle.lexer.specs.Glance.{GlanceAt}
 use Rattle.telling.specs.declared.Quick.{Quick}
 use Rattle.telling.specs.declared.Quick.the-variants.{Item, Bracket}
-use Rattle.lexer.proofs.Quickly.{here, none-told, told-length, told-fits, told-room, told-smaller, told-on}
+use Rattle.lexer.proofs.Quickly.{none-told, told-length, told-fits, told-room, told-smaller, told-on}
 use borrow.Author.Needs.{needs}
 use Rattle.lexer.proofs.whole.put_told.Statement.{statement}
 use Rattle.lexer.proofs.whole.put_told.Tie as tie
 
 abbrev Inv-loop : tie.InvT-loop
-Inv-loop source p recs₀ free from deep at₀ second₀ depth₀ w₀ recs at second depth w = Onward source p recs₀ free deep from (here p at second) recs depth w
+Inv-loop source p recs₀ free from deep depth₀ w₀ at₀ recs depth w at = (from ≤ w) × Onward source p recs₀ free deep from (toldTo p at from w) recs depth w
 
 abbrev μ-loop : tie.MeasureT-loop
-μ-loop source p recs₀ free from deep at₀ second₀ depth₀ w₀ recs at second depth w = sizeOf source (here p at second)
+μ-loop source p recs₀ free from deep depth₀ w₀ at₀ recs depth w at = sizeOf source (toldTo p at from w)
 
-item-told : (c : tie.After-known-told Inv-loop μ-loop)
-    → GlanceFrom (now (c .before .before .before .before .before .before .before .args .source))
-    (c .before .before .before .before .before .before .before .args .p .report)
-    (c .before .before .before .before .before .before .before .args .p .skip)
-    (c .before .before .before .before .loop .at) (Item (c .before .m .given .0 .0) (c .before .m .given .0 .1 .0) (c .before .m .given .0 .1 .1 .0))
+item-told : (c : tie.After-known-told Inv-loop μ-loop) → GlanceAt (now (c .before .before .before .before .before .before .before .before .before .args .source)) (c .before .before .before .before .before .before .before .before .before .args .p .report) (c .before .before .before .before .before .before .before .before .before .args .p .skip)
+    (c .before .before .before .before .before .loop .at) (Item (c .before .m .given .0 .0) (c .before .m .given .0 .1 .0) (c .before .m .given .0 .1 .1 .0))
 item-told c =
-    let entry = c .before .before .before .before .before .before .before in
-    subst (λ (q : Quick). GlanceFrom (now (entry .args .source)) (entry .args .p .report)
-    (entry .args .p .skip) (c .before .before .before .before .loop .at) q) (c .before .m .given .1) (c .before .before .before .quick-item .ensures)
+    let entry = c .before .before .before .before .before .before .before .before .before in
+    subst (λ (q : Quick). GlanceAt (now (entry .args .source)) (entry .args .p .report) (entry .args .p .skip) (c .before .before .before .before .before .loop .at) q) (c .before .m .given .1) (c .before .before .before .quick-at .ensures)
 
-item-room : (c : tie.After-known-told Inv-loop μ-loop) → c .before .before .before .before .loop .w + recordWords ≤ length (c .before .before .before .before .loop .recs)
+item-room : (c : tie.After-known-told Inv-loop μ-loop) → c .before .before .before .before .before .loop .w + recordWords ≤ length (c .before .before .before .before .before .loop .recs)
 item-room c =
-    let turn = c .before .before .before .before in
-    let entry = turn .before .before .before in
-    told-room (now (entry .args .source)) (entry .args .p) (now (entry .args .recs)) (entry .args .free)
-    (entry .args .deep) (entry .args .from) (entry .pre .1) (turn .loop .at) (turn .loop .second)
-    (turn .loop .inv) (c .before .m .given .0 .1 .0) (c .before .m .given .0 .1 .1 .0) (c .before .m .given .0 .0) (item-told c .0)
+    let turn = c .before .before .before .before .before in
+    let entry = turn .before .before .before .before in
+    let t = item-told c in
+    told-room (now (entry .args .source)) (entry .args .p) (now (entry .args .recs)) (entry .args .free) (entry .args .deep) (entry .args .from) (entry .pre .1)
+    (turn .loop .at) (turn .loop .inv .1) (c .before .m .given .0 .1 .0) (c .before .m .given .0 .1 .1 .0) (c .before .m .given .0 .0) (t .0, t .1, t .2)
 
-item-same : (c : tie.After-known-told Inv-loop μ-loop) → length (c .before .before .before .before .loop .recs) ≡ length (now (c .before .before .before .before .before .before .before .args .recs))
+item-same : (c : tie.After-known-told Inv-loop μ-loop) → length (c .before .before .before .before .before .loop .recs) ≡ length (now (c .before .before .before .before .before .before .before .before .before .args .recs))
 item-same c =
-    let turn = c .before .before .before .before in
-    let entry = turn .before .before .before in
-    told-length (now (entry .args .source)) (entry .args .p) (now (entry .args .recs))
-    (entry .args .free) (entry .args .deep) (entry .args .from) (entry .pre .1) (turn .loop .at) (turn .loop .second) (turn .loop .inv)
+    let turn = c .before .before .before .before .before in
+    let entry = turn .before .before .before .before in
+    told-length (now (entry .args .source)) (entry .args .p) (now (entry .args .recs)) (entry .args .free) (entry .args .deep) (entry .args .from) (entry .pre .1)
+    (turn .loop .at) (turn .loop .inv .1)
 
-bracket-told : (c : tie.After-known-told2 Inv-loop μ-loop)
-    → GlanceFrom (now (c .before .before .before .before .before .before .before .args .source))
-    (c .before .before .before .before .before .before .before .args .p .report)
-    (c .before .before .before .before .before .before .before .args .p .skip) (c .before .before .before .before .loop .at)
-    (Bracket (c .before .m2 .given .0 .0) (c .before .m2 .given .0 .1 .0) (c .before .m2 .given .0 .1 .1 .0))
+bracket-told : (c : tie.After-known-told2 Inv-loop μ-loop) → GlanceAt (now (c .before .before .before .before .before .before .before .before .before .args .source)) (c .before .before .before .before .before .before .before .before .before .args .p .report) (c .before .before .before .before .before .before .before .before .before .args .p .skip)
+    (c .before .before .before .before .before .loop .at) (Bracket (c .before .m2 .given .0 .0) (c .before .m2 .given .0 .1 .0) (c .before .m2 .given .0 .1 .1 .0))
 bracket-told c =
-    let entry = c .before .before .before .before .before .before .before in
-    subst (λ (q : Quick). GlanceFrom (now (entry .args .source)) (entry .args .p .report)
-    (entry .args .p .skip) (c .before .before .before .before .loop .at) q) (c .before .m2 .given .1) (c .before .before .before .quick-item .ensures)
+    let entry = c .before .before .before .before .before .before .before .before .before in
+    subst (λ (q : Quick). GlanceAt (now (entry .args .source)) (entry .args .p .report) (entry .args .p .skip) (c .before .before .before .before .before .loop .at) q) (c .before .m2 .given .1) (c .before .before .before .quick-at .ensures)
 
-bracket-room : (c : tie.After-known-told2 Inv-loop μ-loop) → c .before .before .before .before .loop .w + recordWords ≤ length (c .before .before .before .before .loop .recs)
+bracket-room : (c : tie.After-known-told2 Inv-loop μ-loop) → c .before .before .before .before .before .loop .w + recordWords ≤ length (c .before .before .before .before .before .loop .recs)
 bracket-room c =
-    let turn = c .before .before .before .before in
-    let entry = turn .before .before .before in
-    told-room (now (entry .args .source)) (entry .args .p) (now (entry .args .recs)) (entry .args .free)
-    (entry .args .deep) (entry .args .from) (entry .pre .1) (turn .loop .at) (turn .loop .second)
-    (turn .loop .inv) (c .before .m2 .given .0 .1 .0) (c .before .m2 .given .0 .1 .1 .0) (c .before .m2 .given .0 .0) (bracket-told c)
+    let turn = c .before .before .before .before .before in
+    let entry = turn .before .before .before .before in
+    let t = bracket-told c in
+    told-room (now (entry .args .source)) (entry .args .p) (now (entry .args .recs)) (entry .args .free) (entry .args .deep) (entry .args .from) (entry .pre .1)
+    (turn .loop .at) (turn .loop .inv .1) (c .before .m2 .given .0 .1 .0) (c .before .m2 .given .0 .1 .1 .0) (c .before .m2 .given .0 .0) (t .0, t .1, t .2)
 
-bracket-same : (c : tie.After-known-told2 Inv-loop μ-loop)
-    → length (c .before .before .before .before .loop .recs) ≡ length (now (c .before .before .before .before .before .before .before .args .recs))
+bracket-same : (c : tie.After-known-told2 Inv-loop μ-loop) → length (c .before .before .before .before .before .loop .recs) ≡ length (now (c .before .before .before .before .before .before .before .before .before .args .recs))
 bracket-same c =
-    let turn = c .before .before .before .before in
-    let entry = turn .before .before .before in
-    told-length (now (entry .args .source)) (entry .args .p) (now (entry .args .recs))
-    (entry .args .free) (entry .args .deep) (entry .args .from) (entry .pre .1) (turn .loop .at) (turn .loop .second) (turn .loop .inv)
+    let turn = c .before .before .before .before .before in
+    let entry = turn .before .before .before .before in
+    told-length (now (entry .args .source)) (entry .args .p) (now (entry .args .recs)) (entry .args .free) (entry .args .deep) (entry .args .from) (entry .pre .1)
+    (turn .loop .at) (turn .loop .inv .1)
+
+past-blanks-requires : tie.Need-past-blanks-requires Inv-loop μ-loop
+past-blanks-requires c κs = search needs
 
 loop-holds : tie.Need-loop-holds Inv-loop μ-loop
 loop-holds c =
-    let entry = c .before .before in
-    none-told (now (entry .args .source)) (entry .args .p) (now (entry .args .recs)) (entry .args .free) (entry .args .deep) (entry .args .from)
+    let entry = c .before .before .before in (
+      omega arith,
+      none-told (now (entry .args .source)) (entry .args .p) (now (entry .args .recs)) (entry .args .free) (entry .args .deep) (entry .args .from) (c .past-blanks .result)
+          (c .past-blanks .ensures),
+    )
 
-quick-item-requires : tie.Need-quick-item-requires Inv-loop μ-loop
-quick-item-requires c κs = c .before .before .before .pre .0
+quick-at-requires : tie.Need-quick-at-requires Inv-loop μ-loop
+quick-at-requires c κs = (c .before .before .before .before .before .pre .0, c .loop-test .taken)
 
 enum-known-m : tie.Need-enum-known-m Inv-loop μ-loop
 enum-known-m c = search needs
@@ -102,42 +98,49 @@ part-put-end c = omega arith
 
 record-at-requires : tie.Need-record-at-requires Inv-loop μ-loop
 record-at-requires c κs =
-    let told = c .before .before in
-    let turn = told .before .before .before in
-    let entry = turn .before .before .before in
-    told-fits (now (entry .args .source)) (entry .args .p) (now (entry .args .recs)) (entry .args .free)
-    (entry .args .deep) (entry .args .from) (entry .pre .1) (turn .loop .at) (turn .loop .second)
-    (turn .loop .inv) (told .m .given .0 .1 .0) (told .m .given .0 .1 .1 .0) (told .m .given .0 .0) (item-told (c .before) .0) (entry .pre .0)
+    let item = c .before .before in
+    let turn = item .before .before .before .before in
+    let entry = turn .before .before .before .before in
+    let t = item-told (c .before) in
+    told-fits (now (entry .args .source)) (entry .args .p) (now (entry .args .recs)) (entry .args .free) (entry .args .deep) (entry .args .from) (entry .pre .1)
+    (turn .loop .at) (turn .loop .inv .1) (item .m .given .0 .1 .0) (item .m .given .0 .1 .1 .0) (item .m .given .0 .0) (t .0, t .1, t .2) (entry .pre .0)
 
 put-requires : tie.Need-put-requires Inv-loop μ-loop
-put-requires c κs = let l = c .before .before .before .before .before .before .loop in omega (arith, item-room (c .before .before), length-part (l .recs) (l .w))
+put-requires c κs = let l = c .before .before .before .before .before .before .before .loop in omega (arith, item-room (c .before .before), length-part (l .recs) (l .w))
 
 add-w : tie.Need-add-w Inv-loop μ-loop
 add-w c =
     let earlier = c .before .before .before .before .before in
-    let good = c .before .before .before .before .before .before .before .before .before .before .before .before .good in
-    omega (arith, item-room (earlier), item-same (earlier))
+    let good = c .before .before .before .before .before .before .before .before .before .before .before .before .before .before .good in
+    omega (arith, item-room earlier, item-same earlier)
+
+past-blanks-requires-2 : tie.Need-past-blanks-requires-2 Inv-loop μ-loop
+past-blanks-requires-2 c κs = search needs
 
 loop-less : tie.Need-loop-less Inv-loop μ-loop
 loop-less c =
-    let told = c .before .before .before .before .before .before in
-    let turn = told .before .before .before in
-    let entry = turn .before .before .before in
-    told-smaller (now (entry .args .source)) (entry .args .p) (now (entry .args .recs)) (entry .args .free)
-    (entry .args .deep) (entry .args .from) (entry .pre .1) (turn .loop .at) (turn .loop .second) (turn .loop .inv)
-    (told .m .given .0 .1 .0) (told .m .given .0 .1 .1 .0) (told .m .given .0 .0) (item-told (c .before .before .before .before .before) .0)
+    let item = c .before .before .before .before .before .before .before in
+    let turn = item .before .before .before .before in
+    let entry = turn .before .before .before .before in
+    let t = item-told (c .before .before .before .before .before .before) in
+    told-smaller (now (entry .args .source)) (entry .args .p) (now (entry .args .recs)) (entry .args .free) (entry .args .deep) (entry .args .from) (entry .pre .1)
+    (turn .loop .at) (turn .loop .inv .1) (item .m .given .0 .1 .0) (item .m .given .0 .1 .1 .0) (item .m .given .0 .0) (t .0, t .1, t .2)
+    (c .past-blanks2 .result) (c .past-blanks2 .ensures) (turn .loop .inv .0)
 
 loop-again : tie.Need-loop-again Inv-loop μ-loop
 loop-again c =
-    let earlier = c .before .before .before .before .before in
-    let told = earlier .before in
-    let turn = told .before .before .before in
-    let entry = turn .before .before .before in
-    told-on (now (entry .args .source)) (entry .args .p) (now (entry .args .recs)) (entry .args .free) (entry .args .deep)
-    (entry .args .from) (entry .pre .1) (turn .loop .at) (turn .loop .second) (turn .loop .inv) (told .m .given .0 .1 .0) (told .m .given .0 .1 .1 .0)
-    (told .m .given .0 .0) (item-told (earlier) .0) (turn .loop .depth) (sym (item-told (earlier) .1 (turn .loop .depth)))
-    (c .before .before .put .ensures ∙ ap (λ (x : Record). written (wordsOf x)
-    (take (length (turn .loop .recs) - turn .loop .w) (drop (turn .loop .w) (turn .loop .recs)))) (c .before .before .before .record-at .ensures))
+    let item = c .before .before .before .before .before .before .before in
+    let turn = item .before .before .before .before in
+    let entry = turn .before .before .before .before in
+    let t = item-told (c .before .before .before .before .before .before) in (
+      omega (arith, turn .loop .inv .0),
+      told-on (now (entry .args .source)) (entry .args .p) (now (entry .args .recs)) (entry .args .free) (entry .args .deep) (entry .args .from) (entry .pre .1)
+          (turn .loop .at) (turn .loop .inv .1) (item .m .given .0 .1 .0) (item .m .given .0 .1 .1 .0) (item .m .given .0 .0) (t .0, t .1, t .2)
+          (c .past-blanks2 .result) (c .past-blanks2 .ensures) (turn .loop .inv .0) (turn .loop .depth) (sym (t .3 (turn .loop .depth)))
+          (c .before .before .before .put .ensures
+          ∙ ap (λ (x : Record). written (wordsOf x) (take (length (turn .loop .recs) - turn .loop .w) (drop (turn .loop .w) (turn .loop .recs))))
+          (c .before .before .before .before .record-at .ensures)),
+    )
 
 enum-known-m-2 : tie.Need-enum-known-m-2 Inv-loop μ-loop
 enum-known-m-2 c = search needs
@@ -156,15 +159,15 @@ part-put-end-2 c = omega arith
 
 record-at-requires-2 : tie.Need-record-at-requires-2 Inv-loop μ-loop
 record-at-requires-2 c κs =
-    let told = c .before .before in
-    let turn = told .before .before .before in
-    let entry = turn .before .before .before in
-    told-fits (now (entry .args .source)) (entry .args .p) (now (entry .args .recs)) (entry .args .free)
-    (entry .args .deep) (entry .args .from) (entry .pre .1) (turn .loop .at) (turn .loop .second)
-    (turn .loop .inv) (told .m2 .given .0 .1 .0) (told .m2 .given .0 .1 .1 .0) (told .m2 .given .0 .0) (bracket-told (c .before)) (entry .pre .0)
+    let item = c .before .before in
+    let turn = item .before .before .before .before in
+    let entry = turn .before .before .before .before in
+    let t = bracket-told (c .before) in
+    told-fits (now (entry .args .source)) (entry .args .p) (now (entry .args .recs)) (entry .args .free) (entry .args .deep) (entry .args .from) (entry .pre .1)
+    (turn .loop .at) (turn .loop .inv .1) (item .m2 .given .0 .1 .0) (item .m2 .given .0 .1 .1 .0) (item .m2 .given .0 .0) (t .0, t .1, t .2) (entry .pre .0)
 
 put-requires-2 : tie.Need-put-requires-2 Inv-loop μ-loop
-put-requires-2 c κs = let l = c .before .before .before .before .before .before .loop in omega (arith, bracket-room (c .before .before), length-part (l .recs) (l .w))
+put-requires-2 c κs = let l = c .before .before .before .before .before .before .before .loop in omega (arith, bracket-room (c .before .before), length-part (l .recs) (l .w))
 
 depth-after-requires : tie.Need-depth-after-requires Inv-loop μ-loop
 depth-after-requires c κs = search needs
@@ -172,49 +175,59 @@ depth-after-requires c κs = search needs
 add-w-2 : tie.Need-add-w-2 Inv-loop μ-loop
 add-w-2 c =
     let earlier = c .before .before .before .before .before .before in
-    let good = c .before .before .before .before .before .before .before .before .before .before .before .before .before .good in
-    omega (arith, bracket-room (earlier), bracket-same (earlier))
+    let good = c .before .before .before .before .before .before .before .before .before .before .before .before .before .before .before .good in
+    omega (arith, bracket-room earlier, bracket-same earlier)
+
+past-blanks-requires-3 : tie.Need-past-blanks-requires-3 Inv-loop μ-loop
+past-blanks-requires-3 c κs = search needs
 
 loop-less-2 : tie.Need-loop-less-2 Inv-loop μ-loop
 loop-less-2 c =
-    let told = c .before .before .before .before .before .before .before in
-    let turn = told .before .before .before in
-    let entry = turn .before .before .before in
-    told-smaller (now (entry .args .source)) (entry .args .p) (now (entry .args .recs)) (entry .args .free)
-    (entry .args .deep) (entry .args .from) (entry .pre .1) (turn .loop .at) (turn .loop .second) (turn .loop .inv) (told .m2 .given .0 .1 .0)
-    (told .m2 .given .0 .1 .1 .0) (told .m2 .given .0 .0) (bracket-told (c .before .before .before .before .before .before))
+    let item = c .before .before .before .before .before .before .before .before in
+    let turn = item .before .before .before .before in
+    let entry = turn .before .before .before .before in
+    let t = bracket-told (c .before .before .before .before .before .before .before) in
+    told-smaller (now (entry .args .source)) (entry .args .p) (now (entry .args .recs)) (entry .args .free) (entry .args .deep) (entry .args .from) (entry .pre .1)
+    (turn .loop .at) (turn .loop .inv .1) (item .m2 .given .0 .1 .0) (item .m2 .given .0 .1 .1 .0) (item .m2 .given .0 .0) (t .0, t .1, t .2)
+    (c .past-blanks3 .result) (c .past-blanks3 .ensures) (turn .loop .inv .0)
 
 loop-again-2 : tie.Need-loop-again-2 Inv-loop μ-loop
 loop-again-2 c =
-    let told = c .before .before .before .before .before .before .before in
-    let turn = told .before .before .before in
-    let entry = turn .before .before .before in
-    told-on (now (entry .args .source)) (entry .args .p) (now (entry .args .recs)) (entry .args .free) (entry .args .deep) (entry .args .from)
-    (entry .pre .1) (turn .loop .at) (turn .loop .second) (turn .loop .inv) (told .m2 .given .0 .1 .0) (told .m2 .given .0 .1 .1 .0)
-    (told .m2 .given .0 .0) (bracket-told (c .before .before .before .before .before .before)) (c .depth-after .result) (c .depth-after .ensures)
-    (c .before .before .before .put2 .ensures
-    ∙ ap (λ (x : Record). written (wordsOf x) (take (length (turn .loop .recs) - turn .loop .w) (drop (turn .loop .w) (turn .loop .recs))))
-    (c .before .before .before .before .record-at2 .ensures))
+    let item = c .before .before .before .before .before .before .before .before in
+    let turn = item .before .before .before .before in
+    let entry = turn .before .before .before .before in
+    let t = bracket-told (c .before .before .before .before .before .before .before) in (
+      omega (arith, turn .loop .inv .0),
+      told-on (now (entry .args .source)) (entry .args .p) (now (entry .args .recs)) (entry .args .free) (entry .args .deep) (entry .args .from) (entry .pre .1)
+          (turn .loop .at) (turn .loop .inv .1) (item .m2 .given .0 .1 .0) (item .m2 .given .0 .1 .1 .0) (item .m2 .given .0 .0) (t .0, t .1, t .2)
+          (c .past-blanks3 .result) (c .past-blanks3 .ensures) (turn .loop .inv .0) (c .before .depth-after .result) (c .before .depth-after .ensures)
+          (c .before .before .before .before .put2 .ensures
+          ∙ ap (λ (x : Record). written (wordsOf x) (take (length (turn .loop .recs) - turn .loop .w) (drop (turn .loop .w) (turn .loop .recs))))
+          (c .before .before .before .before .before .record-at2 .ensures)),
+    )
 
 enum-told : tie.Need-enum-told Inv-loop μ-loop
 enum-told c = search needs
 
-stand-requires : tie.Need-stand-requires Inv-loop μ-loop
-stand-requires c κs = search needs
-
 same-length : tie.Need-same-length Inv-loop μ-loop
 same-length c =
     let turn = c .before .before .before .before in
-    let entry = turn .before .before .before in
-    told-length (now (entry .args .source)) (entry .args .p) (now (entry .args .recs))
-    (entry .args .free) (entry .args .deep) (entry .args .from) (entry .pre .1) (turn .loop .at) (turn .loop .second) (turn .loop .inv)
+    let entry = turn .before .before .before .before in
+    told-length (now (entry .args .source)) (entry .args .p) (now (entry .args .recs)) (entry .args .free) (entry .args .deep) (entry .args .from) (entry .pre .1)
+    (turn .loop .at) (turn .loop .inv .1)
 
 returns : tie.Need-returns Inv-loop μ-loop
-returns c =
-    let turn = c .before .before .before .before in
-    let entry = turn .before .before .before in
-    subst (λ (q : Spot). Onward (now (entry .args .source)) (entry .args .p) (now (entry .args .recs)) (entry .args .free)
-    (entry .args .deep) (entry .args .from) q (turn .loop .recs) (turn .loop .depth) (turn .loop .w)) (sym (c .stand .ensures)) (turn .loop .inv)
+returns c = c .before .before .before .before .loop .inv .1
+
+same-length-2 : tie.Need-same-length-2 Inv-loop μ-loop
+same-length-2 c =
+    let turn = c .before in
+    let entry = turn .before .before .before .before in
+    told-length (now (entry .args .source)) (entry .args .p) (now (entry .args .recs)) (entry .args .free) (entry .args .deep) (entry .args .from) (entry .pre .1)
+    (turn .loop .at) (turn .loop .inv .1)
+
+returns-2 : tie.Need-returns-2 Inv-loop μ-loop
+returns-2 c = c .before .loop .inv .1
 
 pub put-told-spec : {M : Type 1} → statement M
 put-told-spec =
@@ -222,8 +235,9 @@ put-told-spec =
     (tie.spec
     Inv-loop
     μ-loop
+    past-blanks-requires
     loop-holds
-    quick-item-requires
+    quick-at-requires
     enum-known-m
     mul-put
     sub-put
@@ -232,6 +246,7 @@ put-told-spec =
     record-at-requires
     put-requires
     add-w
+    past-blanks-requires-2
     loop-less
     loop-again
     enum-known-m-2
@@ -243,9 +258,11 @@ put-told-spec =
     put-requires-2
     depth-after-requires
     add-w-2
+    past-blanks-requires-3
     loop-less-2
     loop-again-2
     enum-told
-    stand-requires
     same-length
-    returns)
+    returns
+    same-length-2
+    returns-2)

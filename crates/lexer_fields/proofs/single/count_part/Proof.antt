@@ -1,9 +1,10 @@
 -- A part that is UTF-8 gives the items that reading on from its start gives; any other has its mark and its place.
-use mathlib.Core.Path.{_≡_, sym, _∙_}
+use mathlib.Core.Path.{_≡_, sym, ap, _∙_}
 use denote.Ref.{now}
 use Rattle.chars.specs.Utf8.{firstBad}
 use Rattle.chars.specs.declared.Utf8.the-variants.{Good, Bad}
-use Rattle.lexer_fields.proofs.OnePart.{opens-at, good-part, bad-short, bad-part}
+use Rattle.lexer.specs.declared.Position.{Position}
+use Rattle.lexer_fields.proofs.OnePart.{good-part, bad-short, bad-part}
 use borrow.Author.Needs.{needs}
 use Rattle.lexer_fields.proofs.single.count_part.Statement.{statement}
 use Rattle.lexer_fields.proofs.single.count_part.Tie as tie
@@ -14,11 +15,8 @@ seen-requires c κs = search needs
 enum-told : tie.Need-enum-told
 enum-told c = search needs
 
-first-place-requires : tie.Need-first-place-requires
-first-place-requires c κs = sym (sym (c .enum-told .given .1) ∙ c .before .before .seen .ensures)
-
-spot-at-requires : tie.Need-spot-at-requires
-spot-at-requires c κs = search needs
+start-requires : tie.Need-start-requires
+start-requires c κs = search needs
 
 count-requires : tie.Need-count-requires
 count-requires c κs = search needs
@@ -39,14 +37,11 @@ not-utf8-requires c κs =
 
 returns : tie.Need-returns
 returns c =
-    let stood = c .before .before in
-    let placed = stood .before in
-    let asked = placed .before .before .before in
+    let begun = c .before .before in
+    let asked = begun .before .before .before in
     let entry = asked .before .before in
-    let good : Good ≡ firstBad (now (entry .args .part)) = sym (placed .before .enum-told .given .1) ∙ asked .seen .ensures in
-    let opens =
-    opens-at (now (entry .args .part)) (entry .args .mode) (entry .args .skip) (stood .spot-at .result) (placed .first-place .result) (stood .spot-at .ensures) (placed .first-place .ensures) in
-    good-part (now (entry .args .part)) (entry .args .mode) (entry .args .skip) good (stood .spot-at .result) opens
+    let good : Good ≡ firstBad (now (entry .args .part)) = sym (begun .before .enum-told .given .1) ∙ asked .seen .ensures in
+    good-part (now (entry .args .part)) (entry .args .mode) (entry .args .skip) good (begun .start .result .spot) (ap (λ (p : Position). p .spot) (begun .start .ensures))
     (c .before .count .result) (c .read-well .result) (c .before .count .ensures) (c .read-well .ensures)
 
 returns-2 : tie.Need-returns-2
@@ -63,8 +58,7 @@ count-part-spec =
     (tie.spec
     seen-requires
     enum-told
-    first-place-requires
-    spot-at-requires
+    start-requires
     count-requires
     read-well-requires
     enum-known-at

@@ -29,14 +29,14 @@ shared-slice-read-end c = c .before .loop-test .taken
 cast-end : tie.Need-cast-end Inv-loop μ-loop
 cast-end c = omega (arith, c .shared-slice-known3 .given (c .before .before .loop .i))
 
-sub-write-part : tie.Need-sub-write-part Inv-loop μ-loop
-sub-write-part c = omega (arith, bounds (c .before .before .loop .inv .at) (c .before .loop-test .taken))
+sub-part : tie.Need-sub-part Inv-loop μ-loop
+sub-part c = omega (arith, bounds (c .before .before .loop .inv .at) (c .before .loop-test .taken))
 
-part-write-part-start : tie.Need-part-write-part-start Inv-loop μ-loop
-part-write-part-start c = omega (arith, bounds (c .before .before .loop .inv .at) (c .before .loop-test .taken))
+part-part-start : tie.Need-part-part-start Inv-loop μ-loop
+part-part-start c = omega (arith, bounds (c .before .before .loop .inv .at) (c .before .loop-test .taken))
 
-part-write-part-end : tie.Need-part-write-part-end Inv-loop μ-loop
-part-write-part-end c = omega (arith, bounds (c .before .before .loop .inv .at) (c .before .loop-test .taken))
+part-part-end : tie.Need-part-part-end Inv-loop μ-loop
+part-part-end c = omega (arith, bounds (c .before .before .loop .inv .at) (c .before .loop-test .taken))
 
 mul-write-part : tie.Need-mul-write-part Inv-loop μ-loop
 mul-write-part c =
@@ -46,43 +46,43 @@ mul-write-part c =
     let good = entry .good in
     omega (arith, fit (entry .pre .0) (entry .pre .1 .1) (turn .loop .inv) (test .loop-test .taken), recs-same (entry .pre .0) (entry .pre .1 .1) (turn .loop .inv))
 
+sub-write-part : tie.Need-sub-write-part Inv-loop μ-loop
+sub-write-part c =
+    let test = c .before .before in
+    let turn = test .before in
+    let entry = turn .before .before .before .before .before .before in
+    omega (arith, fit (entry .pre .0) (entry .pre .1 .1) (turn .loop .inv) (test .loop-test .taken))
+
+part-write-part-start : tie.Need-part-write-part-start Inv-loop μ-loop
+part-write-part-start c =
+    let test = c .before .before in
+    let turn = test .before in
+    let entry = turn .before .before .before .before .before .before in
+    omega (arith, fit (entry .pre .0) (entry .pre .1 .1) (turn .loop .inv) (test .loop-test .taken))
+
+part-write-part-end : tie.Need-part-write-part-end Inv-loop μ-loop
+part-write-part-end c =
+    let test = c .before .before in
+    let turn = test .before in
+    let entry = turn .before .before .before .before .before .before in
+    omega (arith, fit (entry .pre .0) (entry .pre .1 .1) (turn .loop .inv) (test .loop-test .taken))
+
 sub-write-part-2 : tie.Need-sub-write-part-2 Inv-loop μ-loop
 sub-write-part-2 c =
-    let test = c .before .before in
+    let test = c .before .before .before in
     let turn = test .before in
     let entry = turn .before .before .before .before .before .before in
     omega (arith, fit (entry .pre .0) (entry .pre .1 .1) (turn .loop .inv) (test .loop-test .taken))
 
 part-write-part-start-2 : tie.Need-part-write-part-start-2 Inv-loop μ-loop
 part-write-part-start-2 c =
-    let test = c .before .before in
+    let test = c .before .before .before in
     let turn = test .before in
     let entry = turn .before .before .before .before .before .before in
     omega (arith, fit (entry .pre .0) (entry .pre .1 .1) (turn .loop .inv) (test .loop-test .taken))
 
 part-write-part-end-2 : tie.Need-part-write-part-end-2 Inv-loop μ-loop
 part-write-part-end-2 c =
-    let test = c .before .before in
-    let turn = test .before in
-    let entry = turn .before .before .before .before .before .before in
-    omega (arith, fit (entry .pre .0) (entry .pre .1 .1) (turn .loop .inv) (test .loop-test .taken))
-
-sub-write-part-3 : tie.Need-sub-write-part-3 Inv-loop μ-loop
-sub-write-part-3 c =
-    let test = c .before .before .before in
-    let turn = test .before in
-    let entry = turn .before .before .before .before .before .before in
-    omega (arith, fit (entry .pre .0) (entry .pre .1 .1) (turn .loop .inv) (test .loop-test .taken))
-
-part-write-part-start-3 : tie.Need-part-write-part-start-3 Inv-loop μ-loop
-part-write-part-start-3 c =
-    let test = c .before .before .before in
-    let turn = test .before in
-    let entry = turn .before .before .before .before .before .before in
-    omega (arith, fit (entry .pre .0) (entry .pre .1 .1) (turn .loop .inv) (test .loop-test .taken))
-
-part-write-part-end-3 : tie.Need-part-write-part-end-3 Inv-loop μ-loop
-part-write-part-end-3 c =
     let test = c .before .before .before in
     let turn = test .before in
     let entry = turn .before .before .before .before .before .before in
@@ -99,8 +99,8 @@ write-part-requires c κs =
       (omega (arith, room .1, length-part (l .recs) (l .w)), omega (arith, room .2, length-part (l .text) (l .free))),
     )
 
-mul-row : tie.Need-mul-row Inv-loop μ-loop
-mul-row c =
+mul-put-row : tie.Need-mul-put-row Inv-loop μ-loop
+mul-put-row c =
     let test = c .before .before .before .before .before .before .before .before .before in
     let turn = test .before in
     let entry = turn .before .before .before .before .before .before in
@@ -108,8 +108,8 @@ mul-row c =
     let room = fit (entry .pre .0) (entry .pre .1 .1) (turn .loop .inv) (test .loop-test .taken) in
     omega (arith, room .0, rows-same (entry .pre .0) (entry .pre .1 .1) (turn .loop .inv))
 
-mul-put-row : tie.Need-mul-put-row Inv-loop μ-loop
-mul-put-row c =
+mul-put-row-2 : tie.Need-mul-put-row-2 Inv-loop μ-loop
+mul-put-row-2 c =
     let test = c .before .before .before .before .before .before .before .before .before in
     let turn = test .before in
     let entry = turn .before .before .before .before .before .before in
@@ -233,19 +233,19 @@ write-spec =
     mul-end
     shared-slice-read-end
     cast-end
+    sub-part
+    part-part-start
+    part-part-end
+    mul-write-part
     sub-write-part
     part-write-part-start
     part-write-part-end
-    mul-write-part
     sub-write-part-2
     part-write-part-start-2
     part-write-part-end-2
-    sub-write-part-3
-    part-write-part-start-3
-    part-write-part-end-3
     write-part-requires
-    mul-row
     mul-put-row
+    mul-put-row-2
     sub-put-row
     part-put-row-start
     part-put-row-end
