@@ -1,30 +1,30 @@
--- From bytes back to characters: what bytes begin with, and digits that have a value, are the characters that the standard has there.
-use Prim.Native.Nat.{ℕ, zero, suc, _+_, _*_, _^_, _≤_, _<_}
+-- From bytes back to characters: what bytes begin and end with, and digits that have a value, are the characters that the standard has there.
+use Prim.Native.Nat.{ℕ, zero, suc, _+_, _-_, _*_, _^_, _≤_, _<_}
 use mathlib.Core.Path.{_≡_, refl, sym, ap, subst, _∙_}
 use mathlib.Core.Bool.{Bool, true, false}
-use mathlib.Core.List.{List, [], _∷_, _++_, map}
-use mathlib.Core.Logic.{_⊎_, inl, inr}
+use mathlib.Core.List.{List, [], _∷_, _++_, map, append-nil}
 use lib.ListN.{length, take, length-append}
-use lib.Seq.{take-append-seam}
+use lib.Seq.{take-append-seam, getD-append-add}
 use lib.Dec.{eqb, ltb}
 use native.Mathlib.Omega.{arith}
-use borrow.Author.Tests.{eqb-true, eqb-false, ltb-true}
-use Rattle.laws.specs.Quoted.{codes, code, oneOf, within}
+use borrow.Author.Tests.{eqb-true, eqb-false, ltb-true, ne-eqb}
+use Rattle.laws.specs.Quoted.{code, oneOf, within}
 use Rattle.laws.specs.Texts.{begins}
 use Rattle.laws.proofs.Choice.{by-bool, within-is}
-use Rattle.chars.specs.Encode.{isScalar, bytesOf}
+use Rattle.chars.specs.Encode.{isScalar, utf8, bytesOf}
 use Rattle.coverage.proofs.Bytes.{begins-other}
 use Rattle.digits.specs.declared.Hex.{Hex}
 use Rattle.digits.specs.declared.Hex.the-variants as hex
-use Rattle.digits.specs.Hex.{hexValue, hexDigits}
+use Rattle.digits.specs.Hex.{hexValue, hexAfterPlus, hexDigits}
 use Rattle.digits.specs.Digits.{digitOf}
 use Rattle.items.specs.declared.CharValue.{CharValue}
 use Rattle.items.specs.declared.CharValue.the-variants.{Scalar, Wrong, WrongAt}
-use Rattle.items.specs.Readers.{scalarOf}
+use Rattle.items.specs.Readers.{lastIs, scalarOf}
 use Rattle.itemparts.proofs.Stands.{other}
+use Rattle.agreement.specs.Converse.{SignedScalar, unsigned, after-plus}
 use Rattle.agreement.specs.Escape.{HexDigit, decimal, lower, upper, HexDigits, no-more, and-more, HexScalar, scalar}
 use Rattle.agreement.specs.Repeated.{Many, done, more}
-use Rattle.agreement.proofs.Bytes.{utf8-low, utf8-high, Beyond, all-high}
+use Rattle.agreement.proofs.Bytes.{High, utf8-low, utf8-high, bytes-some, Beyond, all-high}
 use Rattle.agreement.proofs.Hex.{Hexadecimal, a-digit, at-digit, scalar-digits}
 
 -- ---- what a text begins with
@@ -52,6 +52,34 @@ pub same-front : (t u r : List ℕ) → t ++ r ≡ u ++ r → t ≡ u
 same-front t u r e =
     let l : length t ≡ length u = omega (arith, ap length e, length-append t r, length-append u r) in
     sym (take-append-seam t r) ∙ ap (take (length t)) e ∙ ap (λ (n : ℕ). take n (u ++ r)) l ∙ take-append-seam u r
+
+-- ---- what a text ends with
+
+pub last-behind : (x : ℕ) (a b : List ℕ) → 0 < length b → lastIs x (a ++ b) ≡ lastIs x b
+last-behind x a b h =
+    let n : length (a ++ b) - 1 ≡ length a + (length b - 1) = omega (arith, length-append a b) in
+    rw n (ap (λ (y : ℕ). eqb y x) (getD-append-add a b (length b - 1) 0))
+
+-- bytes past ASCII do not end with an ASCII character
+high-last : (x : ℕ) → x < 0x80 → (b : ℕ) (bs : List ℕ) → High b → Many High bs → lastIs x (b ∷ bs) ≡ false
+high-last x l b [] h m = ne-eqb b x (λ e. omega arith)
+high-last x l b (d ∷ bs) h (more g m) = last-behind x (b ∷ []) (d ∷ bs) (omega arith) ∙ high-last x l d bs g m
+
+beyond-last : (x : ℕ) → x < 0x80 → {bs : List ℕ} → Beyond bs → lastIs x bs ≡ false
+beyond-last x l (all-high {b = b} {bs = bs} h m) = high-last x l b bs h m
+
+-- bytes that end with an ASCII character are those of a text that does
+pub last-of : (x : ℕ) → x < 0x80 → eqb 0 x ≡ false → (t : List ℕ) → lastIs x (bytesOf t) ≡ true → (u : List ℕ) × (t ≡ u ++ (x ∷ []))
+unfolding bytesOf
+last-of x l z [] h = other z h
+last-of x l z (c ∷ []) h =
+    by-bool (ltb c 0x80)
+    (λ e. ([], ap (λ (n : ℕ). n ∷ []) (eqb-true c x (rw (utf8-low c e) at h))))
+    (λ e. other (ap (lastIs x) (append-nil (utf8 c)) ∙ beyond-last x l (utf8-high c e)) h)
+last-of x l z (c ∷ d ∷ t) h =
+    let some : 0 < length (bytesOf (d ∷ t)) = ltb-true 0 (length (bytesOf (d ∷ t))) (bytes-some d t) in
+    let r = last-of x l z (d ∷ t) (sym (last-behind x (utf8 c) (bytesOf (d ∷ t)) some) ∙ h) in
+    (c ∷ r .0, ap (λ (k : List ℕ). c ∷ k) (r .1))
 
 -- ---- digits
 
@@ -130,21 +158,29 @@ unfolding scalarOf
 of-value (hex.Value v) h = by-bool (isScalar v) (λ e. rw e (refl, refl, refl)) (λ e. other refl (rw e at h))
 of-value (hex.Wrong d p) h = other refl h
 
--- the bytes of digits that stand for a character: a <hex scalar value>, or a plus comes first
-value-back : (s : List ℕ) → isValue (scalarOf (hexValue s)) ≡ true → HexScalar s (charOr (scalarOf (hexValue s))) ⊎ (begins (codes "+") s ≡ true)
-unfolding hexValue begins
+-- the bytes of digits that stand for a character: a <hex scalar value>, a plus before it or not
+plus-back : (s : List ℕ) → isValue (scalarOf (hexAfterPlus s)) ≡ true → HexScalar s (charOr (scalarOf (hexAfterPlus s)))
+unfolding hexAfterPlus
+plus-back [] h = other refl (of-value (hexAfterPlus []) h .0)
+plus-back (c ∷ s) h =
+    let w = of-value (hexDigits 1 0 (c ∷ s)) h in
+    subst (HexScalar (c ∷ s)) (sym (w .2)) (scalar (digits-back 1 0 (c ∷ s) (w .0)) (w .1))
+
+value-back : (s : List ℕ) → isValue (scalarOf (hexValue s)) ≡ true → SignedScalar s (charOr (scalarOf (hexValue s)))
+unfolding hexValue
 value-back [] h = other refl (of-value (hexValue []) h .0)
 value-back (c ∷ s) h =
-    by-bool (eqb c (code "+")) (λ e. inr (rw (eqb-true c (code "+") e))) (λ e.
-    let k : isValue (scalarOf (hexDigits 0 0 (c ∷ s))) ≡ true = rw e at h in
+    by-bool (eqb c (code "+"))
+    (λ e. rw e (subst (λ (n : ℕ). SignedScalar (n ∷ s) (charOr (scalarOf (hexAfterPlus s)))) (sym (eqb-true c (code "+") e)) (after-plus (plus-back s (rw e at h)))))
+    (λ e. let k : isValue (scalarOf (hexDigits 0 0 (c ∷ s))) ≡ true = rw e at h in
     let w = of-value (hexDigits 0 0 (c ∷ s)) k in
-    inl (rw e (subst (HexScalar (c ∷ s)) (sym (w .2)) (scalar (digits-back 0 0 (c ∷ s) (w .0)) (w .1)))))
+    rw e (unsigned (subst (HexScalar (c ∷ s)) (sym (w .2)) (scalar (digits-back 0 0 (c ∷ s) (w .0)) (w .1)))))
 
-pub hex-back : (h : List ℕ) (x : ℕ) → scalarOf (hexValue (bytesOf h)) ≡ Scalar x → HexScalar h x ⊎ ((r : List ℕ) × (h ≡ code "+" ∷ r))
-hex-back h x e = go (value-back (bytesOf h) (ap isValue e))
-  where
-    go : HexScalar (bytesOf h) (charOr (scalarOf (hexValue (bytesOf h)))) ⊎ (begins (codes "+") (bytesOf h) ≡ true)
-        → HexScalar h x ⊎ ((r : List ℕ) × (h ≡ code "+" ∷ r))
-    go (inl s) =
-        inl (subst (λ (l : List ℕ). HexScalar l x) (sym (low-chars h (digits-low (scalar-digits s)))) (subst (HexScalar (bytesOf h)) (ap charOr e) s))
-    go (inr f) = inr (begins-chars (codes "+") h refl f)
+signed-low : {t : List ℕ} {c : ℕ} → SignedScalar t c → Many Low t
+signed-low (unsigned s) = digits-low (scalar-digits s)
+signed-low (after-plus s) = more refl (digits-low (scalar-digits s))
+
+pub hex-back : (h : List ℕ) (x : ℕ) → scalarOf (hexValue (bytesOf h)) ≡ Scalar x → SignedScalar h x
+hex-back h x e =
+    let s : SignedScalar (bytesOf h) (charOr (scalarOf (hexValue (bytesOf h)))) = value-back (bytesOf h) (ap isValue e) in
+    subst (λ (l : List ℕ). SignedScalar l x) (sym (low-chars h (signed-low s))) (subst (SignedScalar (bytesOf h)) (ap charOr e) s)

@@ -53,11 +53,11 @@ module _ {P : Type 0} where
   by-nest sharp f g h = g refl
   by-nest inside f g h = h refl
 
-is-bar : (c : ℕ) → inNest c ≡ bar → c ≡ code "|"
+pub is-bar : (c : ℕ) → inNest c ≡ bar → c ≡ code "|"
 unfolding inNest
 is-bar c h = by-bool (eqb c (code "|")) (λ e. eqb-true c _ e) (λ e. by-bool (eqb c (code "#")) (λ f. let z = rw (e, f) at h in cc) (λ f. let z = rw (e, f) at h in cc))
 
-is-sharp : (c : ℕ) → inNest c ≡ sharp → c ≡ code "#"
+pub is-sharp : (c : ℕ) → inNest c ≡ sharp → c ≡ code "#"
 unfolding inNest
 is-sharp c h = by-bool (eqb c (code "|")) (λ e. let z = rw e at h in cc) (λ e. by-bool (eqb c (code "#")) (λ f. eqb-true c _ f) (λ f. let z = rw (e, f) at h in cc))
 

@@ -4,7 +4,6 @@ use Prim.Native.Nat.{ℕ}
 use mathlib.Core.Path.{_≡_, refl, sym, ap, subst, _∙_}
 use mathlib.Core.Bool.{Bool, true, false}
 use mathlib.Core.List.{List, [], _∷_, _++_, append-assoc, append-nil}
-use mathlib.Core.Logic.{_⊎_, inl, inr}
 use lib.ListN.{length, drop}
 use lib.Seq.{drop-at}
 use lib.Dec.{eqb}
@@ -27,7 +26,7 @@ use Rattle.items.specs.Machine.{onQuoted, onEscape, closeHex, onHex, onTrimBefo
 use Rattle.items.specs.Readers.{SoFar, eat, scalarOf}
 use Rattle.items.proofs.Cases.{by-next}
 use Rattle.itemparts.proofs.Stands.{other}
-use Rattle.agreement.specs.Converse.{ForeignElement, return, null, unicode, plus}
+use Rattle.agreement.specs.Converse.{ForeignElement, return, null, unicode, plus, SignedScalar, unsigned, after-plus}
 use Rattle.agreement.specs.Escape.{Mnemonic, alarm, backspace, tab, linefeed, HexScalar}
 use Rattle.agreement.specs.Escape as escape
 use Rattle.agreement.specs.Repeated.{Many, done, more}
@@ -187,9 +186,9 @@ module _ (i : SoFar) (c : ℕ) where
   hex-inside : (t : List ℕ) → Digits (code ";") [] t → Inside (code "\\" ∷ code "x" ∷ t)
   hex-inside t d = subst (λ (l : List ℕ). Inside (code "\\" ∷ code "x" ∷ l)) (sym (d .whole)) (go (hex-back (d .digits) (d .value) (d .stands)))
     where
-      go : HexScalar (d .digits) (d .value) ⊎ ((r : List ℕ) × (d .digits ≡ code "+" ∷ r)) → Inside (code "\\" ∷ code "x" ∷ d .digits ++ (code ";" ∷ d .rest))
-      go (inl s) = before-hex (d .digits) (d .value) s (d .inside)
-      go (inr p) = subst (λ (l : List ℕ). Inside (code "\\" ∷ code "x" ∷ l ++ (code ";" ∷ d .rest))) (sym (p .1)) (at-once plus)
+      go : {h : List ℕ} → SignedScalar h (d .value) → Inside (code "\\" ∷ code "x" ∷ h ++ (code ";" ∷ d .rest))
+      go (unsigned {h = h} s) = before-hex h (d .value) s (d .inside)
+      go (after-plus s) = at-once plus
 
   blank-after : (t : List ℕ) → oneOf intraline c ≡ true → Broken t → Inside (code "\\" ∷ c ∷ t)
   blank-after t e k = subst (λ (l : List ℕ). Inside (code "\\" ∷ c ∷ l)) (sym (k .whole)) (line-before (c ∷ k .trailing) (more e (k .spaces)) (k .line))

@@ -19,12 +19,13 @@ use Rattle.items.specs.Items.{byteCount}
 use Rattle.items.specs.Meaning.{escaped, linedText, Text}
 use Rattle.items.specs.Readers.{soFar, got, lastIs, linedOf, readQuoted, readItem, SoFar}
 use Rattle.items.specs.Kinds as kind
-use Rattle.agreement.specs.Identifier.{SymbolElements, no-more, itself, mnemonic, vertical, doublequote, backslash, hex, Lined, lined}
+use Rattle.agreement.specs.Identifier.{SymbolElements, no-more, itself, mnemonic, vertical, doublequote, backslash, goes-on, hex, Remains, some, Lined, lined}
+use Rattle.agreement.specs.Identifier as identifier
 use Rattle.agreement.specs.Reading.{spelling, bytes, ReadAs}
 use Rattle.agreement.proofs.Between.{between, between-bytes, spells-between, between-unescaped, between-same}
 use Rattle.agreement.proofs.Bytes.{bytes-some}
 use Rattle.agreement.proofs.Classes.{not-first, not-others}
-use Rattle.agreement.proofs.Quoted.{quoted-on, Quoted, empty, character, escape, hexadecimal}
+use Rattle.agreement.proofs.Quoted.{quoted-on, Quoted, empty, character, escape, hexadecimal, continued}
 use Rattle.agreement.proofs.Reading.{eats, eats-append, whole, eats-whole, read-one}
 use Rattle.agreement.proofs.String.{quoted-mnemonic}
 
@@ -32,7 +33,7 @@ itself-plain : (c : ℕ) → oneOf (codes "|\\") c ≡ false → inQuotes Lines 
 unfolding inQuotes
 itself-plain c h = rw (not-first (code "|") (codes "\\") c h, not-first (code "\\") [] c (not-others (code "|") (codes "\\") c h))
 
-elements : {t v : List ℕ} → SymbolElements t v → Quoted Lines t v
+pub elements : {t v : List ℕ} → SymbolElements t v → Quoted Lines t v
 unfolding afterBackslash
 elements no-more = empty
 elements (itself {c = c} h s) = character (itself-plain c h) (elements s)
@@ -40,18 +41,14 @@ elements (mnemonic m s) = quoted-mnemonic Lines m (elements s)
 elements (vertical s) = escape refl refl refl (elements s)
 elements (doublequote s) = escape refl refl refl (elements s)
 elements (backslash s) = escape refl refl refl (elements s)
+elements (goes-on u w m n h s) = continued u w m n h (elements s)
 elements (hex h x s) = hexadecimal h x (elements s)
 
 -- where there is an escape, the name is not empty
-named : {t v : List ℕ} → SymbolElements t v → escaped (bytesOf (between Lines t)) ≡ true → ltb 0 (length (bytesOf v)) ≡ true
+pub named : {t v : List ℕ} → Remains t v → escaped (bytesOf (between Lines t)) ≡ true → ltb 0 (length (bytesOf v)) ≡ true
 unfolding escaped bytesOf utf8
-named no-more h = cc
-named (itself {c = c} {v = v} p s) h = bytes-some c v
-named (mnemonic {x = x} {v = v} m s) h = bytes-some x v
-named (vertical {v = v} s) h = bytes-some (code "|") v
-named (doublequote {v = v} s) h = bytes-some (code "\"") v
-named (backslash {v = v} s) h = bytes-some (code "\\") v
-named (hex d {x = x} {v = v} n s) h = bytes-some x v
+named identifier.empty h = cc
+named (some {x = x} {v = v}) h = bytes-some x v
 
 -- the closing line is the last byte
 pub last-line : (l : List ℕ) → lastIs (code "|") (code "|" ∷ l ++ codes "|") ≡ true
@@ -64,15 +61,15 @@ unfolding linedOf
 lined-outcome t = rw (between-bytes Lines t) (rw (lt-leb (length (code "|" ∷ bytesOf t ++ codes "|")) 1 (rw (length-append (bytesOf t) (codes "|")) (omega arith)), last-line (bytesOf t)))
 
 module _ (t : List ℕ) where
-  lined-text : ℕ → Text
+  abbrev pub lined-text : ℕ → Text
   lined-text at = linedText at (at + byteCount (between Lines t)) (bytesOf (between Lines t))
 
   -- a name with an escape is not empty
   abbrev pub NamedSo : List ℕ → Type 0
   NamedSo v = escaped (bytesOf (between Lines t)) ≡ true → ltb 0 (length (bytesOf v)) ≡ true
 
-  lined-spells : {v : List ℕ} → Quoted Lines t v → NamedSo v → (at : ℕ) → spelling at (bytesOf (between Lines t)) (lined-text at) ≡ bytes (bytesOf v)
-  unfolding lined-text linedText
+  pub lined-spells : {v : List ℕ} → Quoted Lines t v → NamedSo v → (at : ℕ) → spelling at (bytesOf (between Lines t)) (lined-text at) ≡ bytes (bytesOf v)
+  unfolding linedText
   lined-spells {v} q n at =
       by-bool (escaped (bytesOf (between Lines t)))
       (λ e. rw (between-unescaped Lines q, e, n e))
@@ -90,7 +87,7 @@ module _ (t : List ℕ) where
 
   -- whatever follows it: it ends where its lines close
   pub quoted-lined : (report : Bool) (cs : List ℕ) {v : List ℕ} → Quoted Lines t v → NamedSo v → ReadAs report (between Lines t) cs kind.Identifier 0 (bytes (bytesOf v))
-  unfolding isBlank lined-text
+  unfolding isBlank
   quoted-lined report cs q n = record {
     text = lined-text;
     one = read-one report (code "|") (t ++ codes "|") cs outcome.Lined kind.Identifier 0 lined-text refl refl (lined-read report cs q) (λ last at. refl) (λ at. refl);
@@ -98,4 +95,4 @@ module _ (t : List ℕ) where
   }
 
 pub lined-identifier : (report : Bool) {text v : List ℕ} (cs : List ℕ) → Lined text v → ReadAs report text cs kind.Identifier 0 (bytes (bytesOf v))
-lined-identifier report cs (lined {t = t} s) = quoted-lined t report cs (elements s) (named s)
+lined-identifier report cs (lined {t = t} s r) = quoted-lined t report cs (elements s) (named r)

@@ -41,10 +41,10 @@ module _ (s : List ℕ) (n : NumberText s → ⊥) (b : SignBelowSlash s → ⊥
       go (Is p) e = absurd (alike (differs s .0 (λ q. let z : Is p ≡ NoNumber = sym e ∙ (q ∙ standard-none) in let y : _≡_ {A = ℕ} 0 1 = cc in omega arith)))
       go ZeroDenominator e = absurd (alike (differs s .0 (λ q. let z : ZeroDenominator ≡ NoNumber = sym e ∙ (q ∙ standard-none) in let y : _≡_ {A = ℕ} 0 1 = cc in omega arith)))
 
--- what is a number here is one of the two
-pub number-back : (s : List ℕ) (p : Parts) → parseNumber s ≡ Is p → NumberText s ⊎ SignBelowSlash s
+-- what is a number here, or has a zero denominator, is one of the two
+pub numeric-back : (s : List ℕ) → (parseNumber s ≡ NoNumber → ⊥) → NumberText s ⊎ SignBelowSlash s
 unfolding parseStandard judged
-number-back s p e = go (numberParts s) refl
+numeric-back s n = go (numberParts s) refl
   where
     from : Differs s → NumberText s ⊎ SignBelowSlash s
     from (inl c) = inr c
@@ -53,7 +53,10 @@ number-back s p e = go (numberParts s) refl
 
     go : (x : MaybeParts) → numberParts s ≡ x → NumberText s ⊎ SignBelowSlash s
     go (SomeParts a) f = inl (number-text (parts-inv s a f))
-    go NoParts f = from (differs s .0 (λ q. let z : Is p ≡ NoNumber = sym e ∙ (q ∙ ap judged f) in let y : _≡_ {A = ℕ} 0 1 = cc in omega arith))
+    go NoParts f = from (differs s .0 (λ q. n (q ∙ ap judged f)))
+
+pub number-back : (s : List ℕ) (p : Parts) → parseNumber s ≡ Is p → NumberText s ⊎ SignBelowSlash s
+number-back s p e = numeric-back s (λ q. let z : Is p ≡ NoNumber = sym e ∙ q in let y : _≡_ {A = ℕ} 0 1 = cc in omega arith)
 
 -- how a text is seen to be neither: both readers find no number
 pub unnumbered : (s : List ℕ) → numberParts s ≡ NoParts → NumberText s → ⊥

@@ -53,7 +53,7 @@ run-stops report i n (before {c = c} h) = rw (stops-run report (i .bytes) n c h,
 run-number : (at : ℕ) (t : List ℕ) {p : Parts} → parseNumber (bytesOf t) ≡ parsed.Is p → parseNumber (eats (soFar [] at) t .bytes) ≡ parsed.Is p
 run-number at t n = ap (λ (i : SoFar). parseNumber (i .bytes)) (eats-whole at t) ∙ n
 
-begins-run : (c : ℕ) → startsRun c ≡ true → firstOf c ≡ number
+pub begins-run : (c : ℕ) → startsRun c ≡ true → firstOf c ≡ number
 unfolding firstOf startsRun
 begins-run c h = at-one-of firstOf number (codes "+-.0123456789") c refl h
 
@@ -124,7 +124,7 @@ real-run : {t : List ℕ} → RealText t → (0 < length t) × (startsRun (getD 
 real-run (a-real s u g x) = signed-run g (shape x)
 real-run (an-infnan x) = infnan-run x
 
-pub first-run : (report : Bool) (t cs : List ℕ) → 0 < length t → startsRun (getD t 0 0) ≡ true → Many Stays t → (p : Parts) → parseNumber (bytesOf t) ≡ parsed.Is p
+first-run : (report : Bool) (t cs : List ℕ) → 0 < length t → startsRun (getD t 0 0) ≡ true → Many Stays t → (p : Parts) → parseNumber (bytesOf t) ≡ parsed.Is p
     → Ends (numberDelimiters report) cs → ReadAs report t cs kind.Number 0 nothing
 first-run report [] cs l s m p n e = absurd (omega arith)
 first-run report (c ∷ t) cs l s (more h m) p n e = number-run report c s m p n e

@@ -4,11 +4,12 @@ use mathlib.Core.Path.{_≡_, refl, sym, ap, subst, _∙_}
 use mathlib.Core.Bool.{Bool, true, false, _&&_, _||_}
 use mathlib.Core.List.{List, [], _∷_, _++_, map, append-nil}
 use mathlib.Core.Logic.{_⊎_, inl, inr}
-use lib.ListN.{length, getD, drop}
-use lib.Seq.{take-all}
+use lib.ListN.{length, getD, take, drop, length-append}
+use lib.Seq.{take-all, take-at}
 use lib.Dec.{eqb, leb, ltb}
 use native.Mathlib.Omega.{arith}
 use borrow.Author.Tests.{eqb-true, leb-true, lt-ltb, ltb-true}
+use Rattle.laws.specs.Choice.{if_then_else_}
 use Rattle.laws.specs.Quoted.{codes, code, within}
 use Rattle.laws.specs.Texts.{same}
 use Rattle.laws.proofs.Choice.{by-bool, and-true}
@@ -16,7 +17,7 @@ use Rattle.laws.proofs.Compared.{same-is}
 use Rattle.chars.specs.Encode.{isScalar, utf8, bytesOf}
 use Rattle.chars.specs.Utf8.{Front, char, bad, cut, none, front, placed}
 use Rattle.chars.proofs.Chars.{CharAt, char-at}
-use Rattle.coverage.proofs.Bytes.{first-char}
+use Rattle.coverage.proofs.Bytes.{bytes-append, first-char}
 use Rattle.digits.specs.Hex.{hexValue}
 use Rattle.laws.specs.Letters.{lower}
 use Rattle.items.specs.declared.CharValue.{CharValue}
@@ -25,18 +26,17 @@ use Rattle.items.specs.Items.{Item, items}
 use Rattle.items.specs.Kinds as kind
 use Rattle.items.specs.Meaning.{Meaning, Row, lookup, charNames, unnamed, beforeDelimiter, nameless, onlyOne, later, hexNamed, spelledOut, characterOf, charInside}
 use Rattle.items.specs.Meaning as meaning
-use Rattle.items.specs.Readers.{firstIs, scalarOf}
+use Rattle.items.specs.Readers.{firstIs, lastIs, scalarOf}
 use Rattle.items.proofs.Every.{Every}
 use Rattle.itemparts.proofs.Spelled.{spelledKinds, spelled-kind}
 use Rattle.itemparts.proofs.Stands.{Meant, token, string, here-string, character, number, word, error, wordKinds, other, none-of, no-error}
 use Rattle.agreement.specs.Character.{CharacterName, named-alarm, named-backspace, named-delete, named-escape, named-newline}
 use Rattle.agreement.specs.Character.{named-null, named-return, named-space, named-tab, CharacterText, any, by-name, by-hex}
-use Rattle.agreement.specs.Converse.{ForeignCharacter, CharacterIn}
+use Rattle.agreement.specs.Converse.{ForeignCharacter, SignedScalar, unsigned, after-plus, CharacterIn}
 use Rattle.agreement.specs.Converse as foreign
-use Rattle.agreement.specs.Escape.{HexScalar}
 use Rattle.agreement.specs.Repeated.{Many, done, more}
-use Rattle.agreement.proofs.Back.{begins-chars, Low, low-chars, isValue, charOr, hex-back}
-use Rattle.agreement.proofs.Bytes.{bytes-ascii}
+use Rattle.agreement.proofs.Back.{begins-chars, last-behind, last-of, Low, low-chars, isValue, charOr, hex-back}
+use Rattle.agreement.proofs.Bytes.{bytes-ascii, bytes-some}
 use Rattle.agreement.proofs.Classes.{many-all}
 use Rattle.agreement.proofs.Converse.{AnItem, of-items}
 
@@ -141,36 +141,73 @@ later-scalar n (Scalar x) c e = e
 later-scalar n (Wrong m d) c e = e
 later-scalar n (WrongAt m d p) c e = other refl (ap isValue e)
 
+-- what stands between `u{` and the last byte, which must be `}`
+abbrev braced : List ℕ → CharValue
+braced t = if lastIs (code "}") t then later 2 (scalarOf (hexValue (take (length t - 3) (drop 2 t)))) else Wrong kind.UnclosedHexEscape (code "}")
+
 module _ (c : ℕ) where
   abbrev Is : List ℕ → Type 0
   Is t = CharacterText (code "#" ∷ code "\\" ∷ t) c ⊎ ForeignCharacter (code "#" ∷ code "\\" ∷ t) c
 
-  unicode-spells : (r : List ℕ) → firstIs (code "u") (bytesOf r) ≡ true → 1 < length (bytesOf r) → Spells (bytesOf r) c
+  -- the bytes after the letter that digits follow
+  after-letter : (x : ℕ) (q : List ℕ) → ltb x 0x80 ≡ true → (t : List ℕ) → t ≡ x ∷ q → drop 1 (bytesOf t) ≡ bytesOf q
+  after-letter x q l t e = ap (λ (t : List ℕ). drop 1 (bytesOf t)) e ∙ ap (drop 1) (bytes-ascii x q l)
+
+  scalar-back : (n : ℕ) (q : List ℕ) → later n (scalarOf (hexValue (bytesOf q))) ≡ Scalar c → SignedScalar q c
+  scalar-back n q e = hex-back q c (later-scalar n (scalarOf (hexValue (bytesOf q))) c e)
+
+  -- between braces: `u{`, some digits and `}`
+  braced-spells : (q : List ℕ) → lastIs (code "}") (bytesOf (code "u" ∷ code "{" ∷ q)) ≡ true
+      → later 2 (scalarOf (hexValue (take (length (bytesOf (code "u" ∷ code "{" ∷ q)) - 3) (drop 2 (bytesOf (code "u" ∷ code "{" ∷ q)))))) ≡ Scalar c
+      → Is (code "u" ∷ code "{" ∷ q)
   unfolding bytesOf utf8
-  unicode-spells r h l =
-      let f = first-of (code "u") (omega arith) refl r h in
-      record { chars = r; bytes = refl; is = subst Is (sym (f .1)) (go (f .0) (subst (λ (t : List ℕ). 1 < length (bytesOf t)) (f .1) l)) }
+  braced-spells [] h e = other refl h
+  braced-spells (x ∷ q) h e =
+      let some : 0 < length (bytesOf (x ∷ q)) = ltb-true 0 (length (bytesOf (x ∷ q))) (bytes-some x q) in
+      let f = last-of (code "}") (omega arith) refl (x ∷ q) (sym (last-behind (code "}") (codes "u{") (bytesOf (x ∷ q)) some) ∙ h) in
+      let all : bytesOf (x ∷ q) ≡ bytesOf (f .0) ++ codes "}" = ap bytesOf (f .1) ∙ bytes-append (f .0) (codes "}") in
+      let count : length (bytesOf (x ∷ q)) ≡ length (bytesOf (f .0)) + 1 = ap length all ∙ length-append (bytesOf (f .0)) (codes "}") in
+      let n : ℕ = length (bytesOf (code "u" ∷ code "{" ∷ x ∷ q)) - 3 in
+      let short : length (bytesOf (f .0)) ≡ n = omega (arith, count) in
+      let inside : take n (bytesOf (x ∷ q)) ≡ bytesOf (f .0) = ap (take n) all ∙ take-at (bytesOf (f .0)) (codes "}") n short in
+      subst (λ (l : List ℕ). Is (code "u" ∷ code "{" ∷ l)) (sym (f .1))
+      (inr (foreign.braced (f .0) (scalar-back 2 (f .0) (ap (λ (l : List ℕ). later 2 (scalarOf (hexValue l))) (sym inside) ∙ e))))
+
+  -- `u`, and what follows it
+  unicode-is : (q : List ℕ) → hexNamed (bytesOf (code "u" ∷ q)) ≡ Scalar c → Is (code "u" ∷ q)
+  unfolding hexNamed bytesOf utf8
+  unicode-is q e =
+      by-bool (firstIs (code "{") (bytesOf q))
+      (λ f. let g = first-of (code "{") (omega arith) refl q f in
+      subst (λ (l : List ℕ). Is (code "u" ∷ l)) (sym (g .1))
+      (go (g .0) (subst (λ (l : List ℕ). braced (bytesOf (code "u" ∷ l)) ≡ Scalar c) (g .1) (rw f at e))))
+      (λ f. inr (foreign.unicode (scalar-back 1 q (rw f at e))))
     where
-      go : (q : List ℕ) → 1 < length (bytesOf (code "u" ∷ q)) → Is (code "u" ∷ q)
-      go [] l = absurd (omega arith)
-      go (x ∷ t) l = inr foreign.unicode
+      go : (q : List ℕ) → braced (bytesOf (code "u" ∷ code "{" ∷ q)) ≡ Scalar c → Is (code "u" ∷ code "{" ∷ q)
+      go q e =
+          by-bool (lastIs (code "}") (bytesOf (code "u" ∷ code "{" ∷ q)))
+          (λ f. braced-spells q f (rw f at e))
+          (λ f. other refl (ap isValue (rw f at e)))
+
+  unicode-spells : (r : List ℕ) → firstIs (code "u") (bytesOf r) ≡ true → hexNamed (bytesOf r) ≡ Scalar c → Spells (bytesOf r) c
+  unicode-spells r h e =
+      let f = first-of (code "u") (omega arith) refl r h in
+      record { chars = r; bytes = refl; is = subst Is (sym (f .1)) (unicode-is (f .0) (subst (λ (t : List ℕ). hexNamed (bytesOf t) ≡ Scalar c) (f .1) e)) }
 
   hex-spells : (r : List ℕ) → firstIs (code "x") (bytesOf r) ≡ true → later 1 (scalarOf (hexValue (drop 1 (bytesOf r)))) ≡ Scalar c → Spells (bytesOf r) c
   hex-spells r h e =
       let f = first-of (code "x") (omega arith) refl r h in
-      let inside : drop 1 (bytesOf r) ≡ bytesOf (f .0) = ap (λ (t : List ℕ). drop 1 (bytesOf t)) (f .1) ∙ ap (drop 1) (bytes-ascii (code "x") (f .0) refl) in
-      let v : scalarOf (hexValue (bytesOf (f .0))) ≡ Scalar c = ap (λ (t : List ℕ). scalarOf (hexValue t)) (sym inside) ∙ later-scalar 1 (scalarOf (hexValue (drop 1 (bytesOf r)))) c e in
-      record { chars = r; bytes = refl; is = subst Is (sym (f .1)) (go (f .0) (hex-back (f .0) c v)) }
+      let inside : drop 1 (bytesOf r) ≡ bytesOf (f .0) = after-letter (code "x") (f .0) refl r (f .1) in
+      let v : later 1 (scalarOf (hexValue (bytesOf (f .0)))) ≡ Scalar c = ap (λ (t : List ℕ). later 1 (scalarOf (hexValue t))) (sym inside) ∙ e in
+      record { chars = r; bytes = refl; is = subst Is (sym (f .1)) (go (scalar-back 1 (f .0) v)) }
     where
-      go : (q : List ℕ) → HexScalar q c ⊎ ((t : List ℕ) × (q ≡ code "+" ∷ t)) → Is (code "x" ∷ q)
-      go q (inl s) = inl (by-hex s)
-      go q (inr p) = subst (λ (l : List ℕ). Is (code "x" ∷ l)) (sym (p .1)) (inr foreign.plus)
+      go : {q : List ℕ} → SignedScalar q c → Is (code "x" ∷ q)
+      go (unsigned s) = inl (by-hex s)
+      go (after-plus s) = inr (foreign.plus s)
 
-  hexed : (r : List ℕ) → (firstIs (code "u") (bytesOf r) || firstIs (code "x") (bytesOf r)) ≡ true → 1 < length (bytesOf r) → hexNamed (bytesOf r) ≡ Scalar c
-      → Spells (bytesOf r) c
+  hexed : (r : List ℕ) → (firstIs (code "u") (bytesOf r) || firstIs (code "x") (bytesOf r)) ≡ true → hexNamed (bytesOf r) ≡ Scalar c → Spells (bytesOf r) c
   unfolding hexNamed
-  hexed r h l e =
-      by-bool (firstIs (code "u") (bytesOf r)) (λ u. unicode-spells r u l) (λ u. hex-spells r (rw u at h) (rw u at e))
+  hexed r h e = by-bool (firstIs (code "u") (bytesOf r)) (λ u. unicode-spells r u e) (λ u. hex-spells r (rw u at h) (rw u at e))
 
   -- ---- one character
 
@@ -201,7 +238,7 @@ module _ (c : ℕ) where
       let bs : List ℕ = bytesOf r in
       let lettered : Bool = firstIs (code "u") bs || firstIs (code "x") bs in
       by-bool (lettered && ltb 1 (length bs))
-      (λ f. let g = and-true lettered (ltb 1 (length bs)) f in hexed r (g .0) (ltb-true 1 (length bs) (g .1)) (rw f at e))
+      (λ f. let g = and-true lettered (ltb 1 (length bs)) f in hexed r (g .0) (rw f at e))
       (λ f. one-spells report bs (front bs) refl (rw f at e))
 
   named : (r low : List ℕ) → map meaning.lower (bytesOf r) ≡ low → eqb (lookup charNames low unnamed) unnamed ≡ false → lookup charNames low unnamed ≡ c
@@ -209,7 +246,7 @@ module _ (c : ℕ) where
   named r low l f o (inl g) = other f (ap (λ (n : ℕ). eqb n unnamed) g)
   named r low l f o (inr g) = named-spells r (g .0) c (l ∙ g .1) (subst (CharacterName (g .0)) o (g .2))
 
-  spells : (report : Bool) (r : List ℕ) → characterOf report (bytesOf r) ≡ Scalar c → Spells (bytesOf r) c
+  pub spells : (report : Bool) (r : List ℕ) → characterOf report (bytesOf r) ≡ Scalar c → Spells (bytesOf r) c
   unfolding characterOf
   spells report r e =
       let low : List ℕ = map meaning.lower (bytesOf r) in

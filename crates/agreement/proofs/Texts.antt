@@ -72,7 +72,7 @@ module _ (report : Bool) where
 
   pub in-lines : AreSaid (said kind.Identifier 0 0 (codes "|a|") (bytes (bytesOf (codes "a"))) ∷ []) (items report (codes "|a|"))
   unfolding begins
-  in-lines = whole-items report (tokens refl (token (codes "a|") [] (token.lined (identifier.lined (identifier.itself refl identifier.no-more))) no-more))
+  in-lines = whole-items report (tokens refl (token (codes "a|") [] (token.lined (identifier.lined (identifier.itself refl identifier.no-more) identifier.some)) no-more))
 
   pub a-number : AreSaid (said kind.Number 0 0 (codes "1") nothing ∷ []) (items report (codes "1"))
   unfolding begins

@@ -16,6 +16,7 @@ use Rattle.chars.specs.Encode.{bytesOf}
 use Rattle.items.specs.Kinds as kind
 use Rattle.agreement.specs.Reading.{bytes, nothing, ReadAs}
 use Rattle.agreement.specs.Delimiter.{atEnd}
+use Rattle.agreement.specs.Repeated.{done}
 use Rattle.agreement.specs.Written.{written}
 use Rattle.agreement.specs.String as string
 use Rattle.agreement.specs.Identifier as identifier
@@ -28,11 +29,20 @@ line-in-string report cs = read-as report cs (token.string (string.quoted (strin
 
 -- `|\"|`
 pub quote-in-lines : (report : Bool) (cs : List ℕ) → ReadAs report (codes "|\\\"|") cs kind.Identifier 0 (bytes (bytesOf (codes "\"")))
-quote-in-lines report cs = read-as report cs (token.lined (identifier.lined (identifier.doublequote identifier.no-more)))
+quote-in-lines report cs = read-as report cs (token.lined (identifier.lined (identifier.doublequote identifier.no-more) identifier.some))
 
 -- `|\\|`
 pub backslash-in-lines : (report : Bool) (cs : List ℕ) → ReadAs report (codes "|\\\\|") cs kind.Identifier 0 (bytes (bytesOf (codes "\\")))
-backslash-in-lines report cs = read-as report cs (token.lined (identifier.lined (identifier.backslash identifier.no-more)))
+backslash-in-lines report cs = read-as report cs (token.lined (identifier.lined (identifier.backslash identifier.no-more) identifier.some))
+
+-- `||`, and a line that goes on: `|\ newline a|`
+pub nothing-in-lines : (report : Bool) (cs : List ℕ) → ReadAs report (codes "||") cs kind.Identifier 0 (bytes [])
+unfolding bytesOf
+nothing-in-lines report cs = read-as report cs (token.lined (identifier.lined identifier.no-more identifier.empty))
+
+pub line-goes-on-in-lines : (report : Bool) (cs : List ℕ) → ReadAs report (codes "|\\\na|") cs kind.Identifier 0 (bytes (bytesOf (codes "a")))
+line-goes-on-in-lines report cs =
+    read-as report cs (token.lined (identifier.lined (identifier.goes-on [] [] done done refl (identifier.itself refl identifier.no-more)) identifier.some))
 
 -- ---- numbers: `#b1`, `#o7`, `#d9`, `#xF`, `1+2i`, `-i`, `1@2`
 

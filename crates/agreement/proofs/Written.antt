@@ -37,7 +37,7 @@ use Rattle.agreement.specs.Written.{Written, written}
 use Rattle.agreement.proofs.Below.{allBelow, below-all}
 use Rattle.agreement.proofs.Bytes.{bytes-ascii}
 use Rattle.agreement.proofs.Classes.{at-one-of}
-use Rattle.agreement.proofs.Number.{Stays, first-run, prefixed-run}
+use Rattle.agreement.proofs.Number.{Stays, number-run, prefixed-run}
 
 -- ---- single characters
 
@@ -278,16 +278,27 @@ written-parts (written (Prefix.octal {c = c} m) d k o z) = let y = stays (Prefix
 written-parts (written (Prefix.decimal {c = c} m) d k o z) = let y = stays (Prefix.decimal m) d k in ap parseNumber (marked-bytes c (d-mark m) y) ∙ parses (Prefix.decimal m) d k o z y
 written-parts (written (Prefix.hex {c = c} m) d k o z) = let y = stays (Prefix.hex m) d k in ap parseNumber (marked-bytes c (x-mark m) y) ∙ parses (Prefix.hex m) d k o z y
 
+-- a number run: from a sign, a dot or a digit on, or after the prefix of a radix
+pub data RunText : List ℕ → Type 0 where
+  bare : {c : ℕ} {t : List ℕ} → startsRun c ≡ true → Many Stays t → RunText (c ∷ t)
+  prefixed : {c : ℕ} {t : List ℕ} → oneOf (codes "xXdDoObB") c ≡ true → Many Stays t → RunText (code "#" ∷ c ∷ t)
+
+bare-run : {s : List ℕ} → Starts s → Many Stays s → RunText s
+bare-run h done = absurd (omega (arith, h .0))
+bare-run h (more k m) = bare (h .1) m
+
+pub written-run : {t : List ℕ} {a : Parts} → Written t a → RunText t
+written-run (written Prefix.empty d k o z) = bare-run (complex-starts d) (stays Prefix.empty d k)
+written-run (written (Prefix.binary m) d k o z) = prefixed (b-mark m) (stays (Prefix.binary m) d k)
+written-run (written (Prefix.octal m) d k o z) = prefixed (o-mark m) (stays (Prefix.octal m) d k)
+written-run (written (Prefix.decimal m) d k o z) = prefixed (d-mark m) (stays (Prefix.decimal m) d k)
+written-run (written (Prefix.hex m) d k o z) = prefixed (x-mark m) (stays (Prefix.hex m) d k)
+
+run-read : (report : Bool) {t : List ℕ} (cs : List ℕ) → RunText t → (a : Parts) → parseNumber (bytesOf t) ≡ parsed.Is a → Ends (numberDelimiters report) cs
+    → ReadAs report t cs kind.Number 0 nothing
+run-read report cs (bare {c = c} h m) a n e = number-run report c h m a n e
+run-read report cs (prefixed {c = c} h m) a n e = prefixed-run report c h m a n e
+
 -- and it is read as one Number
 pub written-number : (report : Bool) {t : List ℕ} {a : Parts} (cs : List ℕ) → Written t a → Ends (numberDelimiters report) cs → ReadAs report t cs kind.Number 0 nothing
-written-number report {a = a} cs (written {s = s} Prefix.empty d k o z) e =
-    let f = complex-starts d in
-    first-run report s cs (f .0) (f .1) (stays Prefix.empty d k) a (written-parts (written Prefix.empty d k o z)) e
-written-number report {a = a} cs (written (Prefix.binary {c = c} m) d k o z) e =
-    prefixed-run report c (b-mark m) (stays (Prefix.binary m) d k) a (written-parts (written (Prefix.binary m) d k o z)) e
-written-number report {a = a} cs (written (Prefix.octal {c = c} m) d k o z) e =
-    prefixed-run report c (o-mark m) (stays (Prefix.octal m) d k) a (written-parts (written (Prefix.octal m) d k o z)) e
-written-number report {a = a} cs (written (Prefix.decimal {c = c} m) d k o z) e =
-    prefixed-run report c (d-mark m) (stays (Prefix.decimal m) d k) a (written-parts (written (Prefix.decimal m) d k o z)) e
-written-number report {a = a} cs (written (Prefix.hex {c = c} m) d k o z) e =
-    prefixed-run report c (x-mark m) (stays (Prefix.hex m) d k) a (written-parts (written (Prefix.hex m) d k o z)) e
+written-number report {a = a} cs w e = run-read report cs (written-run w) a (written-parts w) e

@@ -15,6 +15,7 @@ use Rattle.laws.specs.Letters.{lower}
 use Rattle.difference.specs.Conditions.{NumberText, SignBelowSlash}
 use Rattle.agreement.specs.Boolean.{Boolean, truth}
 use Rattle.agreement.specs.Character.{CharacterName, CharacterText}
+use Rattle.agreement.specs.Escape.{HexScalar}
 use Rattle.agreement.specs.Punctuation.{Punctuation}
 use Rattle.agreement.specs.Reading.{Spelling, bytes, spelling}
 use Rattle.agreement.specs.String.{StringElements, StringText}
@@ -83,11 +84,17 @@ StringIn whole i = eqb (i .kind) kind.StringLiteral ≡ true
 
 -- ---- characters
 
+-- a <hex scalar value>, a plus before it or not
+pub data SignedScalar : List ℕ → ℕ → Type 0 where
+  unsigned : {h : List ℕ} {c : ℕ} → HexScalar h c → SignedScalar h c
+  after-plus : {h : List ℕ} {c : ℕ} → HexScalar h c → SignedScalar (code "+" ∷ h) c
+
 -- a text, and the character of its item: a name in other letter case (B41), or a form that the standard has not (B36)
 pub data ForeignCharacter : List ℕ → ℕ → Type 0 where
   other-case : {t n : List ℕ} {c : ℕ} → CharacterName n c → map lower t ≡ n → ForeignCharacter (code "#" ∷ code "\\" ∷ t) c
-  unicode : {x c : ℕ} {t : List ℕ} → ForeignCharacter (code "#" ∷ code "\\" ∷ code "u" ∷ x ∷ t) c
-  plus : {c : ℕ} {t : List ℕ} → ForeignCharacter (code "#" ∷ code "\\" ∷ code "x" ∷ code "+" ∷ t) c
+  unicode : {h : List ℕ} {c : ℕ} → SignedScalar h c → ForeignCharacter (code "#" ∷ code "\\" ∷ code "u" ∷ h) c
+  braced : (h : List ℕ) {c : ℕ} → SignedScalar h c → ForeignCharacter (codes "#\\u{" ++ (h ++ codes "}")) c
+  plus : {h : List ℕ} {c : ℕ} → HexScalar h c → ForeignCharacter (code "#" ∷ code "\\" ∷ code "x" ∷ code "+" ∷ h) c
 
 -- an item of kind CharacterLiteral: its extent is a <character> or a foreign one, and its detail that character
 abbrev pub CharacterIn : List ℕ → Item → Type 0

@@ -192,6 +192,7 @@ table =
     ∷ row "B33" "|\\\n|" (lined 0 4 ∷ [])
     -- case is not significant in the x of an escape
     ∷ row "B34" "\"\\X0;\"" (failed kind.InvalidStringEscape (code "X") 0 2 ∷ identifier 2 4 ∷ bare kind.Comment 0 4 6 ∷ [])
+    ∷ row "B34" "|\\X0;|" (failed kind.InvalidStringEscape (code "X") 0 2 ∷ identifier 2 4 ∷ bare kind.Comment 0 4 6 ∷ [])
     -- nor in the x of a character
     ∷ row "B35" "#\\X0" (failed kind.InvalidCharName 0 0 4 ∷ [])
     -- escapes and characters that the standard has not
@@ -203,9 +204,12 @@ table =
     ∷ row "B36" "#\\x+41" (bare kind.CharacterLiteral (code "A") 0 6 ∷ [])
     -- <hex scalar value> that is no character
     ∷ row "B37" "#\\xD800" (failed kind.InvalidHexCodePoint 0xD800 0 7 ∷ [])
-    -- <line ending> → <return>, in a string that goes on
+    ∷ row "B37" "\"\\xD800;\"" (failed kind.InvalidHexCodePoint 0xD800 0 8 ∷ failed kind.IncompleteString 0 8 9 ∷ [])
+    ∷ row "B37" "|\\xD800;|" (failed kind.InvalidHexCodePoint 0xD800 0 8 ∷ failed kind.IncompleteIdentifier 0 8 9 ∷ [])
+    -- <line ending> → <return>, in a string or a name that goes on
     ∷ row "B38" "\"\\\r\"" (failed kind.InvalidStringEscape (code "\r") 0 2 ∷ failed kind.IncompleteString 0 3 4 ∷ [])
     ∷ row "B38" "\"\\\r\n\"" (failed kind.InvalidStringEscape (code "\r") 0 2 ∷ failed kind.IncompleteString 0 4 5 ∷ [])
+    ∷ row "B38" "|\\\r|" (failed kind.InvalidStringEscape (code "\r") 0 2 ∷ failed kind.IncompleteIdentifier 0 3 4 ∷ [])
     -- a <return> in a string: the standard reads a newline, the text here is the <return>
     ∷ row "B39" "\"\r\"" (sourced kind.StringLiteral 0 3 1 2 ∷ [])
     -- a <delimiter> after a character; of two of them report mode's error says more

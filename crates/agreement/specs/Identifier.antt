@@ -20,6 +20,7 @@ use Rattle.laws.specs.Quoted.{codes, code, oneOf}
 use Rattle.chars.specs.Blank.{isBlank}
 use Rattle.agreement.specs.Escape.{digits, Mnemonic, HexScalar}
 use Rattle.agreement.specs.Repeated.{Many}
+use Rattle.agreement.specs.String.{Intraline, indented}
 
 abbrev pub letters : List ℕ
 letters = codes "abcdefghijklmnopqrstuvwxyzABCDEFGHIJKLMNOPQRSTUVWXYZ"
@@ -69,7 +70,7 @@ pub data Unsplit : List ℕ → Type 0 where
 -- <symbol element>*, and the characters that it denotes:
 --   <symbol element> → <any character other than <vertical line> or \> | <inline hex escape> | <mnemonic escape> | \|
 -- 2.1: "characters can be specified using either an <inline hex escape> or the same escapes that are available in strings", so \" and \\
--- are elements too. Departure: a line that goes on and leaves nothing of the name (B33)
+-- are elements too, and a line that goes on
 pub data SymbolElements : List ℕ → List ℕ → Type 0 where
   no-more : SymbolElements [] []
   itself : {c : ℕ} {t v : List ℕ} → oneOf (codes "|\\") c ≡ false → SymbolElements t v → SymbolElements (c ∷ t) (c ∷ v)
@@ -77,8 +78,15 @@ pub data SymbolElements : List ℕ → List ℕ → Type 0 where
   vertical : {t v : List ℕ} → SymbolElements t v → SymbolElements (code "\\" ∷ code "|" ∷ t) (code "|" ∷ v)
   doublequote : {t v : List ℕ} → SymbolElements t v → SymbolElements (code "\\" ∷ code "\"" ∷ t) (code "\"" ∷ v)
   backslash : {t v : List ℕ} → SymbolElements t v → SymbolElements (code "\\" ∷ code "\\" ∷ t) (code "\\" ∷ v)
+  goes-on : (trailing indent : List ℕ) {t v : List ℕ} → Many Intraline trailing → Many Intraline indent → indented t ≡ false → SymbolElements t v
+      → SymbolElements (code "\\" ∷ trailing ++ (code "\n" ∷ indent ++ t)) v
   hex : (h : List ℕ) {x : ℕ} {t v : List ℕ} → HexScalar h x → SymbolElements t v → SymbolElements (code "\\" ∷ code "x" ∷ h ++ (code ";" ∷ t)) (x ∷ v)
+
+-- elements that leave something of the name, if there are any. Departure: lines that go on and leave nothing (B33)
+pub data Remains : List ℕ → List ℕ → Type 0 where
+  empty : Remains [] []
+  some : {x : ℕ} {t v : List ℕ} → Remains t (x ∷ v)
 
 -- an identifier in vertical lines, and its name
 pub data Lined : List ℕ → List ℕ → Type 0 where
-  lined : {t v : List ℕ} → SymbolElements t v → Lined (code "|" ∷ t ++ codes "|") v
+  lined : {t v : List ℕ} → SymbolElements t v → Remains t v → Lined (code "|" ∷ t ++ codes "|") v

@@ -1,8 +1,8 @@
--- How a keyword and a comment begin: `#:`, and `;` or `#|`. Each phase of the machine knows it of the item so far, and a step keeps it.
+-- How a keyword, a comment and an identifier in vertical lines begin: `#:`; `;` or `#|`; `|`. Each phase of the machine knows it of the item so far, and a step keeps it.
 use Prim.Native.Nat.{ℕ, _+_}
-use mathlib.Core.Path.{_≡_, refl, ap, sym, _∙_}
+use mathlib.Core.Path.{_≡_, refl, ap, _∙_}
 use mathlib.Core.Logic.{_⊎_, inl, inr}
-use mathlib.Core.Bool.{Bool, true, false, _&&_}
+use mathlib.Core.Bool.{Bool, true}
 use mathlib.Core.List.{List, [], _∷_, _++_}
 use lib.ListN.{length, drop}
 use lib.Dec.{eqb, leb}
@@ -11,9 +11,8 @@ use borrow.Author.Tests.{eqb-true}
 use Rattle.laws.specs.Quoted.{code, codes, oneOf}
 use Rattle.laws.specs.Texts.{begins, same}
 use Rattle.laws.proofs.Choice.{by-bool, no-yes, if-all, if-is}
-use Rattle.chars.specs.Encode.{utf8, bytesOf, spelled, isScalar}
+use Rattle.chars.specs.Encode.{utf8, bytesOf, spelled}
 use Rattle.digits.specs.declared.Hex.{Hex}
-use Rattle.digits.specs.declared.Hex.the-variants as hex
 use Rattle.digits.specs.Hex.{hexValue}
 use Rattle.items.specs.declared.Quotes.{Quotes}
 use Rattle.items.specs.declared.Quotes.the-variants.{Double, Lines}
@@ -52,7 +51,7 @@ Begun raw Str = Unit {0}
 Begun raw HereStr = Unit {0}
 Begun raw Word = Unit {0}
 Begun raw Run = Unit {0}
-Begun raw Lined = (raw ≡ spelled "." → ⊥)
+Begun raw Lined = firstIs (code "|") raw ≡ true
 Begun raw Keyword = begins (spelled "#:") raw ≡ true
 Begun raw Character = Unit {0}
 Begun raw (Error n d) = Unit {0}
@@ -102,12 +101,12 @@ Goes i c (Stop o) = Begun (i .bytes) o
 
 module _ (raw : List ℕ) where
   lined : Begun raw (linedOf raw)
-  unfolding linedOf bytesOf utf8
+  unfolding linedOf
   lined =
       let P : Outcome → Type 0 = Begun raw in
       if-all P (leb (length raw) 1) tt
       (if-all P (firstIs (code "+") raw) tt
-      (if-is P (firstIs (code "|") raw) (λ e. if-all P (lastIs (code "|") raw) (λ z. no-yes (sym (ap (firstIs (code "|")) z) ∙ e)) tt) (λ _. tt)))
+      (if-is P (firstIs (code "|") raw) (λ e. if-all P (lastIs (code "|") raw) e tt) (λ _. tt)))
 
   at-closed : (k : Quotes) → Begun raw (closed k raw)
   at-closed Double = tt

@@ -10,11 +10,13 @@ use lib.Dec.{eqb}
 use Rattle.laws.specs.Quoted.{codes, code, oneOf}
 use Rattle.chars.specs.Blank.{isBlank}
 use Rattle.chars.specs.Encode.{bytesOf}
+use Rattle.numbers.specs.declared.Parts.{Parts}
 use Rattle.items.specs.Items.{Item}
 use Rattle.items.specs.Kinds as kind
 use Rattle.items.specs.Readers.{firstIs}
 use Rattle.agreement.specs.Converse.{extent}
 use Rattle.agreement.specs.Delimiter.{delimiters, numberDelimiters}
+use Rattle.agreement.specs.Written.{Written}
 use Rattle.agreement_words.specs.Words.{ownKinds}
 
 -- nothing, or a character that may end it
@@ -37,6 +39,10 @@ pub data EndsName (c : ℕ) : Type 0 where
   mark : oneOf (codes "'`,") c ≡ true → EndsName c
   blank : isBlank c ≡ true → EndsName c
 
+-- what ends a boolean and a character is what ends a number in plain mode: none of `|`, `"` and `;` (B2, B40)
+abbrev pub EndsHash : ℕ → Type 0
+EndsHash c = EndsNumber false c
+
 -- an item of kind Number
 abbrev pub NumberBefore : Bool → List ℕ → Item → Type 0
 NumberBefore report whole i =
@@ -52,3 +58,25 @@ abbrev pub NameBefore : Bool → List ℕ → Item → Type 0
 NameBefore report whole i =
     oneOf nameKinds (i .kind) ≡ true → firstIs (code "+") (extent whole i) ≡ false → firstIs (code "|") (extent whole i) ≡ false
     → (rest : List ℕ) × (drop (i .end) whole ≡ bytesOf rest) × Behind (λ c. EndsName c ⊎ EndsNumber report c) rest
+
+-- an item of kind BooleanLiteral or CharacterLiteral
+abbrev pub hashKinds : List ℕ
+hashKinds = kind.BooleanLiteral ∷ kind.CharacterLiteral ∷ []
+
+abbrev pub HashBefore : List ℕ → Item → Type 0
+HashBefore whole i = oneOf hashKinds (i .kind) ≡ true → (rest : List ℕ) × (drop (i .end) whole ≡ bytesOf rest) × Behind EndsHash rest
+
+-- what keeps a number from being one: a brace, which the standard reserves (B12); a mark (B13); in plain mode `;` and `"` (B10)
+pub data KeepsNumber (report : Bool) (c : ℕ) : Type 0 where
+  brace : oneOf (codes "{}") c ≡ true → KeepsNumber report c
+  mark : oneOf (codes "'`,") c ≡ true → KeepsNumber report c
+  plain : report ≡ false → oneOf (codes ";\"") c ≡ true → KeepsNumber report c
+
+pub data Kept (report : Bool) : List ℕ → Type 0 where
+  kept : {c : ℕ} {cs : List ℕ} → KeepsNumber report c → Kept report (c ∷ cs)
+
+-- an item of kind Identifier: if its extent is a <number>, and none of B14, B15, B19 and B20, something stands behind it that keeps it from being one
+abbrev pub NumberKept : Bool → List ℕ → Item → Type 0
+NumberKept report whole i =
+    eqb (i .kind) kind.Identifier ≡ true
+    → (t rest : List ℕ) × (extent whole i ≡ bytesOf t) × (drop (i .end) whole ≡ bytesOf rest) × ((a : Parts) → Written t a → Kept report rest)

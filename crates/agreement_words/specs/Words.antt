@@ -1,20 +1,17 @@
 -- The other way, of the kinds that `Converse` of crate `agreement` leaves out: what stands in the extent of an item. A condition stands for a row
 -- of docs/DIFFERENCES.md, part B.
-use Prim.Native.Nat.{ℕ, _+_, _≤_}
+use Prim.Native.Nat.{ℕ}
 use mathlib.Core.Path.{_≡_}
-use mathlib.Core.Bool.{true, false}
-use mathlib.Core.List.{List, [], _∷_, _++_}
-use mathlib.Core.Logic.{_⊎_}
+use mathlib.Core.Bool.{true}
+use mathlib.Core.List.{List, [], _∷_}
 use lib.Dec.{eqb}
-use Rattle.laws.specs.Quoted.{codes, code, oneOf}
+use Rattle.laws.specs.Quoted.{oneOf}
 use Rattle.laws.specs.Texts.{begins}
-use Rattle.chars.specs.Encode.{bytesOf, spelled}
+use Rattle.chars.specs.Encode.{spelled}
 use Rattle.items.specs.Items.{Item}
 use Rattle.items.specs.Kinds as kind
 use Rattle.items.specs.Meaning.{Row, row}
 use Rattle.agreement.specs.Converse.{extent}
-use Rattle.agreement.specs.Escape.{digits}
-use Rattle.agreement.specs.Identifier.{Subsequent, Plain, Peculiar, explicitSigns}
 
 -- a text and its kind stand in a table
 pub data Among : List Row → List ℕ → ℕ → Type 0 where
@@ -76,33 +73,3 @@ OwnMarkIn whole i = oneOf markKinds (i .kind) ≡ true → Among ownMarks (exten
 
 abbrev pub KeywordIn : List ℕ → Item → Type 0
 KeywordIn whole i = eqb (i .kind) kind.Keyword ≡ true → begins (spelled "#:") (extent whole i) ≡ true
-
--- ---- comments: `;` or `#|`, as the standard has them
-
-abbrev pub CommentIn : List ℕ → Item → Type 0
-CommentIn whole i =
-    eqb (i .kind) kind.Comment ≡ true → (begins (spelled ";") (extent whole i) ≡ true) ⊎ (begins (spelled "#|") (extent whole i) ≡ true)
-
--- ---- identifiers
-
--- what the standard has for no <identifier> that is not in vertical lines
-pub data ForeignName : List ℕ → Type 0 where
-  -- a character that is no <subsequent>: `#` (B4 to B9, B14, B27), a vertical line (B22, B24, B25, and every identifier in vertical lines), a
-  -- backslash or a control character (B28)
-  character : (u : List ℕ) (c : ℕ) (t : List ℕ) → (Subsequent c → ⊥) → ForeignName (u ++ (c ∷ t))
-  -- an at sign first: B28
-  at-sign : {t : List ℕ} → ForeignName (code "@" ∷ t)
-  -- it begins as a number does: it is none (B16), or something behind it keeps it from being one (B10, B12, B13)
-  digit : {c : ℕ} {t : List ℕ} → oneOf digits c ≡ true → ForeignName (c ∷ t)
-  dot-digit : {c : ℕ} {t : List ℕ} → oneOf digits c ≡ true → ForeignName (code "." ∷ c ∷ t)
-  sign-digit : {s c : ℕ} {t : List ℕ} → oneOf explicitSigns s ≡ true → oneOf digits c ≡ true → ForeignName (s ∷ c ∷ t)
-  sign-dot-digit : {s c : ℕ} {t : List ℕ} → oneOf explicitSigns s ≡ true → oneOf digits c ≡ true → ForeignName (s ∷ code "." ∷ c ∷ t)
-  -- a sign and a dot: B28
-  sign-dot : {s : ℕ} → oneOf explicitSigns s ≡ true → ForeignName (s ∷ code "." ∷ [])
-
--- an item of kind Identifier: its extent is an <identifier> without vertical lines, or a foreign name. An extent that begins with `+` and goes on
--- has two (B21, B22)
-abbrev pub IdentifierIn : List ℕ → Item → Type 0
-IdentifierIn whole i =
-    eqb (i .kind) kind.Identifier ≡ true
-    → (t : List ℕ) × (extent whole i ≡ bytesOf t) × ((Plain t ⊎ Peculiar t) ⊎ ForeignName t)

@@ -256,7 +256,7 @@ module _ (report : Bool) (k : Quotes) where
   last j after (closing rest) = elim k [ Double ↦ record { item = refl; rest = refl } | Lines ↦ record { item = refl; rest = refl } ]
   last j after (text-over h) = record { item = refl; rest = refl }
 
-  quoted-item : (at : ℕ) (cs : List ℕ) → readItem report at (delimOf k) cs ≡ readQuoted report k (eat (soFar [] at) (delimOf k)) cs
+  pub quoted-item : (at : ℕ) (cs : List ℕ) → readItem report at (delimOf k) cs ≡ readQuoted report k (eat (soFar [] at) (delimOf k)) cs
   unfolding readItem firstOf startsRun
   quoted-item at cs = elim k [ Double ↦ refl | Lines ↦ refl ]
 
