@@ -59,7 +59,7 @@ pass (b ∷ l) at = by-bool (ascii b)
     rw e (rw z (pass l (at + 1) ∙ sym (ap verdict (sequences-char at (b ∷ l) b 1 (one-read b l (omega arith)))))))
     (λ e. rw e (rw add-zero))
 
-ascii-pass : (s : List ℕ) (i : ℕ) → verdict (sequences 0 (i + span ascii (drop i s)) (drop (i + span ascii (drop i s)) s)) ≡ verdict (sequences 0 i (drop i s))
+pub ascii-pass : (s : List ℕ) (i : ℕ) → verdict (sequences 0 (i + span ascii (drop i s)) (drop (i + span ascii (drop i s)) s)) ≡ verdict (sequences 0 i (drop i s))
 ascii-pass s i = rw (← drop-drop (span ascii (drop i s)) i s) (pass (drop i s) i)
 
 pub passed-run : (s : List ℕ) (at r : ℕ) → r ≡ at + span ascii (drop at s) → Passed s at r
