@@ -2,8 +2,8 @@
 use native.Mathlib.Omega.{arith}
 use borrow.Author.Tests.{ltb-true}
 use Rattle.laws.proofs.Choice.{no-yes}
-use Rattle.pieces_spots.proofs.letters.is_letter.Statement.{statement}
-use Rattle.pieces_spots.proofs.letters.is_letter.Tie as tie
+use Rattle.pieces_spots.proofs.pairs.is_letter.Statement.{statement}
+use Rattle.pieces_spots.proofs.pairs.is_letter.Tie as tie
 
 returns : tie.Need-returns
 returns c = no-yes

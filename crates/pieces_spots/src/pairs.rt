@@ -1,15 +1,17 @@
-// Letters past ASCII of two bytes, U+00C0 to U+07FF, which words, strings and comments go on with: none of them is a blank.
+// Two bytes at once that leave an item in its phase: a letter past ASCII of two bytes, U+00C0 to U+07FF, of which none is a blank, in a word,
+// in quotes and in a comment to the end of its line; and an escape that is a backslash and one more byte, in quotes.
 use crate::PieceSpot;
 use crate::moving::run;
 use lent::codes::IN_LINE;
+use lent::codes::IN_RUN;
 use lent::codes::IN_WORD;
 use lent::codes::QUOTED;
 use pieces::LONGEST;
 ghost use mathlib.Core.Path.{_≡_};
 ghost use mathlib.Core.Bool.{true};
-ghost use Prim.Native.Nat.{_+_, _≤_};
+ghost use Prim.Native.Nat.{ℕ, _+_, _≤_};
 ghost use lib.ListN.{length};
-ghost use Rattle.pieces_spots.specs.Spots.{Fits, Onward, Letter, Carries, Lettered};
+ghost use Rattle.pieces_spots.specs.Spots.{Fits, Onward, Letter, Carries, Escapes, Paired};
 
 // The first bytes that such a letter may have, and the second ones, each with the first byte past them.
 const LEADS: u8 = 0xC3;
@@ -20,8 +22,11 @@ const SECONDS: u8 = 0x80;
 
 const SECONDS_END: u8 = 0xC0;
 
-// How many bytes it is.
-const LETTER: usize = 2;
+// What an escape begins with.
+const BACKSLASH: u8 = b'\\';
+
+// How many bytes are passed.
+const PAIR: usize = 2;
 
 // Whether two bytes are such a letter.
 fn is_letter(x: u8, y: u8) -> bool
@@ -39,9 +44,9 @@ fn is_letter(x: u8, y: u8) -> bool
     y < SECONDS_END
 }
 
-// Whether an item at a stage goes on with any such letter: a word, a comment to the end of its line, and a string do.
-fn carries(stage: u64, which: u64) -> bool
-    ensures { λ r. ⌜ (r ≡ true → Carries stage which) ⌝ }
+// Whether an item at a stage goes on with any such letter: a word, a comment to the end of its line, and quotes do.
+fn carries(stage: u64) -> bool
+    ensures { λ r. ⌜ (r ≡ true → (which : ℕ) → Carries stage which) ⌝ }
 {
     if stage == IN_WORD {
         return true;
@@ -49,39 +54,63 @@ fn carries(stage: u64, which: u64) -> bool
     if stage == IN_LINE {
         return true;
     }
+    stage == QUOTED
+}
+
+// Whether an item at a stage goes on in its quotes past a backslash and this byte.
+fn is_escape(stage: u64, b: u8) -> bool
+    ensures { λ r. ⌜ (r ≡ true → (which : ℕ) → Escapes stage which b) ⌝ }
+{
     if stage != QUOTED {
         return false;
     }
-    which == 0
+    match b {
+        b'n' => true,
+        b'"' => true,
+        b'\\' => true,
+        b't' => true,
+        b'r' => true,
+        b'|' => true,
+        b'a' => true,
+        b'b' => true,
+        b'0' => true,
+        _ => false,
+    }
 }
 
-// Whether such a letter stands at a spot, and the item there goes on with it.
-fn has_letter(s: PieceSpot, piece: &[u8]) -> bool
+// Whether two bytes stand at a spot that leave its item in its phase.
+fn has_pair(s: PieceSpot, piece: &[u8]) -> bool
     requires { ⌜ s .i ≤ length (now piece) ⌝ }
-    ensures { λ r. ⌜ (r ≡ true → Lettered s (now (piece .entry))) ⌝ }
+    ensures { λ r. ⌜ (r ≡ true → Paired s (now (piece .entry))) ⌝ }
 {
     let i = s.i;
     if piece.len() <= i {
         return false;
     }
-    if piece[i] < LEADS {
+    let b = piece[i];
+    if b < LEADS {
+        if b != BACKSLASH {
+            return false;
+        }
+    }
+    if piece.len() - i < PAIR {
         return false;
     }
-    if piece.len() - i < LETTER {
+    if LONGEST - PAIR < s.len {
         return false;
     }
-    if !is_letter(piece[i], piece[i + 1]) {
+    if b == BACKSLASH {
+        return is_escape(s.stage, piece[i + 1]);
+    }
+    if !is_letter(b, piece[i + 1]) {
         return false;
     }
-    if LONGEST - LETTER < s.len {
-        return false;
-    }
-    carries(s.stage, s.which)
+    carries(s.stage)
 }
 
-// Past a letter that stands at a spot.
-fn letter(s: PieceSpot, buf: &mut [u8], piece: &[u8]) -> PieceSpot
-    requires { ⌜ Fits s (now buf) (now piece) × Lettered s (now piece) ⌝ }
+// Past two bytes that stand at a spot and leave its item in its phase.
+fn pass_pair(s: PieceSpot, buf: &mut [u8], piece: &[u8]) -> PieceSpot
+    requires { ⌜ Fits s (now buf) (now piece) × Paired s (now piece) ⌝ }
     ensures { λ r. ⌜ Fits r (now (buf .exit)) (now (piece .entry)) × Onward s (now (buf .entry)) r (now (buf .exit)) (now (piece .entry)) × (r .i ≡ s .i + 2) ⌝ }
 {
     let i = s.i;
@@ -94,12 +123,12 @@ fn letter(s: PieceSpot, buf: &mut [u8], piece: &[u8]) -> PieceSpot
         which: s.which,
         detail: s.detail,
         at: s.at + 2,
-        len: len + LETTER,
-        i: i + LETTER,
+        len: len + PAIR,
+        i: i + PAIR,
     }
 }
 
-// Past the bytes of ASCII that leave an item in its phase and the letters that do.
+// Past the bytes that leave an item in its phase, one by one or in pairs, of which a number run has none.
 pub fn run_on(s: PieceSpot, buf: &mut [u8], piece: &[u8]) -> PieceSpot
     requires { ⌜ Fits s (now buf) (now piece) ⌝ }
     ensures { λ r. ⌜ Fits r (now (buf .exit)) (now (piece .entry)) × Onward s (now (buf .entry)) r (now (buf .exit)) (now (piece .entry)) ⌝ }
@@ -107,10 +136,13 @@ pub fn run_on(s: PieceSpot, buf: &mut [u8], piece: &[u8]) -> PieceSpot
     let mut t = s;
     loop {
         let ran = run(t, buf, piece);
-        if !has_letter(ran, piece) {
+        if ran.stage == IN_RUN {
             return ran;
         }
-        t = letter(ran, buf, piece);
+        if !has_pair(ran, piece) {
+            return ran;
+        }
+        t = pass_pair(ran, buf, piece);
     }
 }
 
@@ -120,7 +152,7 @@ pub fn begin_letter(s: PieceSpot, buf: &mut [u8], piece: &[u8]) -> PieceSpot
     ensures { λ r. ⌜ Fits r (now (buf .exit)) (now (piece .entry)) × Onward s (now (buf .entry)) r (now (buf .exit)) (now (piece .entry)) ⌝ }
 {
     let i = s.i;
-    if piece.len() - i < LETTER {
+    if piece.len() - i < PAIR {
         return s;
     }
     if !is_letter(piece[i], piece[i + 1]) {
@@ -134,7 +166,7 @@ pub fn begin_letter(s: PieceSpot, buf: &mut [u8], piece: &[u8]) -> PieceSpot
         which: 0,
         detail: 0,
         at: s.at + 2,
-        len: LETTER,
-        i: i + LETTER,
+        len: PAIR,
+        i: i + PAIR,
     }
 }

@@ -1,12 +1,12 @@
--- The two turns of a letter do what passing it does (TwoBytes).
+-- The two turns do what passing the bytes does (TwoBytes).
 use borrow.Author.Needs.{needs}
 use native.Mathlib.Omega.{arith}
 use denote.Ref.{now}
 use mathlib.Core.Path.{refl}
 use lib.ListN.{length-set}
-use Rattle.pieces_spots.proofs.TwoBytes.{letter-fits, letter-on}
-use Rattle.pieces_spots.proofs.letters.letter.Statement.{statement}
-use Rattle.pieces_spots.proofs.letters.letter.Tie as tie
+use Rattle.pieces_spots.proofs.TwoBytes.{pair-fits}
+use Rattle.pieces_spots.proofs.pairs.pass_pair.Statement.{statement}
+use Rattle.pieces_spots.proofs.pairs.pass_pair.Tie as tie
 
 shared-slice-read-buf : tie.Need-shared-slice-read-buf
 shared-slice-read-buf c = search needs
@@ -41,13 +41,13 @@ same-length c = search needs
 returns : tie.Need-returns
 returns c =
     let a = c .before .before .before in (
-      letter-fits (a .args .s) (now (a .args .buf)) (now (a .args .piece)) (a .pre .0) (a .pre .1),
-      letter-on (a .args .s) (now (a .args .buf)) (now (a .args .piece)) (a .pre .0) (a .pre .1),
+      pair-fits (a .args .s) (now (a .args .buf)) (now (a .args .piece)) (a .pre .0) (a .pre .1 .inside) (a .pre .1 .room),
+      a .pre .1 .on (now (a .args .buf)) (a .pre .0),
       refl,
     )
 
-pub letter-spec : {M : Type 1} → statement M
-letter-spec =
+pub pass-pair-spec : {M : Type 1} → statement M
+pass-pair-spec =
     tie.close
     (tie.spec
     shared-slice-read-buf

@@ -6,8 +6,8 @@ use Prim.Native.Nat.{_+_, _≤_}
 use lib.ListN.{length}
 use borrow.Author.Tests.{not-false}
 use Rattle.pieces_spots.proofs.TwoBytes.{first-fits, first-on}
-use Rattle.pieces_spots.proofs.letters.begin_letter.Statement.{statement}
-use Rattle.pieces_spots.proofs.letters.begin_letter.Tie as tie
+use Rattle.pieces_spots.proofs.pairs.begin_letter.Statement.{statement}
+use Rattle.pieces_spots.proofs.pairs.begin_letter.Tie as tie
 
 sub-if1 : tie.Need-sub-if1
 sub-if1 c = search needs
