@@ -38,7 +38,7 @@ use Rattle.giving.specs.Answers.{stateOf}
 use Rattle.giving.proofs.Laid.{laid-sets, laid-two}
 use Rattle.turns.specs.Inner.{Sound}
 use Rattle.turns.proofs.Sounds.{turn-sound}
-use Rattle.lent.specs.Coding.{row, quotesOf, stageOf, stageRow}
+use Rattle.lent.specs.Coding.{row, quotesOf, stageOf}
 use Rattle.pieces_spots.specs.declared.PieceSpot.{PieceSpot}
 use Rattle.pieces_spots.specs.Spots.{rowAt, marksAt, stateAt, Fits, Goes, Onward, Letter, Carries, Escapes, pastPair, withPair}
 use Rattle.pieces_spots.proofs.Turning.{Between, turned-eaten}

@@ -1,6 +1,5 @@
 -- Each run is that of the quotes (Runs).
 use borrow.Author.Needs.{needs}
-use native.Mathlib.Omega.{arith}
 use mathlib.Core.Path.{refl}
 use borrow.Author.Tests.{eq-eqb, ne-eqb}
 use Rattle.items.specs.declared.Quotes.the-variants.{Double, Lines}
