@@ -213,7 +213,7 @@ pub fn open(mode: u32, skip: bool, buf: &mut [u8], words: &mut [u64]) -> u32
     start_number(got)
 }
 
-// Reads on in a piece from a place on as the crate `lent` does.
+// Reads on in a piece from a place on as the crate `lent` does. The piece is lent anew: so it need not lie in memory where this is called.
 fn read_plainly(
     buf: &mut [u8],
     words: &mut [u64],
@@ -228,7 +228,7 @@ fn read_plainly(
         ≡ gives (memory (now (buf .entry)) (now (words .entry)) (now (text .entry)) (now (item .entry)) (now (values .entry)))
         (later from (pieceFor (lent (wordsIn (now (words .entry))) (now (buf .entry))) (drop from (now (piece .entry))) (length (now (text .entry))))) ⌝ }
 {
-    let told = plainly(words_in(words), buf, piece, from, text);
+    let told = plainly(words_in(words), buf, &piece[..], from, text);
     tell(told, words, item, values)
 }
 
