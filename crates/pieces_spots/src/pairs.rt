@@ -9,7 +9,7 @@ use lent::codes::QUOTED;
 use pieces::LONGEST;
 ghost use mathlib.Core.Path.{_≡_};
 ghost use mathlib.Core.Bool.{true};
-ghost use Prim.Native.Nat.{ℕ, _+_, _≤_};
+ghost use Prim.Native.Nat.{ℕ, _+_, _≤_, _<_};
 ghost use lib.ListN.{length};
 ghost use Rattle.pieces_spots.specs.Spots.{Fits, Onward, Letter, Carries, Escapes, Paired};
 
@@ -78,6 +78,42 @@ fn is_escape(stage: u64, b: u8) -> bool
     }
 }
 
+// Whether an escape of two bytes stands at a spot, and leaves its item in quotes.
+fn has_escape(s: PieceSpot, piece: &[u8]) -> bool
+    requires { ⌜ s .i < length (now piece) ⌝ }
+    ensures { λ r. ⌜ (r ≡ true → Paired s (now (piece .entry))) ⌝ }
+{
+    let i = s.i;
+    if piece[i] != BACKSLASH {
+        return false;
+    }
+    if piece.len() - i < PAIR {
+        return false;
+    }
+    if LONGEST - PAIR < s.len {
+        return false;
+    }
+    is_escape(s.stage, piece[i + 1])
+}
+
+// Whether a letter of two bytes stands at a spot, and its item goes on with it.
+fn has_letter(s: PieceSpot, piece: &[u8]) -> bool
+    requires { ⌜ s .i < length (now piece) ⌝ }
+    ensures { λ r. ⌜ (r ≡ true → Paired s (now (piece .entry))) ⌝ }
+{
+    let i = s.i;
+    if piece.len() - i < PAIR {
+        return false;
+    }
+    if !is_letter(piece[i], piece[i + 1]) {
+        return false;
+    }
+    if LONGEST - PAIR < s.len {
+        return false;
+    }
+    carries(s.stage)
+}
+
 // Whether two bytes stand at a spot that leave its item in its phase.
 fn has_pair(s: PieceSpot, piece: &[u8]) -> bool
     requires { ⌜ s .i ≤ length (now piece) ⌝ }
@@ -87,25 +123,10 @@ fn has_pair(s: PieceSpot, piece: &[u8]) -> bool
     if piece.len() <= i {
         return false;
     }
-    let b = piece[i];
-    if b < LEADS {
-        if b != BACKSLASH {
-            return false;
-        }
+    if piece[i] < LEADS {
+        return has_escape(s, piece);
     }
-    if piece.len() - i < PAIR {
-        return false;
-    }
-    if LONGEST - PAIR < s.len {
-        return false;
-    }
-    if b == BACKSLASH {
-        return is_escape(s.stage, piece[i + 1]);
-    }
-    if !is_letter(b, piece[i + 1]) {
-        return false;
-    }
-    carries(s.stage)
+    has_letter(s, piece)
 }
 
 // Past two bytes that stand at a spot and leave its item in its phase.
