@@ -2,7 +2,8 @@
 use Prim.Native.Nat.{ℕ}
 use mathlib.Core.Path.{_≡_, sym, ap, _∙_}
 use mathlib.Core.List.{List, [], _∷_}
-use lib.ListN.{length, set}
+use lib.ListN.{length, drop, set}
+use native.Mathlib.Nat.{add-zero}
 use Rattle.laws.specs.Lent.{written}
 use Rattle.chars.specs.Encode.{lay}
 use Rattle.pieces.specs.declared.Got.{Got}
@@ -10,9 +11,10 @@ use Rattle.pieces.specs.Calls.{textAfter}
 use Rattle.piecewise.specs.Answers.{whatOf}
 use Rattle.lent.specs.declared.Words.{Words}
 use Rattle.lent.specs.declared.Told.{Told}
-use Rattle.lent.specs.Calls.{Said, said}
+use Rattle.lent.specs.Calls.{Said, lent, said, pieceFor}
 use Rattle.pieces_spots.specs.declared.PieceSpot.{PieceSpot}
 use Rattle.pieces_quick.specs.Words.{Ready, stood}
+use Rattle.pieces_quick.specs.Gives.{later, Awaits}
 use Rattle.flat.specs.Piece.{listed, wordsIn, stateWords, Memory, left, gives, memory, whatNumber, whatPlace, recordAfter}
 use Rattle.flat.specs.Spotted.{placed, Tells}
 use Rattle.flat.proofs.Left.{left-is, kept}
@@ -50,3 +52,20 @@ module _ (m : Memory) (s : Said) where
   told-by t {n = n} {buf = buf} {words = words} {i = i} {v = v} e f k =
       let same = f ∙ ap (λ (x : Said). textAfter (x .what) (m .text)) (sym e) in
       ap (λ (x : List ℕ). left n (memory buf words x i v)) same ∙ k ∙ ap (gives m) e
+
+-- from the spot that the words have the plain call says the answer
+module _ (m : Memory) (w : Words) (count : ℕ) (R : Ready w count) (is : w ≡ wordsIn (m .words)) (s : PieceSpot) (piece now then after : List ℕ)
+    (e : after ≡ written (listed (placed (wordsIn (m .words)) s (w .depth))) (m .words)) (A : Awaits w piece (m .buf) now (m .text) then s) where
+  abbrev says : Words → List ℕ → Said
+  says v text = later (s .i) (pieceFor (lent v now) (drop (s .i) piece) (length text))
+
+  pub goes-on : gives (memory now after then (m .item) (m .values)) (says (wordsIn after) then) ≡ gives m (pieceFor (lent w (m .buf)) piece (length (m .text)))
+  goes-on =
+      ap (λ (l : List ℕ). gives (memory now l then (m .item) (m .values)) (says (wordsIn l) then)) e
+      ∙ ap (λ (v : Words). gives (memory now (m .words) then (m .item) (m .values)) (says v then)) (ap (λ (v : Words). placed v s (w .depth)) (sym is) ∙ placed-stood w count R s (w .depth))
+      ∙ ap (λ (l : List ℕ). gives (memory now (m .words) l (m .item) (m .values)) (says (stood w s (w .depth)) l)) (A .same)
+      ∙ ap (gives m) (A .on)
+
+-- no byte taken before
+pub later-none : (s : Said) → later 0 s ≡ s
+later-none s = ap (λ (n : ℕ). record { taken = n; what = s .what; state = s .state }) (add-zero (s .taken))

@@ -11,9 +11,9 @@ use pieces::Got;
 use pieces::LONGEST;
 use pieces_quick::Reached;
 use pieces_quick::is_served;
-use pieces_quick::otherwise;
+use pieces_quick::plainly;
 use pieces_quick::quickly;
-use pieces_quick::slow;
+use quick::put_spot;
 use quick::tell_item;
 use quick::tell_more;
 use refusal::FINISHED;
@@ -25,7 +25,7 @@ use refusal::TOO_FEW;
 ghost use mathlib.Core.Path.{_≡_};
 ghost use mathlib.Core.List.{List, [], _∷_};
 ghost use Prim.Native.Nat.{ℕ, _≤_};
-ghost use lib.ListN.{length};
+ghost use lib.ListN.{length, drop};
 ghost use Rattle.laws.specs.Lent.{written};
 ghost use Rattle.chars.specs.Encode.{lay};
 ghost use Rattle.items.specs.Items.{recordWords};
@@ -34,6 +34,7 @@ ghost use Rattle.pieces.specs.Expected.{longest};
 ghost use Rattle.piecewise.specs.Answers.{whatOf};
 ghost use Rattle.lent.specs.Calls.{lent, said, pieceFor};
 ghost use Rattle.pieces_quick.specs.Words.{Ready};
+ghost use Rattle.pieces_quick.specs.Gives.{later};
 ghost use Rattle.flat.specs.Piece.{listed, wordsIn, stateWords, isState, opened, startNumber, openLeft, left, gives, whatNumber, whatPlace, recordAfter, isRoom, pieceLeft, endLeft, memory};
 
 mod quick;
@@ -212,8 +213,27 @@ pub fn open(mode: u32, skip: bool, buf: &mut [u8], words: &mut [u64]) -> u32
     start_number(got)
 }
 
-// Reads on in a piece from a state that the quick path knows: what it tells goes straight to where it belongs. Where it stops short the
-// crate `lent` goes on.
+// Reads on in a piece from a place on as the crate `lent` does. The piece is lent anew: so it need not lie in memory where this is called.
+fn read_plainly(
+    buf: &mut [u8],
+    words: &mut [u64],
+    piece: &[u8],
+    from: usize,
+    text: &mut [u8],
+    item: &mut [u32],
+    values: &mut [u64],
+) -> u32
+    requires { ⌜ (length (now words) ≡ stateWords) × (recordWords ≤ length (now item)) × (from ≤ length (now piece)) ⌝ }
+    ensures { λ r. ⌜ left r (memory (now (buf .exit)) (now (words .exit)) (now (text .exit)) (now (item .exit)) (now (values .exit)))
+        ≡ gives (memory (now (buf .entry)) (now (words .entry)) (now (text .entry)) (now (item .entry)) (now (values .entry)))
+        (later from (pieceFor (lent (wordsIn (now (words .entry))) (now (buf .entry))) (drop from (now (piece .entry))) (length (now (text .entry))))) ⌝ }
+{
+    let told = plainly(words_in(words), buf, &piece[..], from, text);
+    tell(told, words, item, values)
+}
+
+// Reads on in a piece from a state that the quick path knows: what it tells goes straight to where it belongs. Where it stops short its spot
+// does, and the crate `lent` goes on from there.
 fn read_on(
     state: Words,
     buf: &mut [u8],
@@ -233,8 +253,8 @@ fn read_on(
         Reached::More(s) => tell_more(s, state.depth, words, values),
         Reached::Item(s, depth, record) => tell_item(s, depth, record, words, item, values),
         Reached::Before(s) => {
-            let told = slow(words_in(words), s, buf, piece, text);
-            tell(told, words, item, values)
+            put_spot(words, s, state.depth);
+            read_plainly(buf, words, piece, s.i, text, item, values)
         }
     }
 }
@@ -266,8 +286,7 @@ pub fn piece(
     if is_served(state, buf.len(), text.len(), piece.len()) {
         return read_on(state, buf, words, piece, text, item, values);
     }
-    let told = otherwise(state, buf, piece, text);
-    tell(told, words, item, values)
+    read_plainly(buf, words, piece, 0, text, item, values)
 }
 
 // Declares the end of the text: gives the next item, or says that all were given. It writes as a piece call does.

@@ -16,7 +16,7 @@ ghost use Rattle.flat.specs.Piece.{listed, wordsIn, stateWords};
 ghost use Rattle.flat.specs.Spotted.{placed, Tells};
 
 // Writes a spot and how many brackets are open into a state's words.
-fn put_spot(words: &mut [u64], s: PieceSpot, depth: u64)
+pub fn put_spot(words: &mut [u64], s: PieceSpot, depth: u64)
     requires { ⌜ length (now words) ≡ stateWords ⌝ }
     ensures { λ _. ⌜ now (words .exit) ≡ written (listed (placed (wordsIn (now (words .entry))) s depth)) (now (words .entry)) ⌝ }
 {

@@ -22,8 +22,8 @@ use Rattle.pieces_quick.specs.declared.Reached.the-variants.{More, Item,
 use Rattle.items.specs.declared.Record.{Record}
 use Rattle.pieces_spots.specs.Spots.{marksAt, stateAt, Fits, Goes, Onward}
 use Rattle.pieces_quick.specs.Words.{Ready, base, spotOf, stood}
-use Rattle.pieces_quick.specs.Gives.{toldAt, Held, Finished, Feeds, Reaches, Comes, Says, Awaits, Answers}
-use Rattle.pieces_quick.proofs.Worded.{stood-coded, spot-code, first-words, first-sound, call-feeds, later, feed-later, feed-most}
+use Rattle.pieces_quick.specs.Gives.{toldAt, Held, Finished, Feeds, Reaches, Comes, Says, later, Continues, Awaits, Answers}
+use Rattle.pieces_quick.proofs.Worded.{stood-coded, spot-code, first-words, first-sound, call-feeds, feed-later, piece-most}
 
 module _ (w : Words) (left : ℕ) (R : Ready w left) (s : PieceSpot) (buf text piece : List ℕ) (fits : Fits s buf piece) (sound : Sound (marksAt (base w) s) buf text) where
   abbrev S : State
@@ -33,29 +33,13 @@ module _ (w : Words) (left : ℕ) (R : Ready w left) (s : PieceSpot) (buf text p
   spot-words r e = e ∙ sym (stood-coded w left R s (w .depth) (fits .rows))
 
   -- the call of `lent` on the words of the spot and the rest of the piece
-  called : (r : Words) → r ≡ stood w s (w .depth)
-      → pieceFor (lent r buf) (take (length piece - s .i) (drop (s .i) piece)) (length text) ≡ worded (feedOf S (drop (s .i) piece) 0)
-  called r e =
-      ap (λ (x : Words). pieceFor (lent x buf) (take (length piece - s .i) (drop (s .i) piece)) (length text)) (spot-words r e)
-      ∙ ap (λ (l : List ℕ). pieceFor (lent (coded (marksAt (base w) s)) buf) l (length text)) (part-rest piece (s .i))
-      ∙ call-feeds (marksAt (base w) s) buf text sound refl (spot-code w left R s (fits .rows) (fits .which) (fits .detail)) (drop (s .i) piece)
-
-  module _ (r : Words) (e : r ≡ stood w s (w .depth)) (t : Told) (now then : List ℕ)
-      (says : said t now then ≡ pieceFor (lent r buf) (take (length piece - s .i) (drop (s .i) piece)) (length text))
-      (wrote : then ≡ textAfter (pieceFor (lent r buf) (take (length piece - s .i) (drop (s .i) piece)) (length text) .what) text) where
-    pub slow-taken : t .taken + s .i ≤ length piece
-    slow-taken =
-        let k : t .taken ≡ feedOf S (drop (s .i) piece) 0 .taken = ap (λ (x : Said). x .taken) (says ∙ called r e) in
-        omega (arith, k, feed-most (drop (s .i) piece) S 0, length-drop (s .i) piece, fits .inside)
-
-    pub slow-feeds : Feeds w s piece buf now text then (record { words = t .words; taken = t .taken + s .i; got = t .got })
-    slow-feeds =
-        let whole = says ∙ called r e in
-        let z : 0 + s .i ≡ s .i = omega arith in
-        let on = feed-later (drop (s .i) piece) S 0 (s .i) ∙ ap (λ (k : ℕ). worded (feedOf S (drop (s .i) piece) k)) z in (
-          ap (later (s .i)) whole ∙ on,
-          wrote ∙ ap (λ (x : Said). textAfter (x .what) text) (called r e) ∙ ap (λ (x : Said). textAfter (x .what) text) on,
-        )
+  pub goes-on : later (s .i) (pieceFor (lent (stood w s (w .depth)) buf) (drop (s .i) piece) (length text)) ≡ worded (feedOf S (drop (s .i) piece) (s .i))
+  goes-on =
+      let z : 0 + s .i ≡ s .i = omega arith in
+      ap (λ (x : Words). later (s .i) (pieceFor (lent x buf) (drop (s .i) piece) (length text))) (spot-words (stood w s (w .depth)) refl)
+      ∙ ap (later (s .i)) (call-feeds (marksAt (base w) s) buf text sound refl (spot-code w left R s (fits .rows) (fits .which) (fits .detail)) (drop (s .i) piece))
+      ∙ feed-later (drop (s .i) piece) S 0 (s .i)
+      ∙ ap (λ (k : ℕ). worded (feedOf S (drop (s .i) piece) k)) z
 
   -- all bytes were taken
   pub more-feeds : length piece ≤ s .i → Comes w s piece buf buf text text (More s)
@@ -100,27 +84,43 @@ module _ (w : Words) (buf text piece : List ℕ) (full : length buf ≡ longest)
   pub last-reached : Reaches w s now text
   last-reached = record { left = length piece; ready = R; sound = goes .sound }
 
-  says : (t : Told) (end then : List ℕ) → Feeds w s piece now end text then t → Says w piece buf end text then t
-  says t end then f =
+  whole : worded (feedOf (stateAt (base w) s now) (drop (s .i) piece) (s .i)) ≡ pieceFor (lent w buf) piece (length text)
+  whole =
       let start = first-sound w (length piece) R buf text full room in
       let coded-so : coded (marksAt (base w) (spotOf w)) ≡ w = stood-coded w (length piece) R (spotOf w) (w .depth) (R .known .rows) ∙ first-words w (length piece) R in
-      let whole : worded (feedOf (stateAt (base w) s now) (drop (s .i) piece) (s .i)) ≡ pieceFor (lent w buf) piece (length text) =
       ap worded (goes .feeds)
       ∙ sym (call-feeds (marksAt (base w) (spotOf w)) buf text start refl (spot-code w (length piece) R (spotOf w) (R .known .rows) (R .known .narrow) (R .known .slim)) piece)
-      ∙ ap (λ (x : Words). pieceFor (lent x buf) piece (length text)) coded-so in (
-        f .0 ∙ whole,
-        f .1 ∙ ap (λ (x : Said). textAfter (x .what) text) whole,
-      )
+      ∙ ap (λ (x : Words). pieceFor (lent x buf) piece (length text)) coded-so
+
+  says : (t : Told) (end then : List ℕ) → Feeds w s piece now end text then t → Says w piece buf end text then t
+  says t end then f = (f .0 ∙ whole, f .1 ∙ ap (λ (x : Said). textAfter (x .what) text) whole)
 
   -- from the last spot the plain call goes on
-  awaits : Fits s now piece → s .i < length piece → s .i + 1 < 2 ^ 64 → Awaits w piece buf now text text s
-  awaits fits inside few =
-      record { fits = fits; held = before-byte w (length piece) R s now text piece fits (goes .sound) inside few; on = says }
+  awaits : Fits s now piece → Awaits w piece buf now text text s
+  awaits fits = record { inside = fits .inside; same = refl; on = goes-on w (length piece) R s now text piece fits (goes .sound) ∙ whole }
 
   pub answers : Fits s now piece → (r : Reached) (end then : List ℕ) → Comes w s piece now end text then r → Answers w piece buf end text then r
   answers fits (More p) end then f = says (toldAt w p (w .depth) got.More) end then f
   answers fits (Item p d r) end then f = says (toldAt w p d (got.Item r)) end then f
   answers fits (Before p) end then f =
       subst (λ (x : PieceSpot). Awaits w piece buf end text then x) (sym (f .0))
-      (subst (λ (l : List ℕ). Awaits w piece buf l text then s) (sym (f .3))
-      (subst (λ (l : List ℕ). Awaits w piece buf now text l s) (sym (f .4)) (awaits fits (f .1) (f .2))))
+      (subst (λ (l : List ℕ). Awaits w piece buf l text then s) (sym (f .1))
+      (subst (λ (l : List ℕ). Awaits w piece buf now text l s) (sym (f .2)) (awaits fits)))
+
+-- the plain call from a place of the piece on
+module _ (w : Words) (from : ℕ) (piece buf now text then : List ℕ) (inside : from ≤ length piece) (t : Told)
+    (says : said t now then ≡ pieceFor (lent w buf) (take (length piece - from) (drop from piece)) (length text))
+    (wrote : then ≡ textAfter (pieceFor (lent w buf) (take (length piece - from) (drop from piece)) (length text) .what) text) where
+  called : said t now then ≡ pieceFor (lent w buf) (drop from piece) (length text)
+  called = says ∙ ap (λ (l : List ℕ). pieceFor (lent w buf) l (length text)) (part-rest piece from)
+
+  pub plain-taken : t .taken + from ≤ length piece
+  plain-taken =
+      let k : t .taken ≡ pieceFor (lent w buf) (drop from piece) (length text) .taken = ap (λ (x : Said). x .taken) called in
+      omega (arith, k, piece-most (lent w buf) (drop from piece) (length text), length-drop from piece)
+
+  pub continues : Continues w from piece buf now text then (record { words = t .words; taken = t .taken + from; got = t .got })
+  continues = (
+    ap (later from) called,
+    wrote ∙ ap (λ (l : List ℕ). textAfter (pieceFor (lent w buf) l (length text) .what) text) (part-rest piece from),
+  )

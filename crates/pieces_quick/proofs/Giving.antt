@@ -18,7 +18,10 @@ use Rattle.items.specs.Items.{Place, range, placeOf, standing, depthAfter}
 use Rattle.meaning.specs.declared.Means.{Means}
 use Rattle.meaning.specs.declared.Text.the-variants.{Nowhere, Source}
 use Rattle.meaning.specs.Meant.{sizedAll}
-use Rattle.items.specs.Meaning.{meaningOf}
+use Rattle.items.specs.Meaning.{escaped, stringText, meaningOf}
+use Rattle.items.specs.declared.Quotes.the-variants.{Double}
+use Rattle.items.specs.declared.Outcome.the-variants.{Str}
+use Rattle.items.specs.declared.Phase.the-variants as ph
 use Rattle.pieces.specs.declared.Stage.{Stage}
 use Rattle.pieces.specs.declared.State.{State}
 use Rattle.pieces.specs.declared.Got.the-variants as got
@@ -37,11 +40,11 @@ use Rattle.pieces.specs.Given.{Given as Gave}
 use Rattle.lent.specs.Coding.{stageOf, stageRow, coded}
 use Rattle.lent.specs.Calls.{Said, lent, lend, said, worded}
 use Rattle.pieces_spots.specs.declared.PieceSpot.{PieceSpot}
-use Rattle.pieces_spots.specs.Spots.{stateAt, Solid}
+use Rattle.pieces_spots.specs.Spots.{stateAt, Solid, Ended}
 use Rattle.pieces_quick.specs.Words.{Ready, base, stood}
 use Rattle.pieces_quick.specs.declared.Gift.the-variants.{Of}
 use Rattle.pieces_quick.specs.declared.Offer.the-variants.{Given}
-use Rattle.pieces_quick.specs.Gives.{recorded, Copied, Held, Next, Finishes, Finished}
+use Rattle.pieces_quick.specs.Gives.{recorded, decodedMeans, Copied, Held, Next, Finishes, Finished}
 use Rattle.pieces_spots.proofs.Turning.{width-ascii, fed-ended}
 use Rattle.pieces_quick.proofs.Worded.{stood-coded}
 
@@ -84,6 +87,19 @@ module _ (depth : ℕ) (m : Means) (s : PieceSpot) (raw old then : List ℕ) (r 
       sym (length-take-le (b - a) (drop (a - s .start) raw) (omega (arith, length-drop (a - s .start) raw))) in
       text-copied (b - a) (rw is-part) (rw is-part size)
       (rw is-part (laid ∙ ap (λ (x : ℕ). written (take x (drop (a - s .start) raw)) old) n)) is
+
+-- a string with an escape that is closed ends before any byte, and its text is decoded
+pub decoded-ends : (stage which detail c at : ℕ) (raw : List ℕ) → stage ≡ 25 → which ≡ 0 → escaped raw ≡ true → Ended stage which detail c at raw (decodedMeans raw)
+unfolding stageOf stringText
+decoded-ends stage which detail c at raw k w is = record {
+  phase = ph.Closed Double;
+  what = Str;
+  stands = λ start. rw (k, w);
+  stops = λ report i h. refl;
+  quiet = λ report last i. refl;
+  means = λ report. rw is;
+  fine = omega arith;
+}
 
 -- the place of an item that is no error is its extent, whatever range stands
 place-free : (depth : ℕ) (r : Bool) (m : Means) (a b : Place) (s e : ℕ) (raw : List ℕ) → m .kind < kind.firstError

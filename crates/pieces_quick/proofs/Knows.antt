@@ -1,10 +1,12 @@
 -- The rows that are known here.
 use Prim.Native.Nat.{ℕ, _+_, _≤_, _<_, _^_}
-use mathlib.Core.Path.{_≡_}
+use mathlib.Core.Path.{_≡_, sym, _∙_}
+use lib.Dec.{eqb}
 use native.Mathlib.Omega.{arith}
-use borrow.Author.Tests.{eq-eqb, le-leb}
-use Rattle.lent.specs.Coding.{stageOf}
-use Rattle.pieces_quick.specs.Words.{Known}
+use borrow.Author.Tests.{eq-eqb, le-leb, eqb-true, eqb-false}
+use Rattle.laws.proofs.Choice.{by-bool}
+use Rattle.lent.specs.Coding.{quotesOf, quotesCode, stageOf}
+use Rattle.pieces_quick.specs.Words.{Known, Plain}
 
 module _ (stage start which detail at len : ℕ) where
   pub idle-known : stage ≡ 3 → start ≡ 0 → which ≡ 0 → detail ≡ 0 → Known stage start which detail at len
@@ -30,69 +32,83 @@ module _ (stage start which detail at len : ℕ) where
       bounds = λ m e f. rw (k, e, f, eq-eqb (start + len) at held, le-leb 1 len some);
     }
 
-    module _ (w : which ≡ 0) (d : detail ≡ 0) where
-      pub word-known : stage ≡ 14 → Known stage start which detail at len
-      unfolding stageOf
-      word-known k = record {
-        held = λ h. (held, some);
-        rows = rw (k, w, d);
-        narrow = omega (arith, w);
-        slim = omega (arith, d);
-        calm = rw k;
-        bounds = λ m e f. rw (k, e, f, eq-eqb (start + len) at held, le-leb 1 len some);
-      }
+    pub plain-known : Plain stage → which ≡ 0 → detail ≡ 0 → Known stage start which detail at len
+    plain-known p w d = record {
+      held = λ h. (held, some);
+      rows = rw (w, d) (p .rows start);
+      narrow = omega (arith, w);
+      slim = omega (arith, d);
+      calm = rw (w, d) (p .calm start);
+      bounds = λ m e f. rw (w, d) (p .bounds start len m (held ∙ sym e) f some);
+    }
 
-      pub run-known : stage ≡ 16 → Known stage start which detail at len
-      unfolding stageOf
-      run-known k = record {
-        held = λ h. (held, some);
-        rows = rw (k, w, d);
-        narrow = omega (arith, w);
-        slim = omega (arith, d);
-        calm = rw k;
-        bounds = λ m e f. rw (k, e, f, eq-eqb (start + len) at held, le-leb 1 len some);
-      }
-
-      pub line-known : stage ≡ 7 → Known stage start which detail at len
-      unfolding stageOf
-      line-known k = record {
-        held = λ h. (held, some);
-        rows = rw (k, w, d);
-        narrow = omega (arith, w);
-        slim = omega (arith, d);
-        calm = rw k;
-        bounds = λ m e f. rw (k, e, f, eq-eqb (start + len) at held, le-leb 1 len some);
-      }
+    module _ (w : which ≤ 1) (d : detail ≡ 0) where
+      -- either kind of quotes has its row
+      code : quotesCode (quotesOf which) ≡ which
+      code = by-bool (eqb which 0)
+          (λ e. rw e (sym (eqb-true which 0 e)))
+          (λ e. rw e (omega (arith, eqb-false which 0 e)))
 
       pub quoted-known : stage ≡ 24 → Known stage start which detail at len
       unfolding stageOf
       quoted-known k = record {
         held = λ h. (held, some);
-        rows = rw (k, w, d);
+        rows = rw (k, code, d);
         narrow = omega (arith, w);
         slim = omega (arith, d);
         calm = rw k;
         bounds = λ m e f. rw (k, e, f, eq-eqb (start + len) at held, le-leb 1 len some);
       }
 
-      pub sign-known : stage ≡ 9 → Known stage start which detail at len
+      pub closed-known : stage ≡ 25 → 2 ≤ len → Known stage start which detail at len
       unfolding stageOf
-      sign-known k = record {
+      closed-known k two = record {
         held = λ h. (held, some);
-        rows = rw (k, w, d);
+        rows = rw (k, code, d);
         narrow = omega (arith, w);
         slim = omega (arith, d);
         calm = rw k;
-        bounds = λ m e f. rw (k, e, f, eq-eqb (start + len) at held, le-leb 1 len some);
+        bounds = λ m e f. rw (k, e, f, eq-eqb (start + len) at held, le-leb 1 len some, le-leb 2 len two);
       }
 
-      pub hash-known : stage ≡ 17 → Known stage start which detail at len
-      unfolding stageOf
-      hash-known k = record {
-        held = λ h. (held, some);
-        rows = rw (k, w, d);
-        narrow = omega (arith, w);
-        slim = omega (arith, d);
-        calm = rw k;
-        bounds = λ m e f. rw (k, e, f, eq-eqb (start + len) at held, le-leb 1 len some);
-      }
+-- the stages whose rows have neither quotes nor a detail
+module _ (stage : ℕ) where
+  pub word-plain : stage ≡ 14 → Plain stage
+  unfolding stageOf
+  word-plain k = record {
+    rows = λ start. rw k;
+    calm = λ start. rw k;
+    bounds = λ start len m e f some. rw (k, f, eq-eqb (start + len) (m .at) e, le-leb 1 len some);
+  }
+
+  pub run-plain : stage ≡ 16 → Plain stage
+  unfolding stageOf
+  run-plain k = record {
+    rows = λ start. rw k;
+    calm = λ start. rw k;
+    bounds = λ start len m e f some. rw (k, f, eq-eqb (start + len) (m .at) e, le-leb 1 len some);
+  }
+
+  pub line-plain : stage ≡ 7 → Plain stage
+  unfolding stageOf
+  line-plain k = record {
+    rows = λ start. rw k;
+    calm = λ start. rw k;
+    bounds = λ start len m e f some. rw (k, f, eq-eqb (start + len) (m .at) e, le-leb 1 len some);
+  }
+
+  pub sign-plain : stage ≡ 9 → Plain stage
+  unfolding stageOf
+  sign-plain k = record {
+    rows = λ start. rw k;
+    calm = λ start. rw k;
+    bounds = λ start len m e f some. rw (k, f, eq-eqb (start + len) (m .at) e, le-leb 1 len some);
+  }
+
+  pub hash-plain : stage ≡ 17 → Plain stage
+  unfolding stageOf
+  hash-plain k = record {
+    rows = λ start. rw k;
+    calm = λ start. rw k;
+    bounds = λ start len m e f some. rw (k, f, eq-eqb (start + len) (m .at) e, le-leb 1 len some);
+  }

@@ -4,7 +4,7 @@ use mathlib.Core.Path.{_≡_, refl, sym, ap, _∙_}
 use mathlib.Core.Bool.{true, false}
 use mathlib.Core.List.{List, [], _∷_}
 use lib.ListN.{length}
-use lib.Dec.{eqb}
+use lib.Dec.{eqb, ltb}
 use native.Mathlib.Omega.{arith}
 use borrow.Author.Tests.{eq-eqb, le-leb, lt-ltb, le-ltb}
 use Rattle.items.specs.Whole.{limit}
@@ -14,18 +14,21 @@ use Rattle.pieces.specs.declared.Marks.{Marks}
 use Rattle.pieces.specs.declared.State.{State}
 use Rattle.pieces.specs.Expected.{longest}
 use Rattle.pieces.specs.Bounds.{inBounds}
-use Rattle.pieces.specs.Calls.{Turn, on, off, reply, withDepth, turnOf, after, feedOf, pieceStage, pieceOf}
+use Rattle.pieces.specs.Calls.{Turn, on, off, Reply, reply, withDepth, turnOf, after, feedOf, pieceStage, pieceOf}
 use Rattle.pieces.proofs.Kept.{both}
-use Rattle.laws.proofs.Choice.{no-yes}
+use Rattle.laws.specs.Choice.{if_then_else_}
+use Rattle.laws.proofs.Choice.{no-yes, if-all}
 use Rattle.giving.specs.Answers.{stateOf}
 use Rattle.turns.specs.Inner.{readsOn, Sound}
 use Rattle.lent.specs.declared.Words.{Words}
-use Rattle.lent.specs.Coding.{stageOf, stageRow, coded, bit, narrow, isCode}
+use Rattle.lent.specs.declared.State.{State as Lent}
+use Rattle.lent.specs.Coding.{stageOf, stageRow, coded, bit, narrow, isCode, standing}
 use Rattle.lent.specs.Calls.{Said, lent, worded, pieceFor}
 use Rattle.lent.proofs.Back.{standing-coded, coded-is-code}
 use Rattle.pieces_spots.specs.declared.PieceSpot.{PieceSpot}
 use Rattle.pieces_spots.specs.Spots.{rowAt, marksAt, Fits}
 use Rattle.pieces_quick.specs.Words.{Ready, base, spotOf, stood}
+use Rattle.pieces_quick.specs.Gives.{later}
 
 -- ---- the words of a spot
 
@@ -123,9 +126,6 @@ module _ (m : Marks) (buf text : List ℕ) (h : Sound m buf text) (going : m .en
 
 -- ---- so many bytes taken before
 
-abbrev pub later : ℕ → Said → Said
-later n s = record { taken = s .taken + n; what = s .what; state = s .state }
-
 pub feed-later : (bs : List ℕ) (s : State) (k n : ℕ) → later n (worded (feedOf s bs k)) ≡ worded (feedOf s bs (k + n))
 unfolding feedOf
 feed-later [] s k n = refl
@@ -145,3 +145,36 @@ feed-most (b ∷ bs) s n = go (λ u. feed-most bs u (n + 1)) (turnOf s b)
     go : ((u : State) → feedOf u bs (n + 1) .taken ≤ n + 1 + length bs) → (t : Turn) → after t (λ u. feedOf u bs (n + 1)) (n + 1) .taken ≤ n + length (b ∷ bs)
     go more (on u) = omega (arith, more u)
     go more (off u w) = omega arith
+
+stage-most : (s : State) (g : Stage) (bs : List ℕ) → pieceStage s g bs .taken ≤ length bs
+stage-most s g bs = go g
+  where
+    most : feedOf s bs 0 .taken ≤ length bs
+    most = omega (arith, feed-most bs s 0)
+
+    unless : (r : Reply) → r .taken ≡ 0 → (if s .marks .ended then r else feedOf s bs 0) .taken ≤ length bs
+    unless r e = if-all (λ (x : Reply). x .taken ≤ length bs) (s .marks .ended) (omega (arith, e)) most
+
+    go : (h : Stage) → pieceStage s h bs .taken ≤ length bs
+    go Opening = unless _ refl
+    go Pound = unless _ refl
+    go FirstLine = unless _ refl
+    go Idle = unless _ refl
+    go (Busy st p) = unless _ refl
+    go (Waiting st b) = if-all (λ (x : Reply). x .taken ≤ length bs) (s .marks .ended) (omega arith) (omega arith)
+    go (Stopped n p) = omega arith
+
+call-most : (s : State) (bs : List ℕ) (room : ℕ) → pieceOf s bs room .taken ≤ length bs
+unfolding pieceOf
+call-most s bs room =
+    if-all (λ (x : Reply). x .taken ≤ length bs) (inBounds s)
+    (if-all (λ (x : Reply). x .taken ≤ length bs) (ltb room longest) (omega arith) (stage-most s (s .marks .stage) bs))
+    (omega arith)
+
+-- nor by a call
+pub piece-most : (s : Lent) (bs : List ℕ) (room : ℕ) → pieceFor s bs room .taken ≤ length bs
+unfolding pieceFor
+piece-most s bs room =
+    if-all (λ (x : Said). x .taken ≤ length bs) (isCode (s .words))
+    (if-all (λ (x : Reply). x .taken ≤ length bs) (eqb (length (s .buf)) longest) (call-most (stateOf (standing (s .words)) (s .buf)) bs room) (omega arith))
+    (omega arith)

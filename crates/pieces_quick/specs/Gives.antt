@@ -9,6 +9,10 @@ use Rattle.items.specs.Kinds as kind
 use Rattle.items.specs.declared.Record.{Record}
 use Rattle.items.specs.Items.{Place}
 use Rattle.items.specs.Whole.{limit}
+use Rattle.items.specs.Meaning.{unescape}
+use Rattle.items.specs.declared.Quotes.the-variants.{Double}
+use Rattle.meaning.specs.Meant.{means}
+use Rattle.meaning.specs.declared.Text.the-variants.{Decoded}
 use Rattle.meaning.specs.declared.Means.{Means}
 use Rattle.meaning.specs.Records.{nineWith}
 use Rattle.pieces.specs.declared.Got.{Got}
@@ -20,7 +24,7 @@ use Rattle.giving.specs.Copied.{givenBy}
 use Rattle.turns.specs.Inner.{Sound}
 use Rattle.lent.specs.declared.Words.{Words}
 use Rattle.lent.specs.declared.Told.{Told}
-use Rattle.lent.specs.Calls.{lent, lend, said, worded, pieceFor}
+use Rattle.lent.specs.Calls.{Said, lent, lend, said, worded, pieceFor}
 use Rattle.pieces_spots.specs.declared.PieceSpot.{PieceSpot}
 use Rattle.pieces_quick.specs.declared.Gift.{Gift}
 use Rattle.pieces_quick.specs.declared.Gift.the-variants.{Of, Not}
@@ -28,7 +32,7 @@ use Rattle.pieces_quick.specs.declared.Offer.{Offer}
 use Rattle.pieces_quick.specs.declared.Offer.the-variants as offer
 use Rattle.pieces_quick.specs.declared.Reached.{Reached}
 use Rattle.pieces_quick.specs.declared.Reached.the-variants as reached
-use Rattle.pieces_spots.specs.Spots.{marksAt, stateAt, Ended, Firsts, Fits}
+use Rattle.pieces_spots.specs.Spots.{marksAt, stateAt, Ended, Firsts}
 use Rattle.pieces_quick.specs.Words.{Ready, base, stood}
 
 -- ---- the record of an item, and its text
@@ -37,6 +41,10 @@ use Rattle.pieces_quick.specs.Words.{Ready, base, stood}
 abbrev pub recorded : ℕ → ℕ → ℕ → ℕ → ℕ → ℕ → ℕ → Record
 recorded k detail start end source past depth =
     record { nine = nineWith (k ∷ detail ∷ start ∷ end ∷ start ∷ end ∷ source ∷ 0 ∷ past ∷ []); depth = depth }
+
+-- what a string with an escape means
+abbrev pub decodedMeans : List ℕ → Means
+decodedMeans raw = means kind.StringLiteral 0 (Decoded (length (unescape Double (drop 1 raw))))
 
 -- an item that is no error, held as `raw` before a spot, and a text memory with room for it
 pub record Copying (s : PieceSpot) (m : Means) (raw text : List ℕ) : Type 0 where
@@ -110,18 +118,28 @@ pub record Reaches (w : Words) (s : PieceSpot) (buf text : List ℕ) : Type 0 wh
 abbrev pub Comes : Words → PieceSpot → List ℕ → List ℕ → List ℕ → List ℕ → List ℕ → Reached → Type 0
 Comes w s piece buf now text then (reached.More p) = Feeds w s piece buf now text then (toldAt w p (w .depth) More)
 Comes w s piece buf now text then (reached.Item p d r) = Feeds w s piece buf now text then (toldAt w p d (Item r))
-Comes w s piece buf now text then (reached.Before p) = (p ≡ s) × (s .i < length piece) × (s .i + 1 < 2 ^ 64) × (now ≡ buf) × (then ≡ text)
+Comes w s piece buf now text then (reached.Before p) = (p ≡ s) × (now ≡ buf) × (then ≡ text)
 
 -- what is told is what the call of `lent` says of the words
 abbrev pub Says : Words → List ℕ → List ℕ → List ℕ → List ℕ → List ℕ → Told → Type 0
 Says w piece buf now text then t =
     (said t now then ≡ pieceFor (lent w buf) piece (length text)) × (then ≡ textAfter (pieceFor (lent w buf) piece (length text) .what) text)
 
--- a spot from which the answer is still to come
+-- so many bytes taken before
+abbrev pub later : ℕ → Said → Said
+later n s = record { taken = s .taken + n; what = s .what; state = s .state }
+
+-- what is told is what the call of `lent` says from a place of the piece on
+abbrev pub Continues : Words → ℕ → List ℕ → List ℕ → List ℕ → List ℕ → List ℕ → Told → Type 0
+Continues w from piece buf now text then t =
+    (said t now then ≡ later from (pieceFor (lent w buf) (drop from piece) (length text)))
+    × (then ≡ textAfter (pieceFor (lent w buf) (drop from piece) (length text) .what) text)
+
+-- a spot from which the answer is still to come: the call of `lent` says it on the words of the spot and the rest of the piece
 pub record Awaits (w : Words) (piece buf now text then : List ℕ) (s : PieceSpot) : Type 0 where
-  pub fits : Fits s now piece
-  pub held : Held w s now then
-  pub on : (t : Told) (end last : List ℕ) → Feeds w s piece now end then last t → Says w piece buf end text last t
+  pub inside : s .i ≤ length piece
+  pub same : then ≡ text
+  pub on : later (s .i) (pieceFor (lent (stood w s (w .depth)) now) (drop (s .i) piece) (length text)) ≡ pieceFor (lent w buf) piece (length text)
 
 abbrev pub Answers : Words → List ℕ → List ℕ → List ℕ → List ℕ → List ℕ → Reached → Type 0
 Answers w piece buf now text then (reached.More p) = Says w piece buf now text then (toldAt w p (w .depth) More)

@@ -23,6 +23,12 @@ pub record Known (stage start which detail at len : ℕ) : Type 0 where
   pub calm : readsOn (stageOf (row stage start which detail 0 0)) ≡ true
   pub bounds : (m : Marks) → m .at ≡ at → m .len ≡ len → stageBounds (stageOf (row stage start which detail 0 0)) m ≡ true
 
+-- a stage whose row has neither a kind of quotes nor a detail
+pub record Plain (stage : ℕ) : Type 0 where
+  pub rows : (start : ℕ) → stageRow (stageOf (row stage start 0 0 0 0)) ≡ row stage start 0 0 0 0
+  pub calm : (start : ℕ) → readsOn (stageOf (row stage start 0 0 0 0)) ≡ true
+  pub bounds : (start len : ℕ) (m : Marks) → start + len ≡ m .at → m .len ≡ len → 1 ≤ len → stageBounds (stageOf (row stage start 0 0 0 0)) m ≡ true
+
 pub record Quiet (ended one two count need low high code : ℕ) : Type 0 where
   pub e0 : ended ≡ 0
   pub e1 : one ≡ 0
@@ -32,6 +38,12 @@ pub record Quiet (ended one two count need low high code : ℕ) : Type 0 where
   pub e5 : low ≡ 0
   pub e6 : high ≡ 0
   pub e7 : code ≡ 0
+
+-- words whose row is known, with room for their item and their brackets
+pub record Stands (w : Words) : Type 0 where
+  pub small : w .len ≤ longest
+  pub deep : w .depth + w .len ≤ w .at
+  pub known : Known (w .stage) (w .start) (w .which) (w .detail) (w .at) (w .len)
 
 pub record Ready (w : Words) (left : ℕ) : Type 0 where
   pub mode : w .mode < 2

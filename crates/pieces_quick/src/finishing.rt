@@ -1,11 +1,16 @@
 // The item that ends before a byte: its record and its text, and the spot past the byte.
 use crate::Gift;
 use crate::Offer;
+use escapes::decode;
+use escapes::has_escape;
 use giving::give::copy_all;
 use items::Nine;
+use items::Quotes;
 use items::Record;
 use items::kinds;
 use lent::Words;
+use lent::codes::CLOSED;
+use lent::codes::DOUBLE;
 use lent::codes::IDLE;
 use meaning::Means;
 use meaning::Text;
@@ -19,20 +24,24 @@ use pieces_spots::first;
 use pieces_spots::tell;
 use telling::Quick;
 ghost use mathlib.Core.Path.{_≡_};
-ghost use mathlib.Core.Bool.{_&&_};
+ghost use mathlib.Core.Bool.{true, _&&_};
 ghost use lib.Dec.{eqb};
 ghost use Prim.Native.Nat.{ℕ, _+_, _^_, _≤_, _<_};
 ghost use lib.ListN.{length};
 ghost use Rattle.items.specs.Kinds as kind;
 ghost use Rattle.items.specs.Items.{depthAfter};
+ghost use Rattle.items.specs.Meaning.{escaped};
 ghost use Rattle.items.specs.Whole.{limit};
 ghost use Rattle.pieces.specs.Expected.{longest};
 ghost use Rattle.pieces_spots.specs.Spots.{Firsts};
 ghost use Rattle.pieces_quick.specs.Words.{Ready, stood};
-ghost use Rattle.pieces_quick.specs.Gives.{recorded, Copying, Copied, Held, Next, Finishes, Finished};
+ghost use Rattle.pieces_quick.specs.Gives.{recorded, decodedMeans, Copying, Copied, Held, Next, Finishes, Finished};
 
 // No text.
 const NOWHERE: u32 = 0;
+
+// A quote is one byte.
+const QUOTE: usize = 1;
 
 // The spot past a byte before which an item ended: a blank is passed, any other byte begins an item.
 fn after(s: PieceSpot, b: u8, f: u64, buf: &mut [u8]) -> PieceSpot
@@ -167,8 +176,8 @@ fn given(w: Words, s: PieceSpot, b: u8, f: u64, m: Means, buf: &mut [u8], text: 
     }
 }
 
-// Gives the item that ends before a byte, where it is told here.
-pub fn finish(w: Words, s: PieceSpot, b: u8, buf: &mut [u8], text: &mut [u8]) -> Offer
+// Gives the item that ends before a byte, where its text need not be decoded and it is told here.
+fn finish(w: Words, s: PieceSpot, b: u8, buf: &mut [u8], text: &mut [u8]) -> Offer
     requires { ⌜ Held w s (now buf) (now text) ⌝ }
     ensures { λ r. ⌜ Finished w s b (now (buf .entry)) (now (buf .exit)) (now (text .entry)) (now (text .exit)) r ⌝ }
 {
@@ -193,5 +202,62 @@ pub fn finish(w: Words, s: PieceSpot, b: u8, buf: &mut [u8], text: &mut [u8]) ->
         Quick::Item(m, _, _) => given(w, s, b, f, m, buf, text),
         Quick::Bracket(_, _, _) => Offer::Not,
         Quick::Other => Offer::Not,
+    }
+}
+
+// Whether an item whose bytes are `raw` is a string with an escape.
+fn is_escaped(stage: u64, which: u64, raw: &[u8]) -> bool
+    ensures { λ r. ⌜ (r ≡ true → (stage ≡ 25) × (which ≡ 0) × (escaped (now (raw .entry)) ≡ true)) ⌝ }
+{
+    if stage != CLOSED {
+        return false;
+    }
+    if which != DOUBLE {
+        return false;
+    }
+    has_escape(raw)
+}
+
+// The record of a string with an escape, whose text is decoded to the front of the text memory.
+fn decoded_record(s: PieceSpot, depth: u32, raw: &[u8], text: &mut [u8]) -> Record
+    requires { ⌜ Copying s (decodedMeans (now raw)) (now raw) (now text) ⌝ }
+    ensures { λ r. ⌜ Copied s (decodedMeans (now (raw .entry))) depth (now (raw .entry)) (now (text .entry)) (now (text .exit)) (Gift.Of r) ⌝ }
+{
+    let n = decode(raw, QUOTE, Quotes::Double, text);
+    let m = Means {
+        kind: kinds::STRING_LITERAL,
+        detail: kinds::NO_DETAIL,
+        text: Text::Decoded(n),
+    };
+    record_of(m, s, IN_MEMORY, n as u32, depth)
+}
+
+// Gives the string with an escape that ends before a byte.
+fn finish_decoded(w: Words, s: PieceSpot, b: u8, buf: &mut [u8], text: &mut [u8]) -> Offer
+    requires { ⌜ Held w s (now buf) (now text) ⌝ }
+    ensures { λ r. ⌜ Finished w s b (now (buf .entry)) (now (buf .exit)) (now (text .entry)) (now (text .exit)) r ⌝ }
+{
+    let len = s.len;
+    if !is_escaped(s.stage, s.which, &buf[..len]) {
+        return Offer::Not;
+    }
+    let f = first(b);
+    if f < IDLE {
+        return Offer::Not;
+    }
+    let depth = w.depth as u32;
+    let r = decoded_record(s, depth, &buf[..len], text);
+    let next = after(s, b, f, buf);
+    Offer::Given(next, w.depth, r)
+}
+
+// Gives the item that ends before a byte, where it is told here.
+pub fn give_item(w: Words, s: PieceSpot, b: u8, buf: &mut [u8], text: &mut [u8]) -> Offer
+    requires { ⌜ Held w s (now buf) (now text) ⌝ }
+    ensures { λ r. ⌜ Finished w s b (now (buf .entry)) (now (buf .exit)) (now (text .entry)) (now (text .exit)) r ⌝ }
+{
+    match finish(w, s, b, buf, text) {
+        Offer::Given(next, depth, record) => Offer::Given(next, depth, record),
+        Offer::Not => finish_decoded(w, s, b, buf, text),
     }
 }

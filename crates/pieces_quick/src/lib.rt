@@ -1,13 +1,15 @@
 // The piece call of the crate `lent`, quick where most calls are made: between two characters, between items, in a word, a number run, a
-// string or a comment to the end of its line, past a number sign or past a token, on bytes of ASCII. It goes from spot to spot (crate
-// `pieces_spots`) to an item or to the end of the piece (`quickly`). Where it stops short (`slow`), and for words that it does not know
-// (`otherwise`), the crate `lent` goes on. The crate `flat` puts the answers into the words that are lent.
-use finishing::finish;
+// string, an identifier in vertical lines or a comment to the end of its line, past a number sign or past a token. It goes from spot to spot
+// (crate `pieces_spots`) to an item or to the end of the piece (`quickly`). Where it stops short, and for words that it does not know, the
+// crate `lent` goes on (`plainly`). The crate `flat` puts the answers into the words that are lent.
+use finishing::give_item;
 use items::Record;
 use lent::Told;
 use lent::Words;
-use lent::calls::piece_words as plain_piece;
+use lent::calls::piece_words;
 use lent::codes::DONE_TOKEN;
+use lent::codes::IN_RUN;
+use lent::codes::IN_WORD;
 use pieces::LONGEST;
 use pieces_spots::PieceSpot;
 use pieces_spots::begin;
@@ -15,17 +17,14 @@ use pieces_spots::close;
 use pieces_spots::past;
 use pieces_spots::run_on;
 use ready::is_ready;
-use ready::stand;
 ghost use mathlib.Core.Path.{_≡_};
 ghost use mathlib.Core.Bool.{true};
 ghost use Prim.Native.Nat.{_≤_};
 ghost use lib.ListN.{length};
 ghost use Rattle.pieces.specs.Expected.{longest};
-ghost use Rattle.pieces.specs.Calls.{textAfter};
-ghost use Rattle.lent.specs.Calls.{lent, said, pieceFor};
 ghost use Rattle.pieces_spots.specs.Spots.{Fits, Onward};
 ghost use Rattle.pieces_quick.specs.Words.{Ready};
-ghost use Rattle.pieces_quick.specs.Gives.{Held, Feeds, Reaches, Comes, Answers};
+ghost use Rattle.pieces_quick.specs.Gives.{Reaches, Comes, Answers, Continues};
 
 mod finishing;
 mod ready;
@@ -50,23 +49,8 @@ pub enum Reached {
     Before(PieceSpot),
 }
 
-// Goes on from a spot as the crate `lent` does.
-pub fn slow(w: Words, s: PieceSpot, buf: &mut [u8], piece: &[u8], text: &mut [u8]) -> Told
-    requires { ⌜ Fits s (now buf) (now piece) × Held w s (now buf) (now text) ⌝ }
-    ensures { λ r. ⌜ Feeds w s (now (piece .entry)) (now (buf .entry)) (now (buf .exit)) (now (text .entry)) (now (text .exit)) r ⌝ }
-{
-    let i = s.i;
-    let told = plain_piece(stand(w, s, w.depth), buf, &piece[i..], text);
-    let words = told.words;
-    let got = told.got;
-    Told {
-        words,
-        taken: told.taken + i,
-        got,
-    }
-}
-
-// Past the blanks, into an item and through it, as far as the moves tell. A token that is whole has nothing to pass.
+// Past the blanks, into an item and through it, as far as the moves tell. A token that is whole has nothing to pass, and no byte closes a
+// word or a number run.
 fn through(s: PieceSpot, buf: &mut [u8], piece: &[u8]) -> PieceSpot
     requires { ⌜ Fits s (now buf) (now piece) ⌝ }
     ensures { λ r. ⌜ Fits r (now (buf .exit)) (now (piece .entry)) × Onward s (now (buf .entry)) r (now (buf .exit)) (now (piece .entry)) ⌝ }
@@ -77,6 +61,12 @@ fn through(s: PieceSpot, buf: &mut [u8], piece: &[u8]) -> PieceSpot
         return begun;
     }
     let ran = run_on(begun, buf, piece);
+    if ran.stage == IN_WORD {
+        return ran;
+    }
+    if ran.stage == IN_RUN {
+        return ran;
+    }
     close(ran, buf, piece)
 }
 
@@ -89,7 +79,7 @@ fn from_spot(w: Words, s: PieceSpot, buf: &mut [u8], piece: &[u8], text: &mut [u
     if piece.len() <= i {
         return Reached::More(s);
     }
-    match finish(w, s, piece[i], buf, text) {
+    match give_item(w, s, piece[i], buf, text) {
         Offer::Given(next, depth, record) => Reached::Item(next, depth, record),
         Offer::Not => Reached::Before(s),
     }
@@ -113,39 +103,19 @@ pub fn quickly(words: Words, buf: &mut [u8], piece: &[u8], text: &mut [u8]) -> R
     from_spot(words, last, buf, piece, text)
 }
 
-// The same words, made anew of their parts: what is handed on does not keep the words that were read in memory.
-fn same(w: Words) -> Words
-    ensures { λ r. ⌜ r ≡ w ⌝ }
+// Reads on in a piece from a place on as the crate `lent` does.
+pub fn plainly(words: Words, buf: &mut [u8], piece: &[u8], from: usize, text: &mut [u8]) -> Told
+    requires { ⌜ from ≤ length (now piece) ⌝ }
+    ensures { λ r. ⌜ Continues words from (now (piece .entry)) (now (buf .entry)) (now (buf .exit)) (now (text .entry)) (now (text .exit)) r ⌝ }
 {
-    Words {
-        mode: w.mode,
-        skip: w.skip,
-        ended: w.ended,
-        stage: w.stage,
-        start: w.start,
-        which: w.which,
-        detail: w.detail,
-        one: w.one,
-        two: w.two,
-        at: w.at,
-        count: w.count,
-        need: w.need,
-        low: w.low,
-        high: w.high,
-        code: w.code,
-        from: w.from,
-        to: w.to,
-        len: w.len,
-        depth: w.depth,
+    let told = piece_words(words, buf, &piece[from..], text);
+    let after = told.words;
+    let got = told.got;
+    Told {
+        words: after,
+        taken: told.taken + from,
+        got,
     }
-}
-
-// Reads on in a piece as the crate `lent` does.
-pub fn otherwise(words: Words, buf: &mut [u8], piece: &[u8], text: &mut [u8]) -> Told
-    ensures { λ r. ⌜ (said r (now (buf .exit)) (now (text .exit)) ≡ pieceFor (lent words (now (buf .entry))) (now (piece .entry)) (length (now (text .entry))))
-        × (now (text .exit) ≡ textAfter (pieceFor (lent words (now (buf .entry))) (now (piece .entry)) (length (now (text .entry))) .what) (now (text .entry))) ⌝ }
-{
-    plain_piece(same(words), buf, piece, text)
 }
 
 // Whether there are the bytes of a state and of a text memory, and the words are ready for a piece of so many bytes.

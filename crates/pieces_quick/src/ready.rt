@@ -1,51 +1,31 @@
-// Whether the words of a state are ones that moves know, and the words of a spot.
+// Whether the words of a state are ones that moves know.
 use lent::Words;
 use lent::codes::AFTER_HASH;
+use lent::codes::CLOSED;
 use lent::codes::DONE_TOKEN;
 use lent::codes::IDLE;
 use lent::codes::IN_HASH;
 use lent::codes::IN_LINE;
 use lent::codes::IN_RUN;
 use lent::codes::IN_WORD;
+use lent::codes::LINES;
 use lent::codes::QUOTED;
 use pieces::LONGEST;
 use pieces_spots::KINDS;
-use pieces_spots::PieceSpot;
 use refusal::LIMIT;
 ghost use mathlib.Core.Path.{_≡_};
 ghost use mathlib.Core.Bool.{true};
-ghost use Prim.Native.Nat.{_+_, _^_, _≤_, _<_};
+ghost use Prim.Native.Nat.{ℕ, _+_, _^_, _≤_, _<_};
 ghost use Rattle.items.specs.Whole.{limit};
-ghost use Rattle.pieces.specs.Expected.{longest};
-ghost use Rattle.pieces_quick.specs.Words.{Known, Quiet, Ready, stood};
+ghost use Rattle.pieces_quick.specs.Words.{Known, Plain, Quiet, Stands, Ready};
 
 // The longest item and the longest text, as words.
 const MOST: u64 = LONGEST as u64;
 
 const LAST: u64 = LIMIT as u64;
 
-// Whether an item's start and its bytes held lead to a place.
-fn is_held(start: u64, at: u64, len: u64) -> bool
-    ensures { λ r. ⌜ (r ≡ true → (start + len ≡ at) × (1 ≤ len)) ⌝ }
-{
-    if len == 0 {
-        return false;
-    }
-    if at < len {
-        return false;
-    }
-    start == at - len
-}
-
-// Whether the words of a stage that needs neither are 0.
-fn is_unmarked(which: u64, detail: u64) -> bool
-    ensures { λ r. ⌜ (r ≡ true → (which ≡ 0) × (detail ≡ 0)) ⌝ }
-{
-    if which != 0 {
-        return false;
-    }
-    detail == 0
-}
+// How many bytes the quotes of an item are.
+const QUOTES: u64 = 2;
 
 // Whether the words of a token that is whole are a kind and a detail.
 fn is_token(which: u64, detail: u64) -> bool
@@ -57,32 +37,14 @@ fn is_token(which: u64, detail: u64) -> bool
     detail <= LAST
 }
 
-// Whether a row is that of a stage known here, at a place, with so many bytes held.
-fn is_known(stage: u64, start: u64, which: u64, detail: u64, at: u64, len: u64) -> bool
-    ensures { λ r. ⌜ (r ≡ true → Known stage start which detail at len) ⌝ }
+// Whether a stage is one of those that need neither of the words that others use.
+fn is_plain(stage: u64) -> bool
+    ensures { λ r. ⌜ (r ≡ true → Plain stage) ⌝ }
 {
-    if stage == IDLE {
-        if start != 0 {
-            return false;
-        }
-        return is_unmarked(which, detail);
-    }
-    if !is_held(start, at, len) {
-        return false;
-    }
-    if stage == DONE_TOKEN {
-        return is_token(which, detail);
-    }
-    if !is_unmarked(which, detail) {
-        return false;
-    }
     if stage == IN_WORD {
         return true;
     }
     if stage == IN_RUN {
-        return true;
-    }
-    if stage == QUOTED {
         return true;
     }
     if stage == AFTER_HASH {
@@ -92,6 +54,33 @@ fn is_known(stage: u64, start: u64, which: u64, detail: u64, at: u64, len: u64) 
         return true;
     }
     stage == IN_LINE
+}
+
+// Whether the words of a stage of an item with so many bytes held are ones known here.
+fn is_phase(stage: u64, which: u64, detail: u64, len: u64) -> bool
+    ensures { λ r. ⌜ (r ≡ true → (start at : ℕ) → start + len ≡ at → 1 ≤ len → Known stage start which detail at len) ⌝ }
+{
+    if stage == DONE_TOKEN {
+        return is_token(which, detail);
+    }
+    if detail != 0 {
+        return false;
+    }
+    if which == 0 {
+        if is_plain(stage) {
+            return true;
+        }
+    }
+    if LINES < which {
+        return false;
+    }
+    if stage == QUOTED {
+        return true;
+    }
+    if stage != CLOSED {
+        return false;
+    }
+    QUOTES <= len
 }
 
 // Whether the end was not declared, no character was begun, and the words that no stage known here uses are 0.
@@ -150,17 +139,45 @@ fn is_within(from: u64, to: u64, at: u64, left: usize) -> bool
     left as u64 <= LAST - at
 }
 
-// Whether an item and the brackets before it fit before a place.
-fn is_deep(at: u64, len: u64, depth: u64) -> bool
-    ensures { λ r. ⌜ (r ≡ true → (len ≤ longest) × (depth + len ≤ at)) ⌝ }
+// Whether a state between items is known here, at a place behind as many brackets.
+fn is_idle(w: Words) -> bool
+    ensures { λ r. ⌜ (r ≡ true → w .stage ≡ 3 → Stands w) ⌝ }
 {
-    if MOST < len {
+    if w.start != 0 {
         return false;
     }
-    if at < len {
+    if w.which != 0 {
         return false;
     }
-    depth <= at - len
+    if w.detail != 0 {
+        return false;
+    }
+    if w.len != 0 {
+        return false;
+    }
+    w.depth <= w.at
+}
+
+// Whether a state in an item is known here: its bytes lead from its start to the place, and as many brackets fit before it.
+fn is_item(w: Words) -> bool
+    ensures { λ r. ⌜ (r ≡ true → Stands w) ⌝ }
+{
+    if w.len == 0 {
+        return false;
+    }
+    if MOST < w.len {
+        return false;
+    }
+    if w.at < w.len {
+        return false;
+    }
+    if w.start != w.at - w.len {
+        return false;
+    }
+    if w.start < w.depth {
+        return false;
+    }
+    is_phase(w.stage, w.which, w.detail, w.len)
 }
 
 // Whether the words are those of a state known here, between two characters, with so many bytes of the text still to come.
@@ -188,35 +205,8 @@ pub fn is_ready(w: Words, left: usize) -> bool
     if !is_within(w.from, w.to, w.at, left) {
         return false;
     }
-    if !is_deep(w.at, w.len, w.depth) {
-        return false;
+    if w.stage == IDLE {
+        return is_idle(w);
     }
-    is_known(w.stage, w.start, w.which, w.detail, w.at, w.len)
-}
-
-// The words of a spot, with so many brackets open.
-pub fn stand(w: Words, s: PieceSpot, depth: u64) -> Words
-    ensures { λ r. ⌜ r ≡ stood w s depth ⌝ }
-{
-    Words {
-        mode: w.mode,
-        skip: w.skip,
-        ended: 0,
-        stage: s.stage,
-        start: s.start,
-        which: s.which,
-        detail: s.detail,
-        one: 0,
-        two: 0,
-        at: s.at,
-        count: 0,
-        need: 0,
-        low: 0,
-        high: 0,
-        code: 0,
-        from: w.from,
-        to: w.to,
-        len: s.len as u64,
-        depth,
-    }
+    is_item(w)
 }

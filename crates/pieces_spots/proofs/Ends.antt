@@ -1,23 +1,26 @@
 -- What ends an item, and what it is then, by the number of its stage.
-use Prim.Native.Nat.{ℕ, _≤_}
+use Prim.Native.Nat.{ℕ, _+_, _-_, _≤_}
 use mathlib.Core.Path.{_≡_, refl, sym, ap, subst}
+use mathlib.Core.Bool.{false}
 use mathlib.Core.List.{List, [], _∷_}
+use lib.ListN.{length}
 use native.Mathlib.Omega.{arith}
 use Rattle.laws.specs.Quoted.{code}
 use Rattle.chars.specs.Blank.{isBlank}
 use Rattle.items.specs.Kinds as kind
 use Rattle.items.specs.Classes.{inWord, breaksWord, inRun, staysRun, endsRun, inHash, endsHash}
-use Rattle.items.specs.declared.Quotes.the-variants.{Double}
-use Rattle.items.specs.declared.Outcome.the-variants.{Token, Str, Word, Run}
+use Rattle.items.specs.declared.Quotes.the-variants.{Double, Lines}
+use Rattle.items.specs.declared.Outcome.the-variants.{Token, Str, Word, Run, Lined}
 use Rattle.items.specs.declared.Phase.the-variants as ph
 use Rattle.meaning.specs.Meant.{means}
 use Rattle.meaning.specs.declared.Means.{Means}
 use Rattle.laws.specs.Texts.{same}
 use Rattle.chars.specs.Encode.{bytesOf, utf8}
-use Rattle.items.specs.Readers.{hashKind, boolKind}
+use Rattle.items.specs.Readers.{hashKind, boolKind, linedOf}
+use Rattle.items.specs.Meaning.{escaped, linedText}
 use Rattle.items.specs.declared.HashKind.the-variants.{Decided}
-use Rattle.meaning.specs.declared.Text.the-variants.{Nowhere}
-use Rattle.lent.specs.Coding.{stageOf}
+use Rattle.meaning.specs.declared.Text.the-variants.{Nowhere, Source}
+use Rattle.lent.specs.Coding.{quotesOf, stageOf}
 use Rattle.telling.specs.Tells.{Tells}
 use Rattle.telling.specs.declared.Quick.{Quick}
 use Rattle.telling.specs.declared.Quick.the-variants.{Item, Bracket, Other}
@@ -109,6 +112,19 @@ module _ (stage which detail c at : ℕ) (raw : List ℕ) where
   }
   run-ends k s (Bracket m a e) t = tt
   run-ends k s Other t = tt
+
+  pub lined-ends : (e : ℕ) → stage ≡ 25 → quotesOf which ≡ Lines → linedOf raw ≡ Lined → escaped raw ≡ false → e ≡ at + length raw
+      → T (Item (means kind.Identifier 0 (Source (at + 1) (e - 1))) at e)
+  unfolding stageOf linedText
+  lined-ends e k w is plain long = record {
+    phase = ph.Closed Lines;
+    what = Lined;
+    stands = λ start. rw (k, w);
+    stops = λ report i h. rw (h, is);
+    quiet = λ report last i. refl;
+    means = λ report. rw (long, plain);
+    fine = omega arith;
+  }
 
   pub string-ends : stage ≡ 25 → which ≡ 0 → (q : Quick) → Tells Str at raw q → T q
   unfolding stageOf

@@ -16,12 +16,13 @@ use Rattle.items.specs.Machine.{onAfterHash}
 use Rattle.items.specs.declared.HashKind.the-variants.{Bracket}
 use Rattle.items.specs.declared.Next.the-variants.{Eat}
 use Rattle.items.specs.declared.Outcome.the-variants.{Token}
-use Rattle.items.specs.declared.Quotes.the-variants.{Double}
+use Rattle.items.specs.declared.Quotes.{Quotes}
+use Rattle.items.specs.declared.Quotes.the-variants.{Double, Lines}
 use Rattle.items.specs.declared.Phase.{Phase}
 use Rattle.items.specs.declared.Phase.the-variants as ph
 use Rattle.steps.specs.Runs.{keeps}
 use Rattle.pieces.specs.declared.Stage.the-variants.{Busy}
-use Rattle.lent.specs.Coding.{row, stageOf}
+use Rattle.lent.specs.Coding.{row, quotesOf, stageOf}
 use Rattle.pieces_spots.specs.Spots.{Keeps, Closes}
 
 module _ (stage which n : ℕ) (bytes : List ℕ) where
@@ -43,9 +44,9 @@ module _ (stage which n : ℕ) (bytes : List ℕ) where
   unfolding stageOf
   line-kept k e = kept-as ph.InLine (λ start detail. rw k) e
 
-  pub string-kept : stage ≡ 24 → which ≡ 0 → n ≡ 0 + span (keeps (ph.Quoted Double)) (drop 0 bytes) → Kept
+  pub quotes-kept : stage ≡ 24 → (k : Quotes) → quotesOf which ≡ k → n ≡ 0 + span (keeps (ph.Quoted k)) (drop 0 bytes) → Kept
   unfolding stageOf
-  string-kept k w e = kept-as (ph.Quoted Double) (λ start detail. rw (k, w)) e
+  quotes-kept s k w e = kept-as (ph.Quoted k) (λ start detail. rw (s, w)) e
 
 -- nothing is passed
 pub none-kept : (stage which : ℕ) (bytes : List ℕ) → (0 ≤ length bytes) × (0 < 0 → Keeps stage which 0 bytes)
@@ -59,6 +60,20 @@ module _ (stage which c : ℕ) (raw : List ℕ) where
     small = omega (arith, e);
     phase = ph.Quoted Double;
     next = ph.Closed Double;
+    stands = λ start detail. rw (k, w);
+    eats = λ report i h. rw e;
+    then = λ start. refl;
+    rows = λ start. refl;
+    few = omega arith;
+  }
+
+  pub line-closes : stage ≡ 24 → quotesOf which ≡ Lines → c ≡ code "|" → Closes stage which c 89 raw
+  unfolding stageOf inQuotes
+  line-closes k w e = record {
+    item = omega (arith, k);
+    small = omega (arith, e);
+    phase = ph.Quoted Lines;
+    next = ph.Closed Lines;
     stands = λ start detail. rw (k, w);
     eats = λ report i h. rw e;
     then = λ start. refl;

@@ -1,4 +1,4 @@
--- A letter past ASCII of two bytes: its two turns do what passing it does.
+-- Two bytes that leave an item in its phase, a letter past ASCII or an escape: their two turns do what passing them does.
 use Prim.Native.Nat.{ℕ, suc, _+_, _-_, _*_, _/_, _%_, _≤_, _<_}
 use mathlib.Core.Path.{_≡_, refl, sym, ap, _∙_}
 use mathlib.Core.Bool.{Bool, true, false, _&&_}
@@ -20,8 +20,9 @@ use Rattle.chars.proofs.Width.{utf8-two, width-utf8}
 use Rattle.chars.proofs.Blanks.{between-blanks}
 use Rattle.items.specs.Items.{range}
 use Rattle.items.specs.Readers.{SoFar}
-use Rattle.items.specs.Classes.{startsRun, firstOf, inQuotes, breaksWord, inWord}
-use Rattle.items.specs.declared.Quotes.the-variants.{Double}
+use Rattle.items.specs.Classes.{startsRun, firstOf, inQuotes, breaksWord, inWord, afterBackslash, simple}
+use Rattle.items.specs.declared.Quotes.{Quotes}
+use Rattle.items.specs.declared.Quotes.the-variants.{Double, Lines}
 use Rattle.items.specs.declared.Phase.{Phase}
 use Rattle.items.specs.declared.Phase.the-variants as ph
 use Rattle.items.specs.declared.Next.the-variants.{Eat}
@@ -32,15 +33,15 @@ use Rattle.pieces.specs.declared.Stage.the-variants.{Idle, Busy}
 use Rattle.pieces.specs.declared.Marks.{Marks}
 use Rattle.pieces.specs.declared.State.{State}
 use Rattle.pieces.specs.Expected.{longest}
-use Rattle.pieces.specs.Calls.{Turn, on, marks, becomes, lastOf, laidAt, partly, onStage, turnOf, after, feedOf}
+use Rattle.pieces.specs.Calls.{Turn, on, marks, becomes, lastOf, itemSoFar, report, laidAt, partly, onStage, turnOf, after, feedOf}
 use Rattle.giving.specs.Answers.{stateOf}
-use Rattle.giving.proofs.Laid.{laid-two}
+use Rattle.giving.proofs.Laid.{laid-sets, laid-two}
 use Rattle.turns.specs.Inner.{Sound}
 use Rattle.turns.proofs.Sounds.{turn-sound}
-use Rattle.lent.specs.Coding.{stageOf, stageRow}
+use Rattle.lent.specs.Coding.{row, quotesOf, stageOf}
 use Rattle.pieces_spots.specs.declared.PieceSpot.{PieceSpot}
-use Rattle.pieces_spots.specs.Spots.{rowAt, marksAt, stateAt, Fits, Goes, Onward, Letter, Carries, Lettered}
-use Rattle.pieces_spots.proofs.Turning.{Between}
+use Rattle.pieces_spots.specs.Spots.{rowAt, marksAt, stateAt, Fits, Goes, Onward, Letter, Carries, Escapes, pastPair, withPair}
+use Rattle.pieces_spots.proofs.Turning.{Between, turned-eaten}
 use Rattle.pieces_spots.proofs.Moves.{idle-stage}
 
 -- ---- a character past ASCII is none of those that end or close something
@@ -71,9 +72,10 @@ module _ (c : ℕ) (h : 0xC0 ≤ c) (k : c < 0x800) where
   in-line : (report : Bool) (i : SoFar) → stepOf report ph.InLine i c ≡ Eat ph.InLine
   in-line report i = rw (other c (code "\n") past refl)
 
-  in-string : (report : Bool) (i : SoFar) → stepOf report (ph.Quoted Double) i c ≡ Eat (ph.Quoted Double)
+  in-quotes : (k : Quotes) (report : Bool) (i : SoFar) → stepOf report (ph.Quoted k) i c ≡ Eat (ph.Quoted k)
   unfolding inQuotes
-  in-string report i = rw (other c (code "\"") past refl, other c (code "\\") past refl)
+  in-quotes Double report i = rw (other c (code "\"") past refl, other c (code "\\") past refl)
+  in-quotes Lines report i = rw (other c (code "|") past refl, other c (code "\\") past refl)
 
   begins-word : onFirst (firstOf c) ≡ ph.InWord
   unfolding firstOf startsRun
@@ -104,9 +106,23 @@ module _ (stage which : ℕ) where
   unfolding stageOf
   line-carries e = record { phase = ph.InLine; stands = λ start detail. rw e; eats = in-line }
 
-  pub string-carries : stage ≡ 24 → which ≡ 0 → Carries stage which
+  quoted-stands : stage ≡ 24 → (start detail : ℕ) → stageOf (row stage start which detail 0 0) ≡ Busy start (ph.Quoted (quotesOf which))
   unfolding stageOf
-  string-carries e f = record { phase = ph.Quoted Double; stands = λ start detail. rw (e, f); eats = in-string }
+  quoted-stands e start detail = rw e
+
+  pub quotes-carry : stage ≡ 24 → Carries stage which
+  quotes-carry e = record { phase = ph.Quoted (quotesOf which); stands = quoted-stands e; eats = λ c h k. in-quotes c h k (quotesOf which) }
+
+  -- an escape of a backslash and one more byte
+  pub simple-escapes : stage ≡ 24 → (c x : ℕ) → c < 0x80 → afterBackslash c ≡ simple x → Escapes stage which c
+  simple-escapes e c x small is =
+      record { quotes = quotesOf which; small = small; stands = quoted-stands e; back = λ report from i. rw is }
+
+-- a backslash begins an escape
+escape-begins : (k : Quotes) (report : Bool) (i : SoFar) → stepOf report (ph.Quoted k) i (code "\\") ≡ Eat (ph.Escape k (i .at))
+unfolding inQuotes
+escape-begins Double report i = refl
+escape-begins Lines report i = refl
 
 -- ---- its two bytes
 
@@ -200,39 +216,60 @@ module _ (s : PieceSpot) (buf piece : List ℕ) (fits : Fits s buf piece) where
   abbrev y-at : ℕ
   y-at = getD piece (s .i + 1) 0
 
-  module _ (L : Lettered s piece) where
-    abbrev passed : PieceSpot
-    passed = record { stage = s .stage; start = s .start; which = s .which; detail = s .detail; at = s .at + 2; len = s .len + 2; i = s .i + 2 }
-
-    abbrev laid : List ℕ
-    laid = set (set buf (s .len) x-at) (s .len + 1) y-at
-
-    pub letter-fits : Fits passed laid piece
-    letter-fits = record {
+  -- past two bytes that leave an item in its phase
+  module _ (inside : s .i + 2 ≤ length piece) (room : s .len + 2 ≤ longest) where
+    pub pair-fits : Fits (pastPair s) (withPair s buf piece) piece
+    pair-fits = record {
       full = length-set (set buf (s .len) x-at) (s .len + 1) y-at ∙ length-set buf (s .len) x-at ∙ fits .full;
-      inside = L .inside;
+      inside = inside;
       far = omega (arith, fits .far);
-      small = L .room;
+      small = room;
       held = λ h. let k = fits .held h in (omega (arith, k .0), omega (arith, k .1));
       rows = fits .rows;
       which = fits .which;
       detail = fits .detail;
     }
 
-    pub letter-on : Onward s buf passed laid piece
-    letter-on m text h =
-        let c = char x-at y-at (L .letter) in
+    -- the state there, by its stage and its buffer
+    reached : (m : Marks) (g : Stage) (l : List ℕ) → stageOf (rowAt s) ≡ g → withPair s buf piece ≡ l
+        → stateOf (marks m g (s .at + 2) (s .len + 2) (range (m .from) (m .to))) l ≡ stateAt m (pastPair s) (withPair s buf piece)
+    reached m g l e f = rw (← e, ← f)
+
+    pub letter-on : Letter x-at y-at → Carries (s .stage) (s .which) → Onward s buf (pastPair s) (withPair s buf piece) piece
+    letter-on L C m text h =
+        let c = char x-at y-at L in
         let S = stateAt m s buf in
-        let between : Between S = record { count = refl; need = refl; far = omega (arith, fits .far, L .inside) } in
-        let far : s .at + 2 ≤ limit = omega (arith, fits .far, L .inside) in
-        let stands = L .carries .stands (s .start) (s .detail) in
-        turns-go m text piece s buf passed laid h (half x-at y-at (L .letter) S between far) (L .inside) refl
-        (half-turn x-at y-at (L .letter) S between far)
-        (eaten-turn x-at y-at (L .letter) S between far (s .start) (L .carries .phase) stands (L .room)
-        (L .carries .eats c (from x-at y-at (L .letter)) (below-end x-at y-at (L .letter)))
-        ∙ ap (λ (l : List ℕ). on (stateOf (marks m (Busy (s .start) (L .carries .phase)) (s .at + 2) (s .len + 2) (range (m .from) (m .to))) l))
-        (sym (laid-letter x-at y-at (L .letter) buf (s .len) (omega (arith, fits .full, L .room))))
-        ∙ ap (λ (g : Stage). on (stateOf (marks m g (s .at + 2) (s .len + 2) (range (m .from) (m .to))) laid)) (sym stands))
+        let between : Between S = record { count = refl; need = refl; far = omega (arith, fits .far) } in
+        let far : s .at + 2 ≤ limit = omega (arith, fits .far) in
+        let stands = C .stands (s .start) (s .detail) in
+        turns-go m text piece s buf (pastPair s) (withPair s buf piece) h (half x-at y-at L S between far) inside refl
+        (half-turn x-at y-at L S between far)
+        (eaten-turn x-at y-at L S between far (s .start) (C .phase) stands room
+        (C .eats c (from x-at y-at L) (below-end x-at y-at L))
+        ∙ ap on (reached m (Busy (s .start) (C .phase)) _ stands (laid-letter x-at y-at L buf (s .len) (omega (arith, fits .full)))))
+
+    pub escape-on : x-at ≡ code "\\" → Escapes (s .stage) (s .which) y-at → Onward s buf (pastPair s) (withPair s buf piece) piece
+    escape-on e E m text h =
+        let S = stateAt m s buf in
+        let k = E .quotes in
+        let n = s .len in
+        let between : Between S = record { count = refl; need = refl; far = omega (arith, fits .far) } in
+        let stands = E .stands (s .start) (s .detail) in
+        let first = laidAt n (x-at ∷ []) buf in
+        let mid : State = becomes S first (Busy (s .start) (ph.Escape k (s .at))) (s .at + 1) (n + 1) (lastOf S) in
+        let next : Between mid = record { count = refl; need = refl; far = omega (arith, fits .far) } in
+        let begun : stepOf (report S) (ph.Quoted k) (itemSoFar S) x-at ≡ Eat (ph.Escape k (s .at)) = rw e (escape-begins k (report S) (itemSoFar S)) in
+        let at : s .at + 1 + 1 ≡ s .at + 2 = omega arith in
+        let len : n + 1 + 1 ≡ n + 2 = omega arith in
+        let laid : withPair s buf piece ≡ laidAt (n + 1) (y-at ∷ []) first =
+        laid-sets (n + 1) (y-at ∷ []) (set buf n x-at) (omega (arith, length-set buf n x-at, fits .full))
+        ∙ ap (laidAt (n + 1) (y-at ∷ [])) (laid-sets n (x-at ∷ []) buf (omega (arith, fits .full))) in
+        turns-go m text piece s buf (pastPair s) (withPair s buf piece) h mid inside refl
+        (turned-eaten S between (s .start) (ph.Quoted k) (ph.Escape k (s .at)) stands x-at (omega (arith, e)) (omega arith) begun)
+        (turned-eaten mid next (s .start) (ph.Escape k (s .at)) (ph.Quoted k) refl y-at (E .small) (omega arith) (E .back (report mid) (s .at) (itemSoFar mid))
+        ∙ ap (λ (a : ℕ). on (stateOf (marks m (Busy (s .start) (ph.Quoted k)) a (n + 1 + 1) (range (m .from) (m .to))) (laidAt (n + 1) (y-at ∷ []) first))) at
+        ∙ ap (λ (a : ℕ). on (stateOf (marks m (Busy (s .start) (ph.Quoted k)) (s .at + 2) a (range (m .from) (m .to))) (laidAt (n + 1) (y-at ∷ []) first))) len
+        ∙ ap on (reached m (Busy (s .start) (ph.Quoted k)) _ stands laid))
 
   module _ (idle : s .stage ≡ 3) (inside : s .i + 2 ≤ length piece) (L : Letter x-at y-at) where
     abbrev begun : PieceSpot

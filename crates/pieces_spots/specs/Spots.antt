@@ -4,13 +4,14 @@ use Prim.Native.Nat.{ℕ, _+_, _/_, _%_, _^_, _≤_, _<_}
 use mathlib.Core.Path.{_≡_}
 use mathlib.Core.Bool.{Bool, true, false}
 use mathlib.Core.List.{List, [], _∷_}
-use lib.ListN.{length, getD, drop}
+use lib.ListN.{length, getD, drop, set}
 use Rattle.laws.specs.Texts.{span}
 use Rattle.steps.specs.Runs.{keeps}
 use Rattle.items.specs.Readers.{SoFar, hashKind}
+use Rattle.items.specs.declared.Quotes.{Quotes}
 use Rattle.items.specs.declared.Phase.{Phase}
 use Rattle.items.specs.declared.Next.the-variants.{Eat, Stop}
-use Rattle.items.specs.declared.Phase.the-variants.{InWord, InRun}
+use Rattle.items.specs.declared.Phase.the-variants.{InWord, InRun, Quoted, Escape}
 use Rattle.items.specs.declared.Outcome.{Outcome}
 use Rattle.items.specs.declared.HashKind.the-variants.{Decided}
 use Rattle.items.specs.declared.Outcome.the-variants.{Token, Word, Run}
@@ -113,12 +114,25 @@ pub record Carries (stage which : ℕ) : Type 0 where
   pub stands : (start detail : ℕ) → stageOf (row stage start which detail 0 0) ≡ Busy start phase
   pub eats : (c : ℕ) → 0xC0 ≤ c → c < 0x800 → (report : Bool) (i : SoFar) → stepOf report phase i c ≡ Eat phase
 
--- one stands at a spot, and the item goes on with it
-pub record Lettered (s : PieceSpot) (piece : List ℕ) : Type 0 where
+-- an item of the stage stands in quotes, and a backslash and this byte leave it there
+pub record Escapes (stage which c : ℕ) : Type 0 where
+  pub quotes : Quotes
+  pub small : c < 0x80
+  pub stands : (start detail : ℕ) → stageOf (row stage start which detail 0 0) ≡ Busy start (Quoted quotes)
+  pub back : (report : Bool) (from : ℕ) (i : SoFar) → stepOf report (Escape quotes from) i c ≡ Eat (Quoted quotes)
+
+-- the spot past two bytes that leave an item in its phase, and the buffer with them
+abbrev pub pastPair : PieceSpot → PieceSpot
+pastPair s = record { stage = s .stage; start = s .start; which = s .which; detail = s .detail; at = s .at + 2; len = s .len + 2; i = s .i + 2 }
+
+abbrev pub withPair : PieceSpot → List ℕ → List ℕ → List ℕ
+withPair s buf piece = set (set buf (s .len) (getD piece (s .i) 0)) (s .len + 1) (getD piece (s .i + 1) 0)
+
+-- two such bytes stand at a spot
+pub record Paired (s : PieceSpot) (piece : List ℕ) : Type 0 where
   pub inside : s .i + 2 ≤ length piece
   pub room : s .len + 2 ≤ longest
-  pub letter : Letter (getD piece (s .i) 0) (getD piece (s .i + 1) 0)
-  pub carries : Carries (s .stage) (s .which)
+  pub on : (buf : List ℕ) → Fits s buf piece → Onward s buf (pastPair s) (withPair s buf piece) piece
 
 -- a byte ends a word
 abbrev pub StopsWord : ℕ → Type 0

@@ -1,24 +1,36 @@
 // What an item is that ends before a byte.
 use crate::first_byte::KINDS;
+use escapes::has_escape;
 use items::kinds;
 use lent::codes::CLOSED;
 use lent::codes::DONE_TOKEN;
+use lent::codes::DOUBLE;
 use lent::codes::IN_HASH;
 use lent::codes::IN_RUN;
 use lent::codes::IN_WORD;
 use telling::Quick;
 use telling::bare;
+use telling::named;
 use telling::tell_run;
 use telling::tell_string;
 use telling::tell_word;
 ghost use mathlib.Core.Path.{_≡_};
 ghost use mathlib.Core.Bool.{true};
-ghost use Prim.Native.Nat.{_+_, _^_, _<_};
+ghost use Prim.Native.Nat.{ℕ, _+_, _^_, _<_};
 ghost use lib.ListN.{length};
+ghost use Rattle.items.specs.Readers.{linedOf};
+ghost use Rattle.items.specs.declared.Outcome.the-variants.{Lined};
+ghost use Rattle.items.specs.declared.Quotes.the-variants.{Lines};
+ghost use Rattle.lent.specs.Coding.{quotesOf};
 ghost use Rattle.pieces_spots.specs.Spots.{StopsWord, Stops, TellsSign, TellsAt};
 
-// How many bytes a boolean of one letter is.
+// How many bytes a boolean of one letter is, and a quote.
 const BOOLEAN: usize = 2;
+
+const QUOTE: usize = 1;
+
+// What an identifier stands between.
+const VERTICAL: u8 = b'|';
 
 // Whether a byte ends a word, a number run and a word that begins with a number sign, of those that often do.
 fn is_stop(b: u8) -> bool
@@ -65,6 +77,45 @@ fn tell_boolean(at: usize, end: usize, raw: &[u8]) -> Quick
     }
 }
 
+// Whether bytes stand between two vertical lines.
+fn is_lined(raw: &[u8]) -> bool
+    ensures { λ r. ⌜ (r ≡ true → (0 < length (now (raw .entry))) × (linedOf (now (raw .entry)) ≡ Lined)) ⌝ }
+{
+    let n = raw.len();
+    if n <= QUOTE {
+        return false;
+    }
+    if raw[0] != VERTICAL {
+        return false;
+    }
+    raw[n - 1] == VERTICAL
+}
+
+// What the bytes of an identifier in vertical lines tell: its text lies in the source where it has no escape.
+fn tell_lined(at: usize, end: usize, raw: &[u8]) -> Quick
+    requires { ⌜ end ≡ at + length (now raw) ⌝ }
+    ensures { λ r. ⌜ ((which detail c : ℕ) → quotesOf which ≡ Lines → TellsAt 25 which detail c at (now (raw .entry)) r) ⌝ }
+{
+    if !is_lined(raw) {
+        return Quick::Other;
+    }
+    if has_escape(raw) {
+        return Quick::Other;
+    }
+    named(kinds::IDENTIFIER, at, end, at + QUOTE, end - QUOTE)
+}
+
+// What quotes that are closed tell.
+fn tell_closed(which: u64, at: usize, end: usize, raw: &[u8]) -> Quick
+    requires { ⌜ (0 < length (now raw)) × (end ≡ at + length (now raw)) ⌝ }
+    ensures { λ r. ⌜ ((detail c : ℕ) → TellsAt 25 which detail c at (now (raw .entry)) r) ⌝ }
+{
+    if which == DOUBLE {
+        return tell_string(at, end, raw);
+    }
+    tell_lined(at, end, raw)
+}
+
 // What an item is, by its stage, that ends before a byte of ASCII.
 pub fn tell(stage: u64, which: u64, detail: u64, b: u8, at: usize, end: usize, raw: &[u8]) -> Quick
     requires { ⌜ (0 < length (now raw)) × (end ≡ at + length (now raw)) × (which < 2 ^ 32) × (detail < 2 ^ 32) ⌝ }
@@ -77,10 +128,7 @@ pub fn tell(stage: u64, which: u64, detail: u64, b: u8, at: usize, end: usize, r
         return bare(which as u32, detail as u32, at, end);
     }
     if stage == CLOSED {
-        if which != 0 {
-            return Quick::Other;
-        }
-        return tell_string(at, end, raw);
+        return tell_closed(which, at, end, raw);
     }
     if stage == IN_WORD {
         if ends_word(b) {

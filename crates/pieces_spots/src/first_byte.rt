@@ -2,11 +2,13 @@
 use items::kinds;
 use lent::codes::AFTER_COMMA;
 use lent::codes::AFTER_HASH;
+use lent::codes::CLOSED;
 use lent::codes::DONE_TOKEN;
 use lent::codes::IDLE;
 use lent::codes::IN_LINE;
 use lent::codes::IN_RUN;
 use lent::codes::IN_WORD;
+use lent::codes::LINES;
 use lent::codes::QUOTED;
 ghost use Rattle.pieces_spots.specs.Spots.{Firsts};
 
@@ -41,7 +43,10 @@ const CLOSE_CURLY: u64 = DONE_TOKEN
 const TICK: u64 = DONE_TOKEN + KIND * kinds::QUOTE_TICK as u64;
 
 // in vertical lines: the kind of quotes stands where a token has its kind
-const IN_LINES: u64 = QUOTED + KIND;
+const IN_LINES: u64 = QUOTED + KIND * LINES;
+
+// past the vertical line that closes them
+pub const LINES_CLOSED: u64 = CLOSED + KIND * LINES;
 
 // a comment to the end of its line, past the newline
 pub const LINE_DONE: u64 = DONE_TOKEN + KIND * kinds::COMMENT as u64;
@@ -84,4 +89,17 @@ pub fn first(b: u8) -> u64
         b'#' => AFTER_HASH,
         _ => NOT_TOLD,
     }
+}
+
+// The same, where most items are words: a small letter is told at once.
+pub fn begun_by(b: u8) -> u64
+    ensures { λ r. ⌜ Firsts b r ⌝ }
+{
+    if b < b'a' {
+        return first(b);
+    }
+    if b'z' < b {
+        return first(b);
+    }
+    IN_WORD
 }

@@ -4,15 +4,17 @@ use crate::first_byte::DETAIL;
 use crate::first_byte::KIND;
 use crate::first_byte::KINDS;
 use crate::first_byte::LINE_DONE;
+use crate::first_byte::LINES_CLOSED;
 use crate::first_byte::NOT_TOLD;
 use crate::first_byte::VECTOR_DONE;
-use crate::first_byte::first;
-use crate::letters::begin_letter;
+use crate::first_byte::begun_by;
+use crate::pairs::begin_letter;
 use giving::give::copy_all;
 use items::Phase;
 use items::Quotes;
 use lent::codes::AFTER_HASH;
 use lent::codes::CLOSED;
+use lent::codes::DOUBLE;
 use lent::codes::IDLE;
 use lent::codes::IN_HASH;
 use lent::codes::IN_LINE;
@@ -22,7 +24,8 @@ use lent::codes::QUOTED;
 use pieces::LONGEST;
 use steps::ascii_run;
 use texts::blank_end;
-ghost use Prim.Native.Nat.{_≤_, _<_};
+ghost use mathlib.Core.List.{List};
+ghost use Prim.Native.Nat.{ℕ, _≤_, _<_};
 ghost use lib.ListN.{length};
 ghost use Rattle.pieces_spots.specs.Spots.{Fits, Onward, Keeps, Closes};
 
@@ -80,7 +83,7 @@ pub fn begin(s: PieceSpot, buf: &mut [u8], piece: &[u8]) -> PieceSpot
         return s;
     }
     let b = piece[i];
-    let f = first(b);
+    let f = begun_by(b);
     if f <= IDLE {
         return begin_letter(s, buf, piece);
     }
@@ -96,6 +99,16 @@ pub fn begin(s: PieceSpot, buf: &mut [u8], piece: &[u8]) -> PieceSpot
     }
 }
 
+// How many of these bytes, from the first on, leave an item in its quotes.
+fn quoted_count(which: u64, bytes: &[u8]) -> usize
+    ensures { λ r. ⌜ (r ≤ length (now (bytes .entry))) × (0 < r → Keeps 24 which r (now (bytes .entry))) ⌝ }
+{
+    if which == DOUBLE {
+        return ascii_run(bytes, 0, Phase::Quoted(Quotes::Double));
+    }
+    ascii_run(bytes, 0, Phase::Quoted(Quotes::Lines))
+}
+
 // How many of these bytes, from the first on, leave an item at a stage.
 fn kept_count(stage: u64, which: u64, bytes: &[u8]) -> usize
     ensures { λ r. ⌜ (r ≤ length (now (bytes .entry))) × (0 < r → Keeps stage which r (now (bytes .entry))) ⌝ }
@@ -109,13 +122,10 @@ fn kept_count(stage: u64, which: u64, bytes: &[u8]) -> usize
     if stage == IN_LINE {
         return ascii_run(bytes, 0, Phase::InLine);
     }
-    if stage != QUOTED {
-        return 0;
+    if stage == QUOTED {
+        return quoted_count(which, bytes);
     }
-    if which != 0 {
-        return 0;
-    }
-    ascii_run(bytes, 0, Phase::Quoted(Quotes::Double))
+    0
 }
 
 // Past the bytes that leave an item in its phase.
@@ -161,19 +171,29 @@ fn after_sign(which: u64, raw: &[u8], b: u8) -> u64
     }
 }
 
+// What a byte makes of an item in quotes, as `first` has it: what closes them.
+fn closes_quotes(which: u64, b: u8) -> u64
+    ensures { λ r. ⌜ (0 < r → (raw : List ℕ) → Closes 24 which b r raw) ⌝ }
+{
+    if which == DOUBLE {
+        if b == b'"' {
+            return CLOSED;
+        }
+        return NOT_TOLD;
+    }
+    if b == b'|' {
+        return LINES_CLOSED;
+    }
+    NOT_TOLD
+}
+
 // What a byte that belongs to an item at a stage, whose bytes so far are `raw`, makes of it, as `first` has it; NOT_TOLD where it is not
 // told here.
 fn closes(stage: u64, which: u64, raw: &[u8], b: u8) -> u64
     ensures { λ r. ⌜ (0 < r → Closes stage which b r (now (raw .entry))) ⌝ }
 {
     if stage == QUOTED {
-        if which != 0 {
-            return NOT_TOLD;
-        }
-        if b == b'"' {
-            return CLOSED;
-        }
-        return NOT_TOLD;
+        return closes_quotes(which, b);
     }
     if stage == IN_LINE {
         if b == b'\n' {

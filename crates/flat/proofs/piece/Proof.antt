@@ -1,10 +1,14 @@
 -- 22 and 27 leave all but the values; else the call of `lent` fixes the state and the text memory, and `tell` the rest.
 use borrow.Author.Needs.{needs}
-use mathlib.Core.Path.{sym, _∙_}
+use native.Mathlib.Omega.{arith}
+use mathlib.Core.Path.{refl, sym, ap, _∙_}
 use borrow.Author.Tests.{not-true, not-false}
 use lib.ListN.{length}
 use denote.Ref.{now}
-use Rattle.flat.proofs.Left.{room-record, state-words, too-few, no-state, served, told-on}
+use Rattle.lent.specs.Calls.{lent, pieceFor}
+use Rattle.flat.specs.Piece.{wordsIn, memory, gives}
+use Rattle.flat.proofs.Left.{room-record, state-words, too-few, no-state, served}
+use Rattle.flat.proofs.Spotted.{later-none}
 use Rattle.flat.proofs.piece.Statement.{statement}
 use Rattle.flat.proofs.piece.Tie as tie
 
@@ -70,14 +74,12 @@ returns-3 c =
     served _ _ (sym (c .before .before .before .before .before .before .before .before .before .before .before .before .before .before .before .before .before .before .before .before .before .before .before .is-room .ensures) ∙ not-false _ (c .before .before .before .before .before .before .before .before .before .before .before .before .before .before .before .before .before .before .before .before .before .before .if1 .left)) (sym (c .before .before .before .before .before .before .before .before .before .before .before .before .before .before .before .before .before .before .before .before .before .is-state .ensures) ∙ not-false _ (c .before .before .before .before .before .before .before .before .before .before .before .before .before .before .before .before .before .before .before .before .if2 .left))
     (c .before .before .before .before .before .before .before .before .before .before .before .before .before .before .before .before .before .before .words-in .ensures) (c .before .before .before .before .before .before .before .before .before .before .read-on .ensures)
 
-otherwise-requires : tie.Need-otherwise-requires
-otherwise-requires c κs = search needs
-
-tell-requires : tie.Need-tell-requires
-tell-requires c κs =
-    let a = c .before .before .before .before .before .before .before .before .before .before .before .before .before .before .before .before .before .before .before .before .before .before .before .before in (
-      state-words (length (now (a .args .buf))) _ (sym (c .before .before .before .before .before .before .before .before .before .before .before .before .before .before .before .is-state .ensures) ∙ not-false _ (c .before .before .before .before .before .before .before .before .before .before .before .before .before .before .if2 .left)),
-      room-record _ (length (now (a .args .values))) (sym (c .before .before .before .before .before .before .before .before .before .before .before .before .before .before .before .before .before .is-room .ensures) ∙ not-false _ (c .before .before .before .before .before .before .before .before .before .before .before .before .before .before .before .before .if1 .left)),
+read-plainly-requires : tie.Need-read-plainly-requires
+read-plainly-requires c κs =
+    let a = c .before .before .before .before .before .before .before .before .before .before .before .before .before .before .before .before .before .before .before in (
+      state-words (length (now (a .args .buf))) _ (sym (c .before .before .before .before .before .before .before .before .before .before .is-state .ensures) ∙ not-false _ (c .before .before .before .before .before .before .before .before .before .if2 .left)),
+      room-record _ (length (now (a .args .values))) (sym (c .before .before .before .before .before .before .before .before .before .before .before .before .is-room .ensures) ∙ not-false _ (c .before .before .before .before .before .before .before .before .before .before .before .if1 .left)),
+      omega arith,
     )
 
 same-length-8 : tie.Need-same-length-8
@@ -97,9 +99,9 @@ same-length-12 c = search needs
 
 returns-4 : tie.Need-returns-4
 returns-4 c =
-    let p = c .before .before .before .before .before .before .before .before .before .before .before .before .before .before .otherwise in
-    told-on _ _ (p .result) (sym (c .before .before .before .before .before .before .before .before .before .before .before .before .before .before .before .before .before .before .before .before .before .before .before .before .is-room .ensures) ∙ not-false _ (c .before .before .before .before .before .before .before .before .before .before .before .before .before .before .before .before .before .before .before .before .before .before .before .if1 .left)) (sym (c .before .before .before .before .before .before .before .before .before .before .before .before .before .before .before .before .before .before .before .before .before .before .is-state .ensures) ∙ not-false _ (c .before .before .before .before .before .before .before .before .before .before .before .before .before .before .before .before .before .before .before .before .before .if2 .left))
-    (c .before .before .before .before .before .before .before .before .before .before .before .before .before .before .before .before .before .before .before .words-in .ensures) (p .ensures .0) (p .ensures .1) (c .before .before .before .before .before .before .tell .ensures _ _ _)
+    let a = c .before .before .before .before .before .before .before .before .before .before .before .before .before .before .before .before .before .before .before .before .before .before .before .before .before .before .before .before .before .before .args in
+    served _ _ (sym (c .before .before .before .before .before .before .before .before .before .before .before .before .before .before .before .before .before .before .before .before .before .before .before .is-room .ensures) ∙ not-false _ (c .before .before .before .before .before .before .before .before .before .before .before .before .before .before .before .before .before .before .before .before .before .before .if1 .left)) (sym (c .before .before .before .before .before .before .before .before .before .before .before .before .before .before .before .before .before .before .before .before .before .is-state .ensures) ∙ not-false _ (c .before .before .before .before .before .before .before .before .before .before .before .before .before .before .before .before .before .before .before .before .if2 .left)) refl
+    (c .before .before .before .before .before .before .before .before .before .before .read-plainly .ensures ∙ ap (gives (memory (now (a .buf)) (now (a .words)) (now (a .text)) (now (a .item)) (now (a .values)))) (later-none (pieceFor (lent (wordsIn (now (a .words))) (now (a .buf))) (now (a .piece)) (length (now (a .text))))))
 
 pub piece-spec : {M : Type 1} → statement M
 piece-spec =
@@ -122,8 +124,7 @@ piece-spec =
     same-length-6
     same-length-7
     returns-3
-    otherwise-requires
-    tell-requires
+    read-plainly-requires
     same-length-8
     same-length-9
     same-length-10

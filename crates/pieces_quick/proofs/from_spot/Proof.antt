@@ -15,11 +15,11 @@ returns c =
     let a = c .before .before .before .before in
     more-feeds (a .args .w) (a .pre .1 .left) (a .pre .1 .ready) (a .args .s) (now (a .args .buf)) (now (a .args .text)) (now (a .args .piece)) (a .pre .0) (a .pre .1 .sound) (omega arith)
 
-shared-slice-read-finish : tie.Need-shared-slice-read-finish
-shared-slice-read-finish c = search needs
+shared-slice-read-give-item : tie.Need-shared-slice-read-give-item
+shared-slice-read-give-item c = search needs
 
-finish-requires : tie.Need-finish-requires
-finish-requires c κs =
+give-item-requires : tie.Need-give-item-requires
+give-item-requires c κs =
     let a = c .before .before .before .before .before .before .before in
     before-byte (a .args .w) (a .pre .1 .left) (a .pre .1 .ready) (a .args .s) (now (a .args .buf)) (now (a .args .text)) (now (a .args .piece)) (a .pre .0) (a .pre .1 .sound) (omega arith) (omega arith)
 
@@ -41,7 +41,7 @@ returns-2 c =
     let s = a .args .s in
     item-feeds (a .args .w) (a .pre .1 .left) (a .pre .1 .ready) s (now (a .args .buf)) (now (a .args .text)) (now (a .args .piece)) (a .pre .0) (a .pre .1 .sound)
     (omega (arith, c .before .before .before .before .before .before .before .before .before .before .before .if1 .left)) _ _ _ _ _
-    (subst (λ (q : Offer). Finished (a .args .w) s (getD (now (a .args .piece)) (s .i) 0) (now (a .args .buf)) (c .before .before .before .before .before .before .before .finish .last .1 .1 .1 .0) (now (a .args .text)) (c .before .before .before .before .before .before .before .finish .last .1 .1 .1 .1 .0) q) (c .before .next .given .1) (c .before .before .before .before .before .before .before .finish .ensures))
+    (subst (λ (q : Offer). Finished (a .args .w) s (getD (now (a .args .piece)) (s .i) 0) (now (a .args .buf)) (c .before .before .before .before .before .before .before .give-item .last .1 .1 .1 .0) (now (a .args .text)) (c .before .before .before .before .before .before .before .give-item .last .1 .1 .1 .1 .0) q) (c .before .next .given .1) (c .before .before .before .before .before .before .before .give-item .ensures))
 
 same-length-3 : tie.Need-same-length-3
 same-length-3 c = search needs
@@ -53,16 +53,16 @@ returns-3 : tie.Need-returns-3
 returns-3 c =
     let a = c .before .before .before .before .before .before .before .before .before .before .before .before .before .before in
     let s = a .args .s in
-    let same = subst (λ (q : Offer). Finished (a .args .w) s (getD (now (a .args .piece)) (s .i) 0) (now (a .args .buf)) (c .before .before .before .before .before .before .finish .last .1 .1 .1 .0) (now (a .args .text)) (c .before .before .before .before .before .before .finish .last .1 .1 .1 .1 .0) q) (c .enum-told .given .1) (c .before .before .before .before .before .before .finish .ensures) in
-    (refl, omega (arith, c .before .before .before .before .before .before .before .before .before .before .if1 .left), omega (arith, c .before .before .before .before .before .before .before .before .before .before .if1 .left), same .0, same .1)
+    let same = subst (λ (q : Offer). Finished (a .args .w) s (getD (now (a .args .piece)) (s .i) 0) (now (a .args .buf)) (c .before .before .before .before .before .before .give-item .last .1 .1 .1 .0) (now (a .args .text)) (c .before .before .before .before .before .before .give-item .last .1 .1 .1 .1 .0) q) (c .enum-told .given .1) (c .before .before .before .before .before .before .give-item .ensures) in
+    (refl, same .0, same .1)
 
 pub from-spot-spec : {M : Type 1} → statement M
 from-spot-spec =
     tie.close
     (tie.spec
     returns
-    shared-slice-read-finish
-    finish-requires
+    shared-slice-read-give-item
+    give-item-requires
     enum-known-next
     enum-told
     same-length

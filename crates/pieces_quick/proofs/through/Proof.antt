@@ -23,17 +23,37 @@ returns c =
 run-on-requires : tie.Need-run-on-requires
 run-on-requires c κs = search needs
 
-close-requires : tie.Need-close-requires
-close-requires c κs = search needs
-
 same-length-2 : tie.Need-same-length-2
 same-length-2 c = search needs
 
 returns-2 : tie.Need-returns-2
 returns-2 c =
+    let piece = now (c .before .before .before .before .before .before .before .before .before .before .before .before .before .before .before .before .args .piece) in
+    let begun = along piece _ _ _ _ _ _ (c .before .before .before .before .before .before .before .before .before .before .before .before .past .ensures .1) (c .before .before .before .before .before .before .before .before .before .before .begin .ensures .1) in
+    let ran = c .before .before .before .before .run-on in
+    (ran .ensures .0, along piece _ _ _ _ _ _ begun (ran .ensures .1))
+
+same-length-3 : tie.Need-same-length-3
+same-length-3 c = search needs
+
+returns-3 : tie.Need-returns-3
+returns-3 c =
     let piece = now (c .before .before .before .before .before .before .before .before .before .before .before .before .before .before .before .before .before .before .args .piece) in
     let begun = along piece _ _ _ _ _ _ (c .before .before .before .before .before .before .before .before .before .before .before .before .before .before .past .ensures .1) (c .before .before .before .before .before .before .before .before .before .before .before .before .begin .ensures .1) in
-    let ran = along piece _ _ _ _ _ _ begun (c .before .before .before .before .before .before .run-on .ensures .1) in
+    let ran = c .before .before .before .before .before .before .run-on in
+    (ran .ensures .0, along piece _ _ _ _ _ _ begun (ran .ensures .1))
+
+close-requires : tie.Need-close-requires
+close-requires c κs = search needs
+
+same-length-4 : tie.Need-same-length-4
+same-length-4 c = search needs
+
+returns-4 : tie.Need-returns-4
+returns-4 c =
+    let piece = now (c .before .before .before .before .before .before .before .before .before .before .before .before .before .before .before .before .before .before .before .before .before .before .args .piece) in
+    let begun = along piece _ _ _ _ _ _ (c .before .before .before .before .before .before .before .before .before .before .before .before .before .before .before .before .before .before .past .ensures .1) (c .before .before .before .before .before .before .before .before .before .before .before .before .before .before .before .before .begin .ensures .1) in
+    let ran = along piece _ _ _ _ _ _ begun (c .before .before .before .before .before .before .before .before .before .before .run-on .ensures .1) in
     let last = c .before .before .close in
     (last .ensures .0, along piece _ _ _ _ _ _ ran (last .ensures .1))
 
@@ -46,6 +66,10 @@ through-spec =
     same-length
     returns
     run-on-requires
-    close-requires
     same-length-2
-    returns-2)
+    returns-2
+    same-length-3
+    returns-3
+    close-requires
+    same-length-4
+    returns-4)

@@ -24,24 +24,17 @@ is-within-requires c κs = search needs
 returns-4 : tie.Need-returns-4
 returns-4 c = no-yes
 
-is-deep-requires : tie.Need-is-deep-requires
-is-deep-requires c κs = search needs
+is-idle-requires : tie.Need-is-idle-requires
+is-idle-requires c κs = search needs
 
 returns-5 : tie.Need-returns-5
-returns-5 c = no-yes
-
-is-known-requires : tie.Need-is-known-requires
-is-known-requires c κs = search needs
-
-returns-6 : tie.Need-returns-6
-returns-6 c = λ e.
-    let deep = c .before .before .is-deep .ensures (not-false _ (c .before .if5 .left)) in
+returns-5 c = λ e.
+    let stands = c .is-idle .ensures e (c .before .if5 .taken) in
     let within = c .before .before .before .before .is-within .ensures (not-false _ (c .before .before .before .if4 .left)) in
-    let modes = c .before .before .before .before .before .before .before .before .before in
-    let quiet = modes .before .is-quiet .ensures (not-false _ (modes .if1 .left)) in
+    let quiet = c .before .before .before .before .before .before .before .before .before .before .is-quiet .ensures (not-false _ (c .before .before .before .before .before .before .before .before .before .if1 .left)) in
     record {
-      mode = omega arith;
-      skip = omega arith;
+      mode = omega (arith, c .before .before .before .before .before .before .before .if2 .left);
+      skip = omega (arith, c .before .before .before .before .before .if3 .left);
       ended = quiet .e0;
       one = quiet .e1;
       two = quiet .e2;
@@ -53,9 +46,36 @@ returns-6 c = λ e.
       from = within .0;
       to = within .1;
       far = within .2;
-      small = deep .0;
-      deep = deep .1;
-      known = c .is-known .ensures e;
+      small = stands .small;
+      deep = stands .deep;
+      known = stands .known;
+    }
+
+is-item-requires : tie.Need-is-item-requires
+is-item-requires c κs = search needs
+
+returns-6 : tie.Need-returns-6
+returns-6 c = λ e.
+    let stands = c .is-item .ensures e in
+    let within = c .before .before .before .before .is-within .ensures (not-false _ (c .before .before .before .if4 .left)) in
+    let quiet = c .before .before .before .before .before .before .before .before .before .before .is-quiet .ensures (not-false _ (c .before .before .before .before .before .before .before .before .before .if1 .left)) in
+    record {
+      mode = omega (arith, c .before .before .before .before .before .before .before .if2 .left);
+      skip = omega (arith, c .before .before .before .before .before .if3 .left);
+      ended = quiet .e0;
+      one = quiet .e1;
+      two = quiet .e2;
+      count = quiet .e3;
+      need = quiet .e4;
+      low = quiet .e5;
+      high = quiet .e6;
+      code = quiet .e7;
+      from = within .0;
+      to = within .1;
+      far = within .2;
+      small = stands .small;
+      deep = stands .deep;
+      known = stands .known;
     }
 
 pub is-ready-spec : {M : Type 1} → statement M
@@ -68,7 +88,7 @@ is-ready-spec =
     returns-3
     is-within-requires
     returns-4
-    is-deep-requires
+    is-idle-requires
     returns-5
-    is-known-requires
+    is-item-requires
     returns-6)

@@ -1,8 +1,11 @@
--- A token that is whole and a string that is closed end before any byte; a word, a number run and a boolean before those that end them (Ends).
+-- A token that is whole and quotes that are closed end before any byte; a word, a number run and a boolean before those that end them (Ends).
 use borrow.Author.Needs.{needs}
 use native.Mathlib.Omega.{arith}
 use denote.Ref.{now}
+use mathlib.Core.Path.{sym, subst}
+use Prim.Native.Nat.{ℕ}
 use borrow.Author.Tests.{not-false}
+use Rattle.pieces_spots.specs.Spots.{TellsAt}
 use Rattle.pieces_spots.proofs.Ends as ends
 use Rattle.pieces_spots.proofs.ending.tell.Statement.{statement}
 use Rattle.pieces_spots.proofs.ending.tell.Tie as tie
@@ -22,16 +25,13 @@ bare-requires c κs = search needs
 returns-2 : tie.Need-returns-2
 returns-2 c = ends.token-told _ _ _ _ _ _ _ _ (c .bare .ensures) (omega arith) (omega arith)
 
+tell-closed-requires : tie.Need-tell-closed-requires
+tell-closed-requires c κs = search needs
+
 returns-3 : tie.Need-returns-3
-returns-3 c = search needs
-
-tell-string-requires : tie.Need-tell-string-requires
-tell-string-requires c κs = search needs
-
-returns-4 : tie.Need-returns-4
-returns-4 c =
-    let a = c .before .before .before .before .before .args in
-    ends.string-ends (a .stage) (a .which) (a .detail) (a .b) (a .at) (now (a .raw)) (omega arith) (omega arith) (c .tell-string .result) (c .tell-string .ensures)
+returns-3 c =
+    let a = c .before .before .before .before .args in
+    subst (λ (x : ℕ). TellsAt x (a .which) (a .detail) (a .b) (a .at) (now (a .raw)) (c .tell-closed .result)) (sym (c .before .if3 .taken)) (c .tell-closed .ensures (a .detail) (a .b))
 
 ends-word-requires : tie.Need-ends-word-requires
 ends-word-requires c κs = search needs
@@ -39,38 +39,38 @@ ends-word-requires c κs = search needs
 tell-word-requires : tie.Need-tell-word-requires
 tell-word-requires c κs = search needs
 
-returns-5 : tie.Need-returns-5
-returns-5 c =
+returns-4 : tie.Need-returns-4
+returns-4 c =
     let a = c .before .before .before .before .before .before .before .args in
-    ends.word-ends (a .stage) (a .which) (a .detail) (a .b) (a .at) (now (a .raw)) (omega arith) (c .before .before .ends-word .ensures (c .before .if6 .taken)) (c .tell-word .result) (c .tell-word .ensures)
+    ends.word-ends (a .stage) (a .which) (a .detail) (a .b) (a .at) (now (a .raw)) (omega arith) (c .before .before .ends-word .ensures (c .before .if5 .taken)) (c .tell-word .result) (c .tell-word .ensures)
 
-returns-6 : tie.Need-returns-6
-returns-6 c = search needs
+returns-5 : tie.Need-returns-5
+returns-5 c = search needs
 
 is-stop-requires : tie.Need-is-stop-requires
 is-stop-requires c κs = search needs
 
-returns-7 : tie.Need-returns-7
-returns-7 c = search needs
+returns-6 : tie.Need-returns-6
+returns-6 c = search needs
 
 tell-run-requires : tie.Need-tell-run-requires
 tell-run-requires c κs = search needs
 
-returns-8 : tie.Need-returns-8
-returns-8 c =
+returns-7 : tie.Need-returns-7
+returns-7 c =
     let a = c .before .before .before .before .before .before .before .before .args in
-    ends.run-ends (a .stage) (a .which) (a .detail) (a .b) (a .at) (now (a .raw)) (omega arith) (c .before .before .before .is-stop .ensures (not-false _ (c .before .before .if7 .left))) (c .tell-run .result) (c .tell-run .ensures)
+    ends.run-ends (a .stage) (a .which) (a .detail) (a .b) (a .at) (now (a .raw)) (omega arith) (c .before .before .before .is-stop .ensures (not-false _ (c .before .before .if6 .left))) (c .tell-run .result) (c .tell-run .ensures)
 
 tell-boolean-requires : tie.Need-tell-boolean-requires
 tell-boolean-requires c κs = search needs
 
-returns-9 : tie.Need-returns-9
-returns-9 c =
+returns-8 : tie.Need-returns-8
+returns-8 c =
     let a = c .before .before .before .before .before .before .before .before .before .args in
-    ends.boolean-ends (a .stage) (a .which) (a .detail) (a .b) (a .at) (now (a .raw)) (omega arith) (c .before .before .before .before .is-stop .ensures (not-false _ (c .before .before .before .if7 .left))) (c .tell-boolean .result) (c .tell-boolean .ensures)
+    ends.boolean-ends (a .stage) (a .which) (a .detail) (a .b) (a .at) (now (a .raw)) (omega arith) (c .before .before .before .before .is-stop .ensures (not-false _ (c .before .before .before .if6 .left))) (c .tell-boolean .result) (c .tell-boolean .ensures)
 
-returns-10 : tie.Need-returns-10
-returns-10 c = search needs
+returns-9 : tie.Need-returns-9
+returns-9 c = search needs
 
 pub tell-spec : {M : Type 1} → statement M
 tell-spec =
@@ -81,17 +81,16 @@ tell-spec =
     cast-bare-2
     bare-requires
     returns-2
+    tell-closed-requires
     returns-3
-    tell-string-requires
-    returns-4
     ends-word-requires
     tell-word-requires
+    returns-4
     returns-5
-    returns-6
     is-stop-requires
-    returns-7
+    returns-6
     tell-run-requires
-    returns-8
+    returns-7
     tell-boolean-requires
-    returns-9
-    returns-10)
+    returns-8
+    returns-9)

@@ -15,8 +15,8 @@ returns-2 c = search needs
 shared-slice-read-b : tie.Need-shared-slice-read-b
 shared-slice-read-b c = search needs
 
-first-requires : tie.Need-first-requires
-first-requires c κs = search needs
+begun-by-requires : tie.Need-begun-by-requires
+begun-by-requires c κs = search needs
 
 begin-letter-requires : tie.Need-begin-letter-requires
 begin-letter-requires c κs = search needs
@@ -42,10 +42,10 @@ same-length-2 c = search needs
 returns-4 : tie.Need-returns-4
 returns-4 c =
     let a = c .before .before .before .before .before .before .before .before .before in
-    let told = c .before .before .first .ensures in
+    let told = c .before .before .begun-by .ensures in
     let solid = told .begins (omega arith) in (
-      begun-fits (a .args .s) (now (a .args .buf)) (now (a .args .piece)) (a .pre) (omega arith) (c .before .before .first .result) (omega arith) solid (told .few),
-      begun-on (a .args .s) (now (a .args .buf)) (now (a .args .piece)) (a .pre) (omega arith) (c .before .before .first .result) (omega arith) solid (told .few),
+      begun-fits (a .args .s) (now (a .args .buf)) (now (a .args .piece)) (a .pre) (omega arith) (c .before .before .begun-by .result) (omega arith) solid (told .few),
+      begun-on (a .args .s) (now (a .args .buf)) (now (a .args .piece)) (a .pre) (omega arith) (c .before .before .begun-by .result) (omega arith) solid (told .few),
     )
 
 pub begin-spec : {M : Type 1} → statement M
@@ -55,7 +55,7 @@ begin-spec =
     returns
     returns-2
     shared-slice-read-b
-    first-requires
+    begun-by-requires
     begin-letter-requires
     same-length
     returns-3

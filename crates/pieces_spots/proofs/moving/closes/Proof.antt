@@ -1,4 +1,4 @@
--- A quote closes a string, a newline a comment; after a number sign the byte tells (Runs).
+-- What closes quotes closes them, a newline a comment; after a number sign the byte tells (Runs).
 use borrow.Author.Needs.{needs}
 use native.Mathlib.Omega.{arith}
 use mathlib.Core.Path.{sym, subst}
@@ -9,41 +9,39 @@ use Rattle.pieces_spots.proofs.Runs as runs
 use Rattle.pieces_spots.proofs.moving.closes.Statement.{statement}
 use Rattle.pieces_spots.proofs.moving.closes.Tie as tie
 
+closes-quotes-requires : tie.Need-closes-quotes-requires
+closes-quotes-requires c κs = search needs
+
 returns : tie.Need-returns
-returns c = λ h. absurd (omega arith)
+returns c = λ h.
+    let a = c .before .before .before .args in
+    subst (λ (x : ℕ). Closes x (a .which) (a .b) (c .closes-quotes .result) (now (a .raw))) (sym (c .before .if1 .taken)) (c .closes-quotes .ensures h (now (a .raw)))
 
 returns-2 : tie.Need-returns-2
-returns-2 c = λ h. runs.quote-closes _ _ _ _ (omega arith) (omega arith) (omega arith)
+returns-2 c = λ h. runs.newline-closes _ _ _ _ (omega arith) (omega arith)
 
 returns-3 : tie.Need-returns-3
 returns-3 c = λ h. absurd (omega arith)
 
-returns-4 : tie.Need-returns-4
-returns-4 c = λ h. runs.newline-closes _ _ _ _ (omega arith) (omega arith)
-
-returns-5 : tie.Need-returns-5
-returns-5 c = λ h. absurd (omega arith)
-
 after-sign-requires : tie.Need-after-sign-requires
 after-sign-requires c κs = search needs
 
-returns-6 : tie.Need-returns-6
-returns-6 c = λ h.
+returns-4 : tie.Need-returns-4
+returns-4 c = λ h.
     let a = c .before .before .before .before .before .args in
-    subst (λ (x : ℕ). Closes x (a .which) (a .b) (c .after-sign .result) (now (a .raw))) (sym (c .before .if6 .taken)) (c .after-sign .ensures h)
+    subst (λ (x : ℕ). Closes x (a .which) (a .b) (c .after-sign .result) (now (a .raw))) (sym (c .before .if4 .taken)) (c .after-sign .ensures h)
 
-returns-7 : tie.Need-returns-7
-returns-7 c = λ h. absurd (omega arith)
+returns-5 : tie.Need-returns-5
+returns-5 c = λ h. absurd (omega arith)
 
 pub closes-spec : {M : Type 1} → statement M
 closes-spec =
     tie.close
     (tie.spec
+    closes-quotes-requires
     returns
     returns-2
     returns-3
-    returns-4
-    returns-5
     after-sign-requires
-    returns-6
-    returns-7)
+    returns-4
+    returns-5)

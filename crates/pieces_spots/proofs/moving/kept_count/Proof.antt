@@ -1,6 +1,11 @@
 -- Each run is that of the phase of its stage (Runs).
 use borrow.Author.Needs.{needs}
 use native.Mathlib.Omega.{arith}
+use denote.Ref.{now}
+use Prim.Native.Nat.{ℕ, _≤_, _<_}
+use mathlib.Core.Path.{sym, subst}
+use lib.ListN.{length}
+use Rattle.pieces_spots.specs.Spots.{Keeps}
 use Rattle.pieces_spots.proofs.Runs as runs
 use Rattle.pieces_spots.proofs.moving.kept_count.Statement.{statement}
 use Rattle.pieces_spots.proofs.moving.kept_count.Tie as tie
@@ -23,17 +28,17 @@ ascii-run-requires-3 c κs = search needs
 returns-3 : tie.Need-returns-3
 returns-3 c = runs.line-kept _ _ _ _ (omega arith) (c .ascii-run3 .ensures)
 
+quoted-count-requires : tie.Need-quoted-count-requires
+quoted-count-requires c κs = search needs
+
 returns-4 : tie.Need-returns-4
-returns-4 c = runs.none-kept _ _ _
+returns-4 c =
+    let a = c .before .before .before .before .before .before .args in
+    let n = c .quoted-count .result in
+    subst (λ (x : ℕ). (n ≤ length (now (a .bytes))) × (0 < n → Keeps x (a .which) n (now (a .bytes)))) (sym (c .before .if4 .taken)) (c .quoted-count .ensures)
 
 returns-5 : tie.Need-returns-5
 returns-5 c = runs.none-kept _ _ _
-
-ascii-run-requires-4 : tie.Need-ascii-run-requires-4
-ascii-run-requires-4 c κs = search needs
-
-returns-6 : tie.Need-returns-6
-returns-6 c = runs.string-kept _ _ _ _ (omega arith) (omega arith) (c .ascii-run4 .ensures)
 
 pub kept-count-spec : {M : Type 1} → statement M
 kept-count-spec =
@@ -45,7 +50,6 @@ kept-count-spec =
     returns-2
     ascii-run-requires-3
     returns-3
+    quoted-count-requires
     returns-4
-    returns-5
-    ascii-run-requires-4
-    returns-6)
+    returns-5)
