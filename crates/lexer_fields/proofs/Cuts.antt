@@ -13,7 +13,9 @@ use Rattle.laws.proofs.Places.{here, past}
 use Rattle.items.specs.Items.{Item}
 use Rattle.items.specs.Whole.{itemsIn}
 use Rattle.lexer_fields.specs.Fields.{Field, fieldBy, fieldOf, fieldsOn, fieldsIn, parts, inOrder}
-use Rattle.lexer_fields.specs.Answers.{continues, between, wellCut, Known, Unmarked, AllKnown, Fine}
+use Rattle.lexer_fields.specs.Answers.{continues, between, cuttingOf, wellCut, Known, Unmarked, AllKnown, Fine}
+use Rattle.lexer_fields.specs.declared.Cutting.{Cutting}
+use Rattle.lexer_fields.specs.declared.Cutting.the-variants as cutting
 use Rattle.lexer_fields.proofs.Parts.{in-order}
 use Rattle.lexer_fields.proofs.Progress.{Progress, rest, part, this, e}
 use Prim.Native.Nat.{ℕ, zero, suc, _+_, _-_, _≤_, _<_}
@@ -182,3 +184,28 @@ module _ (s ends : List ℕ) (i : ℕ) where
     pub lies-between : continues s (getD ends i 0) ≡ false → between s (drop (i + 1) ends) ≡ between s (drop i ends)
     unfolding between
     lies-between k = sym (next ∙ rw k)
+
+    -- what is noted of the ends before, and then of this one too
+    abbrev Noted : Bool → Type 0
+    Noted inside = (if inside then false else between s (drop i ends)) ≡ between s ends
+
+    pub inside-noted : (inside : Bool) → Noted inside → continues s (getD ends i 0) ≡ true → false ≡ between s ends
+    inside-noted true v k = v
+    inside-noted false v k = lies-inside k ∙ v
+
+    pub outside-noted : (inside : Bool) → Noted inside → continues s (getD ends i 0) ≡ false → (if inside then false else between s (drop (i + 1) ends)) ≡ between s ends
+    outside-noted true v k = v
+    outside-noted false v k = lies-between k ∙ v
+
+-- ---- what a cutting says
+
+module _ (ordered clean : Bool) where
+  abbrev pub Says : Cutting → Type 0
+  Says cutting.Disordered = ordered ≡ false
+  Says cutting.Inside = (ordered ≡ true) × (false ≡ clean)
+  Says cutting.Between = (ordered ≡ true) × (true ≡ clean)
+
+pub says : (ordered clean : Bool) → Says ordered clean (cuttingOf ordered clean)
+says false clean = refl
+says true false = (refl, refl)
+says true true = (refl, refl)

@@ -92,10 +92,10 @@ module _ (s ends : List ℕ) (mode : ℕ) (skip : Bool) (rows recs text : List �
   unfolding fieldsOf
   no-mode h = rw (le-ltb mode 2 (omega arith))
 
-  module _ (m : mode ≤ 1) where
-    pub a-mode : isMode mode ≡ true
-    a-mode = lt-ltb mode 2 (omega arith)
+  pub is-mode : mode ≤ 1 → isMode mode ≡ true
+  is-mode h = lt-ltb mode 2 (omega arith)
 
+  module _ (a-mode : isMode mode ≡ true) where
     pub bad-ends : inOrder (length s) 0 ends ≡ false → fieldsCall (refused refusal.badEnds 0 0) rows recs text ≡ fieldsOf s ends mode skip rows recs text
     unfolding fieldsOf
     bad-ends o = rw (a-mode, o)

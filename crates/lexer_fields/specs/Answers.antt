@@ -14,6 +14,8 @@ use Rattle.items.specs.Items.{recordWords, texts}
 use Rattle.items.specs.Whole.{Answer, served, refused, limit, isMode, inReport}
 use Rattle.lexer.specs.declared.Spot.{Spot}
 use Rattle.lexer_fields.specs.Fields.{Field, inOrder, rowWords, itemCount, textsIn, fieldsIn}
+use Rattle.lexer_fields.specs.declared.Cutting.{Cutting}
+use Rattle.lexer_fields.specs.declared.Cutting.the-variants as cutting
 use Rattle.lexer_fields.specs.declared.Part.{Part}
 use Rattle.lexer_fields.specs.declared.Total.{Total}
 use Rattle.lexer_fields.specs.declared.FieldsAnswer.{FieldsAnswer}
@@ -57,6 +59,13 @@ continues source at = within 0x80 0xBF (getD source at 0)
 unfoldable pub between : List ℕ → List ℕ → Bool
 between source [] = true
 between source (e ∷ ends) = let more = between source ends in if continues source e then false else more
+
+-- ends of which all but the source's length is known, and whether they lie between characters if it is UTF-8
+abbrev pub IsCut : Bool → List ℕ → List ℕ → ℕ → Type 0
+IsCut clean source ends mode = (isMode mode ≡ true) × (inOrder (length source) 0 ends ≡ true) × (clean ≡ between source ends)
+
+abbrev pub cuttingOf : Bool → Bool → Cutting
+cuttingOf ordered clean = if ordered then (if clean then cutting.Between else cutting.Inside) else cutting.Disordered
 
 abbrev pub wellCut : Utf8 → Bool → Bool
 wellCut Good cut = cut

@@ -1,35 +1,17 @@
 // The end places.
+use crate::Cutting;
 use chars::Utf8;
 use chars::first_bad;
 ghost use mathlib.Core.Path.{_≡_};
+ghost use lib.ListN.{length};
 ghost use Rattle.chars.specs.Utf8.{firstBad};
 ghost use Rattle.lexer_fields.specs.Fields.{inOrder};
-ghost use Rattle.lexer_fields.specs.Answers.{continues, between, wellCut};
+ghost use Rattle.lexer_fields.specs.Answers.{continues, between, cuttingOf, wellCut};
 
 // The bytes that go on with a character.
 const TAIL: u8 = 0x80;
 
 const TAIL_LAST: u8 = 0xBF;
-
-// The ends neither go back nor pass n.
-pub fn in_order(n: usize, ends: &[u32]) -> bool
-    ensures { λ r. ⌜ r ≡ inOrder n 0 (now (ends .entry)) ⌝ }
-{
-    let mut i: usize = 0;
-    let mut from: usize = 0;
-    while i < ends.len() {
-        let end = ends[i] as usize;
-        if end < from {
-            return false;
-        }
-        if n < end {
-            return false;
-        }
-        from = end;
-        i += 1;
-    }
-    true
-}
 
 // Whether the byte at a place goes on with a character.
 fn continues(source: &[u8], at: usize) -> bool
@@ -45,27 +27,40 @@ fn continues(source: &[u8], at: usize) -> bool
     b <= TAIL_LAST
 }
 
-// No end lies inside a character of the source, which is UTF-8.
-fn between_all(source: &[u8], ends: &[u32]) -> bool
-    ensures { λ r. ⌜ r ≡ between (now (source .entry)) (now (ends .entry)) ⌝ }
+// How the ends cut a source.
+pub fn cut(source: &[u8], ends: &[u32]) -> Cutting
+    ensures { λ r. ⌜ r ≡ cuttingOf (inOrder (length (now (source .entry))) 0 (now (ends .entry))) (between (now (source .entry)) (now (ends .entry))) ⌝ }
 {
+    let n = source.len();
     let mut i: usize = 0;
+    let mut from: usize = 0;
+    let mut inside = false;
     while i < ends.len() {
         let end = ends[i] as usize;
-        if continues(source, end) {
-            return false;
+        if end < from {
+            return Cutting::Disordered;
         }
+        if n < end {
+            return Cutting::Disordered;
+        }
+        if continues(source, end) {
+            inside = true;
+        }
+        from = end;
         i += 1;
     }
-    true
+    if inside {
+        return Cutting::Inside;
+    }
+    Cutting::Between
 }
 
-// Whether all parts are known to be UTF-8: the source is, and no end lies inside a character.
-pub fn all_known(source: &[u8], ends: &[u32]) -> bool
-    ensures { λ r. ⌜ r ≡ wellCut (firstBad (now (source .entry))) (between (now (source .entry)) (now (ends .entry))) ⌝ }
+// Whether all parts are known to be UTF-8: the source is, and its ends are clean, none inside a character.
+pub fn all_known(source: &[u8], clean: bool) -> bool
+    ensures { λ r. ⌜ r ≡ wellCut (firstBad (now (source .entry))) clean ⌝ }
 {
     match first_bad(source) {
-        Utf8::Good => between_all(source, ends),
+        Utf8::Good => clean,
         Utf8::Bad(_) => false,
     }
 }

@@ -66,7 +66,7 @@ fn seen(part: &[u8], known: bool) -> Utf8
     if known {
         return Utf8::Good;
     }
-    first_bad(part)
+    first_bad(&part[..])
 }
 
 // Whether a part begins with #.
@@ -86,7 +86,7 @@ fn first_place(part: &[u8], mode: u32, skip: bool) -> usize
     ensures { λ r. ⌜ r ≡ startOf (chars (now (part .entry))) ⌝ }
 {
     if begins_hash(part) {
-        let position = begin(part, mode, skip);
+        let position = begin(&part[..], mode, skip);
         return position.spot.at;
     }
     0

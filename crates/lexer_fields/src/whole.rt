@@ -1,8 +1,9 @@
 // The call: the parts are counted first where their items might not fit, then written.
+use crate::Cutting;
 use crate::FieldsAnswer;
 use crate::Total;
 use crate::ends::all_known;
-use crate::ends::in_order;
+use crate::ends::cut;
 use crate::rows::ROW;
 use crate::rows::put_row;
 use crate::single::count_part;
@@ -13,7 +14,7 @@ use refusal::LIMIT;
 ghost use mathlib.Core.Path.{_≡_};
 ghost use Rattle.laws.specs.Lent.{written};
 ghost use Rattle.lexer_fields.specs.Fields.{fieldsIn, rowsFrom, recordsIn, textsIn, fieldsCall, deliverFields, fieldsOf};
-ghost use Rattle.lexer_fields.specs.Answers.{answerOf, totalOf, Fine, Room, AllKnown};
+ghost use Rattle.lexer_fields.specs.Answers.{answerOf, totalOf, IsCut, Fine, Room, AllKnown};
 
 // What the parts need together.
 fn count(source: &[u8], ends: &[u32], known: bool, mode: u32, skip: bool) -> Total
@@ -142,6 +143,28 @@ fn deliver(
     FieldsAnswer::Served(done.items, done.text)
 }
 
+// The parts into lent memory, if the source is not too long and they fit; whether no end lies inside a character is known.
+fn deliver_cut(
+    source: &[u8],
+    ends: &[u32],
+    clean: bool,
+    mode: u32,
+    skip: bool,
+    rows: &mut [u32],
+    recs: &mut [u32],
+    text: &mut [u8],
+) -> FieldsAnswer
+    requires { ⌜ IsCut clean (now source) (now ends) mode ⌝ }
+    ensures { λ r. ⌜ fieldsCall (answerOf r) (now (rows .exit)) (now (recs .exit)) (now (text .exit))
+        ≡ fieldsOf (now (source .entry)) (now (ends .entry)) mode skip (now (rows .entry)) (now (recs .entry)) (now (text .entry)) ⌝ }
+{
+    if LIMIT < source.len() {
+        return FieldsAnswer::TooLong;
+    }
+    let known = all_known(source, clean);
+    deliver(source, ends, known, mode, skip, rows, recs, text)
+}
+
 // Each part of a source as a text of its own: a row for each part, and their records and decoded texts, in lent memory. Part i goes from
 // the end before it to `ends[i]`. Mode 0 is plain and 1 report; comments are left out where `skip` is true.
 pub fn read_fields(
@@ -159,12 +182,9 @@ pub fn read_fields(
     if REPORT < mode {
         return FieldsAnswer::NoMode(mode);
     }
-    if !in_order(source.len(), ends) {
-        return FieldsAnswer::BadEnds;
+    match cut(source, ends) {
+        Cutting::Disordered => FieldsAnswer::BadEnds,
+        Cutting::Inside => deliver_cut(source, ends, false, mode, skip, rows, recs, text),
+        Cutting::Between => deliver_cut(source, ends, true, mode, skip, rows, recs, text),
     }
-    if LIMIT < source.len() {
-        return FieldsAnswer::TooLong;
-    }
-    let known = all_known(source, ends);
-    deliver(source, ends, known, mode, skip, rows, recs, text)
 }

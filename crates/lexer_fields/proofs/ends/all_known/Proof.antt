@@ -1,8 +1,7 @@
 -- By what the source's UTF-8 is.
 use mathlib.Core.Path.{sym, ap, _∙_}
-use denote.Ref.{now}
 use Rattle.chars.specs.declared.Utf8.{Utf8}
-use Rattle.lexer_fields.specs.Answers.{between, wellCut}
+use Rattle.lexer_fields.specs.Answers.{wellCut}
 use borrow.Author.Needs.{needs}
 use Rattle.lexer_fields.proofs.ends.all_known.Statement.{statement}
 use Rattle.lexer_fields.proofs.ends.all_known.Tie as tie
@@ -13,32 +12,20 @@ first-bad-requires c κs = search needs
 enum-told : tie.Need-enum-told
 enum-told c = search needs
 
-between-all-requires : tie.Need-between-all-requires
-between-all-requires c κs = search needs
-
 enum-told-2 : tie.Need-enum-told-2
 enum-told-2 c = search needs
 
 returns : tie.Need-returns
 returns c =
-    let asked = c .before .before .before in
-    let entry = asked .before .before .before in
-    c .between-all .ensures
-    ∙ ap (λ (u : Utf8). wellCut u (between (now (entry .args .source)) (now (entry .args .ends)))) (sym (c .before .enum-told .given .1) ∙ asked .first-bad .ensures)
+    let asked = c .before .before in
+    let entry = asked .before .before in
+    ap (λ (u : Utf8). wellCut u (entry .args .clean)) (sym (c .enum-told .given .1) ∙ asked .first-bad .ensures)
 
 returns-2 : tie.Need-returns-2
 returns-2 c =
     let asked = c .before .before in
-    let entry = asked .before .before .before in
-    ap (λ (u : Utf8). wellCut u (between (now (entry .args .source)) (now (entry .args .ends)))) (sym (c .enum-told2 .given .1) ∙ asked .first-bad .ensures)
+    let entry = asked .before .before in
+    ap (λ (u : Utf8). wellCut u (entry .args .clean)) (sym (c .enum-told2 .given .1) ∙ asked .first-bad .ensures)
 
 pub all-known-spec : {M : Type 1} → statement M
-all-known-spec =
-    tie.close
-    (tie.spec
-    first-bad-requires
-    enum-told
-    between-all-requires
-    enum-told-2
-    returns
-    returns-2)
+all-known-spec = tie.close (tie.spec first-bad-requires enum-told enum-told-2 returns returns-2)

@@ -1,9 +1,11 @@
--- The refusals in the order of the definition, by the tests of the code; else what is delivered.
-use mathlib.Core.Path.{sym, _∙_}
+-- The mode, then how the ends cut the source: refused, or what is delivered.
+use mathlib.Core.Path.{sym, subst, _∙_}
+use lib.ListN.{length}
 use denote.Ref.{now}
-use borrow.Author.Tests.{not-true, not-false}
-use Rattle.lexer_fields.proofs.Cuts.{all-known}
-use Rattle.lexer_fields.proofs.Delivered.{no-mode, bad-ends, too-long, is-fine, is-delivered}
+use Rattle.lexer_fields.specs.Fields.{inOrder}
+use Rattle.lexer_fields.specs.Answers.{between}
+use Rattle.lexer_fields.proofs.Cuts.{Says, says}
+use Rattle.lexer_fields.proofs.Delivered.{no-mode, is-mode, bad-ends}
 use borrow.Author.Needs.{needs}
 use Rattle.lexer_fields.proofs.whole.read_fields.Statement.{statement}
 use Rattle.lexer_fields.proofs.whole.read_fields.Tie as tie
@@ -13,37 +15,48 @@ returns c =
     let entry = c .before .before .before .before .before .before in
     no-mode (now (entry .args .source)) (now (entry .args .ends)) (entry .args .mode) (entry .args .skip) (now (entry .args .rows)) (now (entry .args .recs)) (now (entry .args .text)) (c .if1 .taken)
 
-in-order-requires : tie.Need-in-order-requires
-in-order-requires c κs = search needs
+cut-requires : tie.Need-cut-requires
+cut-requires c κs = search needs
+
+enum-told : tie.Need-enum-told
+enum-told c = search needs
+
+enum-told-2 : tie.Need-enum-told-2
+enum-told-2 c = search needs
+
+deliver-cut-requires : tie.Need-deliver-cut-requires
+deliver-cut-requires c κs =
+    let asked = c .before .before .before .before .before in
+    let entry = asked .before .before .before .before .before .before .before in
+    let source = now (entry .args .source) in
+    let ends = now (entry .args .ends) in
+    let told = subst (Says (inOrder (length source) 0 ends) (between source ends)) (sym (asked .cut .ensures) ∙ c .before .before .before .enum-told2 .given .1)
+    (says (inOrder (length source) 0 ends) (between source ends)) in
+    (is-mode source ends (entry .args .mode) (entry .args .skip) (now (entry .args .rows)) (now (entry .args .recs)) (now (entry .args .text)) (asked .before .if1 .left), told .0, told .1)
+
+enum-told-3 : tie.Need-enum-told-3
+enum-told-3 c = search needs
+
+deliver-cut-requires-2 : tie.Need-deliver-cut-requires-2
+deliver-cut-requires-2 c κs =
+    let asked = c .before .before .before .before .before in
+    let entry = asked .before .before .before .before .before .before .before in
+    let source = now (entry .args .source) in
+    let ends = now (entry .args .ends) in
+    let told = subst (Says (inOrder (length source) 0 ends) (between source ends)) (sym (asked .cut .ensures) ∙ c .before .before .before .enum-told3 .given .1)
+    (says (inOrder (length source) 0 ends) (between source ends)) in
+    (is-mode source ends (entry .args .mode) (entry .args .skip) (now (entry .args .rows)) (now (entry .args .recs)) (now (entry .args .text)) (asked .before .if1 .left), told .0, told .1)
 
 returns-2 : tie.Need-returns-2
 returns-2 c =
-    let ordered = c .before in
-    let entry = ordered .before .before .before .before .before .before .before in
-    bad-ends (now (entry .args .source)) (now (entry .args .ends)) (entry .args .mode) (entry .args .skip) (now (entry .args .rows)) (now (entry .args .recs)) (now (entry .args .text))
-    (ordered .before .if1 .left) (sym (ordered .in-order .ensures) ∙ not-true (ordered .in-order .result) (c .if2 .taken))
-
-returns-3 : tie.Need-returns-3
-returns-3 c =
-    let ordered = c .before .before in
-    let entry = ordered .before .before .before .before .before .before .before in
-    too-long (now (entry .args .source)) (now (entry .args .ends)) (entry .args .mode) (entry .args .skip) (now (entry .args .rows)) (now (entry .args .recs)) (now (entry .args .text))
-    (ordered .before .if1 .left) (sym (ordered .in-order .ensures) ∙ not-false (ordered .in-order .result) (c .before .if2 .left)) (c .if3 .taken)
-
-all-known-requires : tie.Need-all-known-requires
-all-known-requires c κs = search needs
-
-deliver-requires : tie.Need-deliver-requires
-deliver-requires c κs =
-    let asked = c .before .before .before in
-    let ordered = asked .before .before .before in
-    let entry = ordered .before .before .before .before .before .before .before in
-    let order = sym (ordered .in-order .ensures) ∙ not-false (ordered .in-order .result) (asked .before .before .if2 .left) in (
-      is-fine (now (entry .args .source)) (now (entry .args .ends)) (entry .args .mode) (entry .args .skip) (now (entry .args .rows)) (now (entry .args .recs)) (now (entry .args .text))
-          (ordered .before .if1 .left) order (asked .before .if3 .left),
-      all-known (entry .args .mode) (entry .args .skip) (now (entry .args .source)) (now (entry .args .ends))
-          (asked .all-known .result) order (asked .all-known .ensures),
-    )
+    let asked = c .before .before in
+    let entry = asked .before .before .before .before .before .before .before in
+    let source = now (entry .args .source) in
+    let ends = now (entry .args .ends) in
+    bad-ends source ends (entry .args .mode) (entry .args .skip) (now (entry .args .rows)) (now (entry .args .recs)) (now (entry .args .text))
+    (is-mode source ends (entry .args .mode) (entry .args .skip) (now (entry .args .rows)) (now (entry .args .recs)) (now (entry .args .text)) (asked .before .if1 .left))
+    (subst (Says (inOrder (length source) 0 ends) (between source ends)) (sym (asked .cut .ensures) ∙ c .enum-told .given .1)
+    (says (inOrder (length source) 0 ends) (between source ends)))
 
 same-length : tie.Need-same-length
 same-length c = search needs
@@ -54,26 +67,38 @@ same-length-2 c = search needs
 same-length-3 : tie.Need-same-length-3
 same-length-3 c = search needs
 
+returns-3 : tie.Need-returns-3
+returns-3 c = search needs
+
+same-length-4 : tie.Need-same-length-4
+same-length-4 c = search needs
+
+same-length-5 : tie.Need-same-length-5
+same-length-5 c = search needs
+
+same-length-6 : tie.Need-same-length-6
+same-length-6 c = search needs
+
 returns-4 : tie.Need-returns-4
-returns-4 c =
-    let served = c .before .before .before .before .before .before in
-    let tested = served .before .before .before .before .before in
-    let ordered = tested .before .before in
-    let entry = ordered .before .before .before .before .before .before .before in
-    is-delivered (now (entry .args .source)) (now (entry .args .ends)) (entry .args .mode) (entry .args .skip) (now (entry .args .rows)) (now (entry .args .recs)) (now (entry .args .text))
-    (ordered .before .if1 .left) (sym (ordered .in-order .ensures) ∙ not-false (ordered .in-order .result) (tested .before .if2 .left)) (tested .if3 .left) (served .deliver .ensures)
+returns-4 c = search needs
 
 pub read-fields-spec : {M : Type 1} → statement M
 read-fields-spec =
     tie.close
     (tie.spec
     returns
-    in-order-requires
+    cut-requires
+    enum-told
+    enum-told-2
+    deliver-cut-requires
+    enum-told-3
+    deliver-cut-requires-2
     returns-2
-    returns-3
-    all-known-requires
-    deliver-requires
     same-length
     same-length-2
     same-length-3
+    returns-3
+    same-length-4
+    same-length-5
+    same-length-6
     returns-4)
