@@ -23,6 +23,8 @@ pub const TEXTS: &[Text] = &[
     text("northern-words", |n| repeated("skjønn ås bjørk på ", n)),
     text("northern-strings", |n| repeated("\"Kjør på åsen, ikke på myra.\" ", n)),
     text("northern-comments", |n| repeated("; kubikkmeter på åsen, målt\n", n)),
+    text("northern-lists", |n| repeated("(stånd björk ÄÄÄ \"lövträd på åsen\" 14.7)\n", n)),
+    text("cyrillic", |n| repeated("; сосна и берёза на холме\n(делянка сосна 12 берёза)\n", n)),
     text("integers", |n| (0..n / 8).map(|i| format!("{} ", 1_000_000 + i)).collect()),
     text("decimals", |n| (0..n / 11).map(|i| format!("{:.2} ", 6_892_000.0 + 1.37 * i as f64)).collect()),
     text("blanks", |n| " ".repeat(n)),
