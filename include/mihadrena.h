@@ -831,8 +831,8 @@ uint32_t mihadrena_find(const uint8_t *source, size_t source_length, uint32_t *r
 
 /* Renders a finding of the text `source`, which goes by the name `name`: its bytes are written from the front of `out` on, as many as fit, and
  * the answer is how many there are, so that a caller who lent too little lends that much and calls again. All memory behind them stays as it
- * was. `colour` puts a terminal's escape sequences around the severity and the carets, in no JSON. A finding that mihadrena_find does not give
- * and a style that is not there have 0 bytes. Line and column count as mihadrena_locate counts them, and any bytes have them.
+ * was. `colour` puts a terminal's escape sequences around the severity and the carets, in no JSON. Words that have no message and a style that
+ * is not there have 0 bytes. Line and column count as mihadrena_locate counts them, and any bytes have them.
  *
  *     const uint32_t finding[] = {MIHADRENA_WARNING, 2, 0, 3, 8, 0, 0};
  *     uint8_t out[80];

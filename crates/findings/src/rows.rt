@@ -68,6 +68,7 @@ pub fn row_at(rows: &[u32], p: usize) -> Row
     }
 }
 
+// The last row, a row of no kind where there is none.
 pub fn last_row(rows: &[u32]) -> Row
     ensures { λ r. ⌜ r ≡ lastRow (now (rows .entry)) ⌝ }
 {

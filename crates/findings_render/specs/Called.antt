@@ -1,4 +1,4 @@
--- The call: style 0 in full, 1 brief, 2 JSON. What find does not tell has no bytes, and neither has any other style.
+-- The call: style 0 in full, 1 brief, 2 JSON. Words that have no message have no bytes, and neither has any other style.
 use Prim.Native.Nat.{ℕ}
 use mathlib.Core.Bool.{Bool, true, false}
 use mathlib.Core.List.{List, []}

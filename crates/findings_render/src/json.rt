@@ -124,6 +124,7 @@ fn put_see_field(out: &mut [u8], at: usize, t: Told, s: &[u8]) -> usize
     put(out, worded, false, b"\"}")
 }
 
+// A finding as an object of JSON.
 pub fn put_json(out: &mut [u8], at: usize, t: Told, s: &[u8], name: &[u8]) -> usize
     requires { ⌜ IsPlace (now s) (t .start) × IsPlace (now s) (t .end) ⌝ }
     requires { ⌜ IsPlace (now s) (t .from) ⌝ }

@@ -34,6 +34,7 @@ fn put_spot(out: &mut [u8], at: usize, name: &[u8], s: &[u8], p: usize) -> usize
     put(out, placed, false, b": ")
 }
 
+// `error` or `warning`.
 pub fn put_severity_word(out: &mut [u8], at: usize, t: Told) -> usize
     ensures { λ r. ⌜ Laid false (severityWord t) at (now (out .entry)) r (now (out .exit)) ⌝ }
 {
@@ -137,6 +138,7 @@ fn put_body_if(out: &mut [u8], at: usize, full: bool, colour: bool, t: Told, s: 
     put_help(out, pictured, t, s)
 }
 
+// A finding's lines, in full or brief.
 pub fn put_lines(
     out: &mut [u8],
     at: usize,

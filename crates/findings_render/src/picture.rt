@@ -25,6 +25,7 @@ pub fn put_if(out: &mut [u8], at: usize, there: bool, text: &[u8]) -> usize
     at
 }
 
+// Whether two numbers differ.
 pub fn differ(x: usize, y: usize) -> bool
     ensures { λ r. ⌜ r ≡ not (eqb x y) ⌝ }
 {

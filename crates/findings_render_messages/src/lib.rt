@@ -198,6 +198,7 @@ fn variant(t: Told) -> usize
     0
 }
 
+// A finding's code, as `E41`.
 pub fn code_of(t: Told) -> [u8; 3]
     ensures { λ r. ⌜ r ≡ codeOf t ⌝ }
 {

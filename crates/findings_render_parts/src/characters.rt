@@ -249,6 +249,7 @@ fn is_flat(t: &[u8]) -> bool
     true
 }
 
+// The carets under a text, one at least.
 pub fn put_carets(out: &mut [u8], at: usize, t: &[u8]) -> usize
     ensures { λ r. ⌜ Laid false (carets (now (t .entry))) at (now (out .entry)) r (now (out .exit)) ⌝ }
 {

@@ -37,6 +37,7 @@ const MOST_DIGITS: usize = 20;
 
 const GUTTER: usize = 5;
 
+// A digit, by its value.
 pub fn digit_byte(d: usize) -> u8
     requires { ⌜ d < 16 ⌝ }
     ensures { λ r. ⌜ r ≡ digit d ⌝ }
@@ -101,6 +102,7 @@ fn digit_count(n: usize) -> usize
     count
 }
 
+// A number in decimal digits.
 pub fn put_number(out: &mut [u8], at: usize, quoted: bool, n: usize) -> usize
     ensures { λ r. ⌜ Laid quoted (number n) at (now (out .entry)) r (now (out .exit)) ⌝ }
 {

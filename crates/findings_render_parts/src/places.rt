@@ -69,6 +69,7 @@ pub fn line_start(s: &[u8], at: usize) -> usize
     0
 }
 
+// The line of a place.
 pub fn line_number(s: &[u8], at: usize) -> usize
     requires { ⌜ IsPlace (now s) at ⌝ }
     ensures { λ r. ⌜ r ≡ lineNumber (now (s .entry)) at ⌝ }
@@ -76,6 +77,7 @@ pub fn line_number(s: &[u8], at: usize) -> usize
     1 + count(s, 0, at, NEWLINE, NEWLINE)
 }
 
+// The column of a place.
 pub fn column_number(s: &[u8], at: usize) -> usize
     requires { ⌜ IsPlace (now s) at ⌝ }
     ensures { λ r. ⌜ r ≡ columnNumber (now (s .entry)) at ⌝ }

@@ -92,6 +92,7 @@ pub fn lone_length(there: bool, b: u8) -> usize
     0
 }
 
+// One byte, if it is there.
 pub fn put_lone(there: bool, b: u8, out: &mut [u8]) -> usize
     requires { ⌜ length (lone there b) ≤ length (now out) ⌝ }
     ensures { λ r. ⌜ (r ≡ length (lone there b)) × (now (out .exit) ≡ written (lone there b) (now (out .entry))) ⌝ }

@@ -30,6 +30,7 @@ fn between(start: usize, end: usize) -> Text
     Text::Source(start + QUOTE, end - QUOTE)
 }
 
+// Where the text of a string lies, and how long it is.
 pub fn string_text(start: usize, end: usize, raw: &[u8]) -> Text
     requires { ⌜ (0 < length (now raw)) × (start < end) ⌝ }
     ensures { λ r. ⌜ r ≡ sizedText (stringText start end (now (raw .entry))) ⌝ }
@@ -40,6 +41,7 @@ pub fn string_text(start: usize, end: usize, raw: &[u8]) -> Text
     between(start, end)
 }
 
+// The same of an identifier in vertical lines.
 pub fn lined_text(start: usize, end: usize, raw: &[u8]) -> Text
     requires { ⌜ (0 < length (now raw)) × (start < end) ⌝ }
     ensures { λ r. ⌜ r ≡ sizedText (linedText start end (now (raw .entry))) ⌝ }

@@ -72,6 +72,7 @@ fn slot_of(h: u64) -> usize
     (h / HASHES_A_SLOT) as usize
 }
 
+// The part of a hash that a slot keeps.
 pub fn tag_of(h: u64) -> usize
     ensures { λ r. ⌜ r ≡ h % hashesASlot ⌝ }
 {
