@@ -1,5 +1,6 @@
 // Items that one look tells: a bracket, a quote mark, and a word, a number, a string or a comment that the next bytes show to be no more
-// than that. Any other is for `next_item`, which reads them all.
+// than that. Any other is for `next_item`, which reads them all. The text is good UTF-8, so that in quotes and in comments no character is
+// looked at but what may end them.
 use crate::reading::past_blanks;
 use escapes::has_escape;
 use items::kinds;
@@ -18,7 +19,9 @@ use telling::tell_word;
 ghost use mathlib.Core.Path.{_≡_};
 ghost use mathlib.Core.Bool.{Bool, true};
 ghost use Prim.Native.Nat.{_+_, _≤_, _<_};
-ghost use lib.ListN.{length};
+ghost use lib.ListN.{length, drop};
+ghost use Rattle.chars.specs.Utf8.{firstBad};
+ghost use Rattle.chars.specs.declared.Utf8.the-variants.{Good};
 ghost use Rattle.items.specs.Classes.{inHash, stopsHash};
 ghost use Rattle.items.specs.Whole.{limit};
 ghost use Rattle.items.specs.declared.Phase.the-variants.{InWord, InRun, InLine, Quoted};
@@ -67,7 +70,7 @@ fn quick_run(source: &[u8], report: bool, at: usize) -> Quick
 
 // A string that starts at a place.
 fn quick_string(source: &[u8], at: usize) -> Quick
-    requires { ⌜ (length (now source) ≤ limit) × Begins (now source) at (Quoted Double) ⌝ }
+    requires { ⌜ (length (now source) ≤ limit) × Begins (now source) at (Quoted Double) × (firstBad (drop (at + 1) (now source)) ≡ Good) ⌝ }
     ensures { λ r. ⌜ ((report skip : Bool) → GlanceAt (now (source .entry)) report skip at r) ⌝ }
 {
     match string_ending(source, at + 1) {
@@ -78,7 +81,7 @@ fn quick_string(source: &[u8], at: usize) -> Quick
 
 // A comment to the end of its line that starts at a place, where comments are kept.
 fn quick_line(source: &[u8], skip: bool, at: usize) -> Quick
-    requires { ⌜ (length (now source) ≤ limit) × Begins (now source) at InLine ⌝ }
+    requires { ⌜ (length (now source) ≤ limit) × Begins (now source) at InLine × (firstBad (drop (at + 1) (now source)) ≡ Good) ⌝ }
     ensures { λ r. ⌜ ((report : Bool) → GlanceAt (now (source .entry)) report skip at r) ⌝ }
 {
     if skip {
@@ -137,7 +140,7 @@ fn quick_hash(source: &[u8], at: usize) -> Quick
 
 // The item that starts at a place, by its first byte.
 pub fn quick_at(source: &[u8], report: bool, skip: bool, at: usize) -> Quick
-    requires { ⌜ (length (now source) ≤ limit) × (at < length (now source)) ⌝ }
+    requires { ⌜ (length (now source) ≤ limit) × (at < length (now source)) × (firstBad (now source) ≡ Good) ⌝ }
     ensures { λ r. ⌜ GlanceAt (now (source .entry)) report skip at r ⌝ }
 {
     match source[at] {
@@ -160,7 +163,7 @@ pub fn quick_at(source: &[u8], report: bool, skip: bool, at: usize) -> Quick
 
 // The end of a string that starts at a place, if it has no escape.
 fn skim_string(source: &[u8], at: usize) -> Ending
-    requires { ⌜ (length (now source) ≤ limit) × Begins (now source) at (Quoted Double) ⌝ }
+    requires { ⌜ (length (now source) ≤ limit) × Begins (now source) at (Quoted Double) × (firstBad (drop (at + 1) (now source)) ≡ Good) ⌝ }
     ensures { λ r. ⌜ ((report skip : Bool) → SkimAt (now (source .entry)) report skip at r) ⌝ }
 {
     match string_ending(source, at + 1) {
@@ -176,7 +179,7 @@ fn skim_string(source: &[u8], at: usize) -> Ending
 
 // The end of a comment to the end of its line that starts at a place, where comments are kept.
 fn skim_line(source: &[u8], skip: bool, at: usize) -> Ending
-    requires { ⌜ (length (now source) ≤ limit) × Begins (now source) at InLine ⌝ }
+    requires { ⌜ (length (now source) ≤ limit) × Begins (now source) at InLine × (firstBad (drop (at + 1) (now source)) ≡ Good) ⌝ }
     ensures { λ r. ⌜ ((report : Bool) → SkimAt (now (source .entry)) report skip at r) ⌝ }
 {
     if skip {
@@ -199,7 +202,7 @@ fn skim_hash(source: &[u8], at: usize) -> Ending
 
 // The end of the item that starts at a place, by its first byte: what it means is not asked for.
 fn skim_at(source: &[u8], report: bool, skip: bool, at: usize) -> Ending
-    requires { ⌜ (length (now source) ≤ limit) × (at < length (now source)) ⌝ }
+    requires { ⌜ (length (now source) ≤ limit) × (at < length (now source)) × (firstBad (now source) ≡ Good) ⌝ }
     ensures { λ r. ⌜ SkimAt (now (source .entry)) report skip at r ⌝ }
 {
     let next = at + 1;
@@ -223,7 +226,7 @@ fn skim_at(source: &[u8], report: bool, skip: bool, at: usize) -> Ending
 
 // The end of the next item from a place on, where one look tells and it has no decoded text.
 pub fn skim_item(source: &[u8], report: bool, skip: bool, from: usize) -> Ending
-    requires { ⌜ length (now source) ≤ limit ⌝ }
+    requires { ⌜ (length (now source) ≤ limit) × (firstBad (now source) ≡ Good) ⌝ }
     ensures { λ r. ⌜ SkimFrom (now (source .entry)) report skip from r ⌝ }
 {
     let at = past_blanks(source, from);

@@ -30,6 +30,8 @@ ghost use mathlib.Core.Path.{_≡_};
 ghost use Prim.Native.Nat.{_*_, _/_, _^_, _≤_, _<_};
 ghost use lib.ListN.{length};
 ghost use Rattle.laws.specs.Lent.{written};
+ghost use Rattle.chars.specs.Utf8.{firstBad};
+ghost use Rattle.chars.specs.declared.Utf8.the-variants.{Good};
 ghost use Rattle.items.specs.Items.{range, records, recordWords, texts};
 ghost use Rattle.items.specs.Whole.{call, deliver, limit, readOf};
 ghost use Rattle.meaning.specs.Places.{rangeOf};
@@ -74,9 +76,9 @@ pub fn put_text(source: &[u8], r: Nine, free: &mut [u8])
     }
 }
 
-// The items from a spot on, and the bytes of their decoded texts.
+// The items from a spot on of a good text, and the bytes of their decoded texts.
 pub fn count(source: &[u8], spot: Spot) -> Needed
-    requires { ⌜ length (now source) ≤ limit ⌝ }
+    requires { ⌜ (length (now source) ≤ limit) × (firstBad (now source) ≡ Good) ⌝ }
     ensures { λ r. ⌜ r ≡ neededOf (allItems (now (source .entry)) spot) ⌝ }
 {
     let mut p = spot;
@@ -128,7 +130,7 @@ fn record_at(m: Means, start: usize, end: usize, free: usize, depth: u32) -> Rec
 // Writes the records of the items from a spot on, from a word of the records on, as far as one look tells each: none has a decoded text. Where
 // it stops there is no blank of ASCII.
 fn put_told(source: &[u8], p: Spot, recs: &mut [u32], free: usize, from: usize, deep: u32) -> Wrote
-    requires { ⌜ (length (now source) ≤ limit) × Amid (now source) p (now recs) free deep from ⌝ }
+    requires { ⌜ (length (now source) ≤ limit) × Amid (now source) p (now recs) free deep from × (firstBad (now source) ≡ Good) ⌝ }
     ensures { λ r. ⌜ Onward (now (source .entry)) p (now (recs .entry)) free deep from (toldTo p (r .at) from (r .words)) (now (recs .exit)) (r .depth) (r .words) ⌝ }
 {
     let mut depth = deep;
@@ -183,9 +185,9 @@ fn taken(words: usize, bytes: usize) -> Needed
     }
 }
 
-// Writes the records of the items from a spot on, and their decoded texts; answers how many records and bytes those are.
+// Writes the records of the items from a spot on of a good text, and their decoded texts; answers how many records and bytes those are.
 pub fn write(source: &[u8], spot: Spot, recs: &mut [u32], text: &mut [u8]) -> Needed
-    requires { ⌜ length (now source) ≤ limit ⌝ }
+    requires { ⌜ (length (now source) ≤ limit) × (firstBad (now source) ≡ Good) ⌝ }
     requires { ⌜ recordWords * length (allItems (now source) spot) ≤ length (now recs) ⌝ }
     requires { ⌜ length (texts (allItems (now source) spot)) ≤ length (now text) ⌝ }
     ensures { λ r. ⌜ r ≡ neededOf (allItems (now (source .entry)) spot) ⌝ }
@@ -226,7 +228,7 @@ pub fn write(source: &[u8], spot: Spot, recs: &mut [u32], text: &mut [u8]) -> Ne
 
 // The items from a spot on into lent memory, if they fit: they are counted first.
 fn deliver_counted(source: &[u8], spot: Spot, recs: &mut [u32], text: &mut [u8]) -> ReadAnswer
-    requires { ⌜ length (now source) ≤ limit ⌝ }
+    requires { ⌜ (length (now source) ≤ limit) × (firstBad (now source) ≡ Good) ⌝ }
     ensures { λ r. ⌜ call (answerOf r) (now (recs .exit)) (now (text .exit)) ≡ deliver (allItems (now (source .entry)) spot) (now (recs .entry)) (now (text .entry)) ⌝ }
 {
     let needed = count(source, spot);
@@ -245,7 +247,7 @@ fn deliver_counted(source: &[u8], spot: Spot, recs: &mut [u32], text: &mut [u8])
 // The items from a spot on into lent memory, if they fit. Where there is a record and a byte of text memory for each byte of the
 // source they do, and nothing is counted.
 fn deliver(source: &[u8], spot: Spot, recs: &mut [u32], text: &mut [u8]) -> ReadAnswer
-    requires { ⌜ (length (now source) ≤ limit) × Few (now source) (allItems (now source) spot) ⌝ }
+    requires { ⌜ (length (now source) ≤ limit) × Few (now source) (allItems (now source) spot) × (firstBad (now source) ≡ Good) ⌝ }
     ensures { λ r. ⌜ call (answerOf r) (now (recs .exit)) (now (text .exit)) ≡ deliver (allItems (now (source .entry)) spot) (now (recs .entry)) (now (text .entry)) ⌝ }
 {
     if recs.len() / WORDS < source.len() {

@@ -36,10 +36,13 @@ span-fails f (c ∷ t) h = by-bool (f c)
     (λ e. let k : suc (suc (span f t)) ≤ suc (length t) = rw e at h in rw e (span-fails f t (omega arith)))
     (λ e. rw e e)
 
+pub run-fails : (f : ℕ → Bool) (s : List ℕ) (from e : ℕ) → e ≡ from + span f (drop from s) → e < length s → f (getD s e 0) ≡ false
+run-fails f s from e ends h =
+    let n : span f (drop from s) < length (drop from s) = omega (arith, length-drop from s) in
+    rw ends (rw (← (getD-drop from s (span f (drop from s)) 0)) (span-fails f (drop from s) n))
+
 pub not-kept : (s : List ℕ) (from : ℕ) (p : Phase) (e : ℕ) → e ≡ from + span (keeps p) (drop from s) → e < length s → keeps p (getD s e 0) ≡ false
-not-kept s from p e ends h =
-    let n : span (keeps p) (drop from s) < length (drop from s) = omega (arith, length-drop from s) in
-    rw ends (rw (← (getD-drop from s (span (keeps p) (drop from s)) 0)) (span-fails (keeps p) (drop from s) n))
+not-kept s from p e = run-fails (keeps p) s from e
 
 -- ---- an item that is passed up to the place e
 

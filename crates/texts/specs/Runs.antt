@@ -8,9 +8,13 @@ use Rattle.laws.specs.Quoted.{within}
 abbrev pub other : ℕ → ℕ → Bool
 other b c = not (eqb c b)
 
--- an ASCII character that is neither a nor b
+-- a byte that is neither a nor b
+abbrev pub apart : ℕ → ℕ → ℕ → Bool
+apart a b c = not (eqb c a) && not (eqb c b)
+
+-- the same, of ASCII
 abbrev pub plain : ℕ → ℕ → ℕ → Bool
-plain a b c = ltb c 0x80 && (not (eqb c a) && not (eqb c b))
+plain a b c = ltb c 0x80 && apart a b c
 
 -- the blanks of ASCII: tab, the newlines and space
 abbrev pub blank : ℕ → Bool

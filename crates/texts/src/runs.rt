@@ -28,7 +28,7 @@ pub(crate) fn both(x: bool, y: bool) -> bool
 }
 
 // Whether a text has a block at a place.
-fn has_block(t: &[u8], at: usize) -> bool
+pub(crate) fn has_block(t: &[u8], at: usize) -> bool
     ensures { λ r. ⌜ r ≡ leb (at + block) (length (now (t .entry))) ⌝ }
 {
     if t.len() < BLOCK {

@@ -7,6 +7,7 @@ use denote.Ref.{now}
 use lib.ListN.{getD}
 use Rattle.laws.specs.Quoted.{code}
 use Rattle.chars.specs.Blank.{isBlank}
+use Rattle.chars.proofs.Cuts.{good-past}
 use Rattle.items.specs.Kinds as kind
 use Rattle.items.specs.Classes.{startsRun, firstOf}
 use Rattle.items.specs.declared.Phase.the-variants as ph
@@ -46,12 +47,21 @@ shared-slice-read-match c = search needs
 
 skim-string-requires : tie.Need-skim-string-requires
 unfolding firstOf startsRun isBlank
-skim-string-requires c κs = let a = c .before .before .before in
-    (a .pre .0, begins (now (a .args .source)) (a .args .at) (code "\"") (ph.Quoted Double) (a .pre .1) (c .match .keys9) (omega arith) refl refl)
+skim-string-requires c κs =
+    let a = c .before .before .before in (
+      a .pre .0,
+      begins (now (a .args .source)) (a .args .at) (code "\"") (ph.Quoted Double) (a .pre .1) (c .match .keys9) (omega arith) refl refl,
+      good-past (now (a .args .source)) (a .args .at) (a .pre .2) (a .pre .1) (omega (arith, c .match .keys9)),
+    )
 
 skim-line-requires : tie.Need-skim-line-requires
 unfolding firstOf startsRun isBlank
-skim-line-requires c κs = let a = c .before .before .before in (a .pre .0, begins (now (a .args .source)) (a .args .at) (code ";") ph.InLine (a .pre .1) (c .match .keys10) (omega arith) refl refl)
+skim-line-requires c κs =
+    let a = c .before .before .before in (
+      a .pre .0,
+      begins (now (a .args .source)) (a .args .at) (code ";") ph.InLine (a .pre .1) (c .match .keys10) (omega arith) refl refl,
+      good-past (now (a .args .source)) (a .args .at) (a .pre .2) (a .pre .1) (omega (arith, c .match .keys10)),
+    )
 
 skim-hash-requires : tie.Need-skim-hash-requires
 skim-hash-requires c κs = let a = c .before .before .before in (a .pre .0, record { some = a .pre .1; sharp = c .match .keys11 })

@@ -14,7 +14,7 @@ add-line-ending : tie.Need-add-line-ending
 add-line-ending c = let a = c .before .before in omega (arith, a .pre .0, begins-inside (now (a .args .source)) (a .args .at) ph.InLine (a .pre .1))
 
 line-ending-requires : tie.Need-line-ending-requires
-line-ending-requires c κs = let a = c .before .before in omega (arith, begins-inside (now (a .args .source)) (a .args .at) ph.InLine (a .pre .1))
+line-ending-requires c κs = let a = c .before .before in (omega (arith, begins-inside (now (a .args .source)) (a .args .at) ph.InLine (a .pre .1)), a .pre .2)
 
 returns-2 : tie.Need-returns-2
 returns-2 c report =

@@ -79,7 +79,7 @@ loop-holds c =
     )
 
 quick-at-requires : tie.Need-quick-at-requires Inv-loop μ-loop
-quick-at-requires c κs = (c .before .before .before .before .before .pre .0, c .loop-test .taken)
+quick-at-requires c κs = let entry = c .before .before .before .before .before in (entry .pre .0, c .loop-test .taken, entry .pre .2)
 
 enum-known-m : tie.Need-enum-known-m Inv-loop μ-loop
 enum-known-m c = search needs

@@ -73,7 +73,7 @@ loop-holds c =
 put-told-requires : tie.Need-put-told-requires Inv-loop μ-loop
 put-told-requires c κs =
     let entry = c .before .before .before .before .before in (
-      entry .pre .0,
+      entry .pre .0 .0,
       record {
         start = entry .args .spot;
         recs₀ = now (entry .args .recs);
@@ -82,6 +82,7 @@ put-told-requires c κs =
         roomy = record { rows = entry .pre .1 .0; bytes = entry .pre .1 .1 };
         writing = c .before .loop .inv;
       },
+      entry .pre .0 .1,
     )
 
 taken-requires : tie.Need-taken-requires Inv-loop μ-loop
@@ -112,7 +113,7 @@ spot-past-requires : tie.Need-spot-past-requires Inv-loop μ-loop
 spot-past-requires c κs = search needs
 
 next-item-requires : tie.Need-next-item-requires Inv-loop μ-loop
-next-item-requires c κs = (c .before .before .before .before .before .before .before .before .before .before .before .pre .0, stood c .going .behind)
+next-item-requires c κs = (c .before .before .before .before .before .before .before .before .before .before .before .pre .0 .0, stood c .going .behind)
 
 enum-known-r : tie.Need-enum-known-r Inv-loop μ-loop
 enum-known-r c = search needs
