@@ -10,6 +10,7 @@ use borrow.Author.Tests.{lt-ltb, ne-eqb}
 use Rattle.laws.specs.Quoted.{code}
 use Rattle.laws.specs.Texts.{span}
 use Rattle.laws.proofs.Choice.{by-bool}
+use Rattle.chars.specs.Blank.{isBlank}
 use Rattle.chars.proofs.Chars.{char-at}
 use Rattle.items.specs.declared.Outcome.{Outcome}
 use Rattle.items.specs.declared.Outcome.the-variants.{Word, Run, Str}
@@ -91,6 +92,11 @@ word-stops report c h n e i = by-bool (breaksWord c)
 run-stops : (report : Bool) (c : ℕ) → c < 0x80 → endsRun report c ≡ true → ofRun c ≡ false → (i : SoFar) → stepOf report ph.InRun i c ≡ Stop Run
 unfolding inRun
 run-stops report c h f e i = let z : staysRun c ≡ false = rw (lt-ltb c 0x80 h) at e in rw (z, f)
+
+-- a space ends a run
+pub space-ends : (report : Bool) → endsRun report (code " ") ≡ true
+unfolding endsRun isBlank
+space-ends report = refl
 
 -- ---- a word, a number run, a string and a comment
 

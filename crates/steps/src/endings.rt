@@ -57,7 +57,7 @@ pub fn word_ending(s: &[u8], from: usize) -> Ending
     Ending::At(end)
 }
 
-// The end of a number run that stands at a place.
+// The end of a number run that stands at a place. Most end before a space.
 pub fn run_ending(s: &[u8], report: bool, from: usize) -> Ending
     requires { ⌜ from ≤ length (now s) ⌝ }
     ensures { λ r. ⌜ EndsAs (now (s .entry)) report InRun Run from r ⌝ }
@@ -67,6 +67,9 @@ pub fn run_ending(s: &[u8], report: bool, from: usize) -> Ending
         return Ending::At(end);
     }
     let b = s[end];
+    if b == b' ' {
+        return Ending::At(end);
+    }
     if ASCII_END <= b {
         return Ending::Unknown;
     }
