@@ -2,6 +2,7 @@
 // than that. Any other is for `next_item`, which reads them all. The text is good UTF-8, so that in quotes and in comments no character is
 // looked at but what may end them.
 use crate::reading::past_blanks;
+use chars::letter_at;
 use escapes::has_escape;
 use items::kinds;
 use meaning::Means;
@@ -19,7 +20,7 @@ use telling::tell_word;
 ghost use mathlib.Core.Path.{_≡_};
 ghost use mathlib.Core.Bool.{Bool, true};
 ghost use Prim.Native.Nat.{_+_, _≤_, _<_};
-ghost use lib.ListN.{length, drop};
+ghost use lib.ListN.{length, getD, drop};
 ghost use Rattle.chars.specs.Utf8.{firstBad};
 ghost use Rattle.chars.specs.declared.Utf8.the-variants.{Good};
 ghost use Rattle.items.specs.Classes.{inHash, stopsHash};
@@ -29,7 +30,13 @@ ghost use Rattle.items.specs.declared.Quotes.the-variants.{Double};
 ghost use Rattle.meaning.specs.Meant.{means};
 ghost use Rattle.meaning.specs.declared.Text.the-variants.{Nowhere};
 ghost use Rattle.telling.specs.declared.Quick.the-variants.{Bracket};
-ghost use Rattle.lexer.specs.Glance.{Begins, Sharp, Spells, GlanceAt, SkimAt, SkimFrom};
+ghost use Rattle.lexer.specs.Glance.{Begins, Rare, Worded, WordedTo, Sharp, Spells, GlanceAt, SkimAt, SkimFrom};
+
+// Below it a byte is a character of ASCII.
+const ASCII_END: u8 = 0x80;
+
+// From it on bytes begin characters past ASCII; so does C2, but that begins blanks.
+const WIDE_FIRST: u8 = 0xC3;
 
 // How many bytes a boolean of one letter is.
 const BOOLEAN: usize = 2;
@@ -48,7 +55,7 @@ fn bracket(kind: u32, detail: u32, at: usize, end: usize) -> Quick
 
 // A word that starts at a place.
 fn quick_word(source: &[u8], at: usize) -> Quick
-    requires { ⌜ (length (now source) ≤ limit) × Begins (now source) at InWord ⌝ }
+    requires { ⌜ (length (now source) ≤ limit) × Begins (now source) at (at + 1) InWord ⌝ }
     ensures { λ r. ⌜ ((report skip : Bool) → GlanceAt (now (source .entry)) report skip at r) ⌝ }
 {
     match word_ending(source, at + 1) {
@@ -59,7 +66,7 @@ fn quick_word(source: &[u8], at: usize) -> Quick
 
 // A number run that starts at a place.
 fn quick_run(source: &[u8], report: bool, at: usize) -> Quick
-    requires { ⌜ (length (now source) ≤ limit) × Begins (now source) at InRun ⌝ }
+    requires { ⌜ (length (now source) ≤ limit) × Begins (now source) at (at + 1) InRun ⌝ }
     ensures { λ r. ⌜ ((skip : Bool) → GlanceAt (now (source .entry)) report skip at r) ⌝ }
 {
     match run_ending(source, report, at + 1) {
@@ -70,7 +77,7 @@ fn quick_run(source: &[u8], report: bool, at: usize) -> Quick
 
 // A string that starts at a place.
 fn quick_string(source: &[u8], at: usize) -> Quick
-    requires { ⌜ (length (now source) ≤ limit) × Begins (now source) at (Quoted Double) × (firstBad (drop (at + 1) (now source)) ≡ Good) ⌝ }
+    requires { ⌜ (length (now source) ≤ limit) × Begins (now source) at (at + 1) (Quoted Double) × (firstBad (drop (at + 1) (now source)) ≡ Good) ⌝ }
     ensures { λ r. ⌜ ((report skip : Bool) → GlanceAt (now (source .entry)) report skip at r) ⌝ }
 {
     match string_ending(source, at + 1) {
@@ -81,7 +88,7 @@ fn quick_string(source: &[u8], at: usize) -> Quick
 
 // A comment to the end of its line that starts at a place, where comments are kept.
 fn quick_line(source: &[u8], skip: bool, at: usize) -> Quick
-    requires { ⌜ (length (now source) ≤ limit) × Begins (now source) at InLine × (firstBad (drop (at + 1) (now source)) ≡ Good) ⌝ }
+    requires { ⌜ (length (now source) ≤ limit) × Begins (now source) at (at + 1) InLine × (firstBad (drop (at + 1) (now source)) ≡ Good) ⌝ }
     ensures { λ r. ⌜ ((report : Bool) → GlanceAt (now (source .entry)) report skip at r) ⌝ }
 {
     if skip {
@@ -161,9 +168,60 @@ pub fn quick_at(source: &[u8], report: bool, skip: bool, at: usize) -> Quick
     }
 }
 
+// Whether a byte may begin a word of those that are told after all others: a capital letter, one of < = > ? @ before them, or the first byte
+// of a character past ASCII.
+fn begins_rare(b: u8) -> bool
+    ensures { λ r. ⌜ (r ≡ true → Rare b) ⌝ }
+{
+    if b < b'<' {
+        return false;
+    }
+    if b <= b'Z' {
+        return true;
+    }
+    WIDE_FIRST <= b
+}
+
+// Where the first character of such a word ends; the place itself where it may be a blank.
+fn rare_start(source: &[u8], at: usize) -> usize
+    requires { ⌜ (length (now source) ≤ limit) × (at < length (now source)) × Rare (getD (now source) at 0) ⌝ }
+    ensures { λ r. ⌜ (at < r → Worded (now (source .entry)) at r) ⌝ }
+{
+    if source[at] < ASCII_END {
+        return at + 1;
+    }
+    at + letter_at(source, at)
+}
+
+// The end of such a word.
+fn rare_ending(source: &[u8], at: usize) -> Ending
+    requires { ⌜ (length (now source) ≤ limit) × (at < length (now source)) ⌝ }
+    ensures { λ r. ⌜ WordedTo (now (source .entry)) at r ⌝ }
+{
+    if !begins_rare(source[at]) {
+        return Ending::Unknown;
+    }
+    let next = rare_start(source, at);
+    if next <= at {
+        return Ending::Unknown;
+    }
+    word_ending(source, next)
+}
+
+// Such a word. It is asked for where `quick_at` tells nothing: were it an arm there, the compiler would make slower code of all arms.
+pub fn quick_rare(source: &[u8], at: usize) -> Quick
+    requires { ⌜ (length (now source) ≤ limit) × (at < length (now source)) ⌝ }
+    ensures { λ r. ⌜ ((report skip : Bool) → GlanceAt (now (source .entry)) report skip at r) ⌝ }
+{
+    match rare_ending(source, at) {
+        Ending::At(end) => tell_word(at, end, &source[at..end]),
+        Ending::Unknown => Quick::Other,
+    }
+}
+
 // The end of a string that starts at a place, if it has no escape.
 fn skim_string(source: &[u8], at: usize) -> Ending
-    requires { ⌜ (length (now source) ≤ limit) × Begins (now source) at (Quoted Double) × (firstBad (drop (at + 1) (now source)) ≡ Good) ⌝ }
+    requires { ⌜ (length (now source) ≤ limit) × Begins (now source) at (at + 1) (Quoted Double) × (firstBad (drop (at + 1) (now source)) ≡ Good) ⌝ }
     ensures { λ r. ⌜ ((report skip : Bool) → SkimAt (now (source .entry)) report skip at r) ⌝ }
 {
     match string_ending(source, at + 1) {
@@ -179,7 +237,7 @@ fn skim_string(source: &[u8], at: usize) -> Ending
 
 // The end of a comment to the end of its line that starts at a place, where comments are kept.
 fn skim_line(source: &[u8], skip: bool, at: usize) -> Ending
-    requires { ⌜ (length (now source) ≤ limit) × Begins (now source) at InLine × (firstBad (drop (at + 1) (now source)) ≡ Good) ⌝ }
+    requires { ⌜ (length (now source) ≤ limit) × Begins (now source) at (at + 1) InLine × (firstBad (drop (at + 1) (now source)) ≡ Good) ⌝ }
     ensures { λ r. ⌜ ((report : Bool) → SkimAt (now (source .entry)) report skip at r) ⌝ }
 {
     if skip {
@@ -220,7 +278,7 @@ fn skim_at(source: &[u8], report: bool, skip: bool, at: usize) -> Ending
         b'"' => skim_string(source, at),
         b';' => skim_line(source, skip, at),
         b'#' => skim_hash(source, at),
-        _ => Ending::Unknown,
+        _ => rare_ending(source, at),
     }
 }
 

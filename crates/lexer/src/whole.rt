@@ -6,6 +6,7 @@ use crate::ReadAnswer;
 use crate::Spot;
 use crate::Wrote;
 use crate::glance::quick_at;
+use crate::glance::quick_rare;
 use crate::glance::skim_item;
 use crate::opening::OUTSIDE;
 use crate::opening::open;
@@ -39,7 +40,7 @@ ghost use Rattle.meaning.specs.Records.{nineFor, TextFits};
 ghost use Rattle.lexer.specs.Reading.{allItems};
 ghost use Rattle.lexer.specs.Answers.{answerOf};
 ghost use Rattle.lexer.specs.Inner.{neededOf, quotesOf, bytesFor, freeAfter, deepAt, Few};
-ghost use Rattle.lexer.specs.Writing.{Amid, Onward, toldTo};
+ghost use Rattle.lexer.specs.Writing.{Amid, ToldOn, toldTo};
 
 // How many bytes a quote is.
 const QUOTE: usize = 1;
@@ -131,7 +132,7 @@ fn record_at(m: Means, start: usize, end: usize, free: usize, depth: u32) -> Rec
 // it stops there is no blank of ASCII.
 fn put_told(source: &[u8], p: Spot, recs: &mut [u32], free: usize, from: usize, deep: u32) -> Wrote
     requires { ⌜ (length (now source) ≤ limit) × Amid (now source) p (now recs) free deep from × (firstBad (now source) ≡ Good) ⌝ }
-    ensures { λ r. ⌜ Onward (now (source .entry)) p (now (recs .entry)) free deep from (toldTo p (r .at) from (r .words)) (now (recs .exit)) (r .depth) (r .words) ⌝ }
+    ensures { λ r. ⌜ ToldOn (now (source .entry)) p (now (recs .entry)) free deep from (r .at) (now (recs .exit)) (r .depth) (r .words) ⌝ }
 {
     let mut depth = deep;
     let mut w = from;
@@ -175,6 +176,69 @@ fn spot_past(p: Spot, told: Wrote, from: usize) -> Spot
     stand(p, told.at, false)
 }
 
+// The same for words that `quick_rare` tells, from a spot before which no blank of ASCII is left.
+fn put_rare(source: &[u8], p: Spot, recs: &mut [u32], free: usize, from: usize, deep: u32) -> Wrote
+    requires { ⌜ (length (now source) ≤ limit) × Amid (now source) p (now recs) free deep from ⌝ }
+    ensures { λ r. ⌜ ToldOn (now (source .entry)) p (now (recs .entry)) free deep from (r .at) (now (recs .exit)) (r .depth) (r .words) ⌝ }
+{
+    let mut w = from;
+    let mut at = p.at;
+    while at < source.len() {
+        match quick_rare(source, at) {
+            Quick::Item(m, start, end) => {
+                put(&mut recs[w..], record_at(m, start, end, free, deep));
+                w += WORDS;
+                at = past_blanks(source, end);
+            }
+            _ => {
+                return Wrote {
+                    at: at,
+                    words: w,
+                    depth: deep,
+                };
+            }
+        }
+    }
+    Wrote {
+        at: at,
+        words: w,
+        depth: deep,
+    }
+}
+
+// The same for both, in turn.
+fn put_known(source: &[u8], p: Spot, recs: &mut [u32], free: usize, from: usize, deep: u32) -> Wrote
+    requires { ⌜ (length (now source) ≤ limit) × Amid (now source) p (now recs) free deep from × (firstBad (now source) ≡ Good) ⌝ }
+    ensures { λ r. ⌜ ToldOn (now (source .entry)) p (now (recs .entry)) free deep from (r .at) (now (recs .exit)) (r .depth) (r .words) ⌝ }
+{
+    let mut got = Wrote {
+        at: p.at,
+        words: from,
+        depth: deep,
+    };
+    loop {
+        let told = put_told(
+            source,
+            spot_past(p, got, from),
+            recs,
+            free,
+            got.words,
+            got.depth,
+        );
+        got = put_rare(
+            source,
+            spot_past(p, told, from),
+            recs,
+            free,
+            told.words,
+            told.depth,
+        );
+        if got.words == told.words {
+            return got;
+        }
+    }
+}
+
 // What so many words of records and bytes of text are.
 fn taken(words: usize, bytes: usize) -> Needed
     ensures { λ r. ⌜ r ≡ record { items = words / recordWords; text = bytes } ⌝ }
@@ -199,7 +263,7 @@ pub fn write(source: &[u8], spot: Spot, recs: &mut [u32], text: &mut [u8]) -> Ne
     let mut depth: u32 = OUTSIDE;
     let mut w: usize = 0;
     loop {
-        let told = put_told(source, p, recs, free, w, depth);
+        let told = put_known(source, p, recs, free, w, depth);
         if source.len() <= told.at {
             return taken(told.words, free);
         }
