@@ -176,7 +176,7 @@ fn spot_past(p: Spot, told: Wrote, from: usize) -> Spot
     stand(p, told.at, false)
 }
 
-// The same for words that `quick_rare` tells, from a spot before which no blank of ASCII is left.
+// As `put_told`, for the words that `quick_rare` tells.
 fn put_rare(source: &[u8], p: Spot, recs: &mut [u32], free: usize, from: usize, deep: u32) -> Wrote
     requires { ⌜ (length (now source) ≤ limit) × Amid (now source) p (now recs) free deep from ⌝ }
     ensures { λ r. ⌜ ToldOn (now (source .entry)) p (now (recs .entry)) free deep from (r .at) (now (recs .exit)) (r .depth) (r .words) ⌝ }
@@ -206,7 +206,7 @@ fn put_rare(source: &[u8], p: Spot, recs: &mut [u32], free: usize, from: usize, 
     }
 }
 
-// The same for both, in turn.
+// As `put_told`, for all that one of the two looks tells.
 fn put_known(source: &[u8], p: Spot, recs: &mut [u32], free: usize, from: usize, deep: u32) -> Wrote
     requires { ⌜ (length (now source) ≤ limit) × Amid (now source) p (now recs) free deep from × (firstBad (now source) ≡ Good) ⌝ }
     ensures { λ r. ⌜ ToldOn (now (source .entry)) p (now (recs .entry)) free deep from (r .at) (now (recs .exit)) (r .depth) (r .words) ⌝ }

@@ -1,5 +1,4 @@
 -- Too few records, too little text memory, or all is written: the cases of the definition, whose counts are those of the counting pass.
-use native.Mathlib.Omega.{arith}
 use denote.Ref.{now}
 use Rattle.lexer.specs.Reading.{allItems}
 use Rattle.lexer.proofs.Delivered.{few-records, little-text, room, delivered}
