@@ -21,7 +21,7 @@ use Rattle.flat.proofs.Left.{left-is, kept}
 use Rattle.flat.proofs.Held.{over}
 
 -- a state's words, one by one
-all-words : (l : List ℕ) → length l ≡ stateWords → l ≡ listed (wordsIn l)
+pub all-words : (l : List ℕ) → length l ≡ stateWords → l ≡ listed (wordsIn l)
 all-words l h = sym (kept l h) ∙ over (wordsIn l) l h
 
 module _ (l : List ℕ) (h : length l ≡ stateWords) (s : PieceSpot) (d : ℕ) where

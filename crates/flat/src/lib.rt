@@ -9,12 +9,17 @@ use meaning::records::WORDS;
 use meaning::records::put;
 use pieces::Got;
 use pieces::LONGEST;
+use pieces_last::Last;
+use pieces_last::end_quickly;
+use pieces_last::is_closing;
 use pieces_quick::Reached;
 use pieces_quick::is_served;
 use pieces_quick::plainly;
 use pieces_quick::quickly;
 use quick::put_spot;
+use quick::tell_finished;
 use quick::tell_item;
+use quick::tell_last;
 use quick::tell_more;
 use refusal::FINISHED;
 use refusal::ITEM;
@@ -32,9 +37,10 @@ ghost use Rattle.items.specs.Items.{recordWords};
 ghost use Rattle.pieces.specs.Calls.{textAfter};
 ghost use Rattle.pieces.specs.Expected.{longest};
 ghost use Rattle.piecewise.specs.Answers.{whatOf};
-ghost use Rattle.lent.specs.Calls.{lent, said, pieceFor};
+ghost use Rattle.lent.specs.Calls.{lent, said, pieceFor, endFor};
 ghost use Rattle.pieces_quick.specs.Words.{Ready};
 ghost use Rattle.pieces_quick.specs.Gives.{later};
+ghost use Rattle.pieces_last.specs.Ends.{Closing};
 ghost use Rattle.flat.specs.Piece.{listed, wordsIn, stateWords, isState, opened, startNumber, openLeft, left, gives, whatNumber, whatPlace, recordAfter, isRoom, pieceLeft, endLeft, memory};
 
 mod quick;
@@ -289,6 +295,46 @@ pub fn piece(
     read_plainly(buf, words, piece, 0, text, item, values)
 }
 
+// Declares the end of the text as the crate `lent` does.
+fn end_plainly(
+    buf: &mut [u8],
+    words: &mut [u64],
+    text: &mut [u8],
+    item: &mut [u32],
+    values: &mut [u64],
+) -> u32
+    requires { ⌜ (length (now words) ≡ stateWords) × (recordWords ≤ length (now item)) ⌝ }
+    ensures { λ r. ⌜ left r (memory (now (buf .exit)) (now (words .exit)) (now (text .exit)) (now (item .exit)) (now (values .exit)))
+        ≡ gives (memory (now (buf .entry)) (now (words .entry)) (now (text .entry)) (now (item .entry)) (now (values .entry)))
+        (endFor (lent (wordsIn (now (words .entry))) (now (buf .entry))) (length (now (text .entry)))) ⌝ }
+{
+    let told = end_words(words_in(words), buf, text);
+    tell(told, words, item, values)
+}
+
+// Declares the end of the text in a state whose end the quick path knows: what it tells goes straight to where it belongs. What it does not
+// tell the crate `lent` does.
+fn end_on(
+    state: Words,
+    buf: &mut [u8],
+    words: &mut [u64],
+    text: &mut [u8],
+    item: &mut [u32],
+    values: &mut [u64],
+) -> u32
+    requires { ⌜ (length (now words) ≡ stateWords) × (recordWords ≤ length (now item)) × (state ≡ wordsIn (now words))
+        × (length (now buf) ≡ longest) × (longest ≤ length (now text)) × Closing state ⌝ }
+    ensures { λ r. ⌜ left r (memory (now (buf .exit)) (now (words .exit)) (now (text .exit)) (now (item .exit)) (now (values .exit)))
+        ≡ gives (memory (now (buf .entry)) (now (words .entry)) (now (text .entry)) (now (item .entry)) (now (values .entry)))
+        (endFor (lent state (now (buf .entry))) (length (now (text .entry)))) ⌝ }
+{
+    match end_quickly(state, buf, text) {
+        Last::Given(depth, record) => tell_last(depth, record, words, item, values),
+        Last::Finished => tell_finished(words, values),
+        Last::Not => end_plainly(buf, words, text, item, values),
+    }
+}
+
 // Declares the end of the text: gives the next item, or says that all were given. It writes as a piece call does.
 pub fn end(
     buf: &mut [u8],
@@ -308,6 +354,9 @@ pub fn end(
         put_values(values, 0, 0);
         return OUT_OF_BOUNDS;
     }
-    let told = end_words(words_in(words), buf, text);
-    tell(told, words, item, values)
+    let state = words_in(words);
+    if is_closing(state, buf.len(), text.len()) {
+        return end_on(state, buf, words, text, item, values);
+    }
+    end_plainly(buf, words, text, item, values)
 }

@@ -26,8 +26,8 @@ ghost use Rattle.pieces_spots.specs.Spots.{Fits, Onward};
 ghost use Rattle.pieces_quick.specs.Words.{Ready};
 ghost use Rattle.pieces_quick.specs.Gives.{Reaches, Comes, Answers, Continues};
 
-mod finishing;
-mod ready;
+pub mod finishing;
+pub mod ready;
 
 // The record of an item, or nothing where it is not made here.
 pub enum Gift {
