@@ -1,6 +1,7 @@
 // Whether the words of a state are ones whose end is told here.
 use lent::Words;
 use lent::codes::IDLE;
+use lent::codes::NO;
 use lent::codes::OPENING;
 use lent::codes::POUND;
 use lent::codes::YES;
@@ -15,7 +16,7 @@ ghost use Prim.Native.Nat.{_≤_};
 ghost use Rattle.pieces.specs.Expected.{longest};
 ghost use Rattle.pieces_last.specs.Ends.{Stays, Closing};
 
-// The greatest of the numbers that say yes or no, or which mode it is.
+// The first number that is no mode.
 const MODES_END: u64 = 2;
 
 // Whether a state that holds no item is known here: at the start of the text, in a first line or between items.
@@ -41,7 +42,7 @@ fn is_known(w: Words) -> bool
     if YES < w.ended {
         return false;
     }
-    if !is_quiet(0, w.one, w.two, w.count, w.need, w.low, w.high, w.code) {
+    if !is_quiet(NO, w.one, w.two, w.count, w.need, w.low, w.high, w.code) {
         return false;
     }
     if MODES_END <= w.mode {
