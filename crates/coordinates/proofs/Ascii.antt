@@ -1,5 +1,5 @@
 -- A decimal is a text of ASCII, so it has no bad sequence: each production passes digits, a sign, a dot or a marker.
-use Prim.Native.Nat.{ℕ, _+_, _<_}
+use Prim.Native.Nat.{ℕ, suc, _+_, _<_}
 use mathlib.Core.Path.{_≡_, sym, _∙_}
 use mathlib.Core.Bool.{Bool, true}
 use mathlib.Core.List.{List, [], _∷_}
@@ -13,7 +13,7 @@ use Rattle.laws.specs.Texts.{span, starts}
 use Rattle.laws.proofs.Choice.{by-bool, if-all, if-is, within-is}
 use Rattle.laws.proofs.Places.{past}
 use Rattle.chars.specs.declared.Utf8.the-variants as utf8
-use Rattle.chars.specs.Utf8.{firstBad}
+use Rattle.chars.specs.Utf8.{ascii, firstBad}
 use Rattle.digits.specs.declared.Span.{Span}
 use Rattle.digits.specs.Digits.{digitOf, digits, sign, negative, uinteger, spanAt}
 use Rattle.digits.proofs.Digits.{decimal-digit}
@@ -27,6 +27,7 @@ use Rattle.numbers.specs.declared.MaybePoint.{MaybePoint}
 use Rattle.numbers.specs.declared.MaybePoint.the-variants.{APoint, NoPoint}
 use Rattle.numbers.specs.Reals.{exponentMarker, exponent, suffix, pointOf, dotted, undotted, decimal, pointIn, oneDecimal}
 use Rattle.numbers.proofs.Ascii.{Ascii, ascii-good}
+use Rattle.coordinates.specs.Values.{isWhole}
 
 -- P, where there is a suffix, a real, a decimal
 abbrev IfSuffix : Type 0 → Suffix → Type 0
@@ -162,3 +163,21 @@ one-decimal-ascii s =
 -- so a decimal is UTF-8
 pub decimal-good : (s : List ℕ) (d : Point) → oneDecimal s ≡ APoint d → firstBad s ≡ utf8.Good
 decimal-good s d e = ascii-good s (rw e at (one-decimal-ascii s))
+
+-- so has an integer none
+pub whole-good : (s : List ℕ) → isWhole s ≡ true → firstBad s ≡ utf8.Good
+unfolding isWhole
+whole-good s e = ascii-good s (sign-ascii s (uinteger-ascii (drop (sign s) s) e))
+
+-- and a text that is passed to its end as ASCII
+spanned : (s : List ℕ) → span ascii s ≡ length s → Ascii s
+unfolding span
+spanned [] e = tt
+spanned (c ∷ s) e =
+    by-bool (ascii c)
+    (λ f. let r = within-is 0x00 0x7F c f in let g : suc (span ascii s) ≡ suc (length s) = rw f at e in
+    (omega arith, spanned s (omega arith)))
+    (λ f. absurd (let g : 0 ≡ suc (length s) = rw f at e in omega arith))
+
+pub ascii-whole : (s : List ℕ) → true ≡ eqb (span ascii s) (length s) → utf8.Good ≡ firstBad s
+ascii-whole s e = sym (ascii-good s (spanned s (eqb-true (span ascii s) (length s) (sym e))))

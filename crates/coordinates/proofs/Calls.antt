@@ -1,5 +1,6 @@
 -- The two calls, a law for each return.
-use mathlib.Core.Path.{_≡_, sym}
+use mathlib.Core.Path.{_≡_, refl, sym, ap, _∙_}
+use mathlib.Core.Bool.{false}
 use mathlib.Core.List.{List}
 use Prim.Native.Nat.{ℕ, _-_, _≤_, _<_}
 use lib.ListN.{length, take, drop}
@@ -8,13 +9,13 @@ use Rattle.refusal.specs.Refusals.{tooLong, notUtf8, outOfBounds, limit}
 use Rattle.chars.specs.declared.Utf8.the-variants as utf8
 use Rattle.chars.specs.Utf8.{firstBad}
 use Rattle.numbers.specs.declared.Point.{Point}
+use Rattle.numbers.specs.declared.MaybePoint.{MaybePoint}
 use Rattle.numbers.specs.declared.MaybePoint.the-variants.{APoint, NoPoint}
-use Rattle.numbers.specs.Inside.{InPoint}
 use Rattle.numbers.specs.Reals.{oneDecimal}
-use Rattle.numbers.proofs.Inside.{one-decimal-inside}
 use Rattle.items.specs.Kinds as kind
 use Rattle.coordinates.specs.Answers.{Answer, refused}
 use Rattle.coordinates.specs.Coordinate.{outside, ofPoint, ofDecimal, judged, coordinate, recordCoordinate}
+use Rattle.coordinates.specs.Inner.{told, wanted}
 use Rattle.coordinates.proofs.Ascii.{decimal-good}
 
 -- 20 and 21 before an answer
@@ -45,8 +46,13 @@ module _ (s : List ℕ) where
   unfolding coordinate ofDecimal
   call-none d r e = simp (← d) e
 
-pub point-places : (s : List ℕ) (p : Point) → APoint p ≡ oneDecimal s → InPoint (length s) p
-point-places s p e = one-decimal-inside s p (sym e)
+  pub call-told : length s ≤ limit → wanted false s ≡ coordinate s
+  unfolding wanted
+  call-told h = go (oneDecimal s) refl
+    where
+      go : (d : MaybePoint) → d ≡ oneDecimal s → told s (oneDecimal s) ≡ coordinate s
+      go (APoint p) e = sym (ap (told s) e) ∙ call-point h p (told s (APoint p)) e (unfold told in refl)
+      go NoPoint e = sym (ap (told s) e) ∙ call-none e (told s NoPoint) (unfold told in refl)
 
 module _ (s : List ℕ) (k from to : ℕ) where
   pub record-back : to < from → refused outOfBounds 0 ≡ recordCoordinate s k from to

@@ -1,11 +1,9 @@
--- Products and quotients of floats that are known by their values, the table of the powers of ten, and the one rounding of a coordinate.
+-- Products and quotients of floats that are known by their values, the powers of ten, and the one rounding of a coordinate.
 use mathlib.Core.Path.{_≡_, refl, sym, ap, _∙_, subst}
 use mathlib.Core.Bool.{Bool, true, false, cond}
-use mathlib.Core.List.{List, [], _∷_}
-use Prim.Native.Nat.{ℕ, zero, suc, _+_, _-_, _*_, _^_, _≤_, _<_}
-use native.Mathlib.Nat.{mul-pos, mul-mul-mul-comm, mul-comm, mul-one, one-mul, zero-mul, lt-irrefl, zero-lt-suc, pow-suc, suc-add, add-suc, add-zero}
+use Prim.Native.Nat.{ℕ, zero, suc, _+_, _*_, _^_, _≤_, _<_}
+use native.Mathlib.Nat.{mul-pos, mul-mul-mul-comm, mul-comm, mul-one, one-mul, zero-mul, lt-irrefl, zero-lt-suc, pow-suc}
 use native.Mathlib.Omega.{arith}
-use lib.ListN.{getD}
 use lib.Dec.{ltb, eqb, lit<}
 use lib.IntN.{pos, negsuc, negℤ}
 use lib.Ieee.{Float, nan, inf, fin, Format, binary64, unlike, up, down, odd, units, round, low, prec, emax, neg, mul, div}
@@ -82,7 +80,7 @@ units-neg f q k =
 pub neg-round : (f : Format) (n d : ℕ) → neg (round f false n d) ≡ round f true n d
 neg-round f n d = ap neg (round-is f false n d) ∙ units-neg f _ _ ∙ sym (round-is f true n d)
 
--- the table
+-- the powers of ten
 pow-mul : (k : ℕ) → 5 ^ k * 2 ^ k ≡ 10 ^ k
 pow-mul zero = refl
 pow-mul (suc k) =
@@ -100,23 +98,6 @@ ten-value k = (refl, ap (λ (v : ℕ). v * 1) (pow-mul k))
 pub ten-pos : (k : ℕ) → 0 < 10 ^ k
 ten-pos zero = lit< tt
 ten-pos (suc k) = subst (λ (v : ℕ). 0 < v) (sym (pow-suc 10 k)) (mul-pos (ten-pos k) (lit< tt))
-
--- the powers from i on, n of them
-unfoldable pub powers : ℕ → ℕ → List Float
-powers i zero = []
-powers i (suc n) = tenTo i ∷ powers (suc i) n
-
-pub getD-powers : (i n k : ℕ) → k < n → getD (powers i n) k nan ≡ tenTo (i + k)
-unfolding powers
-getD-powers i zero k h = absurd (none k h)
-  where
-    none : (k : ℕ) → k < 0 → ⊥
-    none k h = omega arith
-getD-powers i (suc n) zero h = ap tenTo (sym (add-zero i))
-getD-powers i (suc n) (suc k) h = getD-powers (suc i) n k (less k n h) ∙ ap tenTo (suc-add i k ∙ sym (add-suc i k))
-  where
-    less : (k n : ℕ) → suc k < suc n → k < n
-    less k n h = omega arith
 
 -- one rounding
 unlike-false : (s : Bool) → unlike s false ≡ s

@@ -1,6 +1,7 @@
 pub mod Floats
 pub mod Scales
 pub mod Totals
+pub mod Counted
 pub mod Rounding
 pub mod Only
 pub mod Nearer
@@ -9,3 +10,4 @@ pub mod Outside
 pub mod Ascii
 pub mod Calls
 pub mod Wholes
+pub mod Shapes

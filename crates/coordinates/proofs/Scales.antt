@@ -34,6 +34,11 @@ unfolding signed
 less-above e zero h = ap pos (omega arith)
 less-above e (suc f) h = simp (le-ltb e (suc f) h)
 
+-- without an exponent
+pub less-none : (f : ℕ) → signed false 0 -ℤ pos f ≡ negℤ (pos f)
+less-none zero = less-above 0 0 (omega arith)
+less-none (suc f) = let z : suc f - 0 ≡ suc f = omega arith in less-below 0 (suc f) (omega arith) ∙ ap (λ (k : ℕ). negℤ (pos k)) z
+
 -- an exponent past 2 ^ 53 is out of range, whatever the count of fraction digits
 pub far : (neg : Bool) (m : ℕ) (d : Bool) (e f : ℕ) → 2 ^ 53 < e → f < 2 ^ 32 → outside ≡ scaled neg m (signed d e -ℤ pos f)
 far neg m true e f h l = down-out neg m (e + f) (omega arith) ∙ ap (scaled neg m) (sym (less-down e f))

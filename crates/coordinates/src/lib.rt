@@ -2,14 +2,20 @@
 // coordinate, specs/Means and specs/Nearest what it is, over whole numbers). The digits as a whole number up to 2^53 and a power of ten up
 // to 10^22 are both exact in a float, so one multiplication or one division rounds once.
 use chars::Utf8;
+use decimals::read;
+use digits::SHORT;
 use items::kinds;
-use numbers::MaybePoint;
 use refusal::LIMIT;
 ghost use mathlib.Core.Path.{_≡_};
+ghost use lib.Dec.{eqb};
+ghost use lib.ListN.{length};
+ghost use Rattle.laws.specs.Texts.{span};
+ghost use Rattle.chars.specs.Utf8.{ascii};
 ghost use Rattle.coordinates.specs.Answers.{answered};
 ghost use Rattle.coordinates.specs.Coordinate.{outside, judged, coordinate, recordCoordinate};
 
-mod amounts;
+mod decimals;
+mod runs;
 mod scaling;
 mod values;
 
@@ -30,11 +36,8 @@ pub enum CoordinateAnswer {
     NoCoordinate,
 }
 
-// A whole number that is at most 2^53: Beyond is 9007199254740993.
-enum Amount {
-    Within(u64),
-    Beyond,
-}
+// The last character of ASCII.
+const LAST_ASCII: u8 = 0x7F;
 
 // The coordinate of a text. A decimal is ASCII, so its text need not be asked whether it is UTF-8.
 pub fn coordinate(t: &[u8]) -> CoordinateAnswer
@@ -43,10 +46,21 @@ pub fn coordinate(t: &[u8]) -> CoordinateAnswer
     if LIMIT < t.len() {
         return CoordinateAnswer::TooLong;
     }
-    match numbers::one_decimal(t) {
-        MaybePoint::APoint(p) => amounts::of_point(t, p),
-        MaybePoint::NoPoint => no_coordinate(t),
+    read(t, false)
+}
+
+// Whether a text is ASCII: a byte at a time, for a short one.
+fn is_ascii(t: &[u8]) -> bool
+    ensures { λ r. ⌜ r ≡ eqb (span ascii (now (t .entry))) (length (now (t .entry))) ⌝ }
+{
+    let mut i = 0;
+    while i < t.len() {
+        if LAST_ASCII < t[i] {
+            return false;
+        }
+        i += 1;
     }
+    true
 }
 
 // The answer to a text that has none: 20 and 21 go before 28.
@@ -55,6 +69,11 @@ fn no_coordinate(t: &[u8]) -> CoordinateAnswer
 {
     if LIMIT < t.len() {
         return CoordinateAnswer::TooLong;
+    }
+    if t.len() <= SHORT {
+        if is_ascii(t) {
+            return CoordinateAnswer::NoCoordinate;
+        }
     }
     match chars::first_bad(t) {
         Utf8::Good => CoordinateAnswer::NoCoordinate,

@@ -1,5 +1,5 @@
 -- The exponent less the count of fraction digits is told by its sign and its size.
-use Rattle.coordinates.specs.Coordinate.{scaled}
+use Rattle.coordinates.specs.Inner.{weighed}
 use Rattle.coordinates.proofs.Scales.{less-down, less-below, less-above}
 use mathlib.Core.Path.{sym, ap, _∙_}
 use borrow.Author.Needs.{needs}
@@ -13,7 +13,7 @@ divided-requires : tie.Need-divided-requires
 divided-requires c κs = search needs
 
 returns : tie.Need-returns
-returns c = c .divided .ensures ∙ rw (c .before .if1 .taken) (ap (scaled _ _) (sym (less-down _ _)))
+returns c = c .divided .ensures ∙ rw (c .before .if1 .taken) (ap (weighed _ _) (sym (less-down _ _)))
 
 sub-divided : tie.Need-sub-divided
 sub-divided c = search needs
@@ -22,13 +22,13 @@ divided-requires-2 : tie.Need-divided-requires-2
 divided-requires-2 c κs = search needs
 
 returns-2 : tie.Need-returns-2
-returns-2 c = c .divided2 .ensures ∙ rw (c .before .before .if1 .left) (ap (scaled _ _) (sym (less-below _ _ (c .before .if2 .taken))))
+returns-2 c = c .divided2 .ensures ∙ rw (c .before .before .if1 .left) (ap (weighed _ _) (sym (less-below _ _ (c .before .if2 .taken))))
 
 multiplied-requires : tie.Need-multiplied-requires
 multiplied-requires c κs = search needs
 
 returns-3 : tie.Need-returns-3
-returns-3 c = c .multiplied .ensures ∙ rw (c .before .before .if1 .left) (ap (scaled _ _) (sym (less-above _ _ (c .before .if2 .left))))
+returns-3 c = c .multiplied .ensures ∙ rw (c .before .before .if1 .left) (ap (weighed _ _) (sym (less-above _ _ (c .before .if2 .left))))
 
 pub shifted-spec : {M : Type 1} → statement M
 shifted-spec =
