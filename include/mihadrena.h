@@ -5,7 +5,8 @@
  * nothing between two calls, and writes only to the memory that a call is lent. Every call ends.
  *
  * Link with libmihadrena.a: `.ci/archive` writes it to target/staticlib, for x86-64 Linux, `.ci/archive --target aarch64-linux-gnu` to
- * target/aarch64-linux-gnu, for Linux on Arm of 64 bits. Of the C library it calls `memcpy` and `memset` and nothing else.
+ * target/aarch64-linux-gnu, for Linux on Arm of 64 bits, and `--target riscv64-linux-gnu` likewise. Of the C library it calls `memcpy`
+ * and `memset` and nothing else.
  *
  * A new program reads in MIHADRENA_REPORT; MIHADRENA_PLAIN is there to read as Steel does. examples/c/terminal.c is a program to start from.
  * mihadrena_plan.h has the calls of many arguments over a struct, and names and words for kinds, errors and refusals.
