@@ -102,9 +102,10 @@ static void use_records(size_t items)
     tell_answer(answer);
     tell(out, room);
     if (answer == MIHADRENA_SERVED) {
-        fill(words, sizeof words);
-        tell_answer(mihadrena_items_read(out, values[0], words, sizeof words / sizeof words[0], values, MIHADRENA_ITEMS_VALUES));
-        tell_sum(words, sizeof words);
+        size_t most = sizeof words / sizeof words[0], wanted = from_length + MIHADRENA_RECORD_WORDS, lent = wanted < most ? wanted : most;
+        fill(words, lent * sizeof words[0]);
+        tell_answer(mihadrena_items_read(out, values[0], words, lent, values, MIHADRENA_ITEMS_VALUES));
+        tell_sum(words, lent * sizeof words[0]);
     }
     for (size_t i = 0; i < items; i++) {
         ask_record(&records[i]);
