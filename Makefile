@@ -1,15 +1,19 @@
-# Installs the headers, the archive for a machine, what pkg-config and CMake find them by, and plancheck with its manual page; from the
-# repository, once `.ci/archive` made the archive, or from the folder that dist/make makes, where it lies already.
+# Installs the headers, the archive for a machine, what pkg-config and CMake find them by, and plancheck and lexlist with their manual pages;
+# from the repository, once `.ci/archive` made the archive, or from the folder that dist/make makes, where it lies already. lexlist is for
+# x86-64 alone, and is installed where it lies: in that folder, or after `rt check lexlist` in the repository.
 #
 #     make plancheck                                      target/plancheck, by the C compiler CC
-#     make install PREFIX=/usr/local [TARGET=x86_64-linux-gnu|aarch64-linux-gnu] [DESTDIR=]
+#     make install PREFIX=/usr/local [TARGET=x86_64-linux-gnu] [DESTDIR=]
+# TARGET is x86_64-linux-gnu, aarch64-linux-gnu or riscv64-linux-gnu; this machine's, if it is not said.
 PREFIX = /usr/local
 TARGET = $(shell uname -m)-linux-gnu
 DESTDIR =
 
 made = lib/$(TARGET) target/$(TARGET)
+lister = bin/$(TARGET)/lexlist
 ifeq ($(TARGET),x86_64-linux-gnu)
 made += target/staticlib
+lister += target/bin/lexlist
 endif
 # the archive's file, asked when it is wanted: the rule before it may have made it
 archive = $$(ls $(addsuffix /libmihadrena.a,$(made)) 2>/dev/null | head -n 1)
@@ -28,6 +32,7 @@ install: plancheck
 	mkdir -p $(to)/bin $(to)/share/man/man1
 	cp target/plancheck $(to)/bin/
 	cp plancheck/plancheck.1 $(to)/share/man/man1/
+	for lexlist in $(wildcard $(lister)); do cp "$$lexlist" $(to)/bin/ && cp dist/lexlist.1 $(to)/share/man/man1/ && break; done
 	mkdir -p $(to)/include $(to)/lib/pkgconfig $(to)/lib/cmake/mihadrena $(to)/share/doc/mihadrena
 	cp include/mihadrena.h include/mihadrena_plan.h $(to)/include/
 	cp "$(archive)" $(to)/lib/

@@ -5,7 +5,8 @@
  * nothing between two calls, and writes only to the memory that a call is lent. Every call ends.
  *
  * Link with libmihadrena.a: `.ci/archive` writes it to target/staticlib, for x86-64 Linux, `.ci/archive --target aarch64-linux-gnu` to
- * target/aarch64-linux-gnu, for Linux on Arm of 64 bits. Of the C library it calls `memcpy` and `memset` and nothing else.
+ * target/aarch64-linux-gnu, for Linux on Arm of 64 bits, and `--target riscv64-linux-gnu` likewise. Of the C library it calls `memcpy`
+ * and `memset` and nothing else.
  *
  * A new program reads in MIHADRENA_REPORT; MIHADRENA_PLAIN is there to read as Steel does. examples/c/terminal.c is a program to start from.
  * mihadrena_plan.h has the calls of many arguments over a struct, and names and words for kinds, errors and refusals.
@@ -35,7 +36,7 @@ extern "C" {
 
 /* The version, as CHANGELOG.md and the Rust crate have it. Records, states and the archive are of one version. */
 #define MIHADRENA_VERSION_MAJOR 0
-#define MIHADRENA_VERSION_MINOR 22
+#define MIHADRENA_VERSION_MINOR 23
 #define MIHADRENA_VERSION_PATCH 0
 
 /* The version of the archive that is linked: major * 65536 + minor * 256 + patch. */

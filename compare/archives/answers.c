@@ -67,6 +67,22 @@ static void walk(size_t items, size_t nodes)
     }
 }
 
+/* A record's text, the float that it stands for, and its bytes as a number, taken apart. */
+static void ask_record(const mihadrena_record *of)
+{
+    double value = 0;
+    uint64_t place = 0;
+    tell_answer(mihadrena_record_coordinate(source, length, of->kind, of->start, of->end, &value, &place));
+    tell(&value, sizeof value);
+    tell(&place, sizeof place);
+    tell_answer(mihadrena_record_value(source, length, of->kind, of->start, of->end, &value, &place));
+    tell(&value, sizeof value);
+    tell(&place, sizeof place);
+    tell_size(mihadrena_text_mark(source, length, text, length, of->text_source, of->text_start, of->text_end));
+    fill(values, sizeof values);
+    tell_answer(mihadrena_number(source + of->start, of->end - of->start, values, MIHADRENA_NUMBER_WORDS));
+}
+
 /* What is made of the records of a text that was read: nested lists, a text, an item file and the records of that. */
 static void use_records(size_t items)
 {
@@ -86,19 +102,13 @@ static void use_records(size_t items)
     tell_answer(answer);
     tell(out, room);
     if (answer == MIHADRENA_SERVED) {
-        fill(words, sizeof words);
-        tell_answer(mihadrena_items_read(out, values[0], words, sizeof words / sizeof words[0], values, MIHADRENA_ITEMS_VALUES));
-        tell_sum(words, sizeof words);
+        size_t most = sizeof words / sizeof words[0], wanted = from_length + MIHADRENA_RECORD_WORDS, lent = wanted < most ? wanted : most;
+        fill(words, lent * sizeof words[0]);
+        tell_answer(mihadrena_items_read(out, values[0], words, lent, values, MIHADRENA_ITEMS_VALUES));
+        tell_sum(words, lent * sizeof words[0]);
     }
     for (size_t i = 0; i < items; i++) {
-        double value = 0;
-        uint64_t place = 0;
-        tell_answer(mihadrena_record_coordinate(source, length, records[i].kind, records[i].start, records[i].end, &value, &place));
-        tell(&value, sizeof value);
-        tell(&place, sizeof place);
-        tell_answer(mihadrena_record_value(source, length, records[i].kind, records[i].start, records[i].end, &value, &place));
-        tell(&value, sizeof value);
-        tell(&place, sizeof place);
+        ask_record(&records[i]);
     }
 }
 
@@ -128,6 +138,28 @@ static void read_fields(uint32_t mode, bool skip)
     tell(rows, sizeof rows);
     tell(records, length * sizeof records[0]);
     tell(text, length);
+}
+
+/* One item a call, in so much text memory; the first text that does not fit is the last call. */
+static void read_one_by_one(uint32_t mode, bool skip, size_t room)
+{
+    uint64_t position[MIHADRENA_READER_WORDS];
+    mihadrena_record record;
+    fill(position, sizeof position);
+    uint32_t answer =
+        mihadrena_reader_open(source, length, mode, skip, position, MIHADRENA_READER_WORDS, values, MIHADRENA_READER_VALUES);
+    tell_answer(answer);
+    while (answer == MIHADRENA_SERVED || answer == MIHADRENA_ITEM) {
+        fill(&record, sizeof record);
+        fill(text, room);
+        answer = mihadrena_reader_next(source, length, position, MIHADRENA_READER_WORDS, text, room, (uint32_t *)&record,
+                                       MIHADRENA_RECORD_WORDS, values, MIHADRENA_READER_VALUES);
+        tell(&answer, sizeof answer);
+        tell(values, MIHADRENA_READER_VALUES * sizeof values[0]);
+        tell(position, sizeof position);
+        tell(&record, sizeof record);
+        tell_sum(text, room);
+    }
 }
 
 static void read_in_pieces(uint32_t mode, bool skip, size_t size)
@@ -176,19 +208,48 @@ static void find(void)
     }
 }
 
-static void ask_the_rest(void)
+/* The first places of a text, line and column of which are asked for, and its first characters. */
+enum { PLACES = 64 };
+
+static void ask_places(size_t starts)
+{
+    uint32_t places[PLACES];
+    size_t found[2 * PLACES];
+    for (uint32_t place = 0; place < PLACES; place++) {
+        places[place] = place;
+        tell_answer(mihadrena_locate(source, length, words, starts, place, values, MIHADRENA_LINES_VALUES));
+    }
+    fill(found, sizeof found);
+    tell_answer(mihadrena_locate_all(source, length, words, starts, places, PLACES, found, 2 * PLACES, values, MIHADRENA_LINES_VALUES));
+    tell(found, sizeof found);
+}
+
+/* The index of the lines, whole and from pieces of seven bytes, and what it answers. */
+static void ask_lines(void)
 {
     size_t room = length + 1;
+    uint32_t state[MIHADRENA_LINES_STATE_WORDS];
+    fill(state, sizeof state);
     fill(words, room * sizeof words[0]);
-    uint32_t answer = mihadrena_lines(source, length, words, room, values, 2);
+    mihadrena_lines_open(state, MIHADRENA_LINES_STATE_WORDS, words, room);
+    for (size_t at = 0; at < length; at += 7) {
+        mihadrena_lines_piece(state, MIHADRENA_LINES_STATE_WORDS, source + at, length - at < 7 ? length - at : 7, words, room);
+        tell(state, sizeof state);
+    }
+    tell_answer(mihadrena_lines_end(state, MIHADRENA_LINES_STATE_WORDS, words, room, values, MIHADRENA_LINES_VALUES));
+    tell(words, room * sizeof words[0]);
+    fill(words, room * sizeof words[0]);
+    uint32_t answer = mihadrena_lines(source, length, words, room, values, MIHADRENA_LINES_VALUES);
     tell_answer(answer);
     tell(words, room * sizeof words[0]);
     if (answer == MIHADRENA_SERVED) {
-        size_t starts = values[0];
-        for (size_t place = 0; place <= length && place < 64; place++) {
-            tell_answer(mihadrena_locate(source, length, words, starts, place, values, 2));
-        }
+        ask_places(values[0]);
     }
+}
+
+/* The whole text as a number, by each reader and one that is none, and as a coordinate. */
+static void ask_number(void)
+{
     for (uint32_t choice = 0; choice < 3; choice++) {
         fill(values, sizeof values);
         tell_answer(mihadrena_number_by(choice, source, length, values, MIHADRENA_NUMBER_WORDS));
@@ -197,8 +258,46 @@ static void ask_the_rest(void)
     uint64_t place = 0;
     tell_answer(mihadrena_coordinate(source, length, &value, &place));
     tell(&value, sizeof value);
-    size_t good = mihadrena_good_bytes(source, length);
-    tell(&good, sizeof good);
+    tell(&place, sizeof place);
+}
+
+static void ask_characters(void)
+{
+    tell_size(mihadrena_good_bytes(source, length));
+    for (size_t at = 0; at < PLACES; at++) {
+        uint32_t code = mihadrena_code_at(source, length, at);
+        tell_size(code);
+        tell_size(mihadrena_next_at(source, length, at));
+        tell_size(mihadrena_is_blank(code));
+        fill(out, 4);
+        tell_size(mihadrena_put_char(code, out, at % 5));
+        tell(out, 4);
+    }
+}
+
+/* Five bytes after the other as names, asked for by both parties and one that is none. */
+static void ask_names(void)
+{
+    static uint32_t table[MIHADRENA_NAMES_WORDS];
+    static uint8_t bytes[MIHADRENA_NAMES_BYTES];
+    fill(table, sizeof table);
+    fill(bytes, sizeof bytes);
+    uint32_t number, answer = mihadrena_names_open(table, MIHADRENA_NAMES_WORDS, bytes, MIHADRENA_NAMES_BYTES);
+    size_t start, end;
+    tell(&answer, sizeof answer);
+    for (size_t at = 0; at < length; at += 5) {
+        size_t size = length - at < 5 ? length - at : 5;
+        number = FILL;
+        answer = mihadrena_names_enter(table, MIHADRENA_NAMES_WORDS, bytes, MIHADRENA_NAMES_BYTES, at / 5 % 3, source + at, size, &number);
+        tell(&answer, sizeof answer);
+        tell(&number, sizeof number);
+        start = end = FILL;
+        tell_size(mihadrena_names_place(table, MIHADRENA_NAMES_WORDS, bytes, MIHADRENA_NAMES_BYTES, number, &start, &end));
+        tell_size(start);
+        tell_size(end);
+    }
+    tell_sum(table, sizeof table);
+    tell_sum(bytes, sizeof bytes);
 }
 
 static void answer_text(void)
@@ -208,13 +307,18 @@ static void answer_text(void)
             read_whole(mode, skip, length);
             read_whole(mode, skip, length / 2);
             read_fields(mode, skip);
+            read_one_by_one(mode, skip, length);
+            read_one_by_one(mode, skip, 1);
             read_in_pieces(mode, skip, 1);
             read_in_pieces(mode, skip, 7);
             read_in_pieces(mode, skip, 4096);
         }
     }
     find();
-    ask_the_rest();
+    ask_lines();
+    ask_number();
+    ask_characters();
+    ask_names();
 }
 
 int main(void)

@@ -74,7 +74,7 @@ module _ (c : ℕ) (cs : List ℕ) (e : isScalar c ≡ true) where
   unfolding bytesOf
   encoded-front = back c (bytesOf cs) e
 
-  encoded-rest : drop (width c) (bytesOf (c ∷ cs)) ≡ bytesOf cs
+  pub encoded-rest : drop (width c) (bytesOf (c ∷ cs)) ≡ bytesOf cs
   unfolding bytesOf
   encoded-rest = drop-at (utf8 c) (bytesOf cs) (width c) (width-utf8 c)
 

@@ -10,6 +10,7 @@ pub mod Round
 pub mod Spells
 pub mod Chars
 pub mod Good
+pub mod Cuts
 pub mod Sharp
 pub mod FirstBad
 pub mod Ascii

@@ -1,15 +1,16 @@
 -- A run of digits after a value that counts alike: from each place on it counts as from the start on, and one digit more has room.
 use mathlib.Core.Path.{_≡_, sym, ap, _∙_}
-use mathlib.Core.Bool.{true}
+use mathlib.Core.Bool.{true, false}
 use mathlib.Core.List.{List}
-use Prim.Native.Nat.{ℕ, _+_, _-_, _*_, _^_, _≤_, _<_}
+use Prim.Native.Nat.{ℕ, _+_, _-_, _*_, _%_, _^_, _≤_, _<_}
 use native.Mathlib.Nat.{lt-of-le-of-lt, lt-of-lt-of-le, pow-le-pow-right}
 use native.Mathlib.Omega.{arith}
 use lib.Dec.{lit<, ltb, leb}
 use lib.ListN.{length, drop, getD, length-drop}
 use borrow.Author.Tests.{leb-true, leb-false}
 use Rattle.laws.specs.Quoted.{code, within}
-use Rattle.laws.proofs.Choice.{by-bool}
+use Rattle.laws.proofs.Choice.{by-bool, within-below}
+use Rattle.chars.proofs.Table.{within-in, within-above}
 use Rattle.laws.proofs.Runs.{span-le}
 use Rattle.digits.specs.Digits.{digits, digitOf, runValue, short}
 use Rattle.digits.proofs.DecimalRuns.{run-grows, run-value-more, run-value-end}
@@ -47,3 +48,14 @@ short-held t from b v e l h d w k =
     let f : e ≤ short = omega arith in
     (lt-of-lt-of-le k (pow-le-pow-right (lit< tt) f), k))
     (λ i. let a = leb-false from (length t) i in (rw (w ∙ run-value-end t b from (omega arith)) (h .0), k))
+
+-- the byte x, of which 48 is taken away in 64 bits
+module _ (d x : ℕ) (e : (d + 48) % 2 ^ 64 ≡ x) where
+  pub digit-in : d ≤ 9 → (true ≡ within (code "0") (code "9") x) × (d ≡ x - code "0")
+  digit-in h = let q : x ≡ d + 48 = omega arith in (sym (within-in (code "0") (code "9") x (omega arith) (omega arith)), omega arith)
+
+  pub digit-out : d < 2 ^ 64 → 9 < d → false ≡ within (code "0") (code "9") x
+  digit-out l h =
+      by-bool (leb 48 x)
+      (λ i. let a = leb-true 48 x i in sym (within-above (code "0") (code "9") x (omega arith)))
+      (λ i. within-below (code "0") (code "9") x (leb-false 48 x i))

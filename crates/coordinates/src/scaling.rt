@@ -18,6 +18,7 @@ fn power(k: u64) -> f64
     ensures { λ r. ⌜ r ≡ tenTo k ⌝ }
 {
     match k {
+        0 => 1e0,
         1 => 1e1,
         2 => 1e2,
         3 => 1e3,

@@ -1,3 +1,4 @@
 pub mod Left
 pub mod Held
 pub mod Spotted
+pub mod Ended

@@ -1,6 +1,6 @@
 -- What the quick path writes at a spot is what is told there by value: the words that it leaves are as the spot's words have them.
 use Prim.Native.Nat.{ℕ}
-use mathlib.Core.Path.{_≡_, sym, ap, _∙_}
+use mathlib.Core.Path.{_≡_, sym, ap, _∙_, subst}
 use mathlib.Core.List.{List, [], _∷_}
 use lib.ListN.{length, drop, set}
 use native.Mathlib.Nat.{add-zero}
@@ -11,6 +11,7 @@ use Rattle.pieces.specs.Calls.{textAfter}
 use Rattle.piecewise.specs.Answers.{whatOf}
 use Rattle.lent.specs.declared.Words.{Words}
 use Rattle.lent.specs.declared.Told.{Told}
+use Rattle.lent.specs.Stood.{Stood}
 use Rattle.lent.specs.Calls.{Said, lent, said, pieceFor}
 use Rattle.pieces_spots.specs.declared.PieceSpot.{PieceSpot}
 use Rattle.pieces_quick.specs.Words.{Ready, stood}
@@ -21,7 +22,7 @@ use Rattle.flat.proofs.Left.{left-is, kept}
 use Rattle.flat.proofs.Held.{over}
 
 -- a state's words, one by one
-all-words : (l : List ℕ) → length l ≡ stateWords → l ≡ listed (wordsIn l)
+pub all-words : (l : List ℕ) → length l ≡ stateWords → l ≡ listed (wordsIn l)
 all-words l h = sym (kept l h) ∙ over (wordsIn l) l h
 
 module _ (l : List ℕ) (h : length l ≡ stateWords) (s : PieceSpot) (d : ℕ) where
@@ -65,6 +66,13 @@ module _ (m : Memory) (w : Words) (count : ℕ) (R : Ready w count) (is : w ≡ 
       ∙ ap (λ (v : Words). gives (memory now (m .words) then (m .item) (m .values)) (says v then)) (ap (λ (v : Words). placed v s (w .depth)) (sym is) ∙ placed-stood w count R s (w .depth))
       ∙ ap (λ (l : List ℕ). gives (memory now (m .words) l (m .item) (m .values)) (says (stood w s (w .depth)) l)) (A .same)
       ∙ ap (gives m) (A .on)
+
+  -- on the words of a state that reads on
+  pub reads-on : Stood (wordsIn after) now then
+  reads-on =
+      let placed-so : wordsIn after ≡ stood w s (w .depth) =
+      ap wordsIn e ∙ ap (λ (v : Words). placed v s (w .depth)) (sym is) ∙ placed-stood w count R s (w .depth) in
+      subst (λ (v : Words). Stood v now then) (sym placed-so) (subst (λ (l : List ℕ). Stood (stood w s (w .depth)) now l) (sym (A .same)) (A .reads))
 
 -- no byte taken before
 pub later-none : (s : Said) → later 0 s ≡ s

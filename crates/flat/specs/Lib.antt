@@ -2,3 +2,4 @@
 pub mod Piece
 pub mod Held
 pub mod Spotted
+pub mod Ended

@@ -9,12 +9,17 @@ use meaning::records::WORDS;
 use meaning::records::put;
 use pieces::Got;
 use pieces::LONGEST;
+use pieces_last::Last;
+use pieces_last::end_quickly;
+use pieces_last::is_closing;
 use pieces_quick::Reached;
 use pieces_quick::is_served;
 use pieces_quick::plainly;
 use pieces_quick::quickly;
 use quick::put_spot;
+use quick::tell_finished;
 use quick::tell_item;
+use quick::tell_last;
 use quick::tell_more;
 use refusal::FINISHED;
 use refusal::ITEM;
@@ -23,6 +28,7 @@ use refusal::OUT_OF_BOUNDS;
 use refusal::SERVED;
 use refusal::TOO_FEW;
 ghost use mathlib.Core.Path.{_≡_};
+ghost use mathlib.Core.Bool.{true};
 ghost use mathlib.Core.List.{List, [], _∷_};
 ghost use Prim.Native.Nat.{ℕ, _≤_};
 ghost use lib.ListN.{length, drop};
@@ -32,9 +38,11 @@ ghost use Rattle.items.specs.Items.{recordWords};
 ghost use Rattle.pieces.specs.Calls.{textAfter};
 ghost use Rattle.pieces.specs.Expected.{longest};
 ghost use Rattle.piecewise.specs.Answers.{whatOf};
-ghost use Rattle.lent.specs.Calls.{lent, said, pieceFor};
+ghost use Rattle.lent.specs.Stood.{Stood};
+ghost use Rattle.lent.specs.Calls.{lent, said, pieceFor, endFor};
 ghost use Rattle.pieces_quick.specs.Words.{Ready};
 ghost use Rattle.pieces_quick.specs.Gives.{later};
+ghost use Rattle.pieces_last.specs.Ends.{Closing};
 ghost use Rattle.flat.specs.Piece.{listed, wordsIn, stateWords, isState, opened, startNumber, openLeft, left, gives, whatNumber, whatPlace, recordAfter, isRoom, pieceLeft, endLeft, memory};
 
 mod quick;
@@ -213,22 +221,25 @@ pub fn open(mode: u32, skip: bool, buf: &mut [u8], words: &mut [u64]) -> u32
     start_number(got)
 }
 
-// Reads on in a piece from a place on as the crate `lent` does. The piece is lent anew: so it need not lie in memory where this is called.
+// Reads on in a piece from a place on as the crate `lent` does; words that are known to be those of a state that reads on are not held to
+// their bounds again. The piece is lent anew: so it need not lie in memory where this is called.
 fn read_plainly(
     buf: &mut [u8],
     words: &mut [u64],
     piece: &[u8],
     from: usize,
+    known: bool,
     text: &mut [u8],
     item: &mut [u32],
     values: &mut [u64],
 ) -> u32
-    requires { ⌜ (length (now words) ≡ stateWords) × (recordWords ≤ length (now item)) × (from ≤ length (now piece)) ⌝ }
+    requires { ⌜ (length (now words) ≡ stateWords) × (recordWords ≤ length (now item)) × (from ≤ length (now piece))
+        × (known ≡ true → Stood (wordsIn (now words)) (now buf) (now text)) ⌝ }
     ensures { λ r. ⌜ left r (memory (now (buf .exit)) (now (words .exit)) (now (text .exit)) (now (item .exit)) (now (values .exit)))
         ≡ gives (memory (now (buf .entry)) (now (words .entry)) (now (text .entry)) (now (item .entry)) (now (values .entry)))
         (later from (pieceFor (lent (wordsIn (now (words .entry))) (now (buf .entry))) (drop from (now (piece .entry))) (length (now (text .entry))))) ⌝ }
 {
-    let told = plainly(words_in(words), buf, &piece[..], from, text);
+    let told = plainly(words_in(words), buf, &piece[..], from, known, text);
     tell(told, words, item, values)
 }
 
@@ -254,7 +265,7 @@ fn read_on(
         Reached::Item(s, depth, record) => tell_item(s, depth, record, words, item, values),
         Reached::Before(s) => {
             put_spot(words, s, state.depth);
-            read_plainly(buf, words, piece, s.i, text, item, values)
+            read_plainly(buf, words, piece, s.i, true, text, item, values)
         }
     }
 }
@@ -286,7 +297,47 @@ pub fn piece(
     if is_served(state, buf.len(), text.len(), piece.len()) {
         return read_on(state, buf, words, piece, text, item, values);
     }
-    read_plainly(buf, words, piece, 0, text, item, values)
+    read_plainly(buf, words, piece, 0, false, text, item, values)
+}
+
+// Declares the end of the text as the crate `lent` does.
+fn end_plainly(
+    buf: &mut [u8],
+    words: &mut [u64],
+    text: &mut [u8],
+    item: &mut [u32],
+    values: &mut [u64],
+) -> u32
+    requires { ⌜ (length (now words) ≡ stateWords) × (recordWords ≤ length (now item)) ⌝ }
+    ensures { λ r. ⌜ left r (memory (now (buf .exit)) (now (words .exit)) (now (text .exit)) (now (item .exit)) (now (values .exit)))
+        ≡ gives (memory (now (buf .entry)) (now (words .entry)) (now (text .entry)) (now (item .entry)) (now (values .entry)))
+        (endFor (lent (wordsIn (now (words .entry))) (now (buf .entry))) (length (now (text .entry)))) ⌝ }
+{
+    let told = end_words(words_in(words), buf, text);
+    tell(told, words, item, values)
+}
+
+// Declares the end of the text in a state whose end the quick path knows: what it tells goes straight to where it belongs. What it does not
+// tell the crate `lent` does.
+fn end_on(
+    state: Words,
+    buf: &mut [u8],
+    words: &mut [u64],
+    text: &mut [u8],
+    item: &mut [u32],
+    values: &mut [u64],
+) -> u32
+    requires { ⌜ (length (now words) ≡ stateWords) × (recordWords ≤ length (now item)) × (state ≡ wordsIn (now words))
+        × (length (now buf) ≡ longest) × (longest ≤ length (now text)) × Closing state ⌝ }
+    ensures { λ r. ⌜ left r (memory (now (buf .exit)) (now (words .exit)) (now (text .exit)) (now (item .exit)) (now (values .exit)))
+        ≡ gives (memory (now (buf .entry)) (now (words .entry)) (now (text .entry)) (now (item .entry)) (now (values .entry)))
+        (endFor (lent state (now (buf .entry))) (length (now (text .entry)))) ⌝ }
+{
+    match end_quickly(state, buf, text) {
+        Last::Given(depth, record) => tell_last(depth, record, words, item, values),
+        Last::Finished => tell_finished(words, values),
+        Last::Not => end_plainly(buf, words, text, item, values),
+    }
 }
 
 // Declares the end of the text: gives the next item, or says that all were given. It writes as a piece call does.
@@ -308,6 +359,9 @@ pub fn end(
         put_values(values, 0, 0);
         return OUT_OF_BOUNDS;
     }
-    let told = end_words(words_in(words), buf, text);
-    tell(told, words, item, values)
+    let state = words_in(words);
+    if is_closing(state, buf.len(), text.len()) {
+        return end_on(state, buf, words, text, item, values);
+    }
+    end_plainly(buf, words, text, item, values)
 }

@@ -1,9 +1,12 @@
 // What the quick path tells, written where it belongs: of a state's words those of the spot alone, since the others are as they were.
 use crate::put_values;
 use items::Record;
+use lent::codes::IDLE;
+use lent::codes::YES;
 use meaning::records::put;
 use pieces::Got;
 use pieces_spots::PieceSpot;
+use refusal::FINISHED;
 use refusal::ITEM;
 use refusal::MORE;
 ghost use mathlib.Core.Path.{_≡_};
@@ -14,6 +17,8 @@ ghost use Rattle.laws.specs.Lent.{written};
 ghost use Rattle.items.specs.Items.{recordWords};
 ghost use Rattle.flat.specs.Piece.{listed, wordsIn, stateWords};
 ghost use Rattle.flat.specs.Spotted.{placed, Tells};
+ghost use Rattle.pieces_last.specs.Ends.{withEnd};
+ghost use Rattle.flat.specs.Ended.{endPlaced, TellsEnd};
 
 // Writes a spot and how many brackets are open into a state's words.
 pub fn put_spot(words: &mut [u64], s: PieceSpot, depth: u64)
@@ -54,5 +59,54 @@ pub fn tell_item(
     put_spot(words, s, depth);
     put(item, given);
     put_values(values, 0, s.i as u64);
+    ITEM
+}
+
+// Writes into a state's words that the end was declared.
+fn put_end(words: &mut [u64])
+    requires { ⌜ length (now words) ≡ stateWords ⌝ }
+    ensures { λ _. ⌜ now (words .exit) ≡ written (listed (withEnd (wordsIn (now (words .entry))) 1)) (now (words .entry)) ⌝ }
+{
+    words[2] = YES;
+}
+
+// Tells that all items were given.
+pub fn tell_finished(words: &mut [u64], values: &mut [u64]) -> u32
+    requires { ⌜ length (now words) ≡ stateWords ⌝ }
+    ensures { λ r. ⌜ ((item : List ℕ) → TellsEnd (withEnd (wordsIn (now (words .entry))) 1) Got.Finished (now (words .entry)) (now (words .exit)) item item (now (values .entry)) (now (values .exit)) r) ⌝ }
+{
+    put_end(words);
+    put_values(values, 0, 0);
+    FINISHED
+}
+
+// Writes into a state's words that the last item was given, with so many brackets open.
+fn put_last(words: &mut [u64], depth: u64)
+    requires { ⌜ length (now words) ≡ stateWords ⌝ }
+    ensures { λ _. ⌜ now (words .exit) ≡ written (listed (endPlaced (wordsIn (now (words .entry))) depth)) (now (words .entry)) ⌝ }
+{
+    words[2] = YES;
+    words[3] = IDLE;
+    words[4] = 0;
+    words[5] = 0;
+    words[6] = 0;
+    words[17] = 0;
+    words[18] = depth;
+}
+
+// Tells the last item by its record.
+pub fn tell_last(
+    depth: u64,
+    given: Record,
+    words: &mut [u64],
+    item: &mut [u32],
+    values: &mut [u64],
+) -> u32
+    requires { ⌜ (length (now words) ≡ stateWords) × (recordWords ≤ length (now item)) ⌝ }
+    ensures { λ r. ⌜ TellsEnd (endPlaced (wordsIn (now (words .entry))) depth) (Got.Item given) (now (words .entry)) (now (words .exit)) (now (item .entry)) (now (item .exit)) (now (values .entry)) (now (values .exit)) r ⌝ }
+{
+    put_last(words, depth);
+    put(item, given);
+    put_values(values, 0, 0);
     ITEM
 }

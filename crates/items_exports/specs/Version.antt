@@ -5,7 +5,7 @@ abbrev major : ℕ
 major = 0
 
 abbrev minor : ℕ
-minor = 22
+minor = 23
 
 abbrev patch : ℕ
 patch = 0

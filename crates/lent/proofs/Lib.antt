@@ -7,3 +7,4 @@ pub mod Narrowness
 pub mod Rows
 pub mod Same
 pub mod Stays
+pub mod Stood

@@ -3,6 +3,7 @@ use crate::Seen;
 use crate::Told;
 use crate::Words;
 use crate::decoding::decode;
+use crate::decoding::stand;
 use crate::encoding::encode;
 use crate::encoding::fresh_words;
 use items::modes::PLAIN;
@@ -12,6 +13,7 @@ use pieces::LONGEST;
 use pieces::Pieced;
 use piecewise::calls::end_call;
 use piecewise::calls::piece_call;
+use piecewise::calls::piece_on;
 use refusal::NO_MODE;
 use refusal::OUT_OF_BOUNDS;
 ghost use mathlib.Core.Path.{_≡_};
@@ -19,6 +21,7 @@ ghost use mathlib.Core.List.{[]};
 ghost use lib.ListN.{length, replicate};
 ghost use Rattle.pieces.specs.Calls.{textAfter};
 ghost use Rattle.lent.specs.Calls.{lent, said, toldOf, pieceFor, endFor, openFor};
+ghost use Rattle.lent.specs.Stood.{Stood};
 
 // An answer with its marks as words.
 fn worded(r: Pieced) -> Told
@@ -54,6 +57,15 @@ pub fn piece_words(words: Words, buf: &mut [u8], piece: &[u8], text: &mut [u8]) 
         Seen::Standing(marks) => worded(piece_call(marks, buf, piece, text)),
         Seen::Outside => refuse(words, OUT_OF_BOUNDS, 0),
     }
+}
+
+// The same where the words are known to be those of a state within its bounds that reads on: they are not held to their code again.
+pub fn piece_stood(words: Words, buf: &mut [u8], piece: &[u8], text: &mut [u8]) -> Told
+    requires { ⌜ Stood words (now buf) (now text) ⌝ }
+    ensures { λ r. ⌜ (said r (now (buf .exit)) (now (text .exit)) ≡ pieceFor (lent words (now (buf .entry))) (now (piece .entry)) (length (now (text .entry))))
+        × (now (text .exit) ≡ textAfter (pieceFor (lent words (now (buf .entry))) (now (piece .entry)) (length (now (text .entry))) .what) (now (text .entry))) ⌝ }
+{
+    worded(piece_on(stand(words), buf, piece, text))
 }
 
 // Declares the end of the text: gives the next item, or says that all were given.

@@ -126,7 +126,7 @@ fn row_of(words: Words) -> Row
 }
 
 // The marks that the words stand for.
-fn stand(words: Words) -> Marks
+pub fn stand(words: Words) -> Marks
     requires { ⌜ (words .stage < coding.stageCount) × coding.Narrowed words ⌝ }
     ensures { λ r. ⌜ r ≡ coding.standing words ⌝ }
 {

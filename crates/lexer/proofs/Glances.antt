@@ -2,6 +2,7 @@
 use Rattle.chars.specs.Utf8.{front, placed, chars}
 use Rattle.chars.specs.declared.Decoded.the-variants as decoded
 use Rattle.chars.specs.Blank.{isBlank}
+use Rattle.chars.specs.Wide.{PastAscii, Solid}
 use Rattle.items.specs.Kinds as kind
 use Rattle.items.specs.Classes.{firstOf}
 use Rattle.items.specs.Machine.{onFirst, scanOf}
@@ -10,6 +11,7 @@ use Rattle.items.specs.Meaning.{meaningOf}
 use Rattle.items.specs.Items.{Place, range, rangeAfter, standing, placeOf}
 use Rattle.items.specs.Whole.{limit}
 use Rattle.items.specs.declared.Phase.{Phase}
+use Rattle.items.specs.declared.Phase.the-variants as ph
 use Rattle.items.specs.declared.Nine.{Nine}
 use Rattle.steps.specs.Scan.{part, scanned, answer}
 use Rattle.steps.specs.declared.Scanned.{Scanned}
@@ -26,6 +28,7 @@ use Rattle.lexer.specs.Inner.{bytesFor, freeAfter}
 use Rattle.lexer.specs.Reading.{moved, turn, turnAt, nextAt, startFrom, foundOf}
 use Rattle.lexer.specs.Glance.{Begins, Glanced}
 use Rattle.telling.specs.Tells.{Undecoded}
+use Rattle.telling.proofs.Firsts.{past-first}
 use Rattle.lexer.specs.declared.Spot.{Spot}
 use Rattle.lexer.specs.declared.Start.the-variants.{At}
 use Rattle.lexer.specs.declared.Found.{Found}
@@ -45,10 +48,20 @@ use native.Mathlib.Omega.{arith}
 use borrow.Author.Tests.{lt-leb}
 
 -- a byte of ASCII that is no blank begins an item
-pub begins : (s : List ℕ) (at c : ℕ) (p : Phase) → at < length s → getD s at 0 ≡ c → c < 0x80 → isBlank c ≡ false → onFirst (firstOf c) ≡ p → Begins s at p
+pub begins : (s : List ℕ) (at c : ℕ) (p : Phase) → at < length s → getD s at 0 ≡ c → c < 0x80 → isBlank c ≡ false → onFirst (firstOf c) ≡ p → Begins s at (at + 1) p
 begins s at c p h e k b f =
     let here = char-found s at c (at + 1) (subst (λ (x : ℕ). decoded.Char x (at + 1) ≡ placed at (front (drop at s))) e (ascii-found s at h (omega arith))) in
     record { c = c; first = record { first = here .first; on = here .on; solid = b }; stands = f }
+
+-- so does a character past ASCII that is no blank
+pub begins-past : (s : List ℕ) (at n : ℕ) (w : PastAscii (drop at s) n) → Solid (drop at s) n → Begins s at (at + n) ph.InWord
+begins-past s at n w solid =
+    let here = char-found s at (w .letter) (at + n) (rw (w .reads)) in
+    record {
+      c = w .letter;
+      first = record { first = here .first; on = here .on; solid = solid (w .letter) (w .reads) };
+      stands = past-first (w .letter) (w .past);
+    }
 
 -- and reading on there starts with it
 start-first : (s : List ℕ) (a c n : ℕ) → inner.First s a c n → startFrom a (chars (drop a s)) ≡ At c a n
@@ -66,14 +79,14 @@ module _ (s : List ℕ) (report skip : Bool) (a e : ℕ) (m : Means) (G : Glance
   abbrev x : Scanned
   x = record { what = G .what; end = e }
 
-  abbrev F : inner.First s a (G .begins .c) (a + 1)
+  abbrev F : inner.First s a (G .begins .c) (G .next)
   F = G .begins .first
 
-  scan-first : x ≡ scanned (scanOf report (onFirst (firstOf (G .begins .c))) (soFar (part s a (a + 1)) (a + 1)) (chars (drop (a + 1) s)))
-  scan-first = G .scan ∙ ap (λ (p : Phase). answer s report a p (a + 1)) (sym (G .begins .stands))
+  scan-first : x ≡ scanned (scanOf report (onFirst (firstOf (G .begins .c))) (soFar (part s a (G .next)) (G .next)) (chars (drop (G .next) s)))
+  scan-first = G .scan ∙ ap (λ (p : Phase). answer s report a p (G .next)) (sym (G .begins .stands))
 
   pub glance-inside : (a ≤ e) × (e ≤ length s)
-  glance-inside = end-inside s report a (G .begins .c) (a + 1) F x scan-first
+  glance-inside = end-inside s report a (G .begins .c) (G .next) F x scan-first
 
   ends-there : a + length (part s a e) ≡ e
   ends-there = let i = glance-inside in omega (arith, length-take (e - a) (drop a s), length-drop a s)
@@ -84,7 +97,7 @@ module _ (s : List ℕ) (report skip : Bool) (a e : ℕ) (m : Means) (G : Glance
   pub glance-fits : (free : ℕ) → length s ≤ limit → free ≤ a → TextFits free (m .text)
   glance-fits free h k =
       fits-one free (meaningOf report (G .what) a (a + length (part s a e)) (part s a e)) m (G .alone .means report)
-      (scan-fits s report a (G .begins .c) (a + 1) F x scan-first free (omega arith) k .texts)
+      (scan-fits s report a (G .begins .c) (G .next) F x scan-first free (omega arith) k .texts)
 
   -- the place of the item
   abbrev pub toldPlace : Spot → Range
@@ -98,9 +111,9 @@ module _ (s : List ℕ) (report skip : Bool) (a e : ℕ) (m : Means) (G : Glance
   quiet-in p u last i = rw u (G .quiet last i)
 
   turn-told : (free : ℕ) (p : Spot) → p .report ≡ report
-      → made free p ≡ foundOf free (turnAt p a (G .begins .c) (chars (drop (a + 1) s)))
+      → made free p ≡ foundOf free (turnAt p a (G .begins .c) (chars (drop (G .next) s)))
   turn-told free p u =
-      found-is s report a (G .begins .c) (a + 1) F x scan-first free p (made free p) u
+      found-is s report a (G .begins .c) (G .next) F x scan-first free p (made free p) u
       (found-one free p a (G .what) (part s a e) (rangeOf (standing (p .report) (placeIn (p .last)))) (p .last)
       (sym (ap rangeOf (quiet-in p u (standing (p .report) (placeIn (p .last))) _)))
       (sym (ap rangeOf (quiet-in p u (placeIn (p .last)) _)))
@@ -113,9 +126,9 @@ module _ (s : List ℕ) (report skip : Bool) (a e : ℕ) (m : Means) (G : Glance
       → made free p ≡ foundOf free (nextAt s p)
   next-told free p u v w =
       let c = G .begins .c in
-      let S : Started s (p .at) (chars (drop (p .at) s)) c a (a + 1) = started s (chars (drop (p .at) s)) (p .at) refl c a (a + 1) (sym w ∙ start-first s a c (a + 1) F) in
+      let S : Started s (p .at) (chars (drop (p .at) s)) c a (G .next) = started s (chars (drop (p .at) s)) (p .at) refl c a (G .next) (sym w ∙ start-first s a c (G .next) F) in
       next-found s free p (nineFor free m extent (toldPlace p)) (moved p e (placeIn (p .last)) false)
-      (turn-told free p u ∙ sym (ap (foundOf free) (turn-started s p c a (a + 1) S)))
+      (turn-told free p u ∙ sym (ap (foundOf free) (turn-started s p c a (G .next) S)))
       (ap (λ (b : Bool). b && eqb (m .kind) kind.Comment) v ∙ G .kept)
 
   -- the place of an item that is no error is its extent

@@ -133,7 +133,11 @@ few-items s report skip =
 -- ---- the whole-text call by what opening says
 
 module _ (s : List ℕ) (mode : ℕ) (skip : Bool) (recs text : List ℕ) where
-  pub read-opened : (p : Position) → opened p ≡ openOf s mode skip → (length s ≤ limit) × Few s (allItems s (p .spot)) × (readOf s mode skip recs text ≡ deliver (allItems s (p .spot)) recs text)
+  -- the text is good, and its items are delivered
+  abbrev Delivers : Position → Type 0
+  Delivers p = (length s ≤ limit) × Few s (allItems s (p .spot)) × (firstBad s ≡ Good) × (readOf s mode skip recs text ≡ deliver (allItems s (p .spot)) recs text)
+
+  pub read-opened : (p : Position) → opened p ≡ openOf s mode skip → Delivers p
   unfolding openOf readOf
   read-opened p e = by-bool (isMode mode)
       (λ m. by-bool (ltb limit (length s))
@@ -142,12 +146,12 @@ module _ (s : List ℕ) (mode : ℕ) (skip : Bool) (recs text : List ℕ) where
       (λ m. let z : opened p ≡ refused refusal.noMode mode = rw m at e in let y : _≡_ {A = ℕ} 0 1 = cc in absurd (omega arith))
     where
       good : isMode mode ≡ true → ltb limit (length s) ≡ false → (u : Utf8) → firstBad s ≡ u → opened p ≡ ifUtf8 (firstBad s) (opening s (inReport mode) skip)
-          → (length s ≤ limit) × Few s (allItems s (p .spot)) × (readOf s mode skip recs text ≡ deliver (allItems s (p .spot)) recs text)
+          → Delivers p
       good m l Good f h =
           let z : opened p ≡ opened (opening s (inReport mode) skip) = h ∙ ap (λ (u : Utf8). ifUtf8 u (opening s (inReport mode) skip)) f in
           let q : p ≡ opening s (inReport mode) skip = cc in
           let a : allItems s (p .spot) ≡ itemsIn s mode skip = ap (λ (x : Position). allItems s (x .spot)) q ∙ reads-all s (inReport mode) skip in
-          (ltb-false limit (length s) l, subst (Few s) (sym a) (few-items s (inReport mode) skip), rw (m, l, f) (ap (λ (i : List Item). deliver i recs text) (sym a)))
+          (ltb-false limit (length s) l, subst (Few s) (sym a) (few-items s (inReport mode) skip), f, rw (m, l, f) (ap (λ (i : List Item). deliver i recs text) (sym a)))
       good m l (Bad at) f h =
           let z : opened p ≡ refused refusal.notUtf8 at = h ∙ ap (λ (u : Utf8). ifUtf8 u (opening s (inReport mode) skip)) f in
           let y : _≡_ {A = ℕ} 0 1 = cc in absurd (omega arith)

@@ -2,6 +2,7 @@
 -- spot before goes on, and past the blanks after the item as well.
 use Rattle.laws.specs.Choice.{if_then_else_}
 use Rattle.laws.specs.Lent.{written}
+use Rattle.laws.proofs.Choice.{by-bool}
 use Rattle.chars.specs.Utf8.{chars}
 use Rattle.items.specs.Kinds as kind
 use Rattle.items.specs.Items.{range, depthAfter, recordWords, wordsOf}
@@ -13,21 +14,22 @@ use Rattle.meaning.specs.Places.{placeIn, rangeOf}
 use Rattle.meaning.specs.Records.{nineFor, TextFits}
 use Rattle.lexer.specs.Reading.{moved, nextAt, sizeOf, startFrom, foundOf}
 use Rattle.lexer.specs.Inner.{deepAt}
-use Rattle.lexer.specs.Writing.{Writing, Roomy, Amid, Onward, toldTo}
+use Rattle.lexer.specs.Writing.{Writing, Roomy, Amid, Onward, toldTo, ToldOn}
 use Rattle.lexer.specs.Glance.{Glanced}
 use Rattle.lexer.specs.declared.Spot.{Spot}
 use Rattle.lexer.specs.declared.Found.the-variants.{One}
 use Rattle.lexer.proofs.Turns.{turn-past}
 use Rattle.lexer.proofs.Nexts.{next-same}
 use Rattle.lexer.proofs.Glances.{glance-inside, glance-fits, next-told, place-fine, bare-nine}
-use Rattle.lexer.proofs.Writing.{recs-length, room, has-moved, writing-bare, writing-past}
+use Rattle.lexer.proofs.Writing.{recs-length, words-fit, room, has-moved, writing-bare, writing-past}
 use Prim.Native.Nat.{ℕ, _+_, _-_, _^_, _≤_, _<_}
 use mathlib.Core.Path.{_≡_, refl, sym, ap, _∙_, subst}
-use mathlib.Core.Bool.{Bool, false}
+use mathlib.Core.Bool.{Bool, true, false}
 use mathlib.Core.List.{List}
+use lib.Dec.{eqb}
 use lib.ListN.{length, take, drop}
 use native.Mathlib.Omega.{arith}
-use borrow.Author.Tests.{eq-eqb, ne-eqb}
+use borrow.Author.Tests.{eq-eqb, ne-eqb, eqb-true, eqb-false}
 use borrow.Rule.Slice.PartMut.{putMid}
 
 -- the spot of the writing loop
@@ -115,6 +117,13 @@ module _ (s : List ℕ) (p : Spot) (recs₀ : List ℕ) (free depth₀ w₀ : �
             glance-fits s (p .report) (p .skip) at e m (told .2) free short (g .going .behind),
           )
 
+      pub told-forward : at < e
+      told-forward = go second (quick-smaller s (amid .start) (amid .recs₀) (amid .text₀) (amid .roomy) p at second g a e m told)
+        where
+          go : (x : Bool) → sizeOf s (here p e false) < sizeOf s (here p at x) → at < e
+          go true h = omega arith
+          go false h = omega arith
+
       pub told-room : w + recordWords ≤ length recs
       told-room = quick-room s (amid .start) (amid .recs₀) (amid .text₀) (amid .roomy) p at second g a e m told
 
@@ -138,3 +147,45 @@ module _ (s : List ℕ) (p : Spot) (recs₀ : List ℕ) (free depth₀ w₀ : �
               on = λ start rows bytes text roomy before.
                   quick-writes s start rows bytes roomy p at second (so-far .on start rows bytes text roomy before) a e m told d hd hx;
             }) next b)
+
+-- ---- one writing after another
+
+module _ {s : List ℕ} {p q : Spot} {recs₀ recs : List ℕ} {free depth₀ w₀ depth w : ℕ} (so-far : Onward s p recs₀ free depth₀ w₀ q recs depth w) where
+  onward-on : {r : Spot} {recs' : List ℕ} {depth' w' : ℕ} → Onward s q recs free depth w r recs' depth' w' → Onward s p recs₀ free depth₀ w₀ r recs' depth' w'
+  onward-on more = record {
+    ahead = omega (arith, so-far .ahead, more .ahead);
+    on = λ start rows bytes text roomy before. more .on start rows bytes text roomy (so-far .on start rows bytes text roomy before);
+  }
+
+  pub amid-on : Amid s p recs₀ free depth₀ w₀ → Amid s q recs free depth w
+  amid-on a = record {
+    start = a .start;
+    recs₀ = a .recs₀;
+    text₀ = a .text₀;
+    text = a .text;
+    roomy = a .roomy;
+    writing = so-far .on (a .start) (a .recs₀) (a .text₀) (a .text) (a .roomy) (a .writing);
+  }
+
+  -- the words written fit
+  pub words-on : Amid s p recs₀ free depth₀ w₀ → w ≤ length recs
+  words-on a = let b = amid-on a in words-fit s (b .start) (b .recs₀) (b .text₀) (b .roomy) (b .writing)
+
+told-again : (p : Spot) (at next w₀ w w' : ℕ) → w₀ ≤ w → w ≤ w' → toldTo (toldTo p at w₀ w) next w w' ≡ toldTo p next w₀ w'
+told-again p at next w₀ w w' h k =
+    ap (here p next)
+    (by-bool (eqb w' w)
+    (λ e. rw e (ap (λ (x : ℕ). if eqb x w₀ then p .second else false) (sym (eqb-true w' w e))))
+    (λ e. rw (e, ne-eqb w' w₀ (λ f. eqb-false w' w e (omega arith)))))
+
+module _ (s : List ℕ) (p : Spot) (recs₀ : List ℕ) (free depth₀ w₀ at : ℕ) {recs : List ℕ} {depth w : ℕ}
+    (so-far : ToldOn s p recs₀ free depth₀ w₀ at recs depth w) (q : Spot) (is : q ≡ toldTo p at w₀ w) where
+  pub told-amid : Amid s p recs₀ free depth₀ w₀ → Amid s q recs free depth w
+  told-amid a = subst (λ (x : Spot). Amid s x recs free depth w) (sym is) (amid-on (so-far .1) a)
+
+  pub told-more : (next : ℕ) {recs' : List ℕ} {depth' w' : ℕ} → ToldOn s q recs free depth w next recs' depth' w' → ToldOn s p recs₀ free depth₀ w₀ next recs' depth' w'
+  told-more next {recs'} {depth'} {w'} more = (
+    omega (arith, so-far .0, more .0),
+    subst (λ (x : Spot). Onward s p recs₀ free depth₀ w₀ x recs' depth' w') (told-again p at next w₀ w w' (so-far .0) (more .0))
+        (onward-on (so-far .1) (subst (λ (x : Spot). Onward s x recs free depth w (toldTo x next w w') recs' depth' w') is (more .1))),
+  )

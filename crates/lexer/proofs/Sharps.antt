@@ -60,7 +60,7 @@ boolean-ends : (report : Bool) (raw : List ℕ) (n c : ℕ) (o : Outcome) → ha
 boolean-ends report raw n c o e k = rw (k, e)
 
 module _ (s : List ℕ) (at : ℕ) (S : Sharp s at) where
-  sign-begins : Begins s at ph.AfterHash
+  sign-begins : Begins s at (at + 1) ph.AfterHash
   unfolding firstOf startsRun isBlank
   sign-begins = glances.begins s at (code "#") ph.AfterHash (S .some) (S .sharp) (omega arith) refl refl
 
@@ -80,6 +80,7 @@ module _ (s : List ℕ) (at : ℕ) (S : Sharp s at) where
   two-told report skip k d h other = record {
     what = Token k d;
     phase = ph.AfterHash;
+    next = at + 1;
     begins = sign-begins;
     scan = h;
     quiet = λ last i. refl;

@@ -26,7 +26,7 @@ use Rattle.meaning.specs.declared.Means.{Means}
 use Rattle.meaning.specs.declared.Text.the-variants.{Nowhere, Source}
 use Rattle.meaning.specs.Places.{rangeOf}
 use Rattle.meaning.specs.Records.{nineFor}
-use Rattle.lexer.specs.Glance.{Begins, Glanced, SkimAt, SkimFrom}
+use Rattle.lexer.specs.Glance.{Begins, WordedTo, Glanced, SkimAt, SkimFrom}
 use Rattle.telling.specs.Tells.{Alone}
 use Rattle.lexer.specs.Writing.{Going}
 use Rattle.lexer.specs.Reading.{startFrom}
@@ -78,39 +78,43 @@ module _ (at : ℕ) (raw : List ℕ) (n : firstIs (code "+") raw ≡ false) wher
       (w .0, (record { means = λ r. rw f (w .1 .0 .means r); undecoded = w .1 .0 .undecoded }, w .1 .1))
   run-sole parsed.ZeroDenominator f = (means (kind.firstError + kind.ZeroDenominator) 0 Nowhere, (record { means = λ r. rw f; undecoded = tt }, refl))
 
-module _ (s : List ℕ) (report skip : Bool) (at : ℕ) (short : length s ≤ limit) where
-  sole-skims : (o : Outcome) (p : Phase) (e : ℕ) → Begins s at p → record { what = o; end = e } ≡ answer s report at p (at + 1)
+module _ (s : List ℕ) (report skip : Bool) (at next : ℕ) (short : length s ≤ limit) where
+  sole-skims : (o : Outcome) (p : Phase) (e : ℕ) → Begins s at next p → record { what = o; end = e } ≡ answer s report at p next
       → ((last : Place) (i : SoFar) → rangeAfter report last at o i ≡ last) → Sole o at (part s at e) → SkimAt s report skip at (ending.At e)
   sole-skims o p e B h quiet S =
-      (S .0, record { what = o; phase = p; begins = B; scan = h; quiet = quiet; alone = S .1 .0; kept = and-false skip (eqb (S .0 .kind) kind.Comment) (S .1 .1) })
+      (S .0, record { what = o; phase = p; next = next; begins = B; scan = h; quiet = quiet; alone = S .1 .0; kept = and-false skip (eqb (S .0 .kind) kind.Comment) (S .1 .1) })
 
-  no-plus : (o : Outcome) (p : Phase) (e : ℕ) → Begins s at p → record { what = o; end = e } ≡ answer s report at p (at + 1)
+  no-plus : (o : Outcome) (p : Phase) (e : ℕ) → Begins s at next p → record { what = o; end = e } ≡ answer s report at p next
       → (getD s at 0 ≡ code "+" → ⊥) → firstIs (code "+") (part s at e) ≡ false
-  no-plus o p e B h n = rw (first-byte s at e (spans s report at e o p B h short .some)) (ne-eqb (getD s at 0) (code "+") n)
+  no-plus o p e B h n = rw (first-byte s at e (spans s report at next e o p B h short .some)) (ne-eqb (getD s at 0) (code "+") n)
 
-  pub word-skims : Begins s at ph.InWord → (getD s at 0 ≡ code "+" → ⊥) → (r : Ending) → EndsAs s report ph.InWord Word (at + 1) r → SkimAt s report skip at r
+  pub word-skims : Begins s at next ph.InWord → (getD s at 0 ≡ code "+" → ⊥) → (r : Ending) → EndsAs s report ph.InWord Word next r → SkimAt s report skip at r
   word-skims B n ending.Unknown h = tt
   word-skims B n (ending.At e) h =
-      let scan = ends-here s report at ph.InWord Word e h in
+      let scan = ends-here s report at next ph.InWord Word e B h in
       sole-skims Word ph.InWord e B scan (λ last i. refl) (word-sole at (part s at e) (no-plus Word ph.InWord e B scan n))
 
-  pub run-skims : Begins s at ph.InRun → (getD s at 0 ≡ code "+" → ⊥) → (r : Ending) → EndsAs s report ph.InRun Run (at + 1) r → SkimAt s report skip at r
+  pub run-skims : Begins s at next ph.InRun → (getD s at 0 ≡ code "+" → ⊥) → (r : Ending) → EndsAs s report ph.InRun Run next r → SkimAt s report skip at r
   run-skims B n ending.Unknown h = tt
   run-skims B n (ending.At e) h =
-      let scan = ends-here s report at ph.InRun Run e h in
+      let scan = ends-here s report at next ph.InRun Run e B h in
       sole-skims Run ph.InRun e B scan (λ last i. refl) (run-sole at (part s at e) (no-plus Run ph.InRun e B scan n) (parseNumber (part s at e)) refl)
 
-  pub string-skims : Begins s at (ph.Quoted Double) → (e : ℕ) → EndsAs s report (ph.Quoted Double) Str (at + 1) (ending.At e) → escaped (part s at e) ≡ false
+  pub string-skims : Begins s at next (ph.Quoted Double) → (e : ℕ) → EndsAs s report (ph.Quoted Double) Str next (ending.At e) → escaped (part s at e) ≡ false
       → SkimAt s report skip at (ending.At e)
   string-skims B e h f =
       let raw = part s at e in
       let t = string-tells at (at + length raw) raw refl f in
-      sole-skims Str (ph.Quoted Double) e B (ends-here s report at (ph.Quoted Double) Str e h) (λ last i. refl)
+      sole-skims Str (ph.Quoted Double) e B (ends-here s report at next (ph.Quoted Double) Str e B h) (λ last i. refl)
       (means kind.StringLiteral 0 (Source (at + 1) (at + length raw - 1)), (t .4, t .2))
 
-  pub line-skims : skip ≡ false → Begins s at ph.InLine → (r : Ending) → EndsAs s report ph.InLine comment (at + 1) r → SkimAt s report skip at r
+  pub line-skims : skip ≡ false → Begins s at next ph.InLine → (r : Ending) → EndsAs s report ph.InLine comment next r → SkimAt s report skip at r
   line-skims k B ending.Unknown h = tt
-  line-skims k B (ending.At e) h = (means kind.Comment 0 Nowhere, line-told s report skip at e k B (ends-here s report at ph.InLine comment e h) .2)
+  line-skims k B (ending.At e) h = (means kind.Comment 0 Nowhere, line-told s report skip at next e k B (ends-here s report at next ph.InLine comment e B h) .2)
+
+pub worded-skims : (s : List ℕ) (report skip : Bool) (at : ℕ) → length s ≤ limit → (r : Ending) → WordedTo s at r → SkimAt s report skip at r
+worded-skims s report skip at short ending.Unknown w = tt
+worded-skims s report skip at short (ending.At e) w = word-skims s report skip at (w .0) short (w .1 .0 .begins) (w .1 .0 .other) (ending.At e) (w .1 .1 report)
 
 -- past blanks
 pub skim-there : (s : List ℕ) (report skip : Bool) (from at : ℕ) → startFrom at (chars (drop at s)) ≡ startFrom from (chars (drop from s))

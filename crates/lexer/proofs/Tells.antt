@@ -8,17 +8,18 @@ use Rattle.items.specs.Readers.{SoFar, soFar, comment}
 use Rattle.items.specs.Items.{Place, rangeAfter}
 use Rattle.items.specs.Whole.{limit}
 use Rattle.items.specs.declared.Outcome.{Outcome}
-use Rattle.items.specs.declared.Outcome.the-variants.{Token}
+use Rattle.items.specs.declared.Outcome.the-variants.{Token, Word}
 use Rattle.items.specs.declared.Phase.{Phase}
 use Rattle.items.specs.declared.Phase.the-variants as ph
 use Rattle.steps.specs.Scan.{part, answer}
 use Rattle.steps.specs.Ended.{EndsAs}
+use Rattle.steps.specs.declared.Ending.{Ending}
 use Rattle.steps.specs.declared.Ending.the-variants as ending
 use Rattle.steps.proofs.Kept.{done-scan}
 use Rattle.meaning.specs.Meant.{means}
 use Rattle.meaning.specs.declared.Text.the-variants.{Nowhere}
 use Rattle.telling.specs.Tells.{Tells}
-use Rattle.lexer.specs.Glance.{Begins, Glanced, GlanceAt}
+use Rattle.lexer.specs.Glance.{Begins, Worded, WordedTo, Glanced, GlanceAt}
 use Rattle.telling.specs.declared.Quick.{Quick}
 use Rattle.telling.specs.declared.Quick.the-variants.{Item, Bracket, Other}
 use Rattle.lexer.proofs.Scans.{inside, scan-fits, end-inside}
@@ -42,6 +43,7 @@ pub single-told : (s : List ℕ) (report skip : Bool) (at c k d : ℕ) → at < 
 single-told s report skip at c k d h e l b f other = record {
   what = Token k d;
   phase = ph.Done (Token k d);
+  next = at + 1;
   begins = begins s at c (ph.Done (Token k d)) h e l b f;
   scan = done-scan report (Token k d) (soFar (part s at (at + 1)) (at + 1)) (chars (drop (at + 1) s));
   quiet = λ last i. refl;
@@ -51,28 +53,28 @@ single-told s report skip at c k d h e l b f other = record {
 
 -- ---- an item that ends where its run does
 
--- the byte that an item begins with lies in the source
-pub begins-inside : (s : List ℕ) (at : ℕ) (p : Phase) → Begins s at p → at + 1 ≤ length s
-begins-inside s at p B = inside s false at (B .c) (at + 1) (B .first) .1
+-- the character that an item begins with lies in the source
+pub begins-inside : (s : List ℕ) (at next : ℕ) (p : Phase) → Begins s at next p → next ≤ length s
+begins-inside s at next p B = inside s false at (B .c) next (B .first) .1
 
-pub ends-here : (s : List ℕ) (report : Bool) (at : ℕ) (p : Phase) (o : Outcome) (e : ℕ) → EndsAs s report p o (at + 1) (ending.At e)
-    → record { what = o; end = e } ≡ answer s report at p (at + 1)
-ends-here s report at p o e h = sym (h at (omega arith))
+pub ends-here : (s : List ℕ) (report : Bool) (at next : ℕ) (p : Phase) (o : Outcome) (e : ℕ) → Begins s at next p → EndsAs s report p o next (ending.At e)
+    → record { what = o; end = e } ≡ answer s report at p next
+ends-here s report at next p o e B h = sym (h at (omega (arith, B .first .on)))
 
 pub record Spans (s : List ℕ) (at e : ℕ) : Type 0 where
   pub some : at < e
   pub inside : e ≤ length s
   pub long : at + length (part s at e) ≡ e
 
-module _ (s : List ℕ) (report : Bool) (at e : ℕ) (o : Outcome) (p : Phase) (B : Begins s at p)
-    (h : record { what = o; end = e } ≡ answer s report at p (at + 1)) where
-  first-scan : record { what = o; end = e } ≡ answer s report at (onFirst (firstOf (B .c))) (at + 1)
-  first-scan = h ∙ ap (λ (q : Phase). answer s report at q (at + 1)) (sym (B .stands))
+module _ (s : List ℕ) (report : Bool) (at next e : ℕ) (o : Outcome) (p : Phase) (B : Begins s at next p)
+    (h : record { what = o; end = e } ≡ answer s report at p next) where
+  first-scan : record { what = o; end = e } ≡ answer s report at (onFirst (firstOf (B .c))) next
+  first-scan = h ∙ ap (λ (q : Phase). answer s report at q next) (sym (B .stands))
 
   pub spans : length s ≤ limit → Spans s at e
   spans short =
-      let i = end-inside s report at (B .c) (at + 1) (B .first) (record { what = o; end = e }) first-scan in
-      let f = scan-fits s report at (B .c) (at + 1) (B .first) (record { what = o; end = e }) first-scan 0 (omega arith) (omega arith) in
+      let i = end-inside s report at (B .c) next (B .first) (record { what = o; end = e }) first-scan in
+      let f = scan-fits s report at (B .c) next (B .first) (record { what = o; end = e }) first-scan 0 (omega arith) (omega arith) in
       let l : length (part s at e) ≡ e - at = length-take (e - at) (drop at s) ∙ omega (arith, length-drop at s) in
       record { some = omega (arith, f .some); inside = i .1; long = omega arith }
 
@@ -87,6 +89,7 @@ module _ (s : List ℕ) (report : Bool) (at e : ℕ) (o : Outcome) (p : Phase) (
         subst (λ (x : ℕ). Glanced s report skip at x m) (sym there) (record {
           what = o;
           phase = p;
+          next = next;
           begins = B;
           scan = h;
           quiet = quiet;
@@ -97,14 +100,15 @@ module _ (s : List ℕ) (report : Bool) (at e : ℕ) (o : Outcome) (p : Phase) (
       )
 
 -- a comment, where comments are kept
-pub line-told : (s : List ℕ) (report skip : Bool) (at e : ℕ) → skip ≡ false → Begins s at ph.InLine
-    → record { what = comment; end = e } ≡ answer s report at ph.InLine (at + 1) → GlanceAt s report skip at (Item (means kind.Comment 0 Nowhere) at e)
-line-told s report skip at e k B h = (
+pub line-told : (s : List ℕ) (report skip : Bool) (at next e : ℕ) → skip ≡ false → Begins s at next ph.InLine
+    → record { what = comment; end = e } ≡ answer s report at ph.InLine next → GlanceAt s report skip at (Item (means kind.Comment 0 Nowhere) at e)
+line-told s report skip at next e k B h = (
   refl,
   omega arith,
   record {
     what = comment;
     phase = ph.InLine;
+    next = next;
     begins = B;
     scan = h;
     quiet = λ last i. refl;
@@ -113,3 +117,9 @@ line-told s report skip at e k B h = (
   },
   λ depth. refl,
 )
+
+-- ---- a word whose first character ends at the place `next`
+
+pub worded-to : (s : List ℕ) (at next : ℕ) → Worded s at next → (r : Ending) → ((report : Bool) → EndsAs s report ph.InWord Word next r) → WordedTo s at r
+worded-to s at next w (ending.At e) h = (next, (w, h))
+worded-to s at next w ending.Unknown h = tt

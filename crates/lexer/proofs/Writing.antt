@@ -52,6 +52,9 @@ module _ (s : List ℕ) (start : Spot) (recs₀ text₀ : List ℕ) (roomy : Roo
     pub recs-length : length recs ≡ length recs₀
     recs-length = ap length (g .rows) ∙ length-written (records 0 0 (g .done)) recs₀ (front (g .going) .0)
 
+    pub words-fit : w ≤ length recs
+    words-fit = omega (arith, g .count, recs-length, front (g .going) .0)
+
     pub text-length : length text ≡ length text₀
     text-length = ap length (g .bytes) ∙ length-written (texts (g .done)) text₀ (front (g .going) .1)
 

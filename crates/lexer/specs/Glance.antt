@@ -1,5 +1,5 @@
 -- Items that one look tells: what a quick answer says of the item that starts at a place.
-use Prim.Native.Nat.{ℕ, _+_, _<_}
+use Prim.Native.Nat.{ℕ, _+_, _≤_, _<_}
 use mathlib.Core.Path.{_≡_}
 use mathlib.Core.Bool.{Bool, false, _&&_}
 use mathlib.Core.List.{List, [], _∷_}
@@ -15,10 +15,11 @@ use Rattle.items.specs.Items.{Place, rangeAfter}
 use Rattle.items.specs.declared.HashKind.the-variants.{Decided}
 use Rattle.items.specs.declared.Next.the-variants.{Eat}
 use Rattle.items.specs.declared.Outcome.{Outcome}
-use Rattle.items.specs.declared.Outcome.the-variants.{Token}
+use Rattle.items.specs.declared.Outcome.the-variants.{Token, Word}
 use Rattle.items.specs.declared.Phase.{Phase}
 use Rattle.items.specs.declared.Phase.the-variants as ph
 use Rattle.steps.specs.Scan.{part, answer}
+use Rattle.steps.specs.Ended.{EndsAs}
 use Rattle.steps.specs.declared.Ending.{Ending}
 use Rattle.steps.specs.declared.Ending.the-variants as ending
 use Rattle.meaning.specs.declared.Means.{Means}
@@ -28,11 +29,25 @@ use Rattle.telling.specs.Tells.{Alone, Level}
 use Rattle.telling.specs.declared.Quick.{Quick}
 use Rattle.telling.specs.declared.Quick.the-variants.{Item, Bracket, Other}
 
--- an item starts at a place with one byte, which leaves it in a phase
-pub record Begins (s : List ℕ) (at : ℕ) (p : Phase) : Type 0 where
+-- an item starts at a place with a character that ends at the place `next` and leaves it in a phase
+pub record Begins (s : List ℕ) (at next : ℕ) (p : Phase) : Type 0 where
   pub c : ℕ
-  pub first : First s at c (at + 1)
+  pub first : First s at c next
   pub stands : onFirst (firstOf c) ≡ p
+
+-- a byte that may begin a word of those that are told after all others: of ASCII, one from < to Z
+abbrev pub Rare : ℕ → Type 0
+Rare b = (code "<" ≤ b) × (b < 0x80 → b ≤ code "Z")
+
+-- a word starts at a place, not with a plus
+pub record Worded (s : List ℕ) (at next : ℕ) : Type 0 where
+  pub begins : Begins s at next ph.InWord
+  pub other : getD s at 0 ≡ code "+" → ⊥
+
+-- the same, and where it ends
+abbrev pub WordedTo : List ℕ → ℕ → Ending → Type 0
+WordedTo s at (ending.At e) = (next : ℕ) × (Worded s at next × ((report : Bool) → EndsAs s report ph.InWord Word next (ending.At e)))
+WordedTo s at ending.Unknown = Unit
 
 -- a number sign stands at a place
 pub record Sharp (s : List ℕ) (at : ℕ) : Type 0 where
@@ -53,8 +68,9 @@ pub record Spells (s : List ℕ) (at v : ℕ) : Type 0 where
 pub record Glanced (s : List ℕ) (report skip : Bool) (a e : ℕ) (m : Means) : Type 0 where
   pub what : Outcome
   pub phase : Phase
-  pub begins : Begins s a phase
-  pub scan : record { what = what; end = e } ≡ answer s report a phase (a + 1)
+  pub next : ℕ
+  pub begins : Begins s a next phase
+  pub scan : record { what = what; end = e } ≡ answer s report a phase next
   pub quiet : (last : Place) (i : SoFar) → rangeAfter report last a what i ≡ last
   pub alone : Alone what a (part s a e) m
   pub kept : (skip && eqb (m .kind) kind.Comment) ≡ false

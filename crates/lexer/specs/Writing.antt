@@ -53,3 +53,7 @@ pub record Onward (s : List ℕ) (p : Spot) (recs : List ℕ) (free depth w : �
 -- the spot that a writing got to by items that one look told: where it wrote none, the first of an extent's two items is still given
 abbrev pub toldTo : Spot → ℕ → ℕ → ℕ → Spot
 toldTo p at from w = moved p at (placeIn (p .last)) (if eqb w from then p .second else false)
+
+-- any writing that stands at the spot p goes on by such items to the place `at`
+abbrev pub ToldOn : List ℕ → Spot → List ℕ → ℕ → ℕ → ℕ → ℕ → List ℕ → ℕ → ℕ → Type 0
+ToldOn s p recs free depth w at recs' depth' w' = (w ≤ w') × Onward s p recs free depth w (toldTo p at w w') recs' depth' w'

@@ -1,6 +1,8 @@
 // Items that one look tells: a bracket, a quote mark, and a word, a number, a string or a comment that the next bytes show to be no more
-// than that. Any other is for `next_item`, which reads them all.
+// than that. Any other is for `next_item`, which reads them all. The text is good UTF-8, so that in quotes and in comments no character is
+// looked at but what may end them.
 use crate::reading::past_blanks;
+use chars::letter_at;
 use escapes::has_escape;
 use items::kinds;
 use meaning::Means;
@@ -18,7 +20,9 @@ use telling::tell_word;
 ghost use mathlib.Core.Path.{_≡_};
 ghost use mathlib.Core.Bool.{Bool, true};
 ghost use Prim.Native.Nat.{_+_, _≤_, _<_};
-ghost use lib.ListN.{length};
+ghost use lib.ListN.{length, getD, drop};
+ghost use Rattle.chars.specs.Utf8.{firstBad};
+ghost use Rattle.chars.specs.declared.Utf8.the-variants.{Good};
 ghost use Rattle.items.specs.Classes.{inHash, stopsHash};
 ghost use Rattle.items.specs.Whole.{limit};
 ghost use Rattle.items.specs.declared.Phase.the-variants.{InWord, InRun, InLine, Quoted};
@@ -26,7 +30,13 @@ ghost use Rattle.items.specs.declared.Quotes.the-variants.{Double};
 ghost use Rattle.meaning.specs.Meant.{means};
 ghost use Rattle.meaning.specs.declared.Text.the-variants.{Nowhere};
 ghost use Rattle.telling.specs.declared.Quick.the-variants.{Bracket};
-ghost use Rattle.lexer.specs.Glance.{Begins, Sharp, Spells, GlanceAt, SkimAt, SkimFrom};
+ghost use Rattle.lexer.specs.Glance.{Begins, Rare, Worded, WordedTo, Sharp, Spells, GlanceAt, SkimAt, SkimFrom};
+
+// Below it a byte is a character of ASCII.
+const ASCII_END: u8 = 0x80;
+
+// From it on bytes begin characters past ASCII; so does C2, but that begins blanks.
+const WIDE_FIRST: u8 = 0xC3;
 
 // How many bytes a boolean of one letter is.
 const BOOLEAN: usize = 2;
@@ -45,7 +55,7 @@ fn bracket(kind: u32, detail: u32, at: usize, end: usize) -> Quick
 
 // A word that starts at a place.
 fn quick_word(source: &[u8], at: usize) -> Quick
-    requires { ⌜ (length (now source) ≤ limit) × Begins (now source) at InWord ⌝ }
+    requires { ⌜ (length (now source) ≤ limit) × Begins (now source) at (at + 1) InWord ⌝ }
     ensures { λ r. ⌜ ((report skip : Bool) → GlanceAt (now (source .entry)) report skip at r) ⌝ }
 {
     match word_ending(source, at + 1) {
@@ -56,7 +66,7 @@ fn quick_word(source: &[u8], at: usize) -> Quick
 
 // A number run that starts at a place.
 fn quick_run(source: &[u8], report: bool, at: usize) -> Quick
-    requires { ⌜ (length (now source) ≤ limit) × Begins (now source) at InRun ⌝ }
+    requires { ⌜ (length (now source) ≤ limit) × Begins (now source) at (at + 1) InRun ⌝ }
     ensures { λ r. ⌜ ((skip : Bool) → GlanceAt (now (source .entry)) report skip at r) ⌝ }
 {
     match run_ending(source, report, at + 1) {
@@ -67,7 +77,7 @@ fn quick_run(source: &[u8], report: bool, at: usize) -> Quick
 
 // A string that starts at a place.
 fn quick_string(source: &[u8], at: usize) -> Quick
-    requires { ⌜ (length (now source) ≤ limit) × Begins (now source) at (Quoted Double) ⌝ }
+    requires { ⌜ (length (now source) ≤ limit) × Begins (now source) at (at + 1) (Quoted Double) × (firstBad (drop (at + 1) (now source)) ≡ Good) ⌝ }
     ensures { λ r. ⌜ ((report skip : Bool) → GlanceAt (now (source .entry)) report skip at r) ⌝ }
 {
     match string_ending(source, at + 1) {
@@ -78,7 +88,7 @@ fn quick_string(source: &[u8], at: usize) -> Quick
 
 // A comment to the end of its line that starts at a place, where comments are kept.
 fn quick_line(source: &[u8], skip: bool, at: usize) -> Quick
-    requires { ⌜ (length (now source) ≤ limit) × Begins (now source) at InLine ⌝ }
+    requires { ⌜ (length (now source) ≤ limit) × Begins (now source) at (at + 1) InLine × (firstBad (drop (at + 1) (now source)) ≡ Good) ⌝ }
     ensures { λ r. ⌜ ((report : Bool) → GlanceAt (now (source .entry)) report skip at r) ⌝ }
 {
     if skip {
@@ -137,7 +147,7 @@ fn quick_hash(source: &[u8], at: usize) -> Quick
 
 // The item that starts at a place, by its first byte.
 pub fn quick_at(source: &[u8], report: bool, skip: bool, at: usize) -> Quick
-    requires { ⌜ (length (now source) ≤ limit) × (at < length (now source)) ⌝ }
+    requires { ⌜ (length (now source) ≤ limit) × (at < length (now source)) × (firstBad (now source) ≡ Good) ⌝ }
     ensures { λ r. ⌜ GlanceAt (now (source .entry)) report skip at r ⌝ }
 {
     match source[at] {
@@ -158,9 +168,60 @@ pub fn quick_at(source: &[u8], report: bool, skip: bool, at: usize) -> Quick
     }
 }
 
+// Whether a byte may begin a word of those that are told after all others: a capital letter, one of < = > ? @ before them, or the first byte
+// of a character past ASCII.
+fn begins_rare(b: u8) -> bool
+    ensures { λ r. ⌜ (r ≡ true → Rare b) ⌝ }
+{
+    if b < b'<' {
+        return false;
+    }
+    if b <= b'Z' {
+        return true;
+    }
+    WIDE_FIRST <= b
+}
+
+// Where the first character of such a word ends; the place itself where it may be a blank.
+fn rare_start(source: &[u8], at: usize) -> usize
+    requires { ⌜ (length (now source) ≤ limit) × (at < length (now source)) × Rare (getD (now source) at 0) ⌝ }
+    ensures { λ r. ⌜ (at < r → Worded (now (source .entry)) at r) ⌝ }
+{
+    if source[at] < ASCII_END {
+        return at + 1;
+    }
+    at + letter_at(source, at)
+}
+
+// The end of such a word.
+fn rare_ending(source: &[u8], at: usize) -> Ending
+    requires { ⌜ (length (now source) ≤ limit) × (at < length (now source)) ⌝ }
+    ensures { λ r. ⌜ WordedTo (now (source .entry)) at r ⌝ }
+{
+    if !begins_rare(source[at]) {
+        return Ending::Unknown;
+    }
+    let next = rare_start(source, at);
+    if next <= at {
+        return Ending::Unknown;
+    }
+    word_ending(source, next)
+}
+
+// Such a word. It is asked for where `quick_at` tells nothing: were it an arm there, the compiler would make slower code of all arms.
+pub fn quick_rare(source: &[u8], at: usize) -> Quick
+    requires { ⌜ (length (now source) ≤ limit) × (at < length (now source)) ⌝ }
+    ensures { λ r. ⌜ ((report skip : Bool) → GlanceAt (now (source .entry)) report skip at r) ⌝ }
+{
+    match rare_ending(source, at) {
+        Ending::At(end) => tell_word(at, end, &source[at..end]),
+        Ending::Unknown => Quick::Other,
+    }
+}
+
 // The end of a string that starts at a place, if it has no escape.
 fn skim_string(source: &[u8], at: usize) -> Ending
-    requires { ⌜ (length (now source) ≤ limit) × Begins (now source) at (Quoted Double) ⌝ }
+    requires { ⌜ (length (now source) ≤ limit) × Begins (now source) at (at + 1) (Quoted Double) × (firstBad (drop (at + 1) (now source)) ≡ Good) ⌝ }
     ensures { λ r. ⌜ ((report skip : Bool) → SkimAt (now (source .entry)) report skip at r) ⌝ }
 {
     match string_ending(source, at + 1) {
@@ -176,7 +237,7 @@ fn skim_string(source: &[u8], at: usize) -> Ending
 
 // The end of a comment to the end of its line that starts at a place, where comments are kept.
 fn skim_line(source: &[u8], skip: bool, at: usize) -> Ending
-    requires { ⌜ (length (now source) ≤ limit) × Begins (now source) at InLine ⌝ }
+    requires { ⌜ (length (now source) ≤ limit) × Begins (now source) at (at + 1) InLine × (firstBad (drop (at + 1) (now source)) ≡ Good) ⌝ }
     ensures { λ r. ⌜ ((report : Bool) → SkimAt (now (source .entry)) report skip at r) ⌝ }
 {
     if skip {
@@ -199,7 +260,7 @@ fn skim_hash(source: &[u8], at: usize) -> Ending
 
 // The end of the item that starts at a place, by its first byte: what it means is not asked for.
 fn skim_at(source: &[u8], report: bool, skip: bool, at: usize) -> Ending
-    requires { ⌜ (length (now source) ≤ limit) × (at < length (now source)) ⌝ }
+    requires { ⌜ (length (now source) ≤ limit) × (at < length (now source)) × (firstBad (now source) ≡ Good) ⌝ }
     ensures { λ r. ⌜ SkimAt (now (source .entry)) report skip at r ⌝ }
 {
     let next = at + 1;
@@ -217,13 +278,13 @@ fn skim_at(source: &[u8], report: bool, skip: bool, at: usize) -> Ending
         b'"' => skim_string(source, at),
         b';' => skim_line(source, skip, at),
         b'#' => skim_hash(source, at),
-        _ => Ending::Unknown,
+        _ => rare_ending(source, at),
     }
 }
 
 // The end of the next item from a place on, where one look tells and it has no decoded text.
 pub fn skim_item(source: &[u8], report: bool, skip: bool, from: usize) -> Ending
-    requires { ⌜ length (now source) ≤ limit ⌝ }
+    requires { ⌜ (length (now source) ≤ limit) × (firstBad (now source) ≡ Good) ⌝ }
     ensures { λ r. ⌜ SkimFrom (now (source .entry)) report skip from r ⌝ }
 {
     let at = past_blanks(source, from);

@@ -6,6 +6,7 @@ use crate::ReadAnswer;
 use crate::Spot;
 use crate::Wrote;
 use crate::glance::quick_at;
+use crate::glance::quick_rare;
 use crate::glance::skim_item;
 use crate::opening::OUTSIDE;
 use crate::opening::open;
@@ -30,6 +31,8 @@ ghost use mathlib.Core.Path.{_≡_};
 ghost use Prim.Native.Nat.{_*_, _/_, _^_, _≤_, _<_};
 ghost use lib.ListN.{length};
 ghost use Rattle.laws.specs.Lent.{written};
+ghost use Rattle.chars.specs.Utf8.{firstBad};
+ghost use Rattle.chars.specs.declared.Utf8.the-variants.{Good};
 ghost use Rattle.items.specs.Items.{range, records, recordWords, texts};
 ghost use Rattle.items.specs.Whole.{call, deliver, limit, readOf};
 ghost use Rattle.meaning.specs.Places.{rangeOf};
@@ -37,7 +40,7 @@ ghost use Rattle.meaning.specs.Records.{nineFor, TextFits};
 ghost use Rattle.lexer.specs.Reading.{allItems};
 ghost use Rattle.lexer.specs.Answers.{answerOf};
 ghost use Rattle.lexer.specs.Inner.{neededOf, quotesOf, bytesFor, freeAfter, deepAt, Few};
-ghost use Rattle.lexer.specs.Writing.{Amid, Onward, toldTo};
+ghost use Rattle.lexer.specs.Writing.{Amid, ToldOn, toldTo};
 
 // How many bytes a quote is.
 const QUOTE: usize = 1;
@@ -74,9 +77,9 @@ pub fn put_text(source: &[u8], r: Nine, free: &mut [u8])
     }
 }
 
-// The items from a spot on, and the bytes of their decoded texts.
+// The items from a spot on of a good text, and the bytes of their decoded texts.
 pub fn count(source: &[u8], spot: Spot) -> Needed
-    requires { ⌜ length (now source) ≤ limit ⌝ }
+    requires { ⌜ (length (now source) ≤ limit) × (firstBad (now source) ≡ Good) ⌝ }
     ensures { λ r. ⌜ r ≡ neededOf (allItems (now (source .entry)) spot) ⌝ }
 {
     let mut p = spot;
@@ -128,8 +131,8 @@ fn record_at(m: Means, start: usize, end: usize, free: usize, depth: u32) -> Rec
 // Writes the records of the items from a spot on, from a word of the records on, as far as one look tells each: none has a decoded text. Where
 // it stops there is no blank of ASCII.
 fn put_told(source: &[u8], p: Spot, recs: &mut [u32], free: usize, from: usize, deep: u32) -> Wrote
-    requires { ⌜ (length (now source) ≤ limit) × Amid (now source) p (now recs) free deep from ⌝ }
-    ensures { λ r. ⌜ Onward (now (source .entry)) p (now (recs .entry)) free deep from (toldTo p (r .at) from (r .words)) (now (recs .exit)) (r .depth) (r .words) ⌝ }
+    requires { ⌜ (length (now source) ≤ limit) × Amid (now source) p (now recs) free deep from × (firstBad (now source) ≡ Good) ⌝ }
+    ensures { λ r. ⌜ ToldOn (now (source .entry)) p (now (recs .entry)) free deep from (r .at) (now (recs .exit)) (r .depth) (r .words) ⌝ }
 {
     let mut depth = deep;
     let mut w = from;
@@ -173,6 +176,69 @@ fn spot_past(p: Spot, told: Wrote, from: usize) -> Spot
     stand(p, told.at, false)
 }
 
+// As `put_told`, for the words that `quick_rare` tells.
+fn put_rare(source: &[u8], p: Spot, recs: &mut [u32], free: usize, from: usize, deep: u32) -> Wrote
+    requires { ⌜ (length (now source) ≤ limit) × Amid (now source) p (now recs) free deep from ⌝ }
+    ensures { λ r. ⌜ ToldOn (now (source .entry)) p (now (recs .entry)) free deep from (r .at) (now (recs .exit)) (r .depth) (r .words) ⌝ }
+{
+    let mut w = from;
+    let mut at = p.at;
+    while at < source.len() {
+        match quick_rare(source, at) {
+            Quick::Item(m, start, end) => {
+                put(&mut recs[w..], record_at(m, start, end, free, deep));
+                w += WORDS;
+                at = past_blanks(source, end);
+            }
+            _ => {
+                return Wrote {
+                    at: at,
+                    words: w,
+                    depth: deep,
+                };
+            }
+        }
+    }
+    Wrote {
+        at: at,
+        words: w,
+        depth: deep,
+    }
+}
+
+// As `put_told`, for all that one of the two looks tells.
+fn put_known(source: &[u8], p: Spot, recs: &mut [u32], free: usize, from: usize, deep: u32) -> Wrote
+    requires { ⌜ (length (now source) ≤ limit) × Amid (now source) p (now recs) free deep from × (firstBad (now source) ≡ Good) ⌝ }
+    ensures { λ r. ⌜ ToldOn (now (source .entry)) p (now (recs .entry)) free deep from (r .at) (now (recs .exit)) (r .depth) (r .words) ⌝ }
+{
+    let mut got = Wrote {
+        at: p.at,
+        words: from,
+        depth: deep,
+    };
+    loop {
+        let told = put_told(
+            source,
+            spot_past(p, got, from),
+            recs,
+            free,
+            got.words,
+            got.depth,
+        );
+        got = put_rare(
+            source,
+            spot_past(p, told, from),
+            recs,
+            free,
+            told.words,
+            told.depth,
+        );
+        if got.words == told.words {
+            return got;
+        }
+    }
+}
+
 // What so many words of records and bytes of text are.
 fn taken(words: usize, bytes: usize) -> Needed
     ensures { λ r. ⌜ r ≡ record { items = words / recordWords; text = bytes } ⌝ }
@@ -183,9 +249,9 @@ fn taken(words: usize, bytes: usize) -> Needed
     }
 }
 
-// Writes the records of the items from a spot on, and their decoded texts; answers how many records and bytes those are.
+// Writes the records of the items from a spot on of a good text, and their decoded texts; answers how many records and bytes those are.
 pub fn write(source: &[u8], spot: Spot, recs: &mut [u32], text: &mut [u8]) -> Needed
-    requires { ⌜ length (now source) ≤ limit ⌝ }
+    requires { ⌜ (length (now source) ≤ limit) × (firstBad (now source) ≡ Good) ⌝ }
     requires { ⌜ recordWords * length (allItems (now source) spot) ≤ length (now recs) ⌝ }
     requires { ⌜ length (texts (allItems (now source) spot)) ≤ length (now text) ⌝ }
     ensures { λ r. ⌜ r ≡ neededOf (allItems (now (source .entry)) spot) ⌝ }
@@ -197,7 +263,7 @@ pub fn write(source: &[u8], spot: Spot, recs: &mut [u32], text: &mut [u8]) -> Ne
     let mut depth: u32 = OUTSIDE;
     let mut w: usize = 0;
     loop {
-        let told = put_told(source, p, recs, free, w, depth);
+        let told = put_known(source, p, recs, free, w, depth);
         if source.len() <= told.at {
             return taken(told.words, free);
         }
@@ -226,7 +292,7 @@ pub fn write(source: &[u8], spot: Spot, recs: &mut [u32], text: &mut [u8]) -> Ne
 
 // The items from a spot on into lent memory, if they fit: they are counted first.
 fn deliver_counted(source: &[u8], spot: Spot, recs: &mut [u32], text: &mut [u8]) -> ReadAnswer
-    requires { ⌜ length (now source) ≤ limit ⌝ }
+    requires { ⌜ (length (now source) ≤ limit) × (firstBad (now source) ≡ Good) ⌝ }
     ensures { λ r. ⌜ call (answerOf r) (now (recs .exit)) (now (text .exit)) ≡ deliver (allItems (now (source .entry)) spot) (now (recs .entry)) (now (text .entry)) ⌝ }
 {
     let needed = count(source, spot);
@@ -245,7 +311,7 @@ fn deliver_counted(source: &[u8], spot: Spot, recs: &mut [u32], text: &mut [u8])
 // The items from a spot on into lent memory, if they fit. Where there is a record and a byte of text memory for each byte of the
 // source they do, and nothing is counted.
 fn deliver(source: &[u8], spot: Spot, recs: &mut [u32], text: &mut [u8]) -> ReadAnswer
-    requires { ⌜ (length (now source) ≤ limit) × Few (now source) (allItems (now source) spot) ⌝ }
+    requires { ⌜ (length (now source) ≤ limit) × Few (now source) (allItems (now source) spot) × (firstBad (now source) ≡ Good) ⌝ }
     ensures { λ r. ⌜ call (answerOf r) (now (recs .exit)) (now (text .exit)) ≡ deliver (allItems (now (source .entry)) spot) (now (recs .entry)) (now (text .entry)) ⌝ }
 {
     if recs.len() / WORDS < source.len() {

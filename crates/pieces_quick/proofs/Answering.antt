@@ -6,6 +6,7 @@ use lib.ListN.{length, getD, take, drop, length-drop, drop-of-length-le}
 use lib.Seq.{drop-cons}
 use native.Mathlib.Omega.{arith}
 use Rattle.laws.proofs.Lent.{part-rest}
+use Rattle.pieces.specs.declared.Marks.{Marks}
 use Rattle.pieces.specs.declared.State.{State}
 use Rattle.pieces.specs.declared.Got.the-variants as got
 use Rattle.pieces.specs.Expected.{longest}
@@ -14,6 +15,8 @@ use Rattle.turns.specs.Inner.{Sound}
 use Rattle.lent.specs.declared.Words.{Words}
 use Rattle.lent.specs.declared.Told.{Told}
 use Rattle.lent.specs.Coding.{coded}
+use Rattle.lent.specs.Stood.{Stood}
+use Rattle.lent.proofs.Back.{standing-coded}
 use Rattle.lent.specs.Calls.{Said, lent, said, worded, pieceFor}
 use Rattle.pieces_spots.specs.declared.PieceSpot.{PieceSpot}
 use Rattle.pieces_quick.specs.declared.Offer.the-variants.{Given}
@@ -95,9 +98,19 @@ module _ (w : Words) (buf text piece : List ℕ) (full : length buf ≡ longest)
   says : (t : Told) (end then : List ℕ) → Feeds w s piece now end text then t → Says w piece buf end text then t
   says t end then f = (f .0 ∙ whole, f .1 ∙ ap (λ (x : Said). textAfter (x .what) text) whole)
 
+  -- the words of the last spot are those of a state that reads on
+  reads : Fits s now piece → Stood (stood w s (w .depth)) now text
+  reads fits =
+      let spot : coded (marksAt (base w) s) ≡ stood w s (w .depth) = stood-coded w (length piece) R s (w .depth) (fits .rows) in
+      subst (λ (x : Words). Stood x now text) spot (record {
+        code = spot-code w (length piece) R s (fits .rows) (fits .which) (fits .detail);
+        sound = subst (λ (m : Marks). Sound m now text) (sym (standing-coded (marksAt (base w) s))) (goes .sound);
+      })
+
   -- from the last spot the plain call goes on
   awaits : Fits s now piece → Awaits w piece buf now text text s
-  awaits fits = record { inside = fits .inside; same = refl; on = goes-on w (length piece) R s now text piece fits (goes .sound) ∙ whole }
+  awaits fits =
+      record { inside = fits .inside; same = refl; reads = reads fits; on = goes-on w (length piece) R s now text piece fits (goes .sound) ∙ whole }
 
   pub answers : Fits s now piece → (r : Reached) (end then : List ℕ) → Comes w s piece now end text then r → Answers w piece buf end text then r
   answers fits (More p) end then f = says (toldAt w p (w .depth) got.More) end then f

@@ -106,7 +106,7 @@ place-free : (depth : ℕ) (r : Bool) (m : Means) (a b : Place) (s e : ℕ) (raw
     → givenBy depth r m a s e raw ≡ givenBy depth r m b s e raw
 place-free depth r m a b s e raw fine = rw (lt-leb kind.firstError (m .kind) fine)
 
-said-are : {a b : ℕ} {x y : What} {p q : Lent} → a ≡ b → x ≡ y → p ≡ q
+pub said-are : {a b : ℕ} {x y : What} {p q : Lent} → a ≡ b → x ≡ y → p ≡ q
     → _≡_ {A = Said} (record { taken = a; what = x; state = p }) (record { taken = b; what = y; state = q })
 said-are e f g = cc
 

@@ -6,20 +6,54 @@ use native.Mathlib.Omega.{arith}
 use borrow.Author.Tests.{eq-eqb, le-leb, eqb-true, eqb-false}
 use Rattle.laws.proofs.Choice.{by-bool}
 use Rattle.lent.specs.Coding.{quotesOf, quotesCode, stageOf}
-use Rattle.pieces_quick.specs.Words.{Known, Plain}
+use Rattle.lent.specs.declared.Words.{Words}
+use Rattle.pieces_quick.specs.Words.{Known, Plain, Unheld, Stands}
+
+-- no item is held between items, at the start of the text and in a first line
+module _ (w : Words) (h : Unheld w) where
+  abbrev Row : Type 0
+  Row = Known (w .stage) (w .start) (w .which) (w .detail) (w .at) (w .len)
+
+  unheld-stands : Row → Stands w
+  unheld-stands k = record { small = omega (arith, h .none); deep = omega (arith, h .none, h .deep); known = k }
+
+  pub idle-stands : w .stage ≡ 3 → Stands w
+  unfolding stageOf
+  idle-stands k =
+      unheld-stands (record {
+        held = λ g. absurd (omega (arith, k));
+        rows = rw (k, h .start, h .which, h .detail);
+        narrow = omega (arith, h .which);
+        slim = omega (arith, h .detail);
+        calm = rw k;
+        bounds = λ m e f. rw k;
+      })
+
+  pub line-stands : w .stage ≡ 2 → Stands w
+  unfolding stageOf
+  line-stands k =
+      unheld-stands (record {
+        held = λ g. absurd (omega (arith, k));
+        rows = rw (k, h .start, h .which, h .detail);
+        narrow = omega (arith, h .which);
+        slim = omega (arith, h .detail);
+        calm = rw k;
+        bounds = λ m e f. rw k;
+      })
+
+  pub opening-stands : w .stage ≡ 0 → w .at ≡ 0 → Stands w
+  unfolding stageOf
+  opening-stands k first =
+      unheld-stands (record {
+        held = λ g. absurd (omega (arith, k));
+        rows = rw (k, h .start, h .which, h .detail);
+        narrow = omega (arith, h .which);
+        slim = omega (arith, h .detail);
+        calm = rw k;
+        bounds = λ m e f. rw (k, e, first);
+      })
 
 module _ (stage start which detail at len : ℕ) where
-  pub idle-known : stage ≡ 3 → start ≡ 0 → which ≡ 0 → detail ≡ 0 → Known stage start which detail at len
-  unfolding stageOf
-  idle-known k s w d = record {
-    held = λ h. absurd (omega (arith, k));
-    rows = rw (k, s, w, d);
-    narrow = omega (arith, w);
-    slim = omega (arith, d);
-    calm = rw k;
-    bounds = λ m e f. rw k;
-  }
-
   module _ (held : start + len ≡ at) (some : 1 ≤ len) where
     pub token-known : stage ≡ 31 → which < 2 ^ 32 → detail < 2 ^ 32 → Known stage start which detail at len
     unfolding stageOf

@@ -32,44 +32,44 @@ use Rattle.pieces_quick.specs.Gives.{later}
 
 -- ---- the words of a spot
 
-bit-back : (n : ℕ) → n ≤ 1 → bit (eqb n 1) ≡ n
+pub bit-back : (n : ℕ) → n ≤ 1 → bit (eqb n 1) ≡ n
 bit-back zero h = refl
 bit-back (suc zero) h = refl
 bit-back (suc (suc n)) h = absurd (omega arith)
+
+pub words-are : (w : Words) {skip ended one two count need low high code : ℕ} → skip ≡ w .skip → ended ≡ w .ended → one ≡ w .one → two ≡ w .two → count ≡ w .count
+    → need ≡ w .need → low ≡ w .low → high ≡ w .high → code ≡ w .code
+    → _≡_ {A = Words} (record {
+      mode = w .mode;
+      skip = skip;
+      ended = ended;
+      stage = w .stage;
+      start = w .start;
+      which = w .which;
+      detail = w .detail;
+      one = one;
+      two = two;
+      at = w .at;
+      count = count;
+      need = need;
+      low = low;
+      high = high;
+      code = code;
+      from = w .from;
+      to = w .to;
+      len = w .len;
+      depth = w .depth;
+    }) w
+words-are w e f g h i j k l m = rw (e, f, g, h, i, j, k, l, m)
 
 module _ (w : Words) (left : ℕ) (R : Ready w left) where
   pub stood-coded : (s : PieceSpot) (d : ℕ) → stageRow (stageOf (rowAt s)) ≡ rowAt s → coded (withDepth d (marksAt (base w) s)) ≡ stood w s d
   unfolding coded
   stood-coded s d rows = rw (rows, bit-back (w .skip) (R .skip))
 
-  words-are : {skip ended one two count need low high code : ℕ} → skip ≡ w .skip → ended ≡ w .ended → one ≡ w .one → two ≡ w .two → count ≡ w .count
-      → need ≡ w .need → low ≡ w .low → high ≡ w .high → code ≡ w .code
-      → _≡_ {A = Words} (record {
-        mode = w .mode;
-        skip = skip;
-        ended = ended;
-        stage = w .stage;
-        start = w .start;
-        which = w .which;
-        detail = w .detail;
-        one = one;
-        two = two;
-        at = w .at;
-        count = count;
-        need = need;
-        low = low;
-        high = high;
-        code = code;
-        from = w .from;
-        to = w .to;
-        len = w .len;
-        depth = w .depth;
-      }) w
-  words-are e f g h i j k l m = rw (e, f, g, h, i, j, k, l, m)
-
   pub first-words : stood w (spotOf w) (w .depth) ≡ w
   first-words =
-      words-are refl (sym (R .ended)) (sym (R .one)) (sym (R .two)) (sym (R .count)) (sym (R .need)) (sym (R .low)) (sym (R .high)) (sym (R .code))
+      words-are w refl (sym (R .ended)) (sym (R .one)) (sym (R .two)) (sym (R .count)) (sym (R .need)) (sym (R .low)) (sym (R .high)) (sym (R .code))
 
   -- the words that are ready are within their bounds
   module _ (buf text : List ℕ) (full : length buf ≡ longest) (room : longest ≤ length text) where
@@ -98,13 +98,16 @@ module _ (w : Words) (left : ℕ) (R : Ready w left) where
     }
 
   -- the marks of a spot are words
-  pub spot-code : (s : PieceSpot) → stageRow (stageOf (rowAt s)) ≡ rowAt s → s .which < 2 ^ 32 → s .detail < 2 ^ 32 → isCode (coded (marksAt (base w) s)) ≡ true
-  unfolding narrow coded
-  spot-code s rows which detail =
-      coded-is-code (marksAt (base w) s)
-      (rw rows
-      (both (both (both (both (both (both (both (lt-ltb (w .mode) (2 ^ 32) (omega (arith, R .mode))) (lt-ltb (s .which) (2 ^ 32) which))
-      (lt-ltb (s .detail) (2 ^ 32) detail)) refl) refl) refl) refl) (lt-ltb (w .depth) (2 ^ 32) (omega (arith, R .deep, R .far)))))
+  module _ (s : PieceSpot) (rows : stageRow (stageOf (rowAt s)) ≡ rowAt s) (which : s .which < 2 ^ 32) (detail : s .detail < 2 ^ 32) where
+    pub spot-narrow : narrow (coded (marksAt (base w) s)) ≡ true
+    unfolding narrow coded
+    spot-narrow =
+        rw rows
+        (both (both (both (both (both (both (both (lt-ltb (w .mode) (2 ^ 32) (omega (arith, R .mode))) (lt-ltb (s .which) (2 ^ 32) which))
+        (lt-ltb (s .detail) (2 ^ 32) detail)) refl) refl) refl) refl) (lt-ltb (w .depth) (2 ^ 32) (omega (arith, R .deep, R .far))))
+
+    pub spot-code : isCode (coded (marksAt (base w) s)) ≡ true
+    spot-code = coded-is-code (marksAt (base w) s) spot-narrow
 
 -- ---- a call on the words of a state that reads on feeds it
 

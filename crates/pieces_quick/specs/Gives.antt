@@ -24,6 +24,7 @@ use Rattle.giving.specs.Copied.{givenBy}
 use Rattle.turns.specs.Inner.{Sound}
 use Rattle.lent.specs.declared.Words.{Words}
 use Rattle.lent.specs.declared.Told.{Told}
+use Rattle.lent.specs.Stood.{Stood}
 use Rattle.lent.specs.Calls.{Said, lent, lend, said, worded, pieceFor}
 use Rattle.pieces_spots.specs.declared.PieceSpot.{PieceSpot}
 use Rattle.pieces_quick.specs.declared.Gift.{Gift}
@@ -135,10 +136,12 @@ Continues w from piece buf now text then t =
     (said t now then ≡ later from (pieceFor (lent w buf) (drop from piece) (length text)))
     × (then ≡ textAfter (pieceFor (lent w buf) (drop from piece) (length text) .what) text)
 
--- a spot from which the answer is still to come: the call of `lent` says it on the words of the spot and the rest of the piece
+-- a spot from which the answer is still to come: the call of `lent` says it on the words of the spot, which are those of a state that reads
+-- on, and the rest of the piece
 pub record Awaits (w : Words) (piece buf now text then : List ℕ) (s : PieceSpot) : Type 0 where
   pub inside : s .i ≤ length piece
   pub same : then ≡ text
+  pub reads : Stood (stood w s (w .depth)) now text
   pub on : later (s .i) (pieceFor (lent (stood w s (w .depth)) now) (drop (s .i) piece) (length text)) ≡ pieceFor (lent w buf) piece (length text)
 
 abbrev pub Answers : Words → List ℕ → List ℕ → List ℕ → List ℕ → List ℕ → Reached → Type 0

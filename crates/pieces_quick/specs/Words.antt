@@ -39,6 +39,14 @@ pub record Quiet (ended one two count need low high code : ℕ) : Type 0 where
   pub e6 : high ≡ 0
   pub e7 : code ≡ 0
 
+-- words of no item, at a place behind as many brackets as are open
+pub record Unheld (w : Words) : Type 0 where
+  pub start : w .start ≡ 0
+  pub which : w .which ≡ 0
+  pub detail : w .detail ≡ 0
+  pub none : w .len ≡ 0
+  pub deep : w .depth ≤ w .at
+
 -- words whose row is known, with room for their item and their brackets
 pub record Stands (w : Words) : Type 0 where
   pub small : w .len ≤ longest

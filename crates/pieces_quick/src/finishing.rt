@@ -135,7 +135,7 @@ fn part_record(
 }
 
 // The record of an item by its meaning; its text is copied to the front of the text memory. Not where it has to be decoded.
-fn copied(m: Means, s: PieceSpot, depth: u32, raw: &[u8], text: &mut [u8]) -> Gift
+pub fn copied(m: Means, s: PieceSpot, depth: u32, raw: &[u8], text: &mut [u8]) -> Gift
     requires { ⌜ Copying s m (now raw) (now text) ⌝ }
     ensures { λ r. ⌜ Copied s m depth (now (raw .entry)) (now (text .entry)) (now (text .exit)) r ⌝ }
 {
@@ -148,7 +148,7 @@ fn copied(m: Means, s: PieceSpot, depth: u32, raw: &[u8], text: &mut [u8]) -> Gi
 }
 
 // Whether an item is left out: a comment, where comments are skipped.
-fn skips(skip: u64, number: u32) -> bool
+pub fn skips(skip: u64, number: u32) -> bool
     ensures { λ r. ⌜ r ≡ (eqb skip 1 && eqb number kind.Comment) ⌝ }
 {
     if skip == 1 {
@@ -206,7 +206,7 @@ fn finish(w: Words, s: PieceSpot, b: u8, buf: &mut [u8], text: &mut [u8]) -> Off
 }
 
 // Whether an item whose bytes are `raw` is a string with an escape.
-fn is_escaped(stage: u64, which: u64, raw: &[u8]) -> bool
+pub fn is_escaped(stage: u64, which: u64, raw: &[u8]) -> bool
     ensures { λ r. ⌜ (r ≡ true → (stage ≡ 25) × (which ≡ 0) × (escaped (now (raw .entry)) ≡ true)) ⌝ }
 {
     if stage != CLOSED {
@@ -219,7 +219,7 @@ fn is_escaped(stage: u64, which: u64, raw: &[u8]) -> bool
 }
 
 // The record of a string with an escape, whose text is decoded to the front of the text memory.
-fn decoded_record(s: PieceSpot, depth: u32, raw: &[u8], text: &mut [u8]) -> Record
+pub fn decoded_record(s: PieceSpot, depth: u32, raw: &[u8], text: &mut [u8]) -> Record
     requires { ⌜ Copying s (decodedMeans (now raw)) (now raw) (now text) ⌝ }
     ensures { λ r. ⌜ Copied s (decodedMeans (now (raw .entry))) depth (now (raw .entry)) (now (text .entry)) (now (text .exit)) (Gift.Of r) ⌝ }
 {

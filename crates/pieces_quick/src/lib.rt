@@ -6,6 +6,7 @@ use finishing::give_item;
 use items::Record;
 use lent::Told;
 use lent::Words;
+use lent::calls::piece_stood;
 use lent::calls::piece_words;
 use lent::codes::DONE_TOKEN;
 use lent::codes::IN_RUN;
@@ -22,12 +23,13 @@ ghost use mathlib.Core.Bool.{true};
 ghost use Prim.Native.Nat.{_≤_};
 ghost use lib.ListN.{length};
 ghost use Rattle.pieces.specs.Expected.{longest};
+ghost use Rattle.lent.specs.Stood.{Stood};
 ghost use Rattle.pieces_spots.specs.Spots.{Fits, Onward};
 ghost use Rattle.pieces_quick.specs.Words.{Ready};
-ghost use Rattle.pieces_quick.specs.Gives.{Reaches, Comes, Answers, Continues};
+ghost use Rattle.pieces_quick.specs.Gives.{Reaches, Comes, Answers, Says, Continues};
 
-mod finishing;
-mod ready;
+pub mod finishing;
+pub mod ready;
 
 // The record of an item, or nothing where it is not made here.
 pub enum Gift {
@@ -103,12 +105,30 @@ pub fn quickly(words: Words, buf: &mut [u8], piece: &[u8], text: &mut [u8]) -> R
     from_spot(words, last, buf, piece, text)
 }
 
+// The piece call of the crate `lent`. Words that are known to be those of a state that reads on are not held to their bounds again.
+fn called(words: Words, known: bool, buf: &mut [u8], piece: &[u8], text: &mut [u8]) -> Told
+    requires { ⌜ (known ≡ true → Stood words (now buf) (now text)) ⌝ }
+    ensures { λ r. ⌜ Says words (now (piece .entry)) (now (buf .entry)) (now (buf .exit)) (now (text .entry)) (now (text .exit)) r ⌝ }
+{
+    if known {
+        return piece_stood(words, buf, piece, text);
+    }
+    piece_words(words, buf, piece, text)
+}
+
 // Reads on in a piece from a place on as the crate `lent` does.
-pub fn plainly(words: Words, buf: &mut [u8], piece: &[u8], from: usize, text: &mut [u8]) -> Told
-    requires { ⌜ from ≤ length (now piece) ⌝ }
+pub fn plainly(
+    words: Words,
+    buf: &mut [u8],
+    piece: &[u8],
+    from: usize,
+    known: bool,
+    text: &mut [u8],
+) -> Told
+    requires { ⌜ (from ≤ length (now piece)) × (known ≡ true → Stood words (now buf) (now text)) ⌝ }
     ensures { λ r. ⌜ Continues words from (now (piece .entry)) (now (buf .entry)) (now (buf .exit)) (now (text .entry)) (now (text .exit)) r ⌝ }
 {
-    let told = piece_words(words, buf, &piece[from..], text);
+    let told = called(words, known, buf, &piece[from..], text);
     let after = told.words;
     let got = told.got;
     Told {

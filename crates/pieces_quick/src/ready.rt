@@ -17,7 +17,7 @@ ghost use mathlib.Core.Path.{_≡_};
 ghost use mathlib.Core.Bool.{true};
 ghost use Prim.Native.Nat.{ℕ, _+_, _^_, _≤_, _<_};
 ghost use Rattle.items.specs.Whole.{limit};
-ghost use Rattle.pieces_quick.specs.Words.{Known, Plain, Quiet, Stands, Ready};
+ghost use Rattle.pieces_quick.specs.Words.{Known, Plain, Quiet, Unheld, Stands, Ready};
 
 // The longest item and the longest text, as words.
 const MOST: u64 = LONGEST as u64;
@@ -84,7 +84,7 @@ fn is_phase(stage: u64, which: u64, detail: u64, len: u64) -> bool
 }
 
 // Whether the end was not declared, no character was begun, and the words that no stage known here uses are 0.
-fn is_quiet(
+pub fn is_quiet(
     ended: u64,
     one: u64,
     two: u64,
@@ -124,7 +124,7 @@ fn is_quiet(
 }
 
 // Whether places are within the longest text, with so many bytes of it to come.
-fn is_within(from: u64, to: u64, at: u64, left: usize) -> bool
+pub fn is_within(from: u64, to: u64, at: u64, left: usize) -> bool
     ensures { λ r. ⌜ (r ≡ true → (from ≤ limit) × (to ≤ limit) × (at + left ≤ limit)) ⌝ }
 {
     if LAST < from {
@@ -139,9 +139,9 @@ fn is_within(from: u64, to: u64, at: u64, left: usize) -> bool
     left as u64 <= LAST - at
 }
 
-// Whether a state between items is known here, at a place behind as many brackets.
-fn is_idle(w: Words) -> bool
-    ensures { λ r. ⌜ (r ≡ true → w .stage ≡ 3 → Stands w) ⌝ }
+// Whether no item is held, at a place behind as many brackets.
+pub fn is_unheld(w: Words) -> bool
+    ensures { λ r. ⌜ (r ≡ true → Unheld w) ⌝ }
 {
     if w.start != 0 {
         return false;
@@ -159,7 +159,7 @@ fn is_idle(w: Words) -> bool
 }
 
 // Whether a state in an item is known here: its bytes lead from its start to the place, and as many brackets fit before it.
-fn is_item(w: Words) -> bool
+pub fn is_item(w: Words) -> bool
     ensures { λ r. ⌜ (r ≡ true → Stands w) ⌝ }
 {
     if w.len == 0 {
@@ -206,7 +206,7 @@ pub fn is_ready(w: Words, left: usize) -> bool
         return false;
     }
     if w.stage == IDLE {
-        return is_idle(w);
+        return is_unheld(w);
     }
     is_item(w)
 }

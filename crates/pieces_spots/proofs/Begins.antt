@@ -1,22 +1,16 @@
 -- What a byte begins: the rows of `firstOf` that are told here, each by computation; letters and digits by their range.
 use Prim.Native.Nat.{ℕ, _+_, _≤_, _<_, _^_}
 use mathlib.Core.Path.{_≡_, refl, sym, subst, ap}
-use mathlib.Core.Bool.{Bool, true, false, not, _&&_, _||_}
-use mathlib.Core.List.{List, [], _∷_}
-use lib.Dec.{eqb}
-use borrow.Author.Tests.{eqb-true, not-true}
+use mathlib.Core.Bool.{true}
 use native.Mathlib.Omega.{arith}
-use Rattle.laws.specs.Quoted.{code, oneOf}
-use Rattle.laws.proofs.Choice.{by-bool, no-yes, and-true}
+use Rattle.laws.specs.Quoted.{code}
 use Rattle.chars.specs.Blank.{isBlank}
-use Rattle.items.specs.Classes.{First, semicolon, quote, comma, hash, number, single, vertical, backslash, wordy, startsRun, firstOf}
-use Rattle.items.specs.Machine.{onFirst}
-use Rattle.items.specs.declared.Phase.the-variants as ph
-use Rattle.steps.proofs.Characters.{upto, in-run}
+use Rattle.items.specs.Classes.{startsRun, firstOf}
+use Rattle.steps.proofs.Characters.{upto}
 use Rattle.items.specs.declared.Phase.{Phase}
 use Rattle.pieces.specs.declared.Stage.the-variants.{Busy}
 use Rattle.lent.specs.Coding.{stageOf, stageRow}
-use Rattle.telling.proofs.Firsts.{digit-solid, digit-first}
+use Rattle.telling.proofs.Firsts.{all-begin, words-from, letters, capitals, digit-solid, digit-first}
 use Rattle.pieces_spots.specs.Spots.{Solid, Firsts}
 
 pub none-told : (c : ℕ) → Firsts c 0
@@ -108,69 +102,19 @@ dot = record { small = omega arith; solid = refl; stands = λ st. refl; rows = �
 
 -- ---- words
 
--- what begins a word
-abbrev isWordy : First → Bool
-isWordy semicolon = false
-isWordy quote = false
-isWordy comma = false
-isWordy hash = false
-isWordy number = false
-isWordy (single k d) = false
-isWordy vertical = false
-isWordy backslash = false
-isWordy wordy = true
-
-wordy-is : (f : First) → isWordy f ≡ true → f ≡ wordy
-wordy-is semicolon e = no-yes e
-wordy-is quote e = no-yes e
-wordy-is comma e = no-yes e
-wordy-is hash e = no-yes e
-wordy-is number e = no-yes e
-wordy-is (single k d) e = no-yes e
-wordy-is vertical e = no-yes e
-wordy-is backslash e = no-yes e
-wordy-is wordy e = refl
-
-abbrev begins-word : ℕ → Bool
-begins-word c = isWordy (firstOf c) && not (isBlank c)
-
-abbrev all-begin : List ℕ → Bool
-all-begin [] = true
-all-begin (k ∷ ks) = begins-word k && all-begin ks
-
-each-begins : (ks : List ℕ) (c : ℕ) → all-begin ks ≡ true → oneOf ks c ≡ true → begins-word c ≡ true
-each-begins [] c h e = no-yes e
-each-begins (k ∷ ks) c h e = by-bool (eqb c k)
-    (λ b. subst (λ (x : ℕ). begins-word x ≡ true) (sym (eqb-true c k b)) (and-true (begins-word k) (all-begin ks) h .0))
-    (λ b. each-begins ks c (and-true (begins-word k) (all-begin ks) h .1) (subst (λ (t : Bool). (t || oneOf ks c) ≡ true) b e))
-
 -- so many characters from one on, each of which begins a word
 word : (n a c : ℕ) → all-begin (upto n a) ≡ true → a + n ≤ 0x80 → a ≤ c → c < a + n → Solid c 14
 unfolding stageOf
 word n a c all small low high =
-    let w = each-begins (upto n a) c all (in-run n a c low high) in
-    let f : onFirst (firstOf c) ≡ ph.InWord = ap onFirst (wordy-is (firstOf c) (and-true (isWordy (firstOf c)) (not (isBlank c)) w .0)) in
-    record {
-      small = omega arith;
-      solid = not-true (isBlank c) (and-true (isWordy (firstOf c)) (not (isBlank c)) w .1);
-      stands = λ st. ap (Busy st) (sym f);
-      rows = λ st. ap (λ (p : Phase). stageRow (Busy st p)) f;
-    }
-
-letters : all-begin (upto 26 (code "a")) ≡ true
-unfolding firstOf startsRun isBlank
-letters = refl
+    let w = words-from n a c all low high in
+    record { small = omega arith; solid = w .0; stands = λ st. ap (Busy st) (sym (w .1)); rows = λ st. ap (λ (p : Phase). stageRow (Busy st p)) (w .1) }
 
 pub letter : (c : ℕ) → code "a" ≤ c → c < code "z" + 1 → Solid c 14
 letter c low high = word 26 (code "a") c letters (omega arith) low high
 
-capitals : all-begin (upto 30 (code "=")) ≡ true
-unfolding firstOf startsRun isBlank
-capitals = refl
-
 -- the capital letters, and = > ? @ before them
 pub capital : (c : ℕ) → code "=" ≤ c → c < code "Z" + 1 → Solid c 14
-capital c low high = word 30 (code "=") c capitals (omega arith) low high
+capital c low high = word 31 (code "<") c capitals (omega arith) (omega arith) high
 
 pub star : Solid (code "*") 14
 unfolding firstOf startsRun isBlank stageOf

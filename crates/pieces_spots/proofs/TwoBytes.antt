@@ -1,16 +1,14 @@
 -- Two bytes that leave an item in its phase, a letter past ASCII or an escape: their two turns do what passing them does.
 use Prim.Native.Nat.{ℕ, suc, _+_, _-_, _*_, _/_, _%_, _≤_, _<_}
 use mathlib.Core.Path.{_≡_, refl, sym, ap, _∙_}
-use mathlib.Core.Bool.{Bool, true, false, _&&_}
+use mathlib.Core.Bool.{Bool, false}
 use mathlib.Core.List.{List, [], _∷_}
-use lib.Dec.{eqb, ltb}
 use lib.ListN.{length, getD, drop, set, length-set}
 use lib.Seq.{drop-cons}
 use native.Mathlib.Omega.{arith}
 use native.Mathlib.Numerals.{add-one}
-use borrow.Author.Tests.{eq-eqb, ne-eqb, ltb-true, lt-leb, le-leb, le-ltb}
-use Rattle.laws.proofs.Choice.{and-true}
-use Rattle.laws.specs.Quoted.{code, codes, oneOf}
+use borrow.Author.Tests.{eq-eqb, lt-leb, le-leb, le-ltb}
+use Rattle.laws.specs.Quoted.{code, codes}
 use Rattle.chars.specs.Encode.{width, utf8}
 use Rattle.chars.specs.Blank.{isBlank}
 use Rattle.chars.specs.Machine.{step}
@@ -20,13 +18,13 @@ use Rattle.chars.proofs.Width.{utf8-two, width-utf8}
 use Rattle.chars.proofs.Blanks.{between-blanks}
 use Rattle.items.specs.Items.{range}
 use Rattle.items.specs.Readers.{SoFar}
-use Rattle.items.specs.Classes.{startsRun, firstOf, inQuotes, breaksWord, inWord, afterBackslash, simple}
+use Rattle.items.specs.Classes.{inQuotes, breaksWord, inWord, afterBackslash, simple}
 use Rattle.items.specs.declared.Quotes.{Quotes}
 use Rattle.items.specs.declared.Quotes.the-variants.{Double, Lines}
 use Rattle.items.specs.declared.Phase.{Phase}
 use Rattle.items.specs.declared.Phase.the-variants as ph
 use Rattle.items.specs.declared.Next.the-variants.{Eat}
-use Rattle.items.specs.Machine.{stepOf, onFirst}
+use Rattle.items.specs.Machine.{stepOf}
 use Rattle.items.specs.Whole.{limit}
 use Rattle.pieces.specs.declared.Stage.{Stage}
 use Rattle.pieces.specs.declared.Stage.the-variants.{Idle, Busy}
@@ -39,24 +37,13 @@ use Rattle.giving.proofs.Laid.{laid-sets, laid-two}
 use Rattle.turns.specs.Inner.{Sound}
 use Rattle.turns.proofs.Sounds.{turn-sound}
 use Rattle.lent.specs.Coding.{row, quotesOf, stageOf}
+use Rattle.telling.proofs.Firsts.{past-other, past-all, past-first}
 use Rattle.pieces_spots.specs.declared.PieceSpot.{PieceSpot}
 use Rattle.pieces_spots.specs.Spots.{rowAt, marksAt, stateAt, Fits, Goes, Onward, Letter, Carries, Escapes, pastPair, withPair}
 use Rattle.pieces_spots.proofs.Turning.{Between, turned-eaten}
 use Rattle.pieces_spots.proofs.Moves.{idle-stage}
 
 -- ---- a character past ASCII is none of those that end or close something
-
--- whether all are below
-abbrev below : List ℕ → Bool
-below [] = true
-below (k ∷ l) = ltb k 0x80 && below l
-
-other : (c k : ℕ) → 0x80 ≤ c → ltb k 0x80 ≡ true → eqb c k ≡ false
-other c k h e = ne-eqb c k (λ f. omega (arith, ltb-true k 0x80 e))
-
-none-of : (l : List ℕ) → below l ≡ true → (c : ℕ) → 0x80 ≤ c → oneOf l c ≡ false
-none-of [] e c h = refl
-none-of (k ∷ l) e c h = let t = and-true (ltb k 0x80) (below l) e in rw (other c k h (t .0)) (none-of l (t .1) c h)
 
 module _ (c : ℕ) (h : 0xC0 ≤ c) (k : c < 0x800) where
   past : 0x80 ≤ c
@@ -67,35 +54,15 @@ module _ (c : ℕ) (h : 0xC0 ≤ c) (k : c < 0x800) where
 
   in-word : (report : Bool) (i : SoFar) → stepOf report ph.InWord i c ≡ Eat ph.InWord
   unfolding inWord breaksWord
-  in-word report i = rw (none-of (codes "([)]{}'\"`;,") refl c past, solid, other c (code "\\") past refl)
+  in-word report i = rw (past-all (codes "([)]{}'\"`;,") refl c past, solid, past-other c (code "\\") past refl)
 
   in-line : (report : Bool) (i : SoFar) → stepOf report ph.InLine i c ≡ Eat ph.InLine
-  in-line report i = rw (other c (code "\n") past refl)
+  in-line report i = rw (past-other c (code "\n") past refl)
 
   in-quotes : (k : Quotes) (report : Bool) (i : SoFar) → stepOf report (ph.Quoted k) i c ≡ Eat (ph.Quoted k)
   unfolding inQuotes
-  in-quotes Double report i = rw (other c (code "\"") past refl, other c (code "\\") past refl)
-  in-quotes Lines report i = rw (other c (code "|") past refl, other c (code "\\") past refl)
-
-  begins-word : onFirst (firstOf c) ≡ ph.InWord
-  unfolding firstOf startsRun
-  begins-word = rw (
-    other c (code ";") past refl,
-    other c (code "\"") past refl,
-    other c (code ",") past refl,
-    other c (code "#") past refl,
-    other c (code "(") past refl,
-    other c (code "[") past refl,
-    other c (code "{") past refl,
-    other c (code ")") past refl,
-    other c (code "]") past refl,
-    other c (code "}") past refl,
-    other c (code "'") past refl,
-    other c (code "`") past refl,
-    none-of (codes "+-.0123456789") refl c past,
-    other c (code "|") past refl,
-    other c (code "\\") past refl,
-  )
+  in-quotes Double report i = rw (past-other c (code "\"") past refl, past-other c (code "\\") past refl)
+  in-quotes Lines report i = rw (past-other c (code "|") past refl, past-other c (code "\\") past refl)
 
 module _ (stage which : ℕ) where
   pub word-carries : stage ≡ 14 → Carries stage which
@@ -180,7 +147,7 @@ module _ (x y : ℕ) (L : Letter x y) where
 
     pub begun-turn : s .marks .stage ≡ Idle
         → turnOf half y ≡ on (becomes s (laidAt 0 (utf8 char) (s .buf)) (Busy (s .marks .at) ph.InWord) (s .marks .at + 2) 2 (lastOf s))
-    begun-turn here = whole-turn Idle here ∙ rw (solid char from below-end, wide, begins-word char from below-end)
+    begun-turn here = whole-turn Idle here ∙ rw (solid char from below-end, wide, past-first char (past char from below-end))
 
 -- ---- from spot to spot
 

@@ -61,7 +61,7 @@ fn ends_word(b: u8) -> bool
 }
 
 // What a word that begins with a number sign tells: a boolean of one letter.
-fn tell_boolean(at: usize, end: usize, raw: &[u8]) -> Quick
+pub fn tell_boolean(at: usize, end: usize, raw: &[u8]) -> Quick
     ensures { λ r. ⌜ TellsSign (now (raw .entry)) r ⌝ }
 {
     if raw.len() != BOOLEAN {
@@ -106,7 +106,7 @@ fn tell_lined(at: usize, end: usize, raw: &[u8]) -> Quick
 }
 
 // What quotes that are closed tell.
-fn tell_closed(which: u64, at: usize, end: usize, raw: &[u8]) -> Quick
+pub fn tell_closed(which: u64, at: usize, end: usize, raw: &[u8]) -> Quick
     requires { ⌜ (0 < length (now raw)) × (end ≡ at + length (now raw)) ⌝ }
     ensures { λ r. ⌜ ((detail c : ℕ) → TellsAt 25 which detail c at (now (raw .entry)) r) ⌝ }
 {

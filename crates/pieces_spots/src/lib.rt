@@ -7,6 +7,8 @@ mod moving;
 mod pairs;
 
 pub use ending::tell;
+pub use ending::tell_boolean;
+pub use ending::tell_closed;
 pub use first_byte::DETAIL;
 pub use first_byte::KIND;
 pub use first_byte::KINDS;

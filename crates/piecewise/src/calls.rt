@@ -135,7 +135,7 @@ fn piece_waiting(
 }
 
 // A piece where the reader reads on, unless the end was declared.
-fn piece_on(m: Marks, buf: &mut [u8], piece: &[u8], text: &mut [u8]) -> Pieced
+pub fn piece_on(m: Marks, buf: &mut [u8], piece: &[u8], text: &mut [u8]) -> Pieced
     requires { ⌜ Sound m (now buf) (now text) ⌝ }
     ensures { λ r. ⌜ (pieced r (now (buf .exit)) (now (text .exit)) ≡ calls.pieceStage (stateOf m (now (buf .entry))) Stage.Idle (now (piece .entry)))
         × (now (text .exit) ≡ calls.textAfter (calls.pieceStage (stateOf m (now (buf .entry))) Stage.Idle (now (piece .entry)) .what) (now (text .entry))) ⌝ }

@@ -1,17 +1,24 @@
 -- A here-string's delimiter: one turn of the loops over its line, and the parts of the item that they are called with.
-use Prim.Native.Nat.{ℕ, _+_, _-_, _≤_, _<_}
-use mathlib.Core.Path.{_≡_, sym, ap, _∙_}
-use mathlib.Core.Bool.{Bool, true, false}
+use Prim.Native.Nat.{ℕ, zero, suc, _+_, _-_, _≤_, _<_}
+use mathlib.Core.Path.{_≡_, refl, sym, ap, _∙_}
+use mathlib.Core.Bool.{Bool, true, false, not}
 use mathlib.Core.List.{List, [], _∷_}
 use lib.ListN.{length, getD, take, drop, length-drop}
 use lib.Seq.{drop-drop}
+use lib.Dec.{eqb}
 use native.Mathlib.Omega.{arith}
 use borrow.Author.Tests.{lt-ltb, le-ltb, eq-eqb, ne-eqb}
 use Rattle.laws.specs.Quoted.{code}
 use Rattle.laws.specs.Texts.{span, before, begins}
-use Rattle.laws.proofs.Places.{past, here}
+use Rattle.laws.proofs.Choice.{by-bool}
+use Rattle.laws.proofs.Places.{past, here, drop-take}
 use Rattle.laws.proofs.Lent.{part-rest}
-use Rattle.items.specs.Readers.{unreturned, lineOf, endsWith, hereInside, hereEnds}
+use Rattle.chars.proofs.Chars.{CharAt}
+use Rattle.items.specs.declared.Phase.the-variants.{HereBody}
+use Rattle.items.specs.Readers.{unreturned, lineOf, afterLine, endsWith, hereInside, hereEnds}
+use Rattle.steps.specs.Here.{HereLine}
+use Rattle.steps.specs.Scan.{part, answer}
+use Rattle.steps.proofs.Turn.{turn-eat}
 
 module _ (l : List ℕ) (i : ℕ) where
   pub unreturned-skip : i < length l → getD l i 0 ≡ code "\r" → unreturned (drop i l) ≡ unreturned (drop (i + 1) l)
@@ -103,3 +110,64 @@ module _ (raw : List ℕ) (k : ℕ) (e : k ≡ 3 + before (code "\n") (hereInsid
       let u : length (drop 3 raw) ≤ m + 1 = omega (arith, length-drop 3 raw) in
       let r : drop (m + 1) (drop 3 raw) ≡ [] = past (drop 3 raw) (m + 1) u in
       q ∙ rw (part-rest raw k, past raw k g, r, line-at)
+
+-- ---- the here-string from a on in the text s, its newline at k
+
+cut-span : (f : ℕ → Bool) (x : List ℕ) (j : ℕ) → span f x < j → span f (take j x) ≡ span f x
+unfolding span
+cut-span f [] zero h = refl
+cut-span f [] (suc j) h = refl
+cut-span f (c ∷ x) zero h = absurd (omega arith)
+cut-span f (c ∷ x) (suc j) h =
+    by-bool (f c) (λ e. let l : suc (span f x) < suc j = rw e at h in rw e (ap suc (cut-span f x j (omega arith)))) (λ e. rw e)
+
+cut-twice : (b j : ℕ) (x : List ℕ) → b ≤ j → take b (take j x) ≡ take b x
+cut-twice zero j x h = refl
+cut-twice (suc b) zero x h = absurd (omega arith)
+cut-twice (suc b) (suc j) [] h = refl
+cut-twice (suc b) (suc j) (c ∷ x) h = ap (λ (l : List ℕ). c ∷ l) (cut-twice b j x (omega arith))
+
+module _ (s : List ℕ) (a at k : ℕ) (e : HereLine s a k) (l : k < at) where
+  abbrev rest : List ℕ
+  rest = drop (a + 3) s
+
+  abbrev size : ℕ
+  size = before (code "\n") rest
+
+  abbrev room : ℕ
+  room = at - (a + 3)
+
+  inside-at : drop 3 (part s a at) ≡ take room rest
+  inside-at =
+      let q : at - a ≡ 3 + room = omega arith in
+      rw q (drop-take 3 room (drop a s) ∙ ap (take room) (drop-drop 3 a s))
+
+  newline-at : before (code "\n") (take room rest) ≡ size
+  newline-at = let h : size < room = omega arith in cut-span (λ c. not (eqb c (code "\n"))) rest room h
+
+  lines : take (before (code "\n") (take room rest)) (take room rest) ≡ part s (a + 3) k
+  lines =
+      let h : size ≤ room = omega arith in
+      let q : size ≡ k - (a + 3) = omega arith in
+      ap (λ (i : ℕ). take i (take room rest)) newline-at ∙ cut-twice size room rest h ∙ ap (λ (i : ℕ). take i rest) q
+
+  bodies : drop (before (code "\n") (take room rest) + 1) (take room rest) ≡ part s (k + 1) at
+  bodies =
+      let q : room ≡ size + 1 + (at - (k + 1)) = omega arith in
+      let r : a + 3 + (size + 1) ≡ k + 1 = omega arith in
+      ap (λ (i : ℕ). drop (i + 1) (take room rest)) newline-at ∙ ap (λ (i : ℕ). drop (size + 1) (take i rest)) q
+      ∙ drop-take (size + 1) (at - (k + 1)) rest ∙ ap (take (at - (k + 1))) (drop-drop (size + 1) (a + 3) s ∙ ap (λ (i : ℕ). drop i s) r)
+
+  here-at : hereEnds (part s a at) ≡ endsWith (unreturned (part s (a + 3) k)) (part s (k + 1) at)
+  unfolding hereEnds
+  here-at =
+      ap (λ (y : List ℕ). endsWith (lineOf y) (afterLine y)) inside-at
+      ∙ ap (λ (y : List ℕ). endsWith (unreturned y) (afterLine (take room rest))) lines
+      ∙ ap (endsWith (unreturned (part s (a + 3) k))) bodies
+
+  -- where the body does not end with the delimiter, a character of it is passed
+  pub body-on : {x : Bool} → x ≡ endsWith (unreturned (part s (a + 3) k)) (part s (k + 1) at) → x ≡ false
+      → (c next : ℕ) → CharAt s at c next → (report : Bool) → answer s report a HereBody at ≡ answer s report a HereBody next
+  body-on q f c next i report =
+      let h : hereEnds (part s a at) ≡ false = here-at ∙ sym q ∙ f in
+      turn-eat s report a HereBody at c next i HereBody (omega arith) (rw h refl)

@@ -10,6 +10,7 @@ use borrow.Author.Tests.{lt-ltb, ne-eqb}
 use Rattle.laws.specs.Quoted.{code}
 use Rattle.laws.specs.Texts.{span}
 use Rattle.laws.proofs.Choice.{by-bool}
+use Rattle.chars.specs.Blank.{isBlank}
 use Rattle.chars.proofs.Chars.{char-at}
 use Rattle.items.specs.declared.Outcome.{Outcome}
 use Rattle.items.specs.declared.Outcome.the-variants.{Word, Run, Str}
@@ -36,10 +37,13 @@ span-fails f (c ∷ t) h = by-bool (f c)
     (λ e. let k : suc (suc (span f t)) ≤ suc (length t) = rw e at h in rw e (span-fails f t (omega arith)))
     (λ e. rw e e)
 
+pub run-fails : (f : ℕ → Bool) (s : List ℕ) (from e : ℕ) → e ≡ from + span f (drop from s) → e < length s → f (getD s e 0) ≡ false
+run-fails f s from e ends h =
+    let n : span f (drop from s) < length (drop from s) = omega (arith, length-drop from s) in
+    rw ends (rw (← (getD-drop from s (span f (drop from s)) 0)) (span-fails f (drop from s) n))
+
 pub not-kept : (s : List ℕ) (from : ℕ) (p : Phase) (e : ℕ) → e ≡ from + span (keeps p) (drop from s) → e < length s → keeps p (getD s e 0) ≡ false
-not-kept s from p e ends h =
-    let n : span (keeps p) (drop from s) < length (drop from s) = omega (arith, length-drop from s) in
-    rw ends (rw (← (getD-drop from s (span (keeps p) (drop from s)) 0)) (span-fails (keeps p) (drop from s) n))
+not-kept s from p e = run-fails (keeps p) s from e
 
 -- ---- an item that is passed up to the place e
 
@@ -88,6 +92,11 @@ word-stops report c h n e i = by-bool (breaksWord c)
 run-stops : (report : Bool) (c : ℕ) → c < 0x80 → endsRun report c ≡ true → ofRun c ≡ false → (i : SoFar) → stepOf report ph.InRun i c ≡ Stop Run
 unfolding inRun
 run-stops report c h f e i = let z : staysRun c ≡ false = rw (lt-ltb c 0x80 h) at e in rw (z, f)
+
+-- a space ends a run
+pub space-ends : (report : Bool) → endsRun report (code " ") ≡ true
+unfolding endsRun isBlank
+space-ends report = refl
 
 -- ---- a word, a number run, a string and a comment
 

@@ -21,7 +21,7 @@ use Rattle.items.specs.declared.Next.the-variants.{Eat}
 use Rattle.items.specs.Classes.{delimOf, breaksWord, inNest, inQuotes, inWord}
 use Rattle.items.specs.Readers.{SoFar}
 use Rattle.items.specs.Machine.{stepOf}
-use Rattle.steps.specs.Scan.{Passes}
+use Rattle.steps.specs.Scan.{Passes, PassesFor}
 use Rattle.steps.specs.Held.{Lasts, Holds}
 use Rattle.steps.proofs.Turn.{turn-eat}
 use Rattle.steps.proofs.Kept.{passes}
@@ -50,8 +50,12 @@ pub passes-plain : (s : List ℕ) (p : Phase) (a b at r : ℕ) → Holds p a b �
 passes-plain s p a b at r holds h e =
     passes s at p r h (omega (arith, e)) (omega (arith, e, holds .runs (drop at s)))
 
-pub passes-as : (s : List ℕ) (at r : ℕ) (p q : Phase) → q ≡ p → Passes s q at r → Passes s p at r
-passes-as s at r p q e w = subst (λ (x : Phase). Passes s x at r) e w
+-- of one item
+pub passes-as : (s : List ℕ) (a at r : ℕ) (p q : Phase) → q ≡ p → PassesFor s a q at r → PassesFor s a p at r
+passes-as s a at r p q e w = subst (λ (x : Phase). PassesFor s a x at r) e w
+
+pub passes-for : (s : List ℕ) (a at r : ℕ) (p q : Phase) → a ≤ at → q ≡ p → Passes s q at r → PassesFor s a p at r
+passes-for s a at r p q l e w = passes-as s a at r p q e (w .0, w .1, λ report. w .2 report a l)
 
 -- ---- the phases
 

@@ -26,3 +26,7 @@ answer s report a p at = scanned (scanOf report p (soFar (part s a at) at) (char
 abbrev pub Passes : List ℕ → Phase → ℕ → ℕ → Type 0
 Passes s p at r =
     (at ≤ r) × (r ≤ length s) × ((report : Bool) (a : ℕ) → a ≤ at → answer s report a p at ≡ answer s report a p r)
+
+-- the same of the item that starts at the place a
+abbrev pub PassesFor : List ℕ → ℕ → Phase → ℕ → ℕ → Type 0
+PassesFor s a p at r = (at ≤ r) × (r ≤ length s) × ((report : Bool) → answer s report a p at ≡ answer s report a p r)

@@ -3,14 +3,16 @@
 use crate::Ending;
 use crate::runs::ASCII_END;
 use crate::runs::number_end;
-use crate::runs::past_plain;
 use crate::runs::past_word;
 use crate::runs::word_end;
 use crate::words::ends_run;
-use texts::plain_end;
+use texts::apart_end;
+ghost use mathlib.Core.Path.{_≡_};
 ghost use mathlib.Core.Bool.{Bool};
 ghost use Prim.Native.Nat.{_≤_};
-ghost use lib.ListN.{length};
+ghost use lib.ListN.{length, drop};
+ghost use Rattle.chars.specs.Utf8.{firstBad};
+ghost use Rattle.chars.specs.declared.Utf8.the-variants.{Good};
 ghost use Rattle.items.specs.Readers.{comment};
 ghost use Rattle.items.specs.declared.Outcome.the-variants.{Word, Run, Str};
 ghost use Rattle.items.specs.declared.Phase.the-variants.{InWord, InRun, InLine, Quoted};
@@ -55,7 +57,7 @@ pub fn word_ending(s: &[u8], from: usize) -> Ending
     Ending::At(end)
 }
 
-// The end of a number run that stands at a place.
+// The end of a number run that stands at a place. Most end before a space.
 pub fn run_ending(s: &[u8], report: bool, from: usize) -> Ending
     requires { ⌜ from ≤ length (now s) ⌝ }
     ensures { λ r. ⌜ EndsAs (now (s .entry)) report InRun Run from r ⌝ }
@@ -65,6 +67,9 @@ pub fn run_ending(s: &[u8], report: bool, from: usize) -> Ending
         return Ending::At(end);
     }
     let b = s[end];
+    if b == b' ' {
+        return Ending::At(end);
+    }
     if ASCII_END <= b {
         return Ending::Unknown;
     }
@@ -74,12 +79,12 @@ pub fn run_ending(s: &[u8], report: bool, from: usize) -> Ending
     Ending::Unknown
 }
 
-// The end of a string that stands at a place, where characters past ASCII may follow.
-fn string_on(s: &[u8], from: usize) -> Ending
-    requires { ⌜ from ≤ length (now s) ⌝ }
+// The end of a string that stands at a place, where the text is good from there on.
+pub fn string_ending(s: &[u8], from: usize) -> Ending
+    requires { ⌜ (from ≤ length (now s)) × (firstBad (drop from (now s)) ≡ Good) ⌝ }
     ensures { λ r. ⌜ ((report : Bool) → EndsAs (now (s .entry)) report (Quoted Double) Str from r) ⌝ }
 {
-    let end = past_plain(s, from, b'"', b'\\');
+    let end = apart_end(s, from, b'"', b'\\');
     if s.len() <= end {
         return Ending::Unknown;
     }
@@ -89,52 +94,14 @@ fn string_on(s: &[u8], from: usize) -> Ending
     Ending::Unknown
 }
 
-// The end of a string that stands at a place. Most have no character past ASCII.
-pub fn string_ending(s: &[u8], from: usize) -> Ending
-    requires { ⌜ from ≤ length (now s) ⌝ }
-    ensures { λ r. ⌜ ((report : Bool) → EndsAs (now (s .entry)) report (Quoted Double) Str from r) ⌝ }
-{
-    let end = plain_end(s, from, b'"', b'\\');
-    if s.len() <= end {
-        return Ending::Unknown;
-    }
-    let b = s[end];
-    if b == b'"' {
-        return Ending::At(end + 1);
-    }
-    if ASCII_END <= b {
-        return string_on(s, end);
-    }
-    Ending::Unknown
-}
-
-// The end of a comment that goes to the end of its line, from a place in it, where characters past ASCII may follow.
-fn line_on(s: &[u8], from: usize) -> Ending
-    requires { ⌜ from ≤ length (now s) ⌝ }
-    ensures { λ r. ⌜ ((report : Bool) → EndsAs (now (s .entry)) report InLine comment from r) ⌝ }
-{
-    let end = past_plain(s, from, b'\n', b'\n');
-    if s.len() <= end {
-        return Ending::At(end);
-    }
-    if s[end] == b'\n' {
-        return Ending::At(end + 1);
-    }
-    Ending::Unknown
-}
-
-// The end of a comment that goes to the end of its line, from a place in it. Most have no character past ASCII.
+// The end of a comment that goes to the end of its line, from a place in it, where the text is good from there on.
 pub fn line_ending(s: &[u8], from: usize) -> Ending
-    requires { ⌜ from ≤ length (now s) ⌝ }
+    requires { ⌜ (from ≤ length (now s)) × (firstBad (drop from (now s)) ≡ Good) ⌝ }
     ensures { λ r. ⌜ ((report : Bool) → EndsAs (now (s .entry)) report InLine comment from r) ⌝ }
 {
-    let end = plain_end(s, from, b'\n', b'\n');
+    let end = apart_end(s, from, b'\n', b'\n');
     if s.len() <= end {
         return Ending::At(end);
     }
-    let b = s[end];
-    if b == b'\n' {
-        return Ending::At(end + 1);
-    }
-    line_on(s, end)
+    Ending::At(end + 1)
 }

@@ -2,6 +2,8 @@
 // ends as soon as it ends with the delimiter.
 use crate::signs::*;
 use crate::words::enter_word;
+use chars::Decoded;
+use chars::decode_at;
 use chars::is_blank;
 use items::Next;
 use items::Outcome;
@@ -9,6 +11,7 @@ use items::Phase;
 use items::kinds;
 use texts::find;
 ghost use mathlib.Core.Path.{_≡_};
+ghost use Prim.Native.Nat.{_≤_, _<_};
 ghost use lib.Dec.{eqb};
 ghost use lib.ListN.{length};
 ghost use Rattle.laws.specs.Choice.{if_then_else_};
@@ -18,6 +21,9 @@ ghost use Rattle.items.specs.Classes.{inDelim};
 ghost use Rattle.items.specs.Kinds as kind;
 ghost use Rattle.items.specs.Readers.{unreturned, lineOf, endsWith, hereInside, hereEnds};
 ghost use Rattle.items.specs.Machine.{enterWord, onDelim};
+ghost use Rattle.items.specs.declared.Phase.the-variants.{HereBody};
+ghost use Rattle.steps.specs.Scan.{PassesFor};
+ghost use Rattle.steps.specs.Here.{HereLine};
 
 // The bytes of `#<<`.
 const OPEN: usize = 3;
@@ -88,15 +94,22 @@ fn begins_with_line(text: &[u8], line: &[u8]) -> bool
     true
 }
 
-// Whether a body ends with a line, carriage returns left out.
-fn ends_with_line(body: &[u8], line: &[u8]) -> bool
+// Whether a body ends with a line, carriage returns left out, which has n bytes without them.
+fn ends_with(body: &[u8], line: &[u8], n: usize) -> bool
+    requires { ⌜ n ≡ length (unreturned (now line)) ⌝ }
     ensures { λ r. ⌜ r ≡ endsWith (unreturned (now (line .entry))) (now (body .entry)) ⌝ }
 {
-    let n = unreturned_length(line);
     if body.len() < n {
         return false;
     }
     begins_with_line(&body[body.len() - n..], line)
+}
+
+// Whether a body ends with a line, carriage returns left out.
+fn ends_with_line(body: &[u8], line: &[u8]) -> bool
+    ensures { λ r. ⌜ r ≡ endsWith (unreturned (now (line .entry))) (now (body .entry)) ⌝ }
+{
+    ends_with(body, line, unreturned_length(line))
 }
 
 // How many bytes stand between `#<<` and the newline of its line. Internal: where a here-string's text starts.
@@ -129,6 +142,54 @@ fn here_ends(raw: &[u8]) -> bool
         return ends_with_line(&raw[newline + 1..], &raw[OPEN..newline]);
     }
     ends_with_line(&raw[newline..], &raw[OPEN..newline])
+}
+
+// The same, where the line ends at a place before.
+fn past_line(s: &[u8], start: usize, newline: usize, from: usize) -> usize
+    requires { ⌜ HereLine (now s) start newline × (newline < from) × (from ≤ length (now s)) ⌝ }
+    ensures { λ r. ⌜ PassesFor (now (s .entry)) start HereBody from r ⌝ }
+{
+    let open = start + OPEN;
+    let line = &s[open..newline];
+    let n = unreturned_length(line);
+    let body = newline + 1;
+    let mut at = from;
+    while at < s.len() {
+        if ends_with(&s[body..at], line, n) {
+            return at;
+        }
+        match decode_at(s, at) {
+            Decoded::Char { code: _, next } => {
+                at = next;
+            }
+            Decoded::Bad => {
+                return at;
+            }
+            Decoded::Cut => {
+                return at;
+            }
+            Decoded::End => {
+                return at;
+            }
+        }
+    }
+    at
+}
+
+// Past the characters of the body from a place on, to where it ends with the delimiter, or no character stands. The line is looked at once.
+pub(crate) fn past_body(s: &[u8], start: usize, from: usize) -> usize
+    requires { ⌜ (start ≤ from) × (from ≤ length (now s)) ⌝ }
+    ensures { λ r. ⌜ PassesFor (now (s .entry)) start HereBody from r ⌝ }
+{
+    if from - start < OPEN {
+        return from;
+    }
+    let open = start + OPEN;
+    let newline = find(s, open, b'\n');
+    if from <= newline {
+        return from;
+    }
+    past_line(s, start, newline, from)
 }
 
 // In the body, after a character of it.

@@ -175,7 +175,7 @@ fn scan_on(s: &[u8], report: bool, start: usize, from: usize, first: Phase) -> S
     let mut phase = first;
     let mut at = from;
     while at < s.len() {
-        at = run_end(s, at, phase);
+        at = run_end(s, start, at, phase);
         match decode_at(s, at) {
             Decoded::Char { code, next } => match step(report, phase, &s[start..at], at, code) {
                 Next::Eat(then) => {

@@ -1,5 +1,6 @@
 // Runs: the characters that leave an item in the phase that it is in, passed without a step for each of them. Those of ASCII are told by
 // their byte, others by direct tests of their bytes.
+use crate::here::past_body;
 use crate::words::breaks_word;
 use crate::words::stays_run;
 use chars::between;
@@ -17,7 +18,7 @@ ghost use Rattle.items.specs.Classes.{delimOf};
 ghost use Rattle.items.specs.declared.Phase.{Phase};
 ghost use Rattle.items.specs.declared.Phase.the-variants.{InWord};
 ghost use Rattle.steps.specs.Runs.{ofWord, ofRun, keeps};
-ghost use Rattle.steps.specs.Scan.{Passes};
+ghost use Rattle.steps.specs.Scan.{Passes, PassesFor};
 ghost use Rattle.steps.specs.Held.{Holds};
 
 // Below it a byte is a character of ASCII.
@@ -166,10 +167,10 @@ pub(crate) fn past_word(s: &[u8], from: usize) -> usize
     }
 }
 
-// Past the run of characters that leave an item in its phase.
-pub(crate) fn run_end(s: &[u8], at: usize, phase: Phase) -> usize
-    requires { ⌜ at ≤ length (now s) ⌝ }
-    ensures { λ r. ⌜ Passes (now (s .entry)) phase at r ⌝ }
+// Past the run of characters that leave the item from `start` on in its phase; in a here-string's body these are all up to its end.
+pub(crate) fn run_end(s: &[u8], start: usize, at: usize, phase: Phase) -> usize
+    requires { ⌜ (start ≤ at) × (at ≤ length (now s)) ⌝ }
+    ensures { λ r. ⌜ PassesFor (now (s .entry)) start phase at r ⌝ }
 {
     match phase {
         Phase::InLine => past_plain(s, at, b'\n', b'\n'),
@@ -177,6 +178,7 @@ pub(crate) fn run_end(s: &[u8], at: usize, phase: Phase) -> usize
         Phase::Quoted(k) => past_plain(s, at, delimiter(k), b'\\'),
         Phase::InWord => past_word(s, at),
         Phase::InRun => number_end(s, at),
+        Phase::HereBody => past_body(s, start, at),
         _ => at,
     }
 }

@@ -4,9 +4,11 @@ ghost use mathlib.Core.Path.{_≡_};
 ghost use lib.ListN.{drop};
 ghost use Rattle.laws.specs.Texts.{starts, begins, same};
 
+mod apart;
 mod pairs;
 mod runs;
 
+pub use apart::apart_end;
 pub use pairs::pairs_at;
 pub use runs::blank_end;
 pub use runs::find;

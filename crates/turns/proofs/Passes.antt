@@ -2,17 +2,19 @@
 -- turns leave one by one.
 use Prim.Native.Nat.{ℕ, zero, suc, _+_, _-_, _≤_, _<_}
 use mathlib.Core.Path.{_≡_, refl, sym, ap, _∙_, subst}
-use mathlib.Core.Bool.{Bool, true, false}
+use mathlib.Core.Bool.{Bool, true, false, not}
 use mathlib.Core.List.{List, [], _∷_}
+use lib.Dec.{eqb, ltb}
 use lib.ListN.{length, take, drop, set, length-set, length-take, length-drop}
 use lib.Seq.{sets, drop-drop}
 use native.Mathlib.Nat.{add-zero}
 use native.Mathlib.Numerals.{add-one}
 use native.Mathlib.Omega.{arith}
-use borrow.Author.Tests.{eq-eqb, ltb-true, lt-ltb, le-ltb, lt-leb}
+use borrow.Author.Tests.{eq-eqb, ltb-true, lt-ltb, le-ltb, lt-leb, not-true}
 use Rattle.laws.specs.Choice.{if_then_else_}
 use Rattle.laws.specs.Texts.{span}
-use Rattle.laws.proofs.Choice.{by-bool, no-yes}
+use Rattle.laws.specs.Quoted.{code}
+use Rattle.laws.proofs.Choice.{by-bool, no-yes, and-true}
 use Rattle.laws.proofs.Runs.{span-le}
 use Rattle.chars.specs.Encode.{width}
 use Rattle.chars.specs.Machine.{step}
@@ -48,7 +50,7 @@ passed-some s (c ∷ w) h g e = ap (λ (x : Stage). passedAt s x (c ∷ w)) (sym
 kept-small : (g : Stage) (c : ℕ) → kept g c ≡ true → c < 0x80
 kept-small Opening c e = no-yes e
 kept-small Pound c e = no-yes e
-kept-small FirstLine c e = no-yes e
+kept-small FirstLine c e = ltb-true c 0x80 (and-true (ltb c 0x80) _ e .0)
 kept-small Idle c e = blank-ascii c e .0
 kept-small (Busy st p) c e = ltb-true c 0x80 (kept-ascii p c e)
 kept-small (Waiting st b) c e = no-yes e
@@ -63,7 +65,8 @@ width-ascii c h = rw (lt-ltb c 0x80 h)
 stage-kept : (s : State) (g : Stage) (c : ℕ) → kept g c ≡ true → s .marks .len + 1 ≤ longest → onStage s g c ≡ on (passedAt s g (c ∷ []))
 stage-kept s Opening c e room = no-yes e
 stage-kept s Pound c e room = no-yes e
-stage-kept s FirstLine c e room = no-yes e
+stage-kept s FirstLine c e room =
+    let other = not-true (eqb c (code "\n")) (and-true (not (eqb c (code "\n"))) _ (and-true (ltb c 0x80) _ e .1) .0) in rw (other, width-ascii c (kept-small FirstLine c e))
 stage-kept s Idle c e room = let f = blank-ascii c e in rw (f .1, width-ascii c (f .0))
 stage-kept s (Busy st p) c e room =
     let small = kept-small (Busy st p) c e in
@@ -96,7 +99,10 @@ module _ (s : State) (c : ℕ) where
       → passed (passedAt s g (c ∷ [])) w ≡ passedAt s g (c ∷ w)
   passed-on Opening e w h = no-yes e
   passed-on Pound e w h = no-yes e
-  passed-on FirstLine e w h = no-yes e
+  passed-on FirstLine e [] h = refl
+  passed-on FirstLine e (d ∷ w) h =
+      let sum : s .marks .at + 1 + length (d ∷ w) ≡ s .marks .at + length (c ∷ d ∷ w) = omega arith in
+      ap (λ (n : ℕ). becomes s (s .buf) FirstLine n 0 (lastOf s)) sum
   passed-on Idle e [] h = refl
   passed-on Idle e (d ∷ w) h =
       let sum : s .marks .at + 1 + length (d ∷ w) ≡ s .marks .at + length (c ∷ d ∷ w) = omega arith in
@@ -115,7 +121,7 @@ module _ (s : State) (c : ℕ) where
   same-stage : (g : Stage) → kept g c ≡ true → passedAt s g (c ∷ []) .marks .stage ≡ g
   same-stage Opening e = no-yes e
   same-stage Pound e = no-yes e
-  same-stage FirstLine e = no-yes e
+  same-stage FirstLine e = refl
   same-stage Idle e = refl
   same-stage (Busy st p) e = refl
   same-stage (Waiting st b) e = no-yes e
@@ -125,7 +131,7 @@ module _ (s : State) (c : ℕ) where
       → (passedAt s g (c ∷ []) .marks .len ≤ s .marks .len + 1) × (passedAt s g (c ∷ []) .marks .at ≡ s .marks .at + 1) × (passedAt s g (c ∷ []) .marks .part .count ≡ 0)
   further Opening e = no-yes e
   further Pound e = no-yes e
-  further FirstLine e = no-yes e
+  further FirstLine e = (omega arith, refl, refl)
   further Idle e = (omega arith, refl, refl)
   further (Busy st p) e = (omega arith, refl, refl)
   further (Waiting st b) e = no-yes e

@@ -1,5 +1,5 @@
-// The bytes of a piece that leave the reader where it stands, passed at once: most bytes of a word, a number, a string or a comment, and
-// most blanks. Each does what a turn does.
+// The bytes of a piece that leave the reader where it stands, passed at once: most bytes of a word, a number, a string, a comment or a first
+// line, and most blanks. Each does what a turn does.
 use giving::give::copy_all;
 use giving::marks::marks_at;
 use pieces::LONGEST;
@@ -8,6 +8,7 @@ use pieces::Stage;
 use refusal::LIMIT;
 use steps::ascii_run;
 use texts::blank_end;
+use texts::plain_end;
 ghost use mathlib.Core.Path.{_≡_};
 ghost use Prim.Native.Nat.{_+_, _≤_, _<_};
 ghost use lib.ListN.{length, drop};
@@ -16,6 +17,9 @@ ghost use Rattle.items.specs.Whole.{limit};
 ghost use Rattle.pieces.specs.Expected.{longest};
 ghost use Rattle.giving.specs.Answers.{stateOf};
 ghost use Rattle.turns.specs.Passed.{kept, passed};
+
+// What ends a first line.
+const NEWLINE: u8 = b'\n';
 
 // The lesser of two numbers.
 fn fewer(a: usize, b: usize) -> usize
@@ -27,14 +31,25 @@ fn fewer(a: usize, b: usize) -> usize
     b
 }
 
-// How many of these bytes, from the first on, leave the reader at a stage.
+// How many of these bytes, from the first on, leave the reader at a stage without an item: in a first line those of ASCII before its
+// newline, between items the blanks.
+fn between_count(stage: Stage, bytes: &[u8]) -> usize
+    ensures { λ r. ⌜ r ≤ span (kept stage) (now (bytes .entry)) ⌝ }
+{
+    match stage {
+        Stage::FirstLine => plain_end(bytes, 0, NEWLINE, NEWLINE),
+        Stage::Idle => blank_end(bytes, 0),
+        _ => 0,
+    }
+}
+
+// How many of these bytes, from the first on, leave the reader at a stage. One in an item is told first.
 fn kept_count(stage: Stage, bytes: &[u8]) -> usize
     ensures { λ r. ⌜ r ≤ span (kept stage) (now (bytes .entry)) ⌝ }
 {
     match stage {
-        Stage::Idle => blank_end(bytes, 0),
         Stage::Busy(_start, phase) => ascii_run(bytes, 0, phase),
-        _ => 0,
+        _ => between_count(stage, bytes),
     }
 }
 
@@ -78,7 +93,7 @@ pub fn pass(m: Marks, buf: &mut [u8], run: &[u8]) -> Marks
     match stage {
         Stage::Opening => m,
         Stage::Pound => m,
-        Stage::FirstLine => m,
+        Stage::FirstLine => marks_at(m, Stage::FirstLine, m.at + n, 0, m.from, m.to),
         Stage::Idle => marks_at(m, Stage::Idle, m.at + n, 0, m.from, m.to),
         Stage::Busy(start, phase) => {
             copy_all(run, &mut buf[len..]);

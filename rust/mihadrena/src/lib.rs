@@ -10,9 +10,9 @@
 //! example `terminal` is a program to start from.
 //!
 //! It allocates nothing and depends on nothing but the archive that `.ci/archive` writes; `build.rs` looks for it in the repository's target
-//! folder, or in the folder that the environment variable `MIHADRENA_ARCHIVE` names. Only linking needs it. There are archives for x86-64
-//! Linux and for Linux on Arm of 64 bits (`.ci/archive --target aarch64-linux-gnu`). With the feature `alloc` there is also `Plan`, which
-//! owns a plan's text, items, nested lists and lines.
+//! folder, or in the folder that the environment variable `MIHADRENA_ARCHIVE` names. Only linking needs it. There are archives for Linux on
+//! x86-64, on Arm of 64 bits (`.ci/archive --target aarch64-linux-gnu`) and on RISC-V of 64 bits (`riscv64-linux-gnu`). With the feature
+//! `alloc` there is also `Plan`, which owns a plan's text, items, nested lists and lines.
 //!
 //! Refusals and errors are `#[non_exhaustive]`: a later version may have more.
 //!
@@ -37,10 +37,8 @@
 #![warn(missing_docs, clippy::pedantic)]
 #![allow(clippy::cast_possible_truncation, clippy::cast_possible_wrap)]
 
-#[cfg(not(all(target_os = "linux", any(target_arch = "x86_64", target_arch = "aarch64"))))]
-compile_error!(
-    "there are archives for x86-64 Linux and for Linux on Arm of 64 bits (aarch64), and for no other target"
-);
+#[cfg(not(all(target_os = "linux", any(target_arch = "x86_64", target_arch = "aarch64", target_arch = "riscv64"))))]
+compile_error!("there are archives for Linux on x86-64, Arm (aarch64) and RISC-V (riscv64), and for no other target");
 
 #[cfg(feature = "alloc")]
 extern crate alloc;

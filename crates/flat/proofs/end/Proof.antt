@@ -1,10 +1,10 @@
--- 22 and 27 leave all but the values; else the call of `lent` fixes the state and the text memory, and `tell` the rest.
-use mathlib.Core.Path.{sym, _∙_}
+-- 22 and 27 leave all but the values; else the state is told by its words, or goes the plain way.
+use mathlib.Core.Path.{refl, sym, _∙_}
 use borrow.Author.Tests.{not-true, not-false}
 use borrow.Author.Needs.{needs}
 use lib.ListN.{length}
 use denote.Ref.{now}
-use Rattle.flat.proofs.Left.{room-record, state-words, too-few, no-state, told-on}
+use Rattle.flat.proofs.Left.{room-record, state-words, too-few, no-state, served}
 use Rattle.flat.proofs.end.Statement.{statement}
 use Rattle.flat.proofs.end.Tie as tie
 
@@ -18,26 +18,32 @@ returns-2 c =
     (sym (branch .before .is-state .ensures) ∙ not-true _ (branch .if2 .taken)) (c .before .before .put-values2 .ensures)
 
 words-in-requires : tie.Need-words-in-requires
-words-in-requires c κs = state-words (length (now (c .before .before .before .before .before .before .before .before .before .before .args .buf))) _
-    (sym (c .before .before .is-state .ensures) ∙ not-false _ (c .before .if2 .left))
+words-in-requires c κs = state-words (length (now (c .before .before .before .before .before .before .before .before .before .before .args .buf))) _ (sym (c .before .before .is-state .ensures) ∙ not-false _ (c .before .if2 .left))
 
-tell-requires : tie.Need-tell-requires
-tell-requires c κs =
-    let branch = c .before .before .before .before .before .before .before .before .before .before .before .before in
-    let entry = branch .before .before .before .before .before .before .before .before .before in (
-      state-words (length (now (entry .args .buf))) _ (sym (branch .before .is-state .ensures) ∙ not-false _ (branch .if2 .left)),
-      room-record _ (length (now (entry .args .values)))
-          (sym (branch .before .before .before .is-room .ensures) ∙ not-false _ (branch .before .before .if1 .left)),
+end-on-requires : tie.Need-end-on-requires
+end-on-requires c κs =
+    let a = c .before .before .before .before .before .before .before .before .before .before .before .before .before .before .before .before .before .before in
+    let h = c .before .before .before .before .before .before .is-closing .ensures (c .before .before .before .before .before .if3 .taken) in (
+      state-words (length (now (a .args .buf))) _ (sym (c .before .before .before .before .before .before .before .before .before .before .is-state .ensures) ∙ not-false _ (c .before .before .before .before .before .before .before .before .before .if2 .left)),
+      room-record _ (length (now (a .args .values))) (sym (c .before .before .before .before .before .before .before .before .before .before .before .before .is-room .ensures) ∙ not-false _ (c .before .before .before .before .before .before .before .before .before .before .before .if1 .left)),
+      c .before .before .before .before .before .before .before .words-in .ensures,
+      h .0,
+      h .1,
+      h .2,
     )
 
 returns-3 : tie.Need-returns-3
-returns-3 c =
-    let ended = c .before .before .before .before .before .before .before .before .before .before .before .before .before .before in
-    let branch = ended .before .before .before .before .before in
-    told-on _ _ (ended .end-words .result) (sym (branch .before .before .before .is-room .ensures) ∙ not-false _ (branch .before .before .if1 .left))
-    (sym (branch .before .is-state .ensures) ∙ not-false _ (branch .if2 .left))
-    (ended .before .before .before .words-in .ensures)
-    (ended .end-words .ensures .0) (ended .end-words .ensures .1) (c .before .before .before .before .before .before .tell .ensures _ _ _)
+returns-3 c = served _ _ (sym (c .before .before .before .before .before .before .before .before .before .before .before .before .before .before .before .before .before .before .before .before .before .before .before .is-room .ensures) ∙ not-false _ (c .before .before .before .before .before .before .before .before .before .before .before .before .before .before .before .before .before .before .before .before .before .before .if1 .left)) (sym (c .before .before .before .before .before .before .before .before .before .before .before .before .before .before .before .before .before .before .before .before .before .is-state .ensures) ∙ not-false _ (c .before .before .before .before .before .before .before .before .before .before .before .before .before .before .before .before .before .before .before .before .if2 .left)) (c .before .before .before .before .before .before .before .before .before .before .before .before .before .before .before .before .before .before .words-in .ensures) (c .before .before .before .before .before .before .before .before .before .before .end-on .ensures)
+
+end-plainly-requires : tie.Need-end-plainly-requires
+end-plainly-requires c κs =
+    let a = c .before .before .before .before .before .before .before .before .before .before .before .before .before .before .before .before .before .before in (
+      state-words (length (now (a .args .buf))) _ (sym (c .before .before .before .before .before .before .before .before .before .before .is-state .ensures) ∙ not-false _ (c .before .before .before .before .before .before .before .before .before .if2 .left)),
+      room-record _ (length (now (a .args .values))) (sym (c .before .before .before .before .before .before .before .before .before .before .before .before .is-room .ensures) ∙ not-false _ (c .before .before .before .before .before .before .before .before .before .before .before .if1 .left)),
+    )
+
+returns-4 : tie.Need-returns-4
+returns-4 c = served _ _ (sym (c .before .before .before .before .before .before .before .before .before .before .before .before .before .before .before .before .before .before .before .before .before .before .before .is-room .ensures) ∙ not-false _ (c .before .before .before .before .before .before .before .before .before .before .before .before .before .before .before .before .before .before .before .before .before .before .if1 .left)) (sym (c .before .before .before .before .before .before .before .before .before .before .before .before .before .before .before .before .before .before .before .before .before .is-state .ensures) ∙ not-false _ (c .before .before .before .before .before .before .before .before .before .before .before .before .before .before .before .before .before .before .before .before .if2 .left)) refl (c .before .before .before .before .before .before .before .before .before .before .end-plainly .ensures)
 
 pub end-spec : {M : Type 1} → statement M
 end-spec =
@@ -53,10 +59,17 @@ end-spec =
     returns-2
     words-in-requires
     (λ c κs. search needs)
-    tell-requires
+    end-on-requires
     (λ c. search needs)
     (λ c. search needs)
     (λ c. search needs)
     (λ c. search needs)
     (λ c. search needs)
-    returns-3)
+    returns-3
+    end-plainly-requires
+    (λ c. search needs)
+    (λ c. search needs)
+    (λ c. search needs)
+    (λ c. search needs)
+    (λ c. search needs)
+    returns-4)

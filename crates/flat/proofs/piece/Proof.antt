@@ -9,6 +9,7 @@ use Rattle.lent.specs.Calls.{lent, pieceFor}
 use Rattle.flat.specs.Piece.{wordsIn, memory, gives}
 use Rattle.flat.proofs.Left.{room-record, state-words, too-few, no-state, served}
 use Rattle.flat.proofs.Spotted.{later-none}
+use Rattle.laws.proofs.Choice.{no-yes}
 use Rattle.flat.proofs.piece.Statement.{statement}
 use Rattle.flat.proofs.piece.Tie as tie
 
@@ -80,6 +81,7 @@ read-plainly-requires c κs =
       state-words (length (now (a .args .buf))) _ (sym (c .before .before .before .before .before .before .before .before .before .before .is-state .ensures) ∙ not-false _ (c .before .before .before .before .before .before .before .before .before .if2 .left)),
       room-record _ (length (now (a .args .values))) (sym (c .before .before .before .before .before .before .before .before .before .before .before .before .is-room .ensures) ∙ not-false _ (c .before .before .before .before .before .before .before .before .before .before .before .if1 .left)),
       omega arith,
+      no-yes,
     )
 
 same-length-8 : tie.Need-same-length-8

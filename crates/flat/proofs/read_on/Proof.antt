@@ -7,7 +7,7 @@ use Rattle.pieces.specs.declared.Got.the-variants.{More, Item}
 use Rattle.pieces_quick.specs.declared.Reached.{Reached}
 use Rattle.pieces_quick.specs.Gives.{toldAt, Answers}
 use Rattle.flat.specs.Piece.{memory}
-use Rattle.flat.proofs.Spotted.{told-by, goes-on}
+use Rattle.flat.proofs.Spotted.{told-by, goes-on, reads-on}
 use Rattle.flat.proofs.read_on.Statement.{statement}
 use Rattle.flat.proofs.read_on.Tie as tie
 
@@ -36,8 +36,13 @@ read-plainly-requires : tie.Need-read-plainly-requires
 read-plainly-requires c κs =
     let a = c .before .before .before .before .before .before .before .before .before .before .before .before .before .before .before .before .before .before .before .before .before .before .before .before .before in
     let moves = c .before .before .before .before .before .before .before .before .before .before .before .before .before .before .before .before .quickly in
-    let awaits = subst (λ (r : Reached). Answers (a .args .state) (now (a .args .piece)) (now (a .args .buf)) (moves .last .1 .0) (now (a .args .text)) (moves .last .1 .1 .1 .0) r) (c .before .before .before .before .before .before .before .before .before .before .s3 .given .1) (moves .ensures) in
-    (c .before .before .before .before .before .before .before .put-spot .kept .0 ∙ a .pre .0, a .pre .1, awaits .inside)
+    let awaits = subst (λ (r : Reached). Answers (a .args .state) (now (a .args .piece)) (now (a .args .buf)) (moves .last .1 .0) (now (a .args .text)) (moves .last .1 .1 .1 .0) r) (c .before .before .before .before .before .before .before .before .before .before .s3 .given .1) (moves .ensures) in (
+      c .before .before .before .before .before .before .before .put-spot .kept .0 ∙ a .pre .0,
+      a .pre .1,
+      awaits .inside,
+      λ _. reads-on (memory (now (a .args .buf)) (now (a .args .words)) (now (a .args .text)) (now (a .args .item)) (now (a .args .values))) (a .args .state) (length (now (a .args .piece))) (a .pre .5) (a .pre .2) (c .before .before .before .before .before .before .before .before .before .before .s3 .given .0 .0) (now (a .args .piece)) (moves .last .1 .0) (moves .last .1 .1 .1 .0) _
+          (c .before .before .before .before .before .before .before .put-spot .ensures) awaits,
+    )
 
 same-length : tie.Need-same-length
 same-length c = search needs
@@ -87,7 +92,7 @@ same-length-11 : tie.Need-same-length-11
 same-length-11 c = c .before .before .before .before .before .before .before .before .before .before .read-plainly .kept .1 .0 ∙ c .before .before .before .before .before .before .before .before .before .before .before .before .before .before .before .before .before .before .put-spot .kept .0
 
 same-length-12 : tie.Need-same-length-12
-same-length-12 c = c .before .before .before .before .before .before .before .before .before .before .read-plainly .kept .1 .1 .1 .1 .0 ∙ c .before .before .before .before .before .before .before .before .before .before .before .before .before .before .before .before .before .before .before .before .before .before .before .before .before .before .before .quickly .kept .1 .1 .1 .0
+same-length-12 c = c .before .before .before .before .before .before .before .before .before .before .read-plainly .kept .1 .1 .1 .1 .1 .0 ∙ c .before .before .before .before .before .before .before .before .before .before .before .before .before .before .before .before .before .before .before .before .before .before .before .before .before .before .before .quickly .kept .1 .1 .1 .0
 
 same-length-13 : tie.Need-same-length-13
 same-length-13 c = search needs

@@ -1,10 +1,11 @@
 -- What the plain call says from the place on is what is told (Spotted: told-by).
 use borrow.Author.Needs.{needs}
 use denote.Ref.{now}
-use mathlib.Core.Path.{ap, _∙_}
+use mathlib.Core.Path.{sym, ap, _∙_, subst}
 use lib.ListN.{length, drop}
 use Rattle.pieces.specs.Calls.{textAfter}
 use Rattle.lent.specs.declared.Words.{Words}
+use Rattle.lent.specs.Stood.{Stood}
 use Rattle.lent.specs.Calls.{Said, lent, pieceFor}
 use Rattle.pieces_quick.specs.Gives.{later}
 use Rattle.flat.specs.Piece.{memory}
@@ -16,7 +17,9 @@ words-in-requires : tie.Need-words-in-requires
 words-in-requires c κs = search needs
 
 plainly-requires : tie.Need-plainly-requires
-plainly-requires c κs = search needs
+plainly-requires c κs =
+    let entry = c .before .before .before .before .before .before .before .before .before .before in
+    (entry .pre .2, λ e. subst (λ (w : Words). Stood w (now (entry .args .buf)) (now (entry .args .text))) (sym (c .before .before .words-in .ensures)) (entry .pre .3 e))
 
 tell-requires : tie.Need-tell-requires
 tell-requires c κs = (c .before .before .before .before .before .before .before .before .before .before .before .before .before .before .before .before .before .before .pre .0, c .before .before .before .before .before .before .before .before .before .before .before .before .before .before .before .before .before .before .pre .1)

@@ -6,23 +6,23 @@ use Rattle.pieces_quick.proofs.Answering.{plain-taken, continues}
 use Rattle.pieces_quick.proofs.plainly.Statement.{statement}
 use Rattle.pieces_quick.proofs.plainly.Tie as tie
 
-sub-piece-words : tie.Need-sub-piece-words
-sub-piece-words c = search needs
+sub-called : tie.Need-sub-called
+sub-called c = search needs
 
-part-piece-words-start : tie.Need-part-piece-words-start
-part-piece-words-start c = search needs
+part-called-start : tie.Need-part-called-start
+part-called-start c = search needs
 
-part-piece-words-end : tie.Need-part-piece-words-end
-part-piece-words-end c = search needs
+part-called-end : tie.Need-part-called-end
+part-called-end c = search needs
 
-piece-words-requires : tie.Need-piece-words-requires
-piece-words-requires c κs = search needs
+called-requires : tie.Need-called-requires
+called-requires c κs = c .before .before .before .before .before .before .pre .1
 
-add-t12 : tie.Need-add-t12
-add-t12 c =
+add-t13 : tie.Need-add-t13
+add-t13 c =
     let a = c .before .before .before .before .before .before .before .before .before .before .before .before .before in
-    let p = c .before .before .before .before .before .before .piece-words in
-    omega (arith, plain-taken (a .args .words) (a .args .from) (now (a .args .piece)) (now (a .args .buf)) _ (now (a .args .text)) _ (a .pre) (p .result) (p .ensures .0) (p .ensures .1))
+    let p = c .before .before .before .before .before .before .called in
+    omega (arith, plain-taken (a .args .words) (a .args .from) (now (a .args .piece)) (now (a .args .buf)) _ (now (a .args .text)) _ (a .pre .0) (p .result) (p .ensures .0) (p .ensures .1))
 
 same-length : tie.Need-same-length
 same-length c = search needs
@@ -33,18 +33,18 @@ same-length-2 c = search needs
 returns : tie.Need-returns
 returns c =
     let a = c .before .before .before .before .before .before .before .before .before .before .before .before .before in
-    let p = c .before .before .before .before .before .before .piece-words in
-    continues (a .args .words) (a .args .from) (now (a .args .piece)) (now (a .args .buf)) _ (now (a .args .text)) _ (a .pre) (p .result) (p .ensures .0) (p .ensures .1)
+    let p = c .before .before .before .before .before .before .called in
+    continues (a .args .words) (a .args .from) (now (a .args .piece)) (now (a .args .buf)) _ (now (a .args .text)) _ (a .pre .0) (p .result) (p .ensures .0) (p .ensures .1)
 
 pub plainly-spec : {M : Type 1} → statement M
 plainly-spec =
     tie.close
     (tie.spec
-    sub-piece-words
-    part-piece-words-start
-    part-piece-words-end
-    piece-words-requires
-    add-t12
+    sub-called
+    part-called-start
+    part-called-end
+    called-requires
+    add-t13
     same-length
     same-length-2
     returns)

@@ -12,12 +12,12 @@ long-run-requires c κs = search needs
 returns : tie.Need-returns
 returns c = search needs
 
-decimal-run-requires : tie.Need-decimal-run-requires
-decimal-run-requires c κs = (c .if1 .left, c .before .before .pre .1)
+short-run-requires : tie.Need-short-run-requires
+short-run-requires c κs = (c .if1 .left, c .before .before .pre .1)
 
 returns-2 : tie.Need-returns-2
 returns-2 c =
-    let told = c .decimal-run .ensures in (
+    let told = c .short-run .ensures in (
       told .0,
       ap capped (told .1),
       short-held _ _ _ _ _ (c .before .if1 .left) (c .before .before .before .pre) (told .0) (told .1)
@@ -25,4 +25,4 @@ returns-2 c =
     )
 
 pub run-spec : {M : Type 1} → statement M
-run-spec = tie.close (tie.spec long-run-requires returns decimal-run-requires returns-2)
+run-spec = tie.close (tie.spec long-run-requires returns short-run-requires returns-2)

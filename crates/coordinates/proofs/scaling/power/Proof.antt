@@ -1,20 +1,20 @@
 -- Each arm is a power's exact value, an odd number of units times a power of two.
 use native.Mathlib.Omega.{arith}
-use Prim.Native.Nat.{ℕ, zero, suc, _≤_}
+use Prim.Native.Nat.{ℕ, zero, suc, _<_}
 use mathlib.Core.Path.{_≡_, sym, ap}
 use lib.Ieee
 use Rattle.coordinates.specs.Inner.{tenTo}
 use Rattle.coordinates.proofs.scaling.power.Statement.{statement}
 use Rattle.coordinates.proofs.scaling.power.Tie as tie
 
--- none of the numbers from 1 to n
+-- none of the numbers below n
 abbrev Others : ℕ → ℕ → Type 0
 Others zero k = Unit {0}
-Others (suc n) k = Others n k × (k ≡ suc n → ⊥)
+Others (suc n) k = Others n k × (k ≡ n → ⊥)
 
-last : (n k : ℕ) → k ≤ n → Others n k → k ≡ 0
-last zero k h o = omega arith
-last (suc n) k h o = let d = o .1 in last n k (omega arith) (o .0)
+none : (n k : ℕ) → k < n → Others n k → ⊥
+none zero k h o = omega arith
+none (suc n) k h o = let d = o .1 in none n k (omega arith) (o .0)
 
 returns : tie.Need-returns
 unfolding Ieee.ofBits tenTo
@@ -106,7 +106,10 @@ returns-22 c = ap tenTo (sym (c .match .keys22))
 
 returns-23 : tie.Need-returns-23
 unfolding Ieee.ofBits tenTo
-returns-23 c = ap tenTo (sym (last 22 _ (c .before .pre) (c .match .rest)))
+returns-23 c = ap tenTo (sym (c .match .keys23))
+
+returns-24 : tie.Need-returns-24
+returns-24 c = absurd (none 23 _ (omega arith) (c .match .rest))
 
 pub power-spec : {M : Type 1} → statement M
 power-spec =
@@ -134,4 +137,5 @@ power-spec =
     returns-20
     returns-21
     returns-22
-    returns-23)
+    returns-23
+    returns-24)

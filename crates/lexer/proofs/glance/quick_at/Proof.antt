@@ -7,6 +7,7 @@ use denote.Ref.{now}
 use lib.ListN.{getD}
 use Rattle.laws.specs.Quoted.{code}
 use Rattle.chars.specs.Blank.{isBlank}
+use Rattle.chars.proofs.Cuts.{good-past}
 use Rattle.items.specs.Kinds as kind
 use Rattle.items.specs.Classes.{startsRun, firstOf}
 use Rattle.items.specs.declared.Quotes.the-variants.{Double}
@@ -72,12 +73,21 @@ bare-requires-2 c κs = search needs
 
 quick-string-requires : tie.Need-quick-string-requires
 unfolding firstOf startsRun isBlank
-quick-string-requires c κs = let a = c .before .before .before in
-    (a .pre .0, begins (now (a .args .source)) (a .args .at) (code "\"") (ph.Quoted Double) (a .pre .1) (c .match .keys9) (omega arith) refl refl)
+quick-string-requires c κs =
+    let a = c .before .before .before in (
+      a .pre .0,
+      begins (now (a .args .source)) (a .args .at) (code "\"") (ph.Quoted Double) (a .pre .1) (c .match .keys9) (omega arith) refl refl,
+      good-past (now (a .args .source)) (a .args .at) (a .pre .2) (a .pre .1) (omega (arith, c .match .keys9)),
+    )
 
 quick-line-requires : tie.Need-quick-line-requires
 unfolding firstOf startsRun isBlank
-quick-line-requires c κs = let a = c .before .before .before in (a .pre .0, begins (now (a .args .source)) (a .args .at) (code ";") ph.InLine (a .pre .1) (c .match .keys10) (omega arith) refl refl)
+quick-line-requires c κs =
+    let a = c .before .before .before in (
+      a .pre .0,
+      begins (now (a .args .source)) (a .args .at) (code ";") ph.InLine (a .pre .1) (c .match .keys10) (omega arith) refl refl,
+      good-past (now (a .args .source)) (a .args .at) (a .pre .2) (a .pre .1) (omega (arith, c .match .keys10)),
+    )
 
 quick-hash-requires : tie.Need-quick-hash-requires
 quick-hash-requires c κs = let a = c .before .before .before in (a .pre .0, record { some = a .pre .1; sharp = c .match .keys11 })

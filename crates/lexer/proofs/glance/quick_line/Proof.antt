@@ -18,10 +18,10 @@ returns : tie.Need-returns
 returns c report = tt
 
 add-line-ending : tie.Need-add-line-ending
-add-line-ending c = let a = c .before .before in omega (arith, a .pre .0, begins-inside (now (a .args .source)) (a .args .at) ph.InLine (a .pre .1))
+add-line-ending c = let a = c .before .before in omega (arith, a .pre .0, begins-inside (now (a .args .source)) (a .args .at) (a .args .at + 1) ph.InLine (a .pre .1))
 
 line-ending-requires : tie.Need-line-ending-requires
-line-ending-requires c κs = let a = c .before .before in omega (arith, begins-inside (now (a .args .source)) (a .args .at) ph.InLine (a .pre .1))
+line-ending-requires c κs = let a = c .before .before in (omega (arith, begins-inside (now (a .args .source)) (a .args .at) (a .args .at + 1) ph.InLine (a .pre .1)), a .pre .2)
 
 enum-known-end : tie.Need-enum-known-end
 enum-known-end c = search needs
@@ -37,8 +37,8 @@ returns-2 c report =
     let a = c .before .before .before .before .before .before .before in
     let e = c .before .before .end .given in
     subst (λ (q : Quick). GlanceAt (now (a .args .source)) report (a .args .skip) (a .args .at) q) (sym (c .bare .ensures))
-    (line-told (now (a .args .source)) report (a .args .skip) (a .args .at) (e .0 .0) (c .before .before .before .before .before .if1 .left) (a .pre .1)
-    (ends-here (now (a .args .source)) report (a .args .at) ph.InLine comment (e .0 .0)
+    (line-told (now (a .args .source)) report (a .args .skip) (a .args .at) (a .args .at + 1) (e .0 .0) (c .before .before .before .before .before .if1 .left) (a .pre .1)
+    (ends-here (now (a .args .source)) report (a .args .at) (a .args .at + 1) ph.InLine comment (e .0 .0) (a .pre .1)
     (subst (λ (y : Ending). EndsAs (now (a .args .source)) report ph.InLine comment (a .args .at + 1) y)
     (e .1) (c .before .before .before .before .line-ending .ensures report))))
 

@@ -15,15 +15,15 @@ use Rattle.lexer.proofs.glance.quick_run.Tie as tie
 within : (c : tie.After-known-told) → Spans (now (c .before .before .before .before .before .args .source)) (c .before .before .before .before .before .args .at) (c .before .end .given .0 .0)
 within c =
     let a = c .before .before .before .before .before in
-    spans (now (a .args .source)) (a .args .report) (a .args .at) (c .before .end .given .0 .0) Run ph.InRun (a .pre .1)
-    (ends-here (now (a .args .source)) (a .args .report) (a .args .at) ph.InRun Run (c .before .end .given .0 .0) (subst (λ (y : Ending). EndsAs
+    spans (now (a .args .source)) (a .args .report) (a .args .at) (a .args .at + 1) (c .before .end .given .0 .0) Run ph.InRun (a .pre .1)
+    (ends-here (now (a .args .source)) (a .args .report) (a .args .at) (a .args .at + 1) ph.InRun Run (c .before .end .given .0 .0) (a .pre .1) (subst (λ (y : Ending). EndsAs
     (now (a .args .source)) (a .args .report) ph.InRun Run (a .args .at + 1) y) (c .before .end .given .1) (c .before .before .before .run-ending .ensures))) (a .pre .0)
 
 add-run-ending : tie.Need-add-run-ending
-add-run-ending c = let a = c .before in omega (arith, a .pre .0, begins-inside (now (a .args .source)) (a .args .at) ph.InRun (a .pre .1))
+add-run-ending c = let a = c .before in omega (arith, a .pre .0, begins-inside (now (a .args .source)) (a .args .at) (a .args .at + 1) ph.InRun (a .pre .1))
 
 run-ending-requires : tie.Need-run-ending-requires
-run-ending-requires c κs = let a = c .before in omega (arith, begins-inside (now (a .args .source)) (a .args .at) ph.InRun (a .pre .1))
+run-ending-requires c κs = let a = c .before in omega (arith, begins-inside (now (a .args .source)) (a .args .at) (a .args .at + 1) ph.InRun (a .pre .1))
 
 enum-known-end : tie.Need-enum-known-end
 enum-known-end c = search needs
@@ -47,9 +47,9 @@ returns : tie.Need-returns
 returns c skip =
     let told = c .before .before .before in
     let a = c .before .before .before .before .before .before .before in
-    ended-told (now (a .args .source)) (a .args .report) (a .args .at) (told .end .given .0 .0) Run ph.InRun (a .pre .1)
-    (ends-here (now (a .args .source)) (a .args .report) (a .args .at) ph.InRun Run
-    (told .end .given .0 .0) (subst (λ (y : Ending). EndsAs (now (a .args .source)) (a .args .report) ph.InRun Run (a .args .at + 1) y)
+    ended-told (now (a .args .source)) (a .args .report) (a .args .at) (a .args .at + 1) (told .end .given .0 .0) Run ph.InRun (a .pre .1)
+    (ends-here (now (a .args .source)) (a .args .report) (a .args .at) (a .args .at + 1) ph.InRun Run
+    (told .end .given .0 .0) (a .pre .1) (subst (λ (y : Ending). EndsAs (now (a .args .source)) (a .args .report) ph.InRun Run (a .args .at + 1) y)
     (told .end .given .1) (told .before .before .run-ending .ensures)))
     (a .pre .0) (λ last i. refl) (c .tell-run .result) (c .tell-run .ensures) skip
 

@@ -17,15 +17,15 @@ use Rattle.lexer.proofs.glance.quick_string.Tie as tie
 within : (c : tie.After-known-told) → Spans (now (c .before .before .before .before .before .args .source)) (c .before .before .before .before .before .args .at) (c .before .end .given .0 .0)
 within c =
     let a = c .before .before .before .before .before in
-    spans (now (a .args .source)) false (a .args .at) (c .before .end .given .0 .0) Str (ph.Quoted Double) (a .pre .1)
-    (ends-here (now (a .args .source)) false (a .args .at) (ph.Quoted Double) Str (c .before .end .given .0 .0) (subst (λ (y : Ending). EndsAs
+    spans (now (a .args .source)) false (a .args .at) (a .args .at + 1) (c .before .end .given .0 .0) Str (ph.Quoted Double) (a .pre .1)
+    (ends-here (now (a .args .source)) false (a .args .at) (a .args .at + 1) (ph.Quoted Double) Str (c .before .end .given .0 .0) (a .pre .1) (subst (λ (y : Ending). EndsAs
     (now (a .args .source)) false (ph.Quoted Double) Str (a .args .at + 1) y) (c .before .end .given .1) (c .before .before .before .string-ending .ensures false))) (a .pre .0)
 
 add-string-ending : tie.Need-add-string-ending
-add-string-ending c = let a = c .before in omega (arith, a .pre .0, begins-inside (now (a .args .source)) (a .args .at) (ph.Quoted Double) (a .pre .1))
+add-string-ending c = let a = c .before in omega (arith, a .pre .0, begins-inside (now (a .args .source)) (a .args .at) (a .args .at + 1) (ph.Quoted Double) (a .pre .1))
 
 string-ending-requires : tie.Need-string-ending-requires
-string-ending-requires c κs = let a = c .before in omega (arith, begins-inside (now (a .args .source)) (a .args .at) (ph.Quoted Double) (a .pre .1))
+string-ending-requires c κs = let a = c .before in (omega (arith, begins-inside (now (a .args .source)) (a .args .at) (a .args .at + 1) (ph.Quoted Double) (a .pre .1)), a .pre .2)
 
 enum-known-end : tie.Need-enum-known-end
 enum-known-end c = search needs
@@ -49,9 +49,9 @@ returns : tie.Need-returns
 returns c report skip =
     let told = c .before .before .before in
     let a = c .before .before .before .before .before .before .before in
-    ended-told (now (a .args .source)) report (a .args .at) (told .end .given .0 .0) Str (ph.Quoted Double) (a .pre .1)
-    (ends-here (now (a .args .source)) report (a .args .at) (ph.Quoted Double) Str
-    (told .end .given .0 .0) (subst (λ (y : Ending). EndsAs (now (a .args .source)) report (ph.Quoted Double) Str (a .args .at + 1) y)
+    ended-told (now (a .args .source)) report (a .args .at) (a .args .at + 1) (told .end .given .0 .0) Str (ph.Quoted Double) (a .pre .1)
+    (ends-here (now (a .args .source)) report (a .args .at) (a .args .at + 1) (ph.Quoted Double) Str
+    (told .end .given .0 .0) (a .pre .1) (subst (λ (y : Ending). EndsAs (now (a .args .source)) report (ph.Quoted Double) Str (a .args .at + 1) y)
     (told .end .given .1) (told .before .before .string-ending .ensures report)))
     (a .pre .0) (λ last i. refl) (c .tell-string .result) (c .tell-string .ensures) skip
 

@@ -16,17 +16,17 @@ use Rattle.lexer.proofs.glance.quick_word.Tie as tie
 within : (c : tie.After-known-told) → Spans (now (c .before .before .before .before .before .args .source)) (c .before .before .before .before .before .args .at) (c .before .end .given .0 .0)
 within c =
     let a = c .before .before .before .before .before in
-    spans (now (a .args .source)) false (a .args .at) (c .before .end .given .0 .0) Word ph.InWord (a .pre .1)
-    (ends-here (now (a .args .source)) false (a .args .at) ph.InWord Word
-    (c .before .end .given .0 .0) (subst (λ (y : Ending). EndsAs (now (a .args .source)) false ph.InWord Word (a .args .at + 1) y)
+    spans (now (a .args .source)) false (a .args .at) (a .args .at + 1) (c .before .end .given .0 .0) Word ph.InWord (a .pre .1)
+    (ends-here (now (a .args .source)) false (a .args .at) (a .args .at + 1) ph.InWord Word
+    (c .before .end .given .0 .0) (a .pre .1) (subst (λ (y : Ending). EndsAs (now (a .args .source)) false ph.InWord Word (a .args .at + 1) y)
     (c .before .end .given .1) (c .before .before .before .word-ending .ensures false)))
     (a .pre .0)
 
 add-word-ending : tie.Need-add-word-ending
-add-word-ending c = let a = c .before in omega (arith, a .pre .0, begins-inside (now (a .args .source)) (a .args .at) ph.InWord (a .pre .1))
+add-word-ending c = let a = c .before in omega (arith, a .pre .0, begins-inside (now (a .args .source)) (a .args .at) (a .args .at + 1) ph.InWord (a .pre .1))
 
 word-ending-requires : tie.Need-word-ending-requires
-word-ending-requires c κs = let a = c .before in omega (arith, begins-inside (now (a .args .source)) (a .args .at) ph.InWord (a .pre .1))
+word-ending-requires c κs = let a = c .before in omega (arith, begins-inside (now (a .args .source)) (a .args .at) (a .args .at + 1) ph.InWord (a .pre .1))
 
 enum-known-end : tie.Need-enum-known-end
 enum-known-end c = search needs
@@ -50,9 +50,9 @@ returns : tie.Need-returns
 returns c report skip =
     let told = c .before .before .before in
     let a = c .before .before .before .before .before .before .before in
-    ended-told (now (a .args .source)) report (a .args .at) (told .end .given .0 .0) Word ph.InWord (a .pre .1)
-    (ends-here (now (a .args .source)) report (a .args .at) ph.InWord Word
-    (told .end .given .0 .0) (subst (λ (y : Ending). EndsAs (now (a .args .source)) report ph.InWord Word (a .args .at + 1) y)
+    ended-told (now (a .args .source)) report (a .args .at) (a .args .at + 1) (told .end .given .0 .0) Word ph.InWord (a .pre .1)
+    (ends-here (now (a .args .source)) report (a .args .at) (a .args .at + 1) ph.InWord Word
+    (told .end .given .0 .0) (a .pre .1) (subst (λ (y : Ending). EndsAs (now (a .args .source)) report ph.InWord Word (a .args .at + 1) y)
     (told .end .given .1) (told .before .before .word-ending .ensures report)))
     (a .pre .0) (λ last i. refl) (c .tell-word .result) (c .tell-word .ensures) skip
 

@@ -2,11 +2,12 @@
 use borrow.Author.Needs.{needs}
 use native.Mathlib.Omega.{arith}
 use mathlib.Core.Path.{_≡_, refl}
-use Prim.Native.Nat.{_≤_}
+use Prim.Native.Nat.{_+_, _≤_}
 use denote.Ref.{now}
 use lib.ListN.{getD}
 use Rattle.laws.specs.Quoted.{code}
 use Rattle.chars.specs.Blank.{isBlank}
+use Rattle.chars.proofs.Cuts.{good-past}
 use Rattle.items.specs.Kinds as kind
 use Rattle.items.specs.Classes.{startsRun, firstOf}
 use Rattle.items.specs.declared.Phase.the-variants as ph
@@ -17,11 +18,11 @@ use Rattle.lexer.specs.Glance.{Begins}
 use Rattle.lexer.proofs.Glances.{begins}
 use Rattle.telling.proofs.Firsts.{letter-solid, letter-first, digit-solid, digit-first}
 use Rattle.lexer.proofs.Tells.{single-told}
-use Rattle.lexer.proofs.Skims.{word-skims, run-skims}
+use Rattle.lexer.proofs.Skims.{word-skims, run-skims, worded-skims}
 use Rattle.lexer.proofs.glance.skim_at.Statement.{statement}
 use Rattle.lexer.proofs.glance.skim_at.Tie as tie
 
-letter : (c : tie.Then4) → Begins (now (c .before .before .before .before .before .before .before .args .source)) (c .before .before .before .before .before .before .before .args .at) ph.InWord
+letter : (c : tie.Then4) → Begins (now (c .before .before .before .before .before .before .before .args .source)) (c .before .before .before .before .before .before .before .args .at) (c .before .before .before .before .before .before .before .args .at + 1) ph.InWord
 letter c =
     let a = c .before .before .before .before .before .before .before in
     let b = getD (now (a .args .source)) (a .args .at) 0 in
@@ -30,7 +31,7 @@ letter c =
     let high : b ≤ code "z" = omega (arith, c .if4 .taken) in
     begins (now (a .args .source)) (a .args .at) b ph.InWord (a .pre .1) refl (omega arith) (letter-solid b low high) (letter-first b low high)
 
-digit : (c : tie.Then2) → Begins (now (c .before .before .before .before .before .args .source)) (c .before .before .before .before .before .args .at) ph.InRun
+digit : (c : tie.Then2) → Begins (now (c .before .before .before .before .before .args .source)) (c .before .before .before .before .before .args .at) (c .before .before .before .before .before .args .at + 1) ph.InRun
 digit c =
     let a = c .before .before .before .before .before in
     let b = getD (now (a .args .source)) (a .args .at) 0 in
@@ -46,12 +47,21 @@ shared-slice-read-match c = search needs
 
 skim-string-requires : tie.Need-skim-string-requires
 unfolding firstOf startsRun isBlank
-skim-string-requires c κs = let a = c .before .before .before in
-    (a .pre .0, begins (now (a .args .source)) (a .args .at) (code "\"") (ph.Quoted Double) (a .pre .1) (c .match .keys9) (omega arith) refl refl)
+skim-string-requires c κs =
+    let a = c .before .before .before in (
+      a .pre .0,
+      begins (now (a .args .source)) (a .args .at) (code "\"") (ph.Quoted Double) (a .pre .1) (c .match .keys9) (omega arith) refl refl,
+      good-past (now (a .args .source)) (a .args .at) (a .pre .2) (a .pre .1) (omega (arith, c .match .keys9)),
+    )
 
 skim-line-requires : tie.Need-skim-line-requires
 unfolding firstOf startsRun isBlank
-skim-line-requires c κs = let a = c .before .before .before in (a .pre .0, begins (now (a .args .source)) (a .args .at) (code ";") ph.InLine (a .pre .1) (c .match .keys10) (omega arith) refl refl)
+skim-line-requires c κs =
+    let a = c .before .before .before in (
+      a .pre .0,
+      begins (now (a .args .source)) (a .args .at) (code ";") ph.InLine (a .pre .1) (c .match .keys10) (omega arith) refl refl,
+      good-past (now (a .args .source)) (a .args .at) (a .pre .2) (a .pre .1) (omega (arith, c .match .keys10)),
+    )
 
 skim-hash-requires : tie.Need-skim-hash-requires
 skim-hash-requires c κs = let a = c .before .before .before in (a .pre .0, record { some = a .pre .1; sharp = c .match .keys11 })
@@ -147,24 +157,23 @@ returns-12 : tie.Need-returns-12
 returns-12 c =
     let a = c .before .before .before .before .before .before in
     let w = c .before in
-    run-skims (now (a .args .source)) (a .args .report) (a .args .skip) (a .args .at) (a .pre .0) (digit w) (λ e. omega (arith, e, w .before .if1 .left)) (c .run-ending .result)
+    run-skims (now (a .args .source)) (a .args .report) (a .args .skip) (a .args .at) (a .args .at + 1) (a .pre .0) (digit w) (λ e. omega (arith, e, w .before .if1 .left)) (c .run-ending .result)
     (c .run-ending .ensures)
 
 returns-13 : tie.Need-returns-13
 returns-13 c =
     let a = c .before .before .before .before .before .before .before .before in
     let w = c .before in
-    word-skims (now (a .args .source)) (a .args .report) (a .args .skip) (a .args .at) (a .pre .0) (letter w) (λ e. omega (arith, e, w .before .if3 .left)) (c .word-ending .result)
+    word-skims (now (a .args .source)) (a .args .report) (a .args .skip) (a .args .at) (a .args .at + 1) (a .pre .0) (letter w) (λ e. omega (arith, e, w .before .if3 .left)) (c .word-ending .result)
     (c .word-ending .ensures (a .args .report))
 
+rare-ending-requires : tie.Need-rare-ending-requires
+rare-ending-requires c κs = search needs
+
 returns-14 : tie.Need-returns-14
-returns-14 c = tt
-
-returns-15 : tie.Need-returns-15
-returns-15 c = tt
-
-returns-16 : tie.Need-returns-16
-returns-16 c = tt
+returns-14 c =
+    let a = c .before .before .before .before .before in
+    worded-skims (now (a .args .source)) (a .args .report) (a .args .skip) (a .args .at) (a .pre .0) (c .rare-ending .result) (c .rare-ending .ensures)
 
 pub skim-at-spec : {M : Type 1} → statement M
 skim-at-spec =
@@ -177,6 +186,7 @@ skim-at-spec =
     skim-hash-requires
     run-ending-requires
     word-ending-requires
+    rare-ending-requires
     returns
     returns-2
     returns-3
@@ -190,6 +200,4 @@ skim-at-spec =
     returns-11
     returns-12
     returns-13
-    returns-14
-    returns-15
-    returns-16)
+    returns-14)

@@ -12,7 +12,7 @@ returns : tie.Need-returns
 returns c = tt
 
 skim-at-requires : tie.Need-skim-at-requires
-skim-at-requires c κs = (c .before .before .before .pre, c .if1 .left)
+skim-at-requires c κs = (c .before .before .before .pre .0, c .if1 .left, c .before .before .before .pre .1)
 
 returns-2 : tie.Need-returns-2
 returns-2 c =

@@ -26,14 +26,14 @@ ended c report =
 within : (c : tie.After-known-told) → Spans (now (c .before .before .before .before .before .args .source)) (c .before .before .before .before .before .args .at) (c .before .end .given .0 .0)
 within c =
     let a = c .before .before .before .before .before in
-    spans (now (a .args .source)) false (a .args .at) (c .before .end .given .0 .0) Str (ph.Quoted Double) (a .pre .1)
-    (ends-here (now (a .args .source)) false (a .args .at) (ph.Quoted Double) Str (c .before .end .given .0 .0) (ended c false)) (a .pre .0)
+    spans (now (a .args .source)) false (a .args .at) (a .args .at + 1) (c .before .end .given .0 .0) Str (ph.Quoted Double) (a .pre .1)
+    (ends-here (now (a .args .source)) false (a .args .at) (a .args .at + 1) (ph.Quoted Double) Str (c .before .end .given .0 .0) (a .pre .1) (ended c false)) (a .pre .0)
 
 add-string-ending : tie.Need-add-string-ending
-add-string-ending c = let a = c .before in omega (arith, a .pre .0, begins-inside (now (a .args .source)) (a .args .at) (ph.Quoted Double) (a .pre .1))
+add-string-ending c = let a = c .before in omega (arith, a .pre .0, begins-inside (now (a .args .source)) (a .args .at) (a .args .at + 1) (ph.Quoted Double) (a .pre .1))
 
 string-ending-requires : tie.Need-string-ending-requires
-string-ending-requires c κs = let a = c .before in omega (arith, begins-inside (now (a .args .source)) (a .args .at) (ph.Quoted Double) (a .pre .1))
+string-ending-requires c κs = let a = c .before in (omega (arith, begins-inside (now (a .args .source)) (a .args .at) (a .args .at + 1) (ph.Quoted Double) (a .pre .1)), a .pre .2)
 
 enum-known-end : tie.Need-enum-known-end
 enum-known-end c = search needs
@@ -60,7 +60,7 @@ returns-2 : tie.Need-returns-2
 returns-2 c report skip =
     let k = c .before .before .before in
     let a = k .before .before .before .before .before in
-    string-skims (now (a .args .source)) report skip (a .args .at) (a .pre .0) (a .pre .1) (k .before .end .given .0 .0) (ended k report) (sym (c .before .has-escape .ensures) ∙ c .if1 .left)
+    string-skims (now (a .args .source)) report skip (a .args .at) (a .args .at + 1) (a .pre .0) (a .pre .1) (k .before .end .given .0 .0) (ended k report) (sym (c .before .has-escape .ensures) ∙ c .if1 .left)
 
 returns-3 : tie.Need-returns-3
 returns-3 c report skip = tt

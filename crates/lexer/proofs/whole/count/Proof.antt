@@ -48,7 +48,7 @@ add-n : tie.Need-add-n Inv-loop μ-loop
 add-n c =
     let turn = c .before .before .before .before in
     let entry = turn .before .before in
-    omega (arith, turn .loop .inv .1 .0 .few, turn .loop .inv .1 .1, size-le (now (entry .args .source)) (entry .args .spot), entry .pre)
+    omega (arith, turn .loop .inv .1 .0 .few, turn .loop .inv .1 .1, size-le (now (entry .args .source)) (entry .args .spot), entry .pre .0)
 
 loop-less : tie.Need-loop-less Inv-loop μ-loop
 loop-less c =
@@ -85,7 +85,7 @@ stand-requires c κs = search needs
 next-item-requires : tie.Need-next-item-requires Inv-loop μ-loop
 next-item-requires c κs =
     let turn = c .before .before .before .before in
-    (turn .before .before .pre, subst (λ (x : Spot). turn .loop .free ≤ x .at) (sym (c .stand .ensures)) (turn .loop .inv .1 .0 .behind))
+    (turn .before .before .pre .0, subst (λ (x : Spot). turn .loop .free ≤ x .at) (sym (c .stand .ensures)) (turn .loop .inv .1 .0 .behind))
 
 enum-known-r : tie.Need-enum-known-r Inv-loop μ-loop
 enum-known-r c = search needs
@@ -94,7 +94,7 @@ add-n-2 : tie.Need-add-n-2 Inv-loop μ-loop
 add-n-2 c =
     let turn = c .before .before .before .before .before .before .before .before in
     let entry = turn .before .before in
-    omega (arith, turn .loop .inv .1 .0 .few, turn .loop .inv .1 .1, size-le (now (entry .args .source)) (entry .args .spot), entry .pre)
+    omega (arith, turn .loop .inv .1 .0 .few, turn .loop .inv .1 .1, size-le (now (entry .args .source)) (entry .args .spot), entry .pre .0)
 
 free-after-requires : tie.Need-free-after-requires Inv-loop μ-loop
 free-after-requires c κs = search needs

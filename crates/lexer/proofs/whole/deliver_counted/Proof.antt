@@ -1,5 +1,4 @@
 -- Too few records, too little text memory, or all is written: the cases of the definition, whose counts are those of the counting pass.
-use native.Mathlib.Omega.{arith}
 use denote.Ref.{now}
 use Rattle.lexer.specs.Reading.{allItems}
 use Rattle.lexer.proofs.Delivered.{few-records, little-text, room, delivered}
@@ -25,9 +24,7 @@ returns-2 c =
 write-requires : tie.Need-write-requires
 write-requires c κs =
     let at-count = c .before .before .before .before in
-    let entry = at-count .before .before .before .before in
-    omega (
-      arith,
+    let entry = at-count .before .before .before .before in (
       entry .pre,
       room (allItems (now (entry .args .source)) (entry .args .spot)) (now (entry .args .recs)) (now (entry .args .text))
           (at-count .count .result) (at-count .count .ensures) (c .before .before .before .if1 .left) (c .before .before .if2 .left),

@@ -10,7 +10,7 @@ use Rattle.laws.proofs.Lent.{length-part}
 use Rattle.items.specs.Items.{recordWords, wordsOf}
 use Rattle.items.specs.declared.Record.{Record}
 use Rattle.lexer.specs.Reading.{sizeOf}
-use Rattle.lexer.specs.Writing.{Onward, toldTo}
+use Rattle.lexer.specs.Writing.{toldTo, ToldOn}
 use Rattle.lexer.specs.Glance.{GlanceAt}
 use Rattle.telling.specs.declared.Quick.{Quick}
 use Rattle.telling.specs.declared.Quick.the-variants.{Item, Bracket}
@@ -20,7 +20,7 @@ use Rattle.lexer.proofs.whole.put_told.Statement.{statement}
 use Rattle.lexer.proofs.whole.put_told.Tie as tie
 
 abbrev Inv-loop : tie.InvT-loop
-Inv-loop source p recs₀ free from deep depth₀ w₀ at₀ recs depth w at = (from ≤ w) × Onward source p recs₀ free deep from (toldTo p at from w) recs depth w
+Inv-loop source p recs₀ free from deep depth₀ w₀ at₀ recs depth w at = ToldOn source p recs₀ free deep from at recs depth w
 
 abbrev μ-loop : tie.MeasureT-loop
 μ-loop source p recs₀ free from deep depth₀ w₀ at₀ recs depth w at = sizeOf source (toldTo p at from w)
@@ -79,7 +79,7 @@ loop-holds c =
     )
 
 quick-at-requires : tie.Need-quick-at-requires Inv-loop μ-loop
-quick-at-requires c κs = (c .before .before .before .before .before .pre .0, c .loop-test .taken)
+quick-at-requires c κs = let entry = c .before .before .before .before .before in (entry .pre .0, c .loop-test .taken, entry .pre .2)
 
 enum-known-m : tie.Need-enum-known-m Inv-loop μ-loop
 enum-known-m c = search needs
@@ -217,7 +217,7 @@ same-length c =
     (turn .loop .at) (turn .loop .inv .1)
 
 returns : tie.Need-returns Inv-loop μ-loop
-returns c = c .before .before .before .before .loop .inv .1
+returns c = c .before .before .before .before .loop .inv
 
 same-length-2 : tie.Need-same-length-2 Inv-loop μ-loop
 same-length-2 c =
@@ -227,7 +227,7 @@ same-length-2 c =
     (turn .loop .at) (turn .loop .inv .1)
 
 returns-2 : tie.Need-returns-2 Inv-loop μ-loop
-returns-2 c = c .before .loop .inv .1
+returns-2 c = c .before .loop .inv
 
 pub put-told-spec : {M : Type 1} → statement M
 put-told-spec =

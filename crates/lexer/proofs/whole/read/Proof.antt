@@ -20,7 +20,7 @@ deliver-requires c κs =
     let entry = c .before .before .before .before .before .before .before .before .before in
     let o = read-opened (now (entry .args .source)) (entry .args .mode) (entry .args .skip) (now (entry .args .recs))
     (now (entry .args .text)) (c .before .before .before .position .given .0 .0)
-    (sym (ap openingOf (c .before .before .before .position .given .1)) ∙ c .before .before .before .before .before .«open» .ensures) in (o .0, o .1)
+    (sym (ap openingOf (c .before .before .before .position .given .1)) ∙ c .before .before .before .before .before .«open» .ensures) in (o .0, o .1, o .2)
 
 enum-known-m : tie.Need-enum-known-m
 enum-known-m c = search needs
@@ -43,7 +43,7 @@ returns c =
     let entry = told .before .before .before .before .before .before in
     c .before .before .before .before .deliver .ensures
     ∙ sym (read-opened (now (entry .args .source)) (entry .args .mode) (entry .args .skip) (now (entry .args .recs)) (now (entry .args .text))
-    (told .position .given .0 .0) (sym (ap openingOf (told .position .given .1)) ∙ told .before .before .«open» .ensures) .2)
+    (told .position .given .0 .0) (sym (ap openingOf (told .position .given .1)) ∙ told .before .before .«open» .ensures) .3)
 
 returns-2 : tie.Need-returns-2
 returns-2 c =

@@ -32,19 +32,19 @@ fit c =
     record { rows = entry .pre .1 .0; bytes = entry .pre .1 .1 }
 
 told : (c : tie.After-slice-known3 Inv-loop μ-loop) → Writing (now (c .before .before .before .before .before .before .before .before .args .source)) (c .before .before .before .before .before .before .before .before .args .spot) (now (c .before .before .before .before .before .before .before .before .args .recs)) (now (c .before .before .before .before .before .before .before .before .args .text))
-    (c .before .before .put-told .last .1 .1 .0) (c .before .before .before .before .loop .text) (toldTo (c .before .before .before .before .loop .p) (c .before .before .put-told .result .at) (c .before .before .before .before .loop .w) (c .before .before .put-told .result .words))
-    (c .before .before .before .before .loop .free) (c .before .before .put-told .result .depth) (c .before .before .put-told .result .words)
+    (c .before .before .put-known .last .1 .1 .0) (c .before .before .before .before .loop .text) (toldTo (c .before .before .before .before .loop .p) (c .before .before .put-known .result .at) (c .before .before .before .before .loop .w) (c .before .before .put-known .result .words))
+    (c .before .before .before .before .loop .free) (c .before .before .put-known .result .depth) (c .before .before .put-known .result .words)
 told c =
     let turn = c .before .before .before .before in
     let entry = turn .before .before .before .before in
-    c .before .before .put-told .ensures .on (entry .args .spot) (now (entry .args .recs)) (now (entry .args .text)) (turn .loop .text) (fit c) (turn .loop .inv)
+    c .before .before .put-known .ensures .1 .on (entry .args .spot) (now (entry .args .recs)) (now (entry .args .text)) (turn .loop .text) (fit c) (turn .loop .inv)
 
 stood : (c : tie.After-spot-past Inv-loop μ-loop) → Writing (now (c .before .before .before .before .before .before .before .before .before .before .before .args .source)) (c .before .before .before .before .before .before .before .before .before .before .before .args .spot) (now (c .before .before .before .before .before .before .before .before .before .before .before .args .recs)) (now (c .before .before .before .before .before .before .before .before .before .before .before .args .text))
-    (c .before .before .before .before .before .put-told .last .1 .1 .0) (c .before .before .before .before .before .before .before .loop .text) (c .spot-past .result) (c .before .before .before .before .before .before .before .loop .free) (c .before .before .before .before .before .put-told .result .depth) (c .before .before .before .before .before .put-told .result .words)
+    (c .before .before .before .before .before .put-known .last .1 .1 .0) (c .before .before .before .before .before .before .before .loop .text) (c .spot-past .result) (c .before .before .before .before .before .before .before .loop .free) (c .before .before .before .before .before .put-known .result .depth) (c .before .before .before .before .before .put-known .result .words)
 stood c =
     let turn = c .before .before .before .before .before .before .before in
     let entry = turn .before .before .before .before in
-    let there = c .before .before .before .before .before .put-told in
+    let there = c .before .before .before .before .before .put-known in
     subst (λ (q : Spot). Writing (now (entry .args .source)) (entry .args .spot) (now (entry .args .recs)) (now (entry .args .text))
     (there .last .1 .1 .0) (turn .loop .text) q (turn .loop .free) (there .result .depth) (there .result .words)) (sym (c .spot-past .ensures)) (told (c .before .before .before))
 
@@ -52,14 +52,14 @@ one : (c : tie.After-known-told Inv-loop μ-loop) → One (c .before .r .given .
     ≡ foundOf (c .before .before .before .before .before .before .before .before .before .before .before .loop .free) (nextAt (now (c .before .before .before .before .before .before .before .before .before .before .before .before .before .before .before .args .source)) (c .before .before .before .before .spot-past .result))
 one c = sym (c .before .r .given .1) ∙ c .before .before .before .next-item .ensures
 
-fits : (c : tie.After-known-told Inv-loop μ-loop) → (c .before .before .before .before .before .before .before .before .before .put-told .result .words + recordWords ≤ length (c .before .before .before .before .before .before .before .before .before .put-told .last .1 .1 .0))
+fits : (c : tie.After-known-told Inv-loop μ-loop) → (c .before .before .before .before .before .before .before .before .before .put-known .result .words + recordWords ≤ length (c .before .before .before .before .before .before .before .before .before .put-known .last .1 .1 .0))
     × (c .before .before .before .before .before .before .before .before .before .before .before .loop .free + length (bytesFor (now (c .before .before .before .before .before .before .before .before .before .before .before .before .before .before .before .args .source)) (c .before .r .given .0 .0)) ≤ length (c .before .before .before .before .before .before .before .before .before .before .before .loop .text))
 fits c =
     let entry = c .before .before .before .before .before .before .before .before .before .before .before .before .before .before .before in
     room (now (entry .args .source)) (entry .args .spot) (now (entry .args .recs)) (now (entry .args .text)) (fit (c .before .before .before .before .before .before .before)) (stood (c .before .before .before .before))
     (c .before .r .given .0 .0) (c .before .r .given .0 .1 .0) (one c)
 
-same : (c : tie.After-known-told Inv-loop μ-loop) → length (c .before .before .before .before .before .before .before .before .before .put-told .last .1 .1 .0) ≡ length (now (c .before .before .before .before .before .before .before .before .before .before .before .before .before .before .before .args .recs))
+same : (c : tie.After-known-told Inv-loop μ-loop) → length (c .before .before .before .before .before .before .before .before .before .put-known .last .1 .1 .0) ≡ length (now (c .before .before .before .before .before .before .before .before .before .before .before .before .before .before .before .args .recs))
 same c =
     let entry = c .before .before .before .before .before .before .before .before .before .before .before .before .before .before .before in
     recs-length (now (entry .args .source)) (entry .args .spot) (now (entry .args .recs)) (now (entry .args .text)) (fit (c .before .before .before .before .before .before .before)) (stood (c .before .before .before .before))
@@ -70,10 +70,10 @@ loop-holds c =
     writing (now (entry .args .source))
     (entry .args .spot) (now (entry .args .recs)) (now (entry .args .text)) (record { rows = entry .pre .1 .0; bytes = entry .pre .1 .1 })
 
-put-told-requires : tie.Need-put-told-requires Inv-loop μ-loop
-put-told-requires c κs =
+put-known-requires : tie.Need-put-known-requires Inv-loop μ-loop
+put-known-requires c κs =
     let entry = c .before .before .before .before .before in (
-      entry .pre .0,
+      entry .pre .0 .0,
       record {
         start = entry .args .spot;
         recs₀ = now (entry .args .recs);
@@ -82,6 +82,7 @@ put-told-requires c κs =
         roomy = record { rows = entry .pre .1 .0; bytes = entry .pre .1 .1 };
         writing = c .before .loop .inv;
       },
+      entry .pre .0 .1,
     )
 
 taken-requires : tie.Need-taken-requires Inv-loop μ-loop
@@ -101,7 +102,7 @@ returns : tie.Need-returns Inv-loop μ-loop
 returns c =
     let turn = c .before .before .before .before .before .before .before in
     let entry = turn .before .before .before .before in
-    let there = c .before .before .before .before .before .put-told .result in
+    let there = c .before .before .before .before .before .put-known .result in
     let e = past-end (now (entry .args .source)) (toldTo (turn .loop .p) (there .at) (turn .loop .w) (there .words)) (turn .loop .free) (c .before .if1 .taken) in (
       c .taken .ensures
           ∙ written-all (now (entry .args .source)) (entry .args .spot) (now (entry .args .recs)) (now (entry .args .text)) (fit (c .before .before .before)) (told (c .before .before .before)) _ refl e,
@@ -112,7 +113,7 @@ spot-past-requires : tie.Need-spot-past-requires Inv-loop μ-loop
 spot-past-requires c κs = search needs
 
 next-item-requires : tie.Need-next-item-requires Inv-loop μ-loop
-next-item-requires c κs = (c .before .before .before .before .before .before .before .before .before .before .before .pre .0, stood c .going .behind)
+next-item-requires c κs = (c .before .before .before .before .before .before .before .before .before .before .before .pre .0 .0, stood c .going .behind)
 
 enum-known-r : tie.Need-enum-known-r Inv-loop μ-loop
 enum-known-r c = search needs
@@ -130,7 +131,7 @@ part-put-end : tie.Need-part-put-end Inv-loop μ-loop
 part-put-end c = omega arith
 
 put-requires : tie.Need-put-requires Inv-loop μ-loop
-put-requires c κs = let t = c .before .before .before .before .before .before .before .before .before .before .put-told in omega (arith, fits (c .before), length-part (t .last .1 .1 .0) (t .result .words))
+put-requires c κs = let t = c .before .before .before .before .before .before .before .before .before .before .put-known in omega (arith, fits (c .before), length-part (t .last .1 .1 .0) (t .result .words))
 
 sub-put-text : tie.Need-sub-put-text Inv-loop μ-loop
 sub-put-text c = omega (arith, fits (c .before .before .before .before))
@@ -170,7 +171,7 @@ loop-less c =
       arith,
       has-moved (now (entry .args .source)) (entry .args .spot) (now (entry .args .recs)) (now (entry .args .text)) (fit (item .before .before .before .before .before .before .before)) (stood (item .before .before .before .before))
           (item .before .r .given .0 .0) (item .before .r .given .0 .1 .0) (one item) .smaller,
-      item .before .before .before .before .before .before .before .before .before .put-told .ensures .ahead,
+      item .before .before .before .before .before .before .before .before .before .put-known .ensures .1 .ahead,
       ap (sizeOf (now (entry .args .source))) (item .before .before .before .before .spot-past .ensures),
     )
 
@@ -215,7 +216,7 @@ write-spec =
     Inv-loop
     μ-loop
     loop-holds
-    put-told-requires
+    put-known-requires
     taken-requires
     same-length
     same-length-2

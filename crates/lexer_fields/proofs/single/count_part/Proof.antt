@@ -19,7 +19,10 @@ start-requires : tie.Need-start-requires
 start-requires c κs = search needs
 
 count-requires : tie.Need-count-requires
-count-requires c κs = search needs
+count-requires c κs =
+    let asked = c .before .before .before in
+    let entry = asked .before .before in
+    (entry .pre .0, sym (sym (c .before .enum-told .given .1) ∙ asked .seen .ensures))
 
 read-well-requires : tie.Need-read-well-requires
 read-well-requires c κs = search needs

@@ -29,7 +29,7 @@ write-requires c κs =
     let good : Good ≡ firstBad (now (entry .args .part)) = sym (placed .before .enum-told .given .1) ∙ asked .seen .ensures in
     let opens =
     opens-at (now (entry .args .part)) (entry .args .mode) (entry .args .skip) (stood .spot-at .result) (placed .first-place .result) (stood .spot-at .ensures) (placed .first-place .ensures) in (
-      entry .pre .0 .0,
+      (entry .pre .0 .0, sym good),
       good-room (now (entry .args .part)) (entry .args .mode) (entry .args .skip) good (stood .spot-at .result) opens
           (now (entry .args .recs)) (now (entry .args .text)) (entry .pre .1 .0) (entry .pre .1 .1),
     )

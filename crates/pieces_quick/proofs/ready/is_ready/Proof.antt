@@ -3,6 +3,7 @@ use borrow.Author.Needs.{needs}
 use native.Mathlib.Omega.{arith}
 use borrow.Author.Tests.{not-false}
 use Rattle.laws.proofs.Choice.{no-yes}
+use Rattle.pieces_quick.proofs.Knows.{idle-stands}
 use Rattle.pieces_quick.proofs.ready.is_ready.Statement.{statement}
 use Rattle.pieces_quick.proofs.ready.is_ready.Tie as tie
 
@@ -24,12 +25,12 @@ is-within-requires c κs = search needs
 returns-4 : tie.Need-returns-4
 returns-4 c = no-yes
 
-is-idle-requires : tie.Need-is-idle-requires
-is-idle-requires c κs = search needs
+is-unheld-requires : tie.Need-is-unheld-requires
+is-unheld-requires c κs = search needs
 
 returns-5 : tie.Need-returns-5
 returns-5 c = λ e.
-    let stands = c .is-idle .ensures e (c .before .if5 .taken) in
+    let stands = idle-stands _ (c .is-unheld .ensures e) (c .before .if5 .taken) in
     let within = c .before .before .before .before .is-within .ensures (not-false _ (c .before .before .before .if4 .left)) in
     let quiet = c .before .before .before .before .before .before .before .before .before .before .is-quiet .ensures (not-false _ (c .before .before .before .before .before .before .before .before .before .if1 .left)) in
     record {
@@ -88,7 +89,7 @@ is-ready-spec =
     returns-3
     is-within-requires
     returns-4
-    is-idle-requires
+    is-unheld-requires
     returns-5
     is-item-requires
     returns-6)

@@ -1,43 +1,16 @@
--- A body ends with a line if it is no shorter and its last bytes are the line's.
-use mathlib.Core.Path.{sym}
+-- The line's bytes without carriage returns are counted first.
 use borrow.Author.Needs.{needs}
-use Rattle.steps.proofs.Delimiter.{ends-short, ends-on}
 use Rattle.steps.proofs.here.ends_with_line.Statement.{statement}
 use Rattle.steps.proofs.here.ends_with_line.Tie as tie
 
 unreturned-length-requires : tie.Need-unreturned-length-requires
 unreturned-length-requires c κs = search needs
 
+ends-with-requires : tie.Need-ends-with-requires
+ends-with-requires c κs = search needs
+
 returns : tie.Need-returns
-returns c = sym (ends-short _ _ _ (c .before .unreturned-length .ensures) (c .if1 .taken))
-
-sub-begins-with-line : tie.Need-sub-begins-with-line
-sub-begins-with-line c = search needs
-
-sub-begins-with-line-2 : tie.Need-sub-begins-with-line-2
-sub-begins-with-line-2 c = search needs
-
-part-begins-with-line-start : tie.Need-part-begins-with-line-start
-part-begins-with-line-start c = search needs
-
-part-begins-with-line-end : tie.Need-part-begins-with-line-end
-part-begins-with-line-end c = search needs
-
-begins-with-line-requires : tie.Need-begins-with-line-requires
-begins-with-line-requires c κs = search needs
-
-returns-2 : tie.Need-returns-2
-returns-2 c = ends-on _ _ _ (c .before .before .before .unreturned-length .ensures) (c .before .before .if1 .left) (c .begins-with-line .ensures)
+returns c = search needs
 
 pub ends-with-line-spec : {M : Type 1} → statement M
-ends-with-line-spec =
-    tie.close
-    (tie.spec
-    unreturned-length-requires
-    returns
-    sub-begins-with-line
-    sub-begins-with-line-2
-    part-begins-with-line-start
-    part-begins-with-line-end
-    begins-with-line-requires
-    returns-2)
+ends-with-line-spec = tie.close (tie.spec unreturned-length-requires ends-with-requires returns)

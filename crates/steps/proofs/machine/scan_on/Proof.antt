@@ -87,7 +87,7 @@ loop-again c =
       k .inside,
       omega (arith, k .on, turn .loop .inv .1, run .ensures .0),
       turn-deep s (entry .args .report) (entry .args .start) (turn .loop .phase) at code next k _ (omega (arith, turn .loop .inv .2, run .ensures .0)) e,
-      turn .loop .inv .3 ∙ run .ensures .2 (entry .args .report) (entry .args .start) (turn .loop .inv .1) ∙ turn-eat s
+      turn .loop .inv .3 ∙ run .ensures .2 (entry .args .report) ∙ turn-eat s
           (entry .args .report) (entry .args .start) (turn .loop .phase) at code next k _ (omega (arith, turn .loop .inv .1, run .ensures .0)) e,
     )
 
@@ -106,7 +106,7 @@ returns c =
     let next = read .code .given .0 .1 .0 in
     let k = char-at s at code next (sym (read .code .given .1) ∙ read .before .before .decode-at .ensures) (run .ensures .1) in
     let e = sym (c .before .before .before .step .ensures) ∙ c .before .what .given .1 in
-    sym (turn .loop .inv .3 ∙ run .ensures .2 (entry .args .report) (entry .args .start) (turn .loop .inv .1)
+    sym (turn .loop .inv .3 ∙ run .ensures .2 (entry .args .report)
     ∙ turn-stop s (entry .args .report) (entry .args .start) (turn .loop .phase) at code next k _ e)
 
 enum-told : tie.Need-enum-told Inv-loop μ-loop
@@ -123,7 +123,7 @@ returns-2 c =
     let s = now (entry .args .s) in
     let at = run .result in
     let none = none-bad s at (sym (c .before .enum-told .given .1) ∙ c .before .before .before .decode-at .ensures) in
-    c .scan-end .ensures ∙ sym (turn .loop .inv .3 ∙ run .ensures .2 (entry .args .report) (entry .args .start) (turn .loop .inv .1)
+    c .scan-end .ensures ∙ sym (turn .loop .inv .3 ∙ run .ensures .2 (entry .args .report)
     ∙ turn-last s (entry .args .report) (entry .args .start) (turn .loop .phase) at none)
 
 enum-told-2 : tie.Need-enum-told-2 Inv-loop μ-loop
@@ -140,7 +140,7 @@ returns-3 c =
     let s = now (entry .args .s) in
     let at = run .result in
     let none = none-cut s at (sym (c .before .enum-told2 .given .1) ∙ c .before .before .before .decode-at .ensures) in
-    c .scan-end2 .ensures ∙ sym (turn .loop .inv .3 ∙ run .ensures .2 (entry .args .report) (entry .args .start) (turn .loop .inv .1)
+    c .scan-end2 .ensures ∙ sym (turn .loop .inv .3 ∙ run .ensures .2 (entry .args .report)
     ∙ turn-last s (entry .args .report) (entry .args .start) (turn .loop .phase) at none)
 
 enum-told-3 : tie.Need-enum-told-3 Inv-loop μ-loop
@@ -157,7 +157,7 @@ returns-4 c =
     let s = now (entry .args .s) in
     let at = run .result in
     let none = none-end s at (sym (c .before .enum-told3 .given .1) ∙ c .before .before .before .decode-at .ensures) in
-    c .scan-end3 .ensures ∙ sym (turn .loop .inv .3 ∙ run .ensures .2 (entry .args .report) (entry .args .start) (turn .loop .inv .1)
+    c .scan-end3 .ensures ∙ sym (turn .loop .inv .3 ∙ run .ensures .2 (entry .args .report)
     ∙ turn-last s (entry .args .report) (entry .args .start) (turn .loop .phase) at none)
 
 scan-end-requires-4 : tie.Need-scan-end-requires-4 Inv-loop μ-loop

@@ -1,90 +1,47 @@
--- Both loops keep: the run from place i on ends where the run from the first place on does.
+-- The loop keeps: the run from place i on ends where the run from the first place on does, and any block before i is plain.
 use borrow.Author.Needs.{needs}
+use borrow.Author.Tests.{leb-true}
 use native.Mathlib.Omega.{arith}
-use Prim.Native.Nat.{_+_, _-_, _≤_}
+use Prim.Native.Nat.{_+_, _-_, _≤_, _<_}
 use mathlib.Core.Path.{_≡_, refl, sym, _∙_}
 use denote.Ref.{now}
 use lib.ListN.{length, drop}
 use Rattle.laws.specs.Texts.{span}
-use Rattle.laws.proofs.Runs.{span-hit, span-stop, span-end}
-use Rattle.laws.proofs.Blocks.{block-room, block-on}
+use Rattle.laws.proofs.Blocks.{block-on}
 use Rattle.texts.specs.Runs.{plain, block}
+use Rattle.texts.proofs.Blocks.{run-before}
 use Rattle.texts.proofs.runs.plain_end.Statement.{statement}
 use Rattle.texts.proofs.runs.plain_end.Tie as tie
 
 abbrev Inv-loop : tie.InvT-loop
-Inv-loop t from a b i₀ i = i + span (plain a b) (drop i t) ≡ from + span (plain a b) (drop from t)
+Inv-loop t from a b i₀ i = (i + span (plain a b) (drop i t) ≡ from + span (plain a b) (drop from t)) × (from ≤ i) × (from < i → from + block ≤ i)
 
 abbrev μ-loop : tie.MeasureT-loop
 μ-loop t from a b i₀ i = length t - i
 
-abbrev Inv-loop2 : tie.InvT-loop2
-Inv-loop2 t from a b i₀ i = i + span (plain a b) (drop i t) ≡ from + span (plain a b) (drop from t)
-
-abbrev μ-loop2 : tie.MeasureT-loop2
-μ-loop2 t from a b i₀ i = length t - i
-
--- a block that passed its test is within the text
-room : (c : tie.Then1 Inv-loop μ-loop Inv-loop2 μ-loop2) → c .before .before .loop .i + block ≤ length (now (c .before .before .before .before .args .t))
+-- a block that has room is within the text
+room : (c : tie.Then1 Inv-loop μ-loop) → c .before .before .loop .i + block ≤ length (now (c .before .before .before .before .args .t))
 room c =
     let entry = c .before .before .before .before in
-    block-room (plain (entry .args .a) (entry .args .b))
-    (now (entry .args .t)) (c .before .before .loop .i) block (c .before .plain-block .ensures) (c .if1 .taken) (omega arith)
+    leb-true (c .before .before .loop .i + block) (length (now (entry .args .t))) (sym (c .before .has-block .ensures) ∙ c .if1 .taken)
 
-loop-holds : tie.Need-loop-holds Inv-loop μ-loop Inv-loop2 μ-loop2
-loop-holds c = refl
-
-plain-block-requires : tie.Need-plain-block-requires Inv-loop μ-loop Inv-loop2 μ-loop2
-plain-block-requires c κs = search needs
-
-add-i : tie.Need-add-i Inv-loop μ-loop Inv-loop2 μ-loop2
-add-i c = omega (arith, room c)
-
-loop-less : tie.Need-loop-less Inv-loop μ-loop Inv-loop2 μ-loop2
-loop-less c = omega (arith, room c)
-
-loop-again : tie.Need-loop-again Inv-loop μ-loop Inv-loop2 μ-loop2
+loop-again : tie.Need-loop-again Inv-loop μ-loop
 loop-again c =
-    let entry = c .before .before .before .before in
-    block-on (plain (entry .args .a) (entry .args .b))
-    (now (entry .args .t)) (c .before .before .loop .i) block (c .before .plain-block .ensures) (c .if1 .taken)
-    ∙ c .before .before .loop .inv
+    let a = c .before .before .before .before .before .before .args in
+    let l = c .before .before .before .before .loop in (
+      block-on (plain (a .a) (a .b)) (now (a .t)) (l .i) block (c .before .all-plain .ensures) (c .if2 .taken) ∙ l .inv .0,
+      omega arith,
+      λ h. omega arith,
+    )
 
-loop2-holds : tie.Need-loop2-holds Inv-loop μ-loop Inv-loop2 μ-loop2
-loop2-holds c = c .before .before .loop .inv
-
-shared-slice-read-is-plain : tie.Need-shared-slice-read-is-plain Inv-loop μ-loop Inv-loop2 μ-loop2
-shared-slice-read-is-plain c = omega arith
-
-is-plain-requires : tie.Need-is-plain-requires Inv-loop μ-loop Inv-loop2 μ-loop2
-is-plain-requires c κs = search needs
-
-add-i-2 : tie.Need-add-i-2 Inv-loop μ-loop Inv-loop2 μ-loop2
-add-i-2 c = omega arith
-
-loop2-less : tie.Need-loop2-less Inv-loop μ-loop Inv-loop2 μ-loop2
-loop2-less c = omega arith
-
-loop2-again : tie.Need-loop2-again Inv-loop μ-loop Inv-loop2 μ-loop2
-loop2-again c =
-    let entry = c .before .before .before .before .before .before .before .before .before in
-    let l = c .before .before .before .before in
-    sym (span-hit (plain (entry .args .a) (entry .args .b)) (now (l .before .before .before .before .before .args .t))
-    (l .loop2 .i) (c .before .before .before .loop2-test .taken) (sym (c .before .is-plain .ensures) ∙ c .if2 .taken)) ∙ l .loop2 .inv
-
-returns : tie.Need-returns Inv-loop μ-loop Inv-loop2 μ-loop2
-returns c =
-    let entry = c .before .before .before .before .before .before .before .before .before in
-    let l = c .before .before .before .before in
-    sym (span-stop (plain (entry .args .a) (entry .args .b)) (now (l .before .before .before .before .before .args .t))
-    (l .loop2 .i) (c .before .before .before .loop2-test .taken) (sym (c .before .is-plain .ensures) ∙ c .if2 .left)) ∙ l .loop2 .inv
-
-returns-2 : tie.Need-returns-2 Inv-loop μ-loop Inv-loop2 μ-loop2
-returns-2 c =
-    let entry = c .before .before .before .before .before .before in
-    let l = c .before in
-    sym (span-end (plain (entry .args .a) (entry .args .b))
-    (now (l .before .before .before .before .before .args .t)) (l .loop2 .i) (c .loop2-test .left)) ∙ l .loop2 .inv
+plain-rest-requires : tie.Need-plain-rest-requires Inv-loop μ-loop
+plain-rest-requires c κs =
+    let a = c .before .before .before .before .before .before .before .args in
+    let l = c .before .before .before .before .before .loop in
+    let far = l .inv .2 (c .if3 .taken) in (
+      room (c .before .before .before),
+      (omega arith, run-before (plain (a .a) (a .b)) (now (a .t)) (a .from) (l .i) block far (omega arith)),
+    )
 
 pub plain-end-spec : {M : Type 1} → statement M
 plain-end-spec =
@@ -92,18 +49,15 @@ plain-end-spec =
     (tie.spec
     Inv-loop
     μ-loop
-    Inv-loop2
-    μ-loop2
-    loop-holds
-    plain-block-requires
-    add-i
-    loop-less
+    (λ c. (refl, omega arith, λ h. omega arith))
+    (λ c κs. search needs)
+    (λ c κs. room c)
+    (λ c. omega (arith, room (c .before .before)))
+    (λ c. omega (arith, room (c .before .before)))
     loop-again
-    loop2-holds
-    shared-slice-read-is-plain
-    is-plain-requires
-    add-i-2
-    loop2-less
-    loop2-again
-    returns
-    returns-2)
+    plain-rest-requires
+    (λ c. c .plain-rest .ensures ∙ c .before .before .before .before .before .before .loop .inv .0)
+    (λ c κs. search needs)
+    (λ c. c .plain-bytes .ensures ∙ c .before .before .before .before .before .before .loop .inv .0)
+    (λ c κs. search needs)
+    (λ c. c .plain-bytes2 .ensures ∙ c .before .before .before .loop .inv .0))

@@ -1,4 +1,4 @@
--- In an item the run is copied behind what is held, between items it is only counted; no other stage has one.
+-- In an item the run is copied behind what is held, between items and in a first line it is only counted; no other stage has one.
 use borrow.Author.Needs.{needs}
 use native.Mathlib.Omega.{arith}
 use mathlib.Core.Path.{_≡_, ap, _∙_}
@@ -29,14 +29,20 @@ enum-told-2 c = search needs
 enum-told-3 : tie.Need-enum-told-3
 enum-told-3 c = search needs
 
-enum-told-4 : tie.Need-enum-told-4
-enum-told-4 c = search needs
-
 add-marks-at : tie.Need-add-marks-at
 add-marks-at c = search needs
 
 marks-at-requires : tie.Need-marks-at-requires
 marks-at-requires c κs = search needs
+
+enum-told-4 : tie.Need-enum-told-4
+enum-told-4 c = search needs
+
+add-marks-at-2 : tie.Need-add-marks-at-2
+add-marks-at-2 c = search needs
+
+marks-at-requires-2 : tie.Need-marks-at-requires-2
+marks-at-requires-2 c κs = search needs
 
 enum-known-stage : tie.Need-enum-known-stage
 enum-known-stage c = search needs
@@ -53,14 +59,14 @@ part-copy-all-end c = search needs
 copy-all-requires : tie.Need-copy-all-requires
 copy-all-requires c κs = search needs
 
-add-marks-at-2 : tie.Need-add-marks-at-2
-add-marks-at-2 c = search needs
-
 add-marks-at-3 : tie.Need-add-marks-at-3
 add-marks-at-3 c = search needs
 
-marks-at-requires-2 : tie.Need-marks-at-requires-2
-marks-at-requires-2 c κs = search needs
+add-marks-at-4 : tie.Need-add-marks-at-4
+add-marks-at-4 c = search needs
+
+marks-at-requires-3 : tie.Need-marks-at-requires-3
+marks-at-requires-3 c κs = search needs
 
 enum-known-stage-2 : tie.Need-enum-known-stage-2
 enum-known-stage-2 c = search needs
@@ -80,13 +86,14 @@ returns-3 c =
 
 returns-4 : tie.Need-returns-4
 returns-4 c =
-    let entry = c .before .before .before .before .before in
-    passed-some (stateOf (entry .args .m) (now (entry .args .buf))) (now (entry .args .run)) (omega arith) _ (c .enum-told3 .given .1)
+    let entry = c .before .before .before .before .before .before .before in
+    ap (λ (x : Marks). stateOf x (now (entry .args .buf))) (c .marks-at .ensures)
+    ∙ passed-some (stateOf (entry .args .m) (now (entry .args .buf))) (now (entry .args .run)) (omega arith) _ (c .before .before .enum-told3 .given .1)
 
 returns-5 : tie.Need-returns-5
 returns-5 c =
     let entry = c .before .before .before .before .before .before .before in
-    ap (λ (x : Marks). stateOf x (now (entry .args .buf))) (c .marks-at .ensures)
+    ap (λ (x : Marks). stateOf x (now (entry .args .buf))) (c .marks-at2 .ensures)
     ∙ passed-some (stateOf (entry .args .m) (now (entry .args .buf))) (now (entry .args .run)) (omega arith) _ (c .before .before .enum-told4 .given .1)
 
 same-length : tie.Need-same-length
@@ -95,7 +102,7 @@ same-length c = search needs
 returns-6 : tie.Need-returns-6
 returns-6 c =
     let f = c .before .before .before .before .before .before .before .before .before .before .before .before .args in
-    state-both (c .marks-at2 .ensures) (part-laid (f .m .len) (now (f .run)) (now (f .buf)) (c .before .before .before .before .copy-all .ensures))
+    state-both (c .marks-at3 .ensures) (part-laid (f .m .len) (now (f .run)) (now (f .buf)) (c .before .before .before .before .copy-all .ensures))
     ∙ passed-some (stateOf (f .m) (now (f .buf))) (now (f .run)) (omega arith) _ (c .before .before .before .before .before .before .before .stage .given .1)
 
 returns-7 : tie.Need-returns-7
@@ -116,17 +123,19 @@ pass-spec =
     enum-told
     enum-told-2
     enum-told-3
-    enum-told-4
     add-marks-at
     marks-at-requires
+    enum-told-4
+    add-marks-at-2
+    marks-at-requires-2
     enum-known-stage
     sub-copy-all
     part-copy-all-start
     part-copy-all-end
     copy-all-requires
-    add-marks-at-2
     add-marks-at-3
-    marks-at-requires-2
+    add-marks-at-4
+    marks-at-requires-3
     enum-known-stage-2
     enum-known-stage-3
     returns-2

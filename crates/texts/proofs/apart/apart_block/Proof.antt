@@ -10,13 +10,13 @@ use lib.Dec.{leb}
 use lib.ListN.{drop}
 use Rattle.laws.specs.Texts.{span}
 use Rattle.laws.proofs.Blocks.{block-next}
-use Rattle.texts.specs.Runs.{plain, block}
+use Rattle.texts.specs.Runs.{apart, block}
 use Rattle.texts.proofs.Blocks.{room, no-room}
-use Rattle.texts.proofs.runs.plain_block.Statement.{statement}
-use Rattle.texts.proofs.runs.plain_block.Tie as tie
+use Rattle.texts.proofs.apart.apart_block.Statement.{statement}
+use Rattle.texts.proofs.apart.apart_block.Tie as tie
 
 abbrev Inv-loop : tie.InvT-loop
-Inv-loop t at a b all₀ j₀ all j = (j ≤ block) × (all ≡ leb j (span (plain a b) (drop at t)))
+Inv-loop t at a b all₀ j₀ all j = (j ≤ block) × (all ≡ leb j (span (apart a b) (drop at t)))
 
 abbrev μ-loop : tie.MeasureT-loop
 μ-loop t at a b all₀ j₀ all j = block - j
@@ -25,28 +25,28 @@ has-block-requires : tie.Need-has-block-requires Inv-loop μ-loop
 has-block-requires c κs = search needs
 
 returns : tie.Need-returns Inv-loop μ-loop
-returns c = let a = c .before .before .before .args in no-room (now (a .t)) (a .at) (c .before .has-block .ensures) (plain (a .a) (a .b)) (c .if1 .taken)
+returns c = let a = c .before .before .before .args in no-room (now (a .t)) (a .at) (c .before .has-block .ensures) (apart (a .a) (a .b)) (c .if1 .taken)
 
 loop-holds : tie.Need-loop-holds Inv-loop μ-loop
 loop-holds c =
     let a = c .before .before .before .args in
-    (omega arith, sym (le-leb 0 (span (plain (a .a) (a .b)) (drop (a .at) (now (a .t)))) (omega arith)))
+    (omega arith, sym (le-leb 0 (span (apart (a .a) (a .b)) (drop (a .at) (now (a .t)))) (omega arith)))
 
-add-is-plain : tie.Need-add-is-plain Inv-loop μ-loop
-add-is-plain c =
+add-is-apart : tie.Need-add-is-apart Inv-loop μ-loop
+add-is-apart c =
     let entry = c .before .before .before .before .before in
     omega (arith, room (now (entry .args .t)) (entry .args .at) (c .before .before .before .has-block .ensures) (c .before .before .if1 .left))
 
-shared-slice-read-is-plain : tie.Need-shared-slice-read-is-plain Inv-loop μ-loop
-shared-slice-read-is-plain c =
+shared-slice-read-is-apart : tie.Need-shared-slice-read-is-apart Inv-loop μ-loop
+shared-slice-read-is-apart c =
     let entry = c .before .before .before .before .before .before in
     omega (
       arith,
       room (now (entry .args .t)) (entry .args .at) (c .before .before .before .before .has-block .ensures) (c .before .before .before .if1 .left),
     )
 
-is-plain-requires : tie.Need-is-plain-requires Inv-loop μ-loop
-is-plain-requires c κs = search needs
+is-apart-requires : tie.Need-is-apart-requires Inv-loop μ-loop
+is-apart-requires c κs = search needs
 
 both-requires : tie.Need-both-requires Inv-loop μ-loop
 both-requires c κs = search needs
@@ -63,8 +63,8 @@ loop-again c =
     let a = c .before .before .before .before .before .before .before .before .args in
     let l = c .before .before .before .before .loop in (
       omega arith,
-      c .both .ensures ∙ ap (λ (x : Bool). l .all && x) (c .before .is-plain .ensures)
-          ∙ block-next (plain (a .a) (a .b)) (now (a .t)) (a .at) (l .j) (l .all) (omega (
+      c .both .ensures ∙ ap (λ (x : Bool). l .all && x) (c .before .is-apart .ensures)
+          ∙ block-next (apart (a .a) (a .b)) (now (a .t)) (a .at) (l .j) (l .all) (omega (
             arith,
             room (now (entry .args .t)) (entry .args .at)
                 (c .before .before .before .before .before .before .has-block .ensures) (c .before .before .before .before .before .if1 .left),
@@ -76,10 +76,10 @@ returns-2 c =
     let a = c .before .before .before .before .before .args in
     let l = c .before .loop in
     let e : l .j ≡ block = omega arith in
-    l .inv .1 ∙ ap (λ (j : ℕ). leb j (span (plain (a .a) (a .b)) (drop (a .at) (now (a .t))))) e
+    l .inv .1 ∙ ap (λ (j : ℕ). leb j (span (apart (a .a) (a .b)) (drop (a .at) (now (a .t))))) e
 
-pub plain-block-spec : {M : Type 1} → statement M
-plain-block-spec =
+pub apart-block-spec : {M : Type 1} → statement M
+apart-block-spec =
     tie.close
     (tie.spec
     Inv-loop
@@ -87,9 +87,9 @@ plain-block-spec =
     has-block-requires
     returns
     loop-holds
-    add-is-plain
-    shared-slice-read-is-plain
-    is-plain-requires
+    add-is-apart
+    shared-slice-read-is-apart
+    is-apart-requires
     both-requires
     add-j
     loop-less

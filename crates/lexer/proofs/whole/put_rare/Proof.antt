@@ -1,0 +1,167 @@
+-- As in `put_told`: each turn writes the record of the word that one look told, and any writing that stood at the spot goes on past it
+-- (Quickly). A word leaves the depth as it is.
+use mathlib.Core.Path.{_≡_, refl, sym, ap, _∙_, subst}
+use Prim.Native.Nat.{ℕ, _+_, _-_, _≤_}
+use native.Mathlib.Omega.{arith}
+use lib.ListN.{length, take, drop}
+use denote.Ref.{now}
+use Rattle.laws.specs.Lent.{written}
+use Rattle.laws.proofs.Lent.{length-part}
+use Rattle.items.specs.Items.{recordWords, wordsOf}
+use Rattle.items.specs.declared.Record.{Record}
+use Rattle.lexer.specs.Writing.{Amid, ToldOn}
+use Rattle.lexer.specs.Glance.{GlanceAt}
+use Rattle.lexer.specs.declared.Spot.{Spot}
+use Rattle.telling.specs.declared.Quick.{Quick}
+use Rattle.telling.specs.declared.Quick.the-variants.{Item}
+use Rattle.lexer.proofs.Quickly.{none-told, told-length, told-fits, told-forward, told-room, told-on}
+use borrow.Author.Needs.{needs}
+use Rattle.lexer.proofs.whole.put_rare.Statement.{statement}
+use Rattle.lexer.proofs.whole.put_rare.Tie as tie
+
+abbrev Inv-loop : tie.InvT-loop
+Inv-loop source recs₀ free from deep w₀ at₀ recs w at = (p : Spot) → p .at ≡ at₀ → Amid source p recs₀ free deep from → ToldOn source p recs₀ free deep from at recs deep w
+
+abbrev μ-loop : tie.MeasureT-loop
+μ-loop source recs₀ free from deep w₀ at₀ recs w at = length source - at
+
+item-told : (c : tie.After-known-told Inv-loop μ-loop) (p : Spot) → GlanceAt (now (c .before .before .before .before .before .before .before .before .args .source)) (p .report) (p .skip) (c .before .before .before .before .before .loop .at) (Item (c .before .m .given .0 .0) (c .before .m .given .0 .1 .0) (c .before .m .given .0 .1 .1 .0))
+item-told c p =
+    subst (λ (q : Quick). GlanceAt (now (c .before .before .before .before .before .before .before .before .args .source)) (p .report) (p .skip) (c .before .before .before .before .before .loop .at) q) (c .before .m .given .1) (c .before .before .before .quick-rare .ensures (p .report) (p .skip))
+
+-- what was told up to here, from the spot of the call on
+so-far : (c : tie.After-known-told Inv-loop μ-loop) → ToldOn (now (c .before .before .before .before .before .before .before .before .args .source)) (c .before .before .before .before .before .before .before .before .args .p) (now (c .before .before .before .before .before .before .before .before .args .recs)) (c .before .before .before .before .before .before .before .before .args .free) (c .before .before .before .before .before .before .before .before .args .deep) (c .before .before .before .before .before .before .before .before .args .from)
+    (c .before .before .before .before .before .loop .at) (c .before .before .before .before .before .loop .recs) (c .before .before .before .before .before .before .before .before .args .deep) (c .before .before .before .before .before .loop .w)
+so-far c = c .before .before .before .before .before .loop .inv (c .before .before .before .before .before .before .before .before .args .p) refl (c .before .before .before .before .before .before .before .before .pre .1)
+
+item-room : (c : tie.After-known-told Inv-loop μ-loop) → c .before .before .before .before .before .loop .w + recordWords ≤ length (c .before .before .before .before .before .loop .recs)
+item-room c =
+    let a = c .before .before .before .before .before .before .before .before .args in
+    let t = item-told c (a .p) in
+    told-room (now (a .source)) (a .p) (now (a .recs)) (a .free) (a .deep) (a .from) (c .before .before .before .before .before .before .before .before .pre .1)
+    (c .before .before .before .before .before .loop .at) (so-far c .1) (c .before .m .given .0 .1 .0) (c .before .m .given .0 .1 .1 .0) (c .before .m .given .0 .0) (t .0, t .1, t .2)
+
+item-same : (c : tie.After-known-told Inv-loop μ-loop) → length (c .before .before .before .before .before .loop .recs) ≡ length (now (c .before .before .before .before .before .before .before .before .args .recs))
+item-same c =
+    let a = c .before .before .before .before .before .before .before .before .args in
+    told-length (now (a .source)) (a .p) (now (a .recs)) (a .free) (a .deep) (a .from) (c .before .before .before .before .before .before .before .before .pre .1) (c .before .before .before .before .before .loop .at) (so-far c .1)
+
+loop-holds : tie.Need-loop-holds Inv-loop μ-loop
+loop-holds c p is amid =
+    let a = c .before .before .args in
+    subst (λ (x : ℕ). ToldOn (now (a .source)) p (now (a .recs)) (a .free) (a .deep) (a .from) x (now (a .recs)) (a .deep) (a .from)) is
+    (omega arith, none-told (now (a .source)) p (now (a .recs)) (a .free) (a .deep) (a .from) (p .at) (omega arith, refl))
+
+quick-rare-requires : tie.Need-quick-rare-requires Inv-loop μ-loop
+quick-rare-requires c κs = (c .before .before .before .before .pre .0, c .loop-test .taken)
+
+enum-known-m : tie.Need-enum-known-m Inv-loop μ-loop
+enum-known-m c = search needs
+
+mul-put : tie.Need-mul-put Inv-loop μ-loop
+mul-put c = omega (arith, item-room c, item-same c)
+
+sub-put : tie.Need-sub-put Inv-loop μ-loop
+sub-put c = omega (arith, item-room c)
+
+part-put-start : tie.Need-part-put-start Inv-loop μ-loop
+part-put-start c = omega (arith, item-room c)
+
+part-put-end : tie.Need-part-put-end Inv-loop μ-loop
+part-put-end c = omega arith
+
+record-at-requires : tie.Need-record-at-requires Inv-loop μ-loop
+record-at-requires c κs =
+    let item = c .before .before in
+    let turn = item .before .before .before .before in
+    let entry = turn .before .before .before in
+    let t = item-told (c .before) (entry .args .p) in
+    told-fits (now (entry .args .source)) (entry .args .p) (now (entry .args .recs)) (entry .args .free) (entry .args .deep) (entry .args .from) (entry .pre .1)
+    (turn .loop .at) (so-far (c .before) .1) (item .m .given .0 .1 .0) (item .m .given .0 .1 .1 .0) (item .m .given .0 .0) (t .0, t .1, t .2) (entry .pre .0)
+
+put-requires : tie.Need-put-requires Inv-loop μ-loop
+put-requires c κs = let l = c .before .before .before .before .before .before .before .loop in omega (arith, item-room (c .before .before), length-part (l .recs) (l .w))
+
+add-w : tie.Need-add-w Inv-loop μ-loop
+add-w c =
+    let earlier = c .before .before .before .before .before in
+    let good = c .before .before .before .before .before .before .before .before .before .before .before .before .before .good in
+    omega (arith, item-room earlier, item-same earlier)
+
+past-blanks-requires : tie.Need-past-blanks-requires Inv-loop μ-loop
+past-blanks-requires c κs = search needs
+
+loop-less : tie.Need-loop-less Inv-loop μ-loop
+loop-less c =
+    let item = c .before .before .before .before .before .before .before in
+    let turn = item .before .before .before .before in
+    let entry = turn .before .before .before in
+    let k = c .before .before .before .before .before .before in
+    let t = item-told k (entry .args .p) in
+    omega (
+      arith,
+      told-forward (now (entry .args .source)) (entry .args .p) (now (entry .args .recs)) (entry .args .free) (entry .args .deep) (entry .args .from) (entry .pre .1)
+          (turn .loop .at) (so-far k .1) (item .m .given .0 .1 .0) (item .m .given .0 .1 .1 .0) (item .m .given .0 .0) (t .0, t .1, t .2),
+      c .past-blanks .ensures .0,
+      item .before .before .before .loop-test .taken,
+    )
+
+loop-again : tie.Need-loop-again Inv-loop μ-loop
+loop-again c p is amid =
+    let item = c .before .before .before .before .before .before .before in
+    let turn = item .before .before .before .before in
+    let a = turn .before .before .before .args in
+    let t = item-told (c .before .before .before .before .before .before) p in
+    let so = turn .loop .inv p is amid in (
+      omega (arith, so .0),
+      told-on (now (a .source)) p (now (a .recs)) (a .free) (a .deep) (a .from) amid
+          (turn .loop .at) (so .1) (item .m .given .0 .1 .0) (item .m .given .0 .1 .1 .0) (item .m .given .0 .0) (t .0, t .1, t .2)
+          (c .past-blanks .result) (c .past-blanks .ensures) (so .0) (a .deep) (sym (t .3 (a .deep)))
+          (c .before .before .before .put .ensures
+          ∙ ap (λ (x : Record). written (wordsOf x) (take (length (turn .loop .recs) - turn .loop .w) (drop (turn .loop .w) (turn .loop .recs))))
+          (c .before .before .before .before .record-at .ensures)),
+    )
+
+same-length : tie.Need-same-length Inv-loop μ-loop
+same-length c =
+    let turn = c .before .before .before in
+    let entry = turn .before .before .before in
+    told-length (now (entry .args .source)) (entry .args .p) (now (entry .args .recs)) (entry .args .free) (entry .args .deep) (entry .args .from) (entry .pre .1)
+    (turn .loop .at) (turn .loop .inv (entry .args .p) refl (entry .pre .1) .1)
+
+returns : tie.Need-returns Inv-loop μ-loop
+returns c = let entry = c .before .before .before .before .before .before in c .before .before .before .loop .inv (entry .args .p) refl (entry .pre .1)
+
+same-length-2 : tie.Need-same-length-2 Inv-loop μ-loop
+same-length-2 c =
+    let turn = c .before in
+    let entry = turn .before .before .before in
+    told-length (now (entry .args .source)) (entry .args .p) (now (entry .args .recs)) (entry .args .free) (entry .args .deep) (entry .args .from) (entry .pre .1)
+    (turn .loop .at) (turn .loop .inv (entry .args .p) refl (entry .pre .1) .1)
+
+returns-2 : tie.Need-returns-2 Inv-loop μ-loop
+returns-2 c = let entry = c .before .before .before .before in c .before .loop .inv (entry .args .p) refl (entry .pre .1)
+
+pub put-rare-spec : {M : Type 1} → statement M
+put-rare-spec =
+    tie.close
+    (tie.spec
+    Inv-loop
+    μ-loop
+    loop-holds
+    quick-rare-requires
+    enum-known-m
+    mul-put
+    sub-put
+    part-put-start
+    part-put-end
+    record-at-requires
+    put-requires
+    add-w
+    past-blanks-requires
+    loop-less
+    loop-again
+    same-length
+    returns
+    same-length-2
+    returns-2)

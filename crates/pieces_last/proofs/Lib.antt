@@ -1,0 +1,3 @@
+pub mod Lasts
+pub mod Resting
+pub mod Ending
