@@ -20,7 +20,6 @@ mod reals;
 pub use plainest::is_brief;
 pub use plainest::plain_real;
 pub use plus::plus_number;
-pub use reals::one_decimal;
 
 // What the second reader (crate standard) has in common with this one. Internal.
 pub use complexes::complex;

@@ -1,7 +1,6 @@
 // A real number from a place on: <real R> and the productions below it (specs/Reals).
 use crate::DECIMAL;
 use crate::Exponent;
-use crate::MaybePoint;
 use crate::MaybeReal;
 use crate::Point;
 use crate::Real;
@@ -13,7 +12,7 @@ ghost use Prim.Native.Nat.{_-_, _≤_};
 ghost use lib.Dec.{eqb};
 ghost use lib.ListN.{drop};
 ghost use Rattle.digits.specs.Digits.{digits};
-ghost use Rattle.numbers.specs.Reals.{exponentMarker, exponent, suffix, pointOf, dotted, undotted, decimal, pointIn, oneDecimal, infnan, integralOf, rationalOf, denominator, exact, ureal, real};
+ghost use Rattle.numbers.specs.Reals.{exponentMarker, exponent, suffix, pointOf, dotted, undotted, decimal, infnan, integralOf, rationalOf, denominator, exact, ureal, real};
 
 // Whether a byte marks an exponent.
 pub fn is_marker(c: u8) -> bool
@@ -131,35 +130,6 @@ pub fn decimal_at(t: &[u8], from: usize, neg: bool) -> MaybeReal
     } else {
         undotted(neg, from, end, suffix_at(t, end))
     }
-}
-
-// The decimal that a real is.
-fn point_in(a: MaybeReal) -> MaybePoint
-    ensures { λ r. ⌜ r ≡ pointIn a ⌝ }
-{
-    match a {
-        MaybeReal::AReal(x) => match x {
-            Real::Decimal(d) => MaybePoint::APoint(d),
-            Real::Integer(_) => MaybePoint::NoPoint,
-            Real::Rational(_, _) => MaybePoint::NoPoint,
-            Real::PosInf => MaybePoint::NoPoint,
-            Real::NegInf => MaybePoint::NoPoint,
-            Real::PosNan => MaybePoint::NoPoint,
-            Real::NegNan => MaybePoint::NoPoint,
-            Real::ImpliedZero => MaybePoint::NoPoint,
-            Real::ImpliedOne(_) => MaybePoint::NoPoint,
-        },
-        MaybeReal::NoReal => MaybePoint::NoPoint,
-    }
-}
-
-// A text that is one decimal, with or without a sign: its digit places. Internal: for a text that is known to be short enough.
-pub fn one_decimal(t: &[u8]) -> MaybePoint
-    ensures { λ r. ⌜ r ≡ oneDecimal (now (t .entry)) ⌝ }
-{
-    let neg = texts::starts_at(t, 0, b'-');
-    let from = digits::sign_end(t, 0);
-    point_in(decimal_at(t, from, neg))
 }
 
 // One of the four texts of an infinity or of no number.
