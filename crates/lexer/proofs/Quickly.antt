@@ -5,7 +5,7 @@ use Rattle.laws.specs.Lent.{written}
 use Rattle.laws.proofs.Choice.{by-bool}
 use Rattle.chars.specs.Utf8.{chars}
 use Rattle.items.specs.Kinds as kind
-use Rattle.items.specs.Items.{range, depthAfter, recordWords, wordsOf}
+use Rattle.items.specs.Items.{Item, range, depthAfter, recordWords, wordsOf}
 use Rattle.items.specs.Whole.{limit}
 use Rattle.items.specs.declared.Nine.{Nine}
 use Rattle.meaning.specs.declared.Means.{Means}
@@ -14,12 +14,13 @@ use Rattle.meaning.specs.Places.{placeIn, rangeOf}
 use Rattle.meaning.specs.Records.{nineFor, TextFits}
 use Rattle.lexer.specs.Reading.{moved, nextAt, sizeOf, startFrom, foundOf}
 use Rattle.lexer.specs.Inner.{deepAt}
-use Rattle.lexer.specs.Writing.{Writing, Roomy, Amid, Onward, toldTo, ToldOn}
+use Rattle.lexer.specs.Writing.{Going, Writing, Roomy, Amid, Onward, toldTo, ToldOn}
 use Rattle.lexer.specs.Glance.{Glanced}
 use Rattle.lexer.specs.declared.Spot.{Spot}
 use Rattle.lexer.specs.declared.Found.the-variants.{One}
 use Rattle.lexer.proofs.Turns.{turn-past}
 use Rattle.lexer.proofs.Nexts.{next-same}
+use Rattle.lexer.proofs.Going.{going-past}
 use Rattle.lexer.proofs.Glances.{glance-inside, glance-fits, next-told, place-fine, bare-nine}
 use Rattle.lexer.proofs.Writing.{recs-length, words-fit, room, has-moved, writing-bare, writing-past}
 use Prim.Native.Nat.{ℕ, _+_, _-_, _^_, _≤_, _<_}
@@ -44,12 +45,25 @@ ToldAt s p at a e m = (a ≡ at) × (m .kind < kind.firstError) × Glanced s (p 
 abbrev pub Blanks : List ℕ → ℕ → ℕ → Type 0
 Blanks s at next = (at ≤ next) × (startFrom next (chars (drop next s)) ≡ startFrom at (chars (drop at s)))
 
+-- where some were told, no extent is halfway
+pub none-halfway : (p : Spot) (w₀ at w : ℕ) → w₀ < w → here p at false ≡ toldTo p at w₀ w
+none-halfway p w₀ at w h = sym (ap (λ (x : Bool). here p at (if x then p .second else false)) (ne-eqb w w₀ (λ e. omega (arith, e))))
+
+module _ (s : List ℕ) (p : Spot) (at : ℕ) (second : Bool) where
+  -- the item past blanks is the item before them
+  same-next : (next : ℕ) → Blanks s at next → nextAt s (here p at second) ≡ nextAt s (here p next second)
+  same-next next b = next-same s (here p at second) (here p next second) refl (sym (turn-past s p at next (placeIn (p .last)) second (b .1)))
+
+  pub going-blanks : (start : Spot) (free : ℕ) (done : List Item) → Going s start (here p at second) free done → (next : ℕ) → Blanks s at next
+      → Going s start (here p next second) free done
+  going-blanks start free done g next b = going-past s start (here p at second) free done g (here p next second) (same-next next b) (omega (arith, b .0)) (b .0)
+
 module _ (s : List ℕ) (start : Spot) (recs₀ text₀ : List ℕ) (roomy : Roomy s start recs₀ text₀) {recs text : List ℕ} (p : Spot) (at : ℕ) (second : Bool)
     {free depth w : ℕ} (g : Writing s start recs₀ text₀ recs text (here p at second) free depth w) where
   blanks-passed : (next : ℕ) → Blanks s at next → Writing s start recs₀ text₀ recs text (here p next second) free depth w
   blanks-passed next b =
       writing-past s start recs₀ text₀ roomy g (here p next second)
-      (next-same s (here p at second) (here p next second) refl (sym (turn-past s p at next (placeIn (p .last)) second (b .1)))) (omega (arith, b .0)) (b .0)
+      (same-next s p at second next b) (omega (arith, b .0)) (b .0)
 
   module _ (a e : ℕ) (m : Means) (told : ToldAt s p at a e m) where
     abbrev G : Glanced s (p .report) (p .skip) a e m
@@ -91,10 +105,6 @@ module _ (s : List ℕ) (p : Spot) (recs₀ : List ℕ) (free depth₀ w₀ : �
       subst (λ (x : Bool). Onward s p recs₀ free depth₀ w₀ (here p next (if x then p .second else false)) recs₀ depth₀ w₀) (sym (eq-eqb w₀ w₀ refl))
       (onward-past (p .at) (p .second) (record { ahead = omega arith; on = λ start rows bytes text roomy before. before }) next b)
 
-  -- where some were told, no extent is halfway
-  none-halfway : (at w : ℕ) → w₀ < w → here p at false ≡ toldTo p at w₀ w
-  none-halfway at w h = sym (ap (λ (x : Bool). here p at (if x then p .second else false)) (ne-eqb w w₀ (λ e. omega (arith, e))))
-
   module _ (amid : Amid s p recs₀ free depth₀ w₀) {recs : List ℕ} (at : ℕ) {depth w : ℕ}
       (so-far : Onward s p recs₀ free depth₀ w₀ (toldTo p at w₀ w) recs depth w) where
     abbrev second : Bool
@@ -129,7 +139,7 @@ module _ (s : List ℕ) (p : Spot) (recs₀ : List ℕ) (free depth₀ w₀ : �
 
       module _ (next : ℕ) (b : Blanks s e next) (h : w₀ ≤ w) where
         gone : here p next false ≡ toldTo p next w₀ (w + recordWords)
-        gone = none-halfway next (w + recordWords) (omega arith)
+        gone = none-halfway p w₀ next (w + recordWords) (omega arith)
 
         pub told-smaller : sizeOf s (toldTo p next w₀ (w + recordWords)) < sizeOf s (toldTo p at w₀ w)
         told-smaller =

@@ -1,6 +1,5 @@
 -- An item that is skimmed has one meaning and no decoded text, whatever it means: a word or a number run that does not begin with a plus
 -- is a word of the table, an identifier, a number or an error.
-use Rattle.chars.specs.Utf8.{chars}
 use Rattle.items.specs.Kinds as kind
 use Rattle.items.specs.Readers.{SoFar, comment, firstIs}
 use Rattle.items.specs.Meaning.{wordKind, runMeans, escaped}
@@ -26,27 +25,27 @@ use Rattle.meaning.specs.declared.Means.{Means}
 use Rattle.meaning.specs.declared.Text.the-variants.{Nowhere, Source}
 use Rattle.meaning.specs.Places.{rangeOf}
 use Rattle.meaning.specs.Records.{nineFor}
-use Rattle.lexer.specs.Glance.{Begins, WordedTo, Glanced, SkimAt, SkimFrom}
+use Rattle.laws.specs.Choice.{if_then_else_}
+use Rattle.lexer.specs.Glance.{Begins, WordedTo, Glanced, SkimAt}
 use Rattle.telling.specs.Tells.{Alone}
-use Rattle.lexer.specs.Writing.{Going}
-use Rattle.lexer.specs.Reading.{startFrom}
+use Rattle.lexer.specs.Writing.{Going, Counting, Counts, Further, toldTo}
 use Rattle.lexer.specs.declared.Spot.{Spot}
 use Rattle.lexer.specs.Reading.{nextAt, sizeOf, foundOf}
 use Rattle.lexer.specs.declared.Found.the-variants.{One}
 use Rattle.lexer.proofs.Glances.{next-told, toldPlace, bare-nine}
-use Rattle.lexer.proofs.Going.{going-on, it, it-moved}
-use Rattle.lexer.proofs.Quickly.{here}
+use Rattle.lexer.proofs.Going.{going-on, it, it-moved, size-le}
+use Rattle.lexer.proofs.Quickly.{here, Blanks, going-blanks, none-halfway}
 use Rattle.telling.proofs.Tells.{string-tells, identifier-tells, word-tells, run-tells}
 use Rattle.lexer.proofs.Tells.{and-false, spans, ends-here, line-told}
-use Prim.Native.Nat.{ℕ, _+_, _-_, _≤_, _<_}
-use mathlib.Core.Path.{_≡_, refl, ap, _∙_, subst}
+use Prim.Native.Nat.{ℕ, _+_, _-_, _*_, _≤_, _<_}
+use mathlib.Core.Path.{_≡_, refl, sym, ap, _∙_, subst}
 use mathlib.Core.Bool.{Bool, false}
 use mathlib.Core.List.{List, [], _∷_, _++_}
 use lib.Dec.{eqb}
-use lib.ListN.{length, getD, drop}
+use lib.ListN.{length, length-append, getD, drop}
 use lib.Seq.{getD-take, getD-drop}
 use native.Mathlib.Omega.{arith}
-use borrow.Author.Tests.{eqb-true, ne-eqb}
+use borrow.Author.Tests.{eq-eqb, eqb-true, ne-eqb}
 
 -- ---- what is skimmed
 
@@ -116,30 +115,21 @@ pub worded-skims : (s : List ℕ) (report skip : Bool) (at : ℕ) → length s �
 worded-skims s report skip at short ending.Unknown w = tt
 worded-skims s report skip at short (ending.At e) w = word-skims s report skip at (w .0) short (w .1 .0 .begins) (w .1 .0 .other) (ending.At e) (w .1 .1 report)
 
--- past blanks
-pub skim-there : (s : List ℕ) (report skip : Bool) (from at : ℕ) → startFrom at (chars (drop at s)) ≡ startFrom from (chars (drop from s))
-    → (r : Ending) → SkimAt s report skip at r → SkimFrom s report skip from r
-skim-there s report skip from at w ending.Unknown t = tt
-skim-there s report skip from at w (ending.At e) t = (at, (t .0, (w, t .1)))
-
 -- ---- a turn of the counting loop
 
-module _ (s : List ℕ) (start p : Spot) (at : ℕ) (second : Bool) (free : ℕ) (done : List Item) (g : Going s start (here p at second) free done) (r : Ending) (e : ℕ)
-    (is : r ≡ ending.At e) (h : SkimFrom s (p .report) (p .skip) at r) where
-  pub there : SkimFrom s (p .report) (p .skip) at (ending.At e)
-  there = subst (λ (x : Ending). SkimFrom s (p .report) (p .skip) at x) is h
-
+module _ (s : List ℕ) (start p : Spot) (at : ℕ) (second : Bool) (free : ℕ) (done : List Item) (g : Going s start (here p at second) free done) (e : ℕ)
+    (h : SkimAt s (p .report) (p .skip) at (ending.At e)) where
   abbrev pub m : Means
-  m = there .1 .0
+  m = h .0
 
-  abbrev pub G : Glanced s (p .report) (p .skip) (there .0) e m
-  G = there .1 .1 .1
+  abbrev pub G : Glanced s (p .report) (p .skip) at e m
+  G = h .1
 
   abbrev pub written : Nine
-  written = nineFor free m (rangeOf (range (there .0) e)) (toldPlace s (p .report) (p .skip) (there .0) e m G (here p at second))
+  written = nineFor free m (rangeOf (range at e)) (toldPlace s (p .report) (p .skip) at e m G (here p at second))
 
   pub next : One written (here p e false) ≡ foundOf free (nextAt s (here p at second))
-  next = next-told s (p .report) (p .skip) (there .0) e m G free (here p at second) refl refl (there .1 .1 .0)
+  next = next-told s (p .report) (p .skip) at e m G free (here p at second) refl refl refl
 
   abbrev pub skimmed : Item
   skimmed = it s start (here p at second) free done g written (here p e false) next
@@ -149,6 +139,58 @@ module _ (s : List ℕ) (start p : Spot) (at : ℕ) (second : Bool) (free : ℕ)
 
   pub skim-on : Going s start (here p e false) free (done ++ (skimmed ∷ []))
   skim-on =
-      let b = bare-nine s free (rangeOf (range (there .0) e)) (toldPlace s (p .report) (p .skip) (there .0) e m G (here p at second)) m (G .alone .undecoded) in
+      let b = bare-nine s free (rangeOf (range at e)) (toldPlace s (p .report) (p .skip) at e m G (here p at second)) m (G .alone .undecoded) in
       subst (λ (k : ℕ). Going s start (here p e false) k (done ++ (skimmed ∷ []))) (b .0)
       (going-on s start (here p at second) free done g written (here p e false) next)
+
+-- ---- the loop
+
+module _ (s : List ℕ) (p : Spot) (n₀ : ℕ) where
+  further-past : (at : ℕ) (second : Bool) {n : ℕ} → Further s p n₀ (here p at second) n → (next : ℕ) → Blanks s at next → Further s p n₀ (here p next second) n
+  further-past at second so-far next b = record {
+    ahead = omega (arith, so-far .ahead, b .0);
+    on = λ start free before. let c = so-far .on start free before in
+        record { done = c .done; going = going-blanks s p at second start free (c .done) (c .going) next b; count = c .count };
+  }
+
+  pub none-counted : (next : ℕ) → Blanks s (p .at) next → Further s p n₀ (toldTo p next n₀ n₀) n₀
+  none-counted next b =
+      subst (λ (x : Bool). Further s p n₀ (here p next (if x then p .second else false)) n₀) (sym (eq-eqb n₀ n₀ refl))
+      (further-past (p .at) (p .second) (record { ahead = omega arith; on = λ start free before. before }) next b)
+
+  module _ (counts : Counts s p n₀) (at : ℕ) {n : ℕ} (so-far : Further s p n₀ (toldTo p at n₀ n) n) where
+    abbrev second : Bool
+    second = toldTo p at n₀ n .second
+
+    abbrev c : Counting s (counts .start) (toldTo p at n₀ n) (counts .free) n
+    c = so-far .on (counts .start) (counts .free) (counts .counting)
+
+    pub counted-few : n ≤ 2 * length s + 1
+    counted-few = omega (arith, c .going .few, c .count, size-le s (counts .start))
+
+    module _ (r : Ending) (e : ℕ) (is : r ≡ ending.At e) (h : SkimAt s (p .report) (p .skip) at r) (next : ℕ) (b : Blanks s e next) (l : n₀ ≤ n) where
+      there : SkimAt s (p .report) (p .skip) at (ending.At e)
+      there = subst (λ (x : Ending). SkimAt s (p .report) (p .skip) at x) is h
+
+      gone : here p next false ≡ toldTo p next n₀ (n + 1)
+      gone = none-halfway p n₀ next (n + 1) (omega arith)
+
+      pub counted-smaller : sizeOf s (toldTo p next n₀ (n + 1)) < sizeOf s (toldTo p at n₀ n)
+      counted-smaller =
+          subst (λ (q : Spot). sizeOf s q < sizeOf s (toldTo p at n₀ n)) gone
+          (omega (arith, b .0, skim-smaller s (counts .start) p at second (counts .free) (c .done) (c .going) e there))
+
+      pub counted-on : Further s p n₀ (toldTo p next n₀ (n + 1)) (n + 1)
+      counted-on =
+          subst (λ (q : Spot). Further s p n₀ q (n + 1)) gone
+          (further-past e false
+          (record {
+            ahead = omega (arith, skim-smaller s (counts .start) p at second (counts .free) (c .done) (c .going) e there, so-far .ahead);
+            on = λ start free before. let d = so-far .on start free before in
+                let i = skimmed s start p at second free (d .done) (d .going) e there in
+                record {
+                  done = d .done ++ (i ∷ []);
+                  going = skim-on s start p at second free (d .done) (d .going) e there;
+                  count = length-append (d .done) (i ∷ []) ∙ omega (arith, d .count);
+                };
+          }) next b)

@@ -3,10 +3,9 @@ use Prim.Native.Nat.{ℕ, _+_, _≤_, _<_}
 use mathlib.Core.Path.{_≡_}
 use mathlib.Core.Bool.{Bool, false, _&&_}
 use mathlib.Core.List.{List, [], _∷_}
-use lib.ListN.{length, getD, drop}
+use lib.ListN.{length, getD}
 use lib.Dec.{eqb}
 use Rattle.laws.specs.Quoted.{code}
-use Rattle.chars.specs.Utf8.{chars}
 use Rattle.items.specs.Kinds as kind
 use Rattle.items.specs.Classes.{firstOf, afterHash}
 use Rattle.items.specs.Machine.{onFirst, onAfterHash}
@@ -24,7 +23,6 @@ use Rattle.steps.specs.declared.Ending.{Ending}
 use Rattle.steps.specs.declared.Ending.the-variants as ending
 use Rattle.meaning.specs.declared.Means.{Means}
 use Rattle.lexer.specs.Inner.{First}
-use Rattle.lexer.specs.Reading.{startFrom}
 use Rattle.telling.specs.Tells.{Alone, Level}
 use Rattle.telling.specs.declared.Quick.{Quick}
 use Rattle.telling.specs.declared.Quick.the-variants.{Item, Bracket, Other}
@@ -86,8 +84,3 @@ GlanceAt s report skip at Other = Unit
 abbrev pub SkimAt : List ℕ → Bool → Bool → ℕ → Ending → Type 0
 SkimAt s report skip at (ending.At e) = (m : Means) × Glanced s report skip at e m
 SkimAt s report skip at ending.Unknown = Unit
-
-abbrev pub SkimFrom : List ℕ → Bool → Bool → ℕ → Ending → Type 0
-SkimFrom s report skip from (ending.At e) =
-    (a : ℕ) × ((m : Means) × ((startFrom a (chars (drop a s)) ≡ startFrom from (chars (drop from s))) × Glanced s report skip a e m))
-SkimFrom s report skip from ending.Unknown = Unit

@@ -1,4 +1,5 @@
--- Writing on: what the two lent memories hold while the items from a spot on are read, and what a function promises that writes some more.
+-- Counting and writing on: what is counted and what the two lent memories hold while the items from a spot on are read, and what a
+-- function promises that counts or writes some more.
 use Prim.Native.Nat.{ℕ, _+_, _*_, _≤_, _<_}
 use mathlib.Core.Path.{_≡_}
 use mathlib.Core.Bool.{false}
@@ -20,6 +21,23 @@ pub record Going (s : List ℕ) (start p : Spot) (free : ℕ) (done : List Item)
   pub behind : free ≤ p .at
   pub bytes : length (texts done) ≡ free
   pub items : allItems s start ≡ done ++ allFrom left s p
+
+-- those that are done are n
+pub record Counting (s : List ℕ) (start p : Spot) (free n : ℕ) : Type 0 where
+  pub done : List Item
+  pub going : Going s start p free done
+  pub count : length done ≡ n
+
+-- a counting stands at the spot p
+pub record Counts (s : List ℕ) (p : Spot) (n : ℕ) : Type 0 where
+  pub start : Spot
+  pub free : ℕ
+  pub counting : Counting s start p free n
+
+-- any counting that stands at the spot p goes on to the spot q, with no decoded text
+pub record Further (s : List ℕ) (p : Spot) (n : ℕ) (q : Spot) (n' : ℕ) : Type 0 where
+  pub ahead : sizeOf s q ≤ sizeOf s p
+  pub on : (start : Spot) (free : ℕ) → Counting s start p free n → Counting s start q free n'
 
 -- the records of those that are done are written, w words, and their decoded texts, `free` bytes; `depth` is the depth there
 pub record Writing (s : List ℕ) (start : Spot) (recs₀ text₀ recs text : List ℕ) (p : Spot) (free depth w : ℕ) : Type 0 where
@@ -50,7 +68,8 @@ pub record Onward (s : List ℕ) (p : Spot) (recs : List ℕ) (free depth w : �
   pub on : (start : Spot) (recs₀ text₀ text : List ℕ) → Roomy s start recs₀ text₀ → Writing s start recs₀ text₀ recs text p free depth w
       → Writing s start recs₀ text₀ recs' text q free depth' w'
 
--- the spot that a writing got to by items that one look told: where it wrote none, the first of an extent's two items is still given
+-- the spot that a counting or a writing got to by items that one look told: where there were none, the first of an extent's two items is
+-- still given
 abbrev pub toldTo : Spot → ℕ → ℕ → ℕ → Spot
 toldTo p at from w = moved p at (placeIn (p .last)) (if eqb w from then p .second else false)
 

@@ -1,7 +1,6 @@
 // Items that one look tells: a bracket, a quote mark, and a word, a number, a string or a comment that the next bytes show to be no more
 // than that. Any other is for `next_item`, which reads them all. The text is good UTF-8, so that in quotes and in comments no character is
 // looked at but what may end them.
-use crate::reading::past_blanks;
 use chars::letter_at;
 use escapes::has_escape;
 use items::kinds;
@@ -30,7 +29,7 @@ ghost use Rattle.items.specs.declared.Quotes.the-variants.{Double};
 ghost use Rattle.meaning.specs.Meant.{means};
 ghost use Rattle.meaning.specs.declared.Text.the-variants.{Nowhere};
 ghost use Rattle.telling.specs.declared.Quick.the-variants.{Bracket};
-ghost use Rattle.lexer.specs.Glance.{Begins, Rare, Worded, WordedTo, Sharp, Spells, GlanceAt, SkimAt, SkimFrom};
+ghost use Rattle.lexer.specs.Glance.{Begins, Rare, Worded, WordedTo, Sharp, Spells, GlanceAt, SkimAt};
 
 // Below it a byte is a character of ASCII.
 const ASCII_END: u8 = 0x80;
@@ -259,7 +258,7 @@ fn skim_hash(source: &[u8], at: usize) -> Ending
 }
 
 // The end of the item that starts at a place, by its first byte: what it means is not asked for.
-fn skim_at(source: &[u8], report: bool, skip: bool, at: usize) -> Ending
+pub fn skim_at(source: &[u8], report: bool, skip: bool, at: usize) -> Ending
     requires { ⌜ (length (now source) ≤ limit) × (at < length (now source)) × (firstBad (now source) ≡ Good) ⌝ }
     ensures { λ r. ⌜ SkimAt (now (source .entry)) report skip at r ⌝ }
 {
@@ -280,16 +279,4 @@ fn skim_at(source: &[u8], report: bool, skip: bool, at: usize) -> Ending
         b'#' => skim_hash(source, at),
         _ => rare_ending(source, at),
     }
-}
-
-// The end of the next item from a place on, where one look tells and it has no decoded text.
-pub fn skim_item(source: &[u8], report: bool, skip: bool, from: usize) -> Ending
-    requires { ⌜ (length (now source) ≤ limit) × (firstBad (now source) ≡ Good) ⌝ }
-    ensures { λ r. ⌜ SkimFrom (now (source .entry)) report skip from r ⌝ }
-{
-    let at = past_blanks(source, from);
-    if source.len() <= at {
-        return Ending::Unknown;
-    }
-    skim_at(source, report, skip, at)
 }

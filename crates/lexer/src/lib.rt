@@ -59,6 +59,12 @@ pub enum Found {
     End,
 }
 
+// How far counting got: the place, and the items before it.
+pub struct Counted {
+    pub at: usize,
+    pub items: usize,
+}
+
 // How far writing got: the place, the words that the records take, and how many brackets are open there.
 pub struct Wrote {
     pub at: usize,

@@ -65,13 +65,10 @@ fn blank_at(source: &[u8], at: usize) -> bool
         return false;
     }
     let b = source[at];
-    if b == b' ' {
-        return true;
+    if CARRIAGE_RETURN < b {
+        return b == b' ';
     }
-    if b < TAB {
-        return false;
-    }
-    b <= CARRIAGE_RETURN
+    TAB <= b
 }
 
 // Past the blanks of ASCII from a place on: the first few byte by byte, since most runs are short, and the rest by blocks.

@@ -1,4 +1,5 @@
 // The whole-text call: all items of a source, counted first where they might not fit, then written.
+use crate::Counted;
 use crate::Found;
 use crate::Needed;
 use crate::OpenAnswer;
@@ -7,7 +8,7 @@ use crate::Spot;
 use crate::Wrote;
 use crate::glance::quick_at;
 use crate::glance::quick_rare;
-use crate::glance::skim_item;
+use crate::glance::skim_at;
 use crate::opening::OUTSIDE;
 use crate::opening::open;
 use crate::reading::next_item;
@@ -40,7 +41,7 @@ ghost use Rattle.meaning.specs.Records.{nineFor, TextFits};
 ghost use Rattle.lexer.specs.Reading.{allItems};
 ghost use Rattle.lexer.specs.Answers.{answerOf};
 ghost use Rattle.lexer.specs.Inner.{neededOf, quotesOf, bytesFor, freeAfter, deepAt, Few};
-ghost use Rattle.lexer.specs.Writing.{Amid, ToldOn, toldTo};
+ghost use Rattle.lexer.specs.Writing.{Counts, Further, Amid, ToldOn, toldTo};
 
 // How many bytes a quote is.
 const QUOTE: usize = 1;
@@ -77,38 +78,68 @@ pub fn put_text(source: &[u8], r: Nine, free: &mut [u8])
     }
 }
 
+// Counts the items from a spot on, behind those counted before, as far as one look tells where each ends: none has a decoded text. Where it
+// stops there is no blank of ASCII.
+fn count_told(source: &[u8], p: Spot, from: usize) -> Counted
+    requires { ⌜ (length (now source) ≤ limit) × Counts (now source) p from × (firstBad (now source) ≡ Good) ⌝ }
+    ensures { λ r. ⌜ Further (now (source .entry)) p from (toldTo p (r .at) from (r .items)) (r .items) ⌝ }
+{
+    let mut n = from;
+    let mut at = past_blanks(source, p.at);
+    while at < source.len() {
+        match skim_at(source, p.report, p.skip, at) {
+            Ending::At(end) => {
+                n += 1;
+                at = past_blanks(source, end);
+            }
+            Ending::Unknown => {
+                return Counted { at: at, items: n };
+            }
+        }
+    }
+    Counted { at: at, items: n }
+}
+
+// The spot that a counting or a writing got to from another one, by the place and by what was counted or written before and now.
+fn spot_past(p: Spot, at: usize, before: usize, now: usize) -> Spot
+    ensures { λ r. ⌜ r ≡ toldTo p at before now ⌝ }
+{
+    if now == before {
+        return stand(p, at, p.second);
+    }
+    stand(p, at, false)
+}
+
 // The items from a spot on of a good text, and the bytes of their decoded texts.
 pub fn count(source: &[u8], spot: Spot) -> Needed
     requires { ⌜ (length (now source) ≤ limit) × (firstBad (now source) ≡ Good) ⌝ }
     ensures { λ r. ⌜ r ≡ neededOf (allItems (now (source .entry)) spot) ⌝ }
 {
     let mut p = spot;
-    let mut at = spot.at;
-    let mut second = spot.second;
     let mut free: usize = 0;
     let mut n: usize = 0;
     loop {
-        match skim_item(source, p.report, p.skip, at) {
-            Ending::At(end) => {
-                n += 1;
-                at = end;
-                second = false;
+        let told = count_told(source, p, n);
+        if source.len() <= told.at {
+            return Needed {
+                items: told.items,
+                text: free,
+            };
+        }
+        p = spot_past(p, told.at, n, told.items);
+        n = told.items;
+        match next_item(source, p, free) {
+            Found::One(r, q) => {
+                n = n + 1;
+                free = free_after(free, r);
+                p = q;
             }
-            Ending::Unknown => match next_item(source, stand(p, at, second), free) {
-                Found::One(r, q) => {
-                    n = n + 1;
-                    free = free_after(free, r);
-                    at = q.at;
-                    second = q.second;
-                    p = q;
-                }
-                Found::End => {
-                    return Needed {
-                        items: n,
-                        text: free,
-                    };
-                }
-            },
+            Found::End => {
+                return Needed {
+                    items: n,
+                    text: free,
+                };
+            }
         }
     }
 }
@@ -166,16 +197,6 @@ fn put_told(source: &[u8], p: Spot, recs: &mut [u32], free: usize, from: usize, 
     }
 }
 
-// The spot that a writing got to from another one, which stood at a word of the records.
-fn spot_past(p: Spot, told: Wrote, from: usize) -> Spot
-    ensures { λ r. ⌜ r ≡ toldTo p (told .at) from (told .words) ⌝ }
-{
-    if told.words == from {
-        return stand(p, told.at, p.second);
-    }
-    stand(p, told.at, false)
-}
-
 // As `put_told`, for the words that `quick_rare` tells.
 fn put_rare(source: &[u8], p: Spot, recs: &mut [u32], free: usize, from: usize, deep: u32) -> Wrote
     requires { ⌜ (length (now source) ≤ limit) × Amid (now source) p (now recs) free deep from ⌝ }
@@ -219,7 +240,7 @@ fn put_known(source: &[u8], p: Spot, recs: &mut [u32], free: usize, from: usize,
     loop {
         let told = put_told(
             source,
-            spot_past(p, got, from),
+            spot_past(p, got.at, from, got.words),
             recs,
             free,
             got.words,
@@ -227,7 +248,7 @@ fn put_known(source: &[u8], p: Spot, recs: &mut [u32], free: usize, from: usize,
         );
         got = put_rare(
             source,
-            spot_past(p, told, from),
+            spot_past(p, told.at, from, told.words),
             recs,
             free,
             told.words,
@@ -267,7 +288,7 @@ pub fn write(source: &[u8], spot: Spot, recs: &mut [u32], text: &mut [u8]) -> Ne
         if source.len() <= told.at {
             return taken(told.words, free);
         }
-        p = spot_past(p, told, w);
+        p = spot_past(p, told.at, w, told.words);
         w = told.words;
         depth = told.depth;
         match next_item(source, p, free) {

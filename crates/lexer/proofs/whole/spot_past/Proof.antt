@@ -1,4 +1,4 @@
--- By whether anything was written.
+-- By whether anything was counted or written.
 use mathlib.Core.Path.{_∙_}
 use borrow.Author.Needs.{needs}
 use borrow.Author.Tests.{eq-eqb, ne-eqb}
