@@ -328,7 +328,7 @@ uint32_t mihadrena_open(uint32_t mode, bool skip_comments, uint8_t *bytes, size_
 /* Reads on in a piece: takes the fewest bytes from its front that make an item ready, or all of them. An item is ready once a character
  * behind it was read. Call it again with what was not taken, until it answers MIHADRENA_MORE. A call costs a fixed part and what the
  * bytes that it takes cost, however long the piece is: a text may be lent whole. Pieces of 64 bytes cost hardly more than those of 4,096,
- * 61.6 and 58.4 instructions a byte of a plan; byte by byte it is 257.0 (docs/SPEED.md).
+ * 61.3 and 58.2 instructions a byte of a plan; byte by byte it is 257.3 (docs/SPEED.md).
  *
  * MIHADRENA_ITEM: the item's record goes to `record`, its text, a number's digits too, to the front of `text` (MIHADRENA_IN_MEMORY); no
  * other byte of `text` changes. MIHADRENA_MORE changes neither. values[0] is 0, values[1] is how many bytes were taken.
