@@ -14,6 +14,7 @@ pub mod WordBranches
 pub mod PlusLines
 pub mod PairDecided
 pub mod RightRecords
+pub mod WholeParts
 pub mod PieceByPiece
 pub mod QuotedBytes
 pub mod RecordLoops

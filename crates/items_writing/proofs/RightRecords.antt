@@ -1,7 +1,7 @@
 -- What is known of records that are not refused, and how the records from a place on go.
 use Prim.Native.Nat.{ℕ, zero, suc, _+_, _-_, _≤_, _<_}
 use mathlib.Core.Path.{_≡_, refl}
-use mathlib.Core.Bool.{true, false, _&&_}
+use mathlib.Core.Bool.{Bool, true, false, _&&_}
 use mathlib.Core.List.{List, [], _∷_}
 use lib.ListN.{length, drop, length-drop}
 use lib.Seq.{length-take-le}
@@ -48,14 +48,9 @@ module _ (s : List ℕ) (a b : ℕ) where
   unfolding isWhole
   whole-past h g = rw (le-leb a b h, lt-leb b (length s) g)
 
-  module _ (h : a ≤ b) (g : b ≤ length s) {u : Utf8} (e : u ≡ firstBad (part a b s)) where
-    pub whole-good : u ≡ Good → true ≡ isWhole s a b
-    unfolding isWhole
-    whole-good f = rw (le-leb a b h, le-leb b (length s) g, ← e, f)
-
-    pub whole-bad : (p : ℕ) → u ≡ Bad p → false ≡ isWhole s a b
-    unfolding isWhole
-    whole-bad p f = rw (le-leb a b h, le-leb b (length s) g, ← e, f)
+  pub whole-told : a ≤ b → b ≤ length s → {r : Bool} → r ≡ isGood (firstBad (part a b s)) → r ≡ isWhole s a b
+  unfolding isWhole
+  whole-told h g e = rw (le-leb a b h, le-leb b (length s) g) e
 
 -- a text that is all of an extent is whole with it
 pub extent-right : (source text : List ℕ) (r : WriteWords) → isExtent r ≡ true → isWhole source (r .start) (r .«end») ≡ true → textRight source text r ≡ true

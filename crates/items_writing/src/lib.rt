@@ -20,6 +20,7 @@ ghost use Rattle.items_writing.specs.Pieces.{AllRight, onward, Measured}
 mod quoting;
 mod records;
 mod turning;
+mod whole;
 mod word;
 
 // What the call looks at in a record.

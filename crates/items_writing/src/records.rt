@@ -1,8 +1,8 @@
 // What is lent: the words of records, and the parts of the source and of the text memory that they name.
 use crate::Judged;
 use crate::WriteWords;
-use chars::Utf8;
-use chars::first_bad;
+use crate::whole::is_inside;
+use crate::whole::is_whole;
 use items::kinds;
 ghost use mathlib.Core.Path.{_≡_};
 ghost use mathlib.Core.Bool.{true};
@@ -40,24 +40,6 @@ pub fn words_at(records: &[u32], p: usize) -> WriteWords
     }
 }
 
-// Whether a part of a slice is there and is whole characters.
-fn is_whole(s: &[u8], a: u32, b: u32) -> bool
-    ensures { λ r. ⌜ r ≡ isWhole (now (s .entry)) a b ⌝ }
-{
-    let from = a as usize;
-    let to = b as usize;
-    if to < from {
-        return false;
-    }
-    if s.len() < to {
-        return false;
-    }
-    match first_bad(&s[from..to]) {
-        Utf8::Good => true,
-        Utf8::Bad(_) => false,
-    }
-}
-
 fn is_kind(k: u32) -> bool
     ensures { λ r. ⌜ r ≡ isKind k ⌝ }
 {
@@ -82,10 +64,15 @@ fn has_text(k: u32) -> bool
     k == kinds::STRING_LITERAL
 }
 
+// Of a record whose extent is whole characters.
 fn text_right(source: &[u8], text: &[u8], w: WriteWords) -> bool
+    requires { ⌜ isWhole (now source) (w .start) (w .«end») ≡ true ⌝ }
     ensures { λ r. ⌜ r ≡ textRight (now (source .entry)) (now (text .entry)) w ⌝ }
 {
     if w.origin == IN_SOURCE {
+        if is_inside(source, w.start, w.end, w.first, w.past) {
+            return true;
+        }
         return is_whole(source, w.first, w.past);
     }
     if w.origin == IN_MEMORY {

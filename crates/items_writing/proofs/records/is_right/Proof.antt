@@ -23,7 +23,7 @@ returns c =
     simp (kind, whole) (sym (extent-right _ _ _ (sym (c .before .is-extent .ensures) ∙ c .if3 .taken) whole))
 
 text-right-requires : tie.Need-text-right-requires
-text-right-requires c κs = search needs
+text-right-requires c κs = sym (c .before .before .before .is-whole .ensures) ∙ c .before .before .if2 .taken
 
 returns-2 : tie.Need-returns-2
 unfolding isRight
