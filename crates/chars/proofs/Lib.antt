@@ -17,4 +17,5 @@ pub mod Ascii
 pub mod Lay
 pub mod Blanks
 pub mod Wide
+pub mod Walks
 pub mod Pairs

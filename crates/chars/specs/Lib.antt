@@ -3,4 +3,5 @@ pub mod Encode
 pub mod Blank
 pub mod Machine
 pub mod Wide
+pub mod Walk
 pub mod Examples

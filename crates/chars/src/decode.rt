@@ -22,7 +22,7 @@ pub(crate) const TAIL_HIGH: u8 = 0xBF;
 const SIX_BITS: u8 = 64;
 
 // The marks of a first byte: 110xxxxx, 1110xxxx and 11110xxx. Below ASCII_END a byte is a character.
-const ASCII_END: u8 = 0x80;
+pub(crate) const ASCII_END: u8 = 0x80;
 
 const MARK_TWO: u8 = 0xC0;
 

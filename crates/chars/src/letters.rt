@@ -1,12 +1,15 @@
 // Characters past ASCII by direct tests of their bytes, without the byte machine. The bytes written out are those of the table of RFC 3629,
 // section 4.
+use crate::decode::ASCII_END;
 use crate::decode::TAIL_HIGH;
 use crate::decode::TAIL_LOW;
+use texts::plain_end;
 ghost use mathlib.Core.Path.{_≡_};
 ghost use Prim.Native.Nat.{_≤_, _<_};
 ghost use lib.ListN.{length, getD, drop};
 ghost use Rattle.laws.specs.Quoted.{within};
 ghost use Rattle.chars.specs.Wide.{second3, second4, Wide, Wides, Solid};
+ghost use Rattle.chars.specs.Walk.{Walk};
 
 // Whether a byte is one of those from a to b.
 pub fn between(a: u8, b: u8, c: u8) -> bool
@@ -155,4 +158,25 @@ pub fn letter_at(s: &[u8], at: usize) -> usize
         return 0;
     }
     wide_at(s, at)
+}
+
+// Past the characters from a place on that begin before another, or to where none stands.
+pub fn chars_end(s: &[u8], from: usize, until: usize) -> usize
+    requires { ⌜ until ≤ length (now s) ⌝ }
+    ensures { λ r. ⌜ Walk (now (s .entry)) until from r ⌝ }
+{
+    let mut i = from;
+    while i < until {
+        let n = wide_at(s, i);
+        if n == 0 {
+            let j = plain_end(&s[..until], i, ASCII_END, ASCII_END);
+            if j <= i {
+                return i;
+            }
+            i = j;
+        } else {
+            i += n;
+        }
+    }
+    i
 }

@@ -51,5 +51,6 @@ pub use encode::char_width;
 pub use encode::is_scalar;
 pub use encode::put_char;
 pub use letters::between;
+pub use letters::chars_end;
 pub use letters::letter_at;
 pub use letters::wide_end;

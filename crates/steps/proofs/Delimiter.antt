@@ -4,20 +4,21 @@ use mathlib.Core.Path.{_≡_, refl, sym, ap, _∙_}
 use mathlib.Core.Bool.{Bool, true, false, not}
 use mathlib.Core.List.{List, [], _∷_}
 use lib.ListN.{length, getD, take, drop, length-drop}
-use lib.Seq.{drop-drop}
-use lib.Dec.{eqb}
+use lib.Seq.{drop-drop, length-take-le}
+use lib.Dec.{eqb, ltb}
 use native.Mathlib.Omega.{arith}
-use borrow.Author.Tests.{lt-ltb, le-ltb, eq-eqb, ne-eqb}
+use borrow.Author.Tests.{lt-ltb, le-ltb, ltb-false, eq-eqb, ne-eqb}
 use Rattle.laws.specs.Quoted.{code}
 use Rattle.laws.specs.Texts.{span, before, begins}
-use Rattle.laws.proofs.Choice.{by-bool}
+use Rattle.laws.proofs.Choice.{by-bool, and-true, yes-no, no-yes}
 use Rattle.laws.proofs.Places.{past, here, drop-take}
 use Rattle.laws.proofs.Lent.{part-rest}
-use Rattle.chars.proofs.Chars.{CharAt}
+use Rattle.chars.specs.Walk.{Walk, stays, goes}
+use Rattle.chars.proofs.Chars.{CharAt, char-at}
 use Rattle.items.specs.declared.Phase.the-variants.{HereBody}
 use Rattle.items.specs.Readers.{unreturned, lineOf, afterLine, endsWith, hereInside, hereEnds}
 use Rattle.steps.specs.Here.{HereLine}
-use Rattle.steps.specs.Scan.{part, answer}
+use Rattle.steps.specs.Scan.{part, answer, PassesFor}
 use Rattle.steps.proofs.Turn.{turn-eat}
 
 module _ (l : List ℕ) (i : ℕ) where
@@ -171,3 +172,46 @@ module _ (s : List ℕ) (a at k : ℕ) (e : HereLine s a k) (l : k < at) where
   body-on q f c next i report =
       let h : hereEnds (part s a at) ≡ false = here-at ∙ sym q ∙ f in
       turn-eat s report a HereBody at c next i HereBody (omega arith) (rw h refl)
+
+-- ---- up to a place before which the body does not end
+
+begins-uncut : (d t : List ℕ) (n : ℕ) → begins d (take n t) ≡ true → begins d t ≡ true
+unfolding begins
+begins-uncut [] t n e = refl
+begins-uncut (x ∷ d) t zero e = no-yes e
+begins-uncut (x ∷ d) [] (suc n) e = no-yes e
+begins-uncut (x ∷ d) (y ∷ t) (suc n) e =
+    let b = and-true (eqb x y) (begins d (take n t)) e in
+    rw (b .0) (begins-uncut d t n (b .1))
+
+-- where no delimiter begins that would end at a place, the body does not end there
+pub no-end : (s d : List ℕ) (b at : ℕ) → b ≤ at → at ≤ length s → ((i : ℕ) → b ≤ i → i + length d ≡ at → begins d (drop i s) ≡ false)
+    → endsWith d (part s b at) ≡ false
+unfolding endsWith
+no-end s d b at l h f =
+    let n = length d in
+    let long : length (part s b at) ≡ at - b = length-take-le (at - b) (drop b s) (omega (arith, length-drop b s)) in
+    by-bool (ltb (length (part s b at)) n)
+    (λ e. rw e)
+    (λ e. let m = ltb-false (length (part s b at)) n e in
+    let p = length (part s b at) - n in
+    let q : at - b ≡ p + n = omega (arith, long, m) in
+    let i : b + p ≡ at - n = omega (arith, long, m) in
+    let cut : drop p (part s b at) ≡ take n (drop (at - n) s) =
+    ap (λ (k : ℕ). drop p (take k (drop b s))) q ∙ drop-take p n (drop b s) ∙ ap (take n) (drop-drop p b s ∙ ap (λ (k : ℕ). drop k s) i) in
+    rw e (by-bool (begins d (drop p (part s b at)))
+    (λ y. yes-no (sym (begins-uncut d (drop (at - n) s) n (ap (begins d) (sym cut) ∙ y)) ∙ f (at - n) (omega (arith, i)) (omega (arith, long, m))))
+    (λ y. y)))
+
+-- so characters up to such a place are passed
+pub passes-walk : (s : List ℕ) (a k from e r : ℕ) → HereLine s a k → k < from → from ≤ length s
+    → ((at : ℕ) → from ≤ at → at < e → endsWith (unreturned (part s (a + 3) k)) (part s (k + 1) at) ≡ false)
+    → Walk s e from r → PassesFor s a HereBody from r
+passes-walk s a k from e r line l h none stays = (omega arith, h, λ report. refl)
+passes-walk s a k from e r line l h none (goes {m} {n} {c} w less f) =
+    let y = passes-walk s a k from e m line l h none w in
+    let q = char-at s m c (m + n) (rw f) (y .1) in (
+      omega (arith, y .0),
+      q .inside,
+      λ report. y .2 report ∙ body-on s a m k line (omega (arith, y .0)) (sym (none m (y .0) less)) refl c (m + n) q report,
+    )

@@ -6,3 +6,4 @@ pub mod Letters
 pub mod Apart
 pub mod Item
 pub mod Ended
+pub mod Sought

@@ -1,9 +1,11 @@
 // Here-strings: `read_here_string`. `#<<` and the rest of its line name the delimiter, carriage returns left out; the body follows, and
 // ends as soon as it ends with the delimiter.
+use crate::search::delimiter_end;
+use crate::search::kept_end;
+use crate::search::kept_start;
 use crate::signs::*;
 use crate::words::enter_word;
-use chars::Decoded;
-use chars::decode_at;
+use chars::chars_end;
 use chars::is_blank;
 use items::Next;
 use items::Outcome;
@@ -11,7 +13,7 @@ use items::Phase;
 use items::kinds;
 use texts::find;
 ghost use mathlib.Core.Path.{_≡_};
-ghost use Prim.Native.Nat.{_≤_, _<_};
+ghost use Prim.Native.Nat.{ℕ, _+_, _≤_, _<_};
 ghost use lib.Dec.{eqb};
 ghost use lib.ListN.{length};
 ghost use Rattle.laws.specs.Choice.{if_then_else_};
@@ -144,36 +146,35 @@ fn here_ends(raw: &[u8]) -> bool
     ends_with_line(&raw[newline..], &raw[OPEN..newline])
 }
 
-// The same, where the line ends at a place before.
+// The first place of a body where n bytes may begin that end at a place or behind it.
+fn earliest(body: usize, from: usize, n: usize) -> usize
+    requires { ⌜ body ≤ from ⌝ }
+    ensures { λ r. ⌜ (r ≤ from) × ((k : ℕ) → body ≤ k → from ≤ k + n → r ≤ k) ⌝ }
+{
+    if from - body < n {
+        return body;
+    }
+    from - n
+}
+
+// The same, where the line ends at a place before. The delimiter is looked for first; up to its end characters are passed.
 fn past_line(s: &[u8], start: usize, newline: usize, from: usize) -> usize
     requires { ⌜ HereLine (now s) start newline × (newline < from) × (from ≤ length (now s)) ⌝ }
     ensures { λ r. ⌜ PassesFor (now (s .entry)) start HereBody from r ⌝ }
 {
     let open = start + OPEN;
-    let line = &s[open..newline];
+    let whole = &s[open..newline];
+    let first = kept_start(whole);
+    let rest = &whole[first..];
+    let last = kept_end(rest);
+    if last == 0 {
+        return from;
+    }
+    let line = &rest[..last];
     let n = unreturned_length(line);
     let body = newline + 1;
-    let mut at = from;
-    while at < s.len() {
-        if ends_with(&s[body..at], line, n) {
-            return at;
-        }
-        match decode_at(s, at) {
-            Decoded::Char { code: _, next } => {
-                at = next;
-            }
-            Decoded::Bad => {
-                return at;
-            }
-            Decoded::Cut => {
-                return at;
-            }
-            Decoded::End => {
-                return at;
-            }
-        }
-    }
-    at
+    let end = delimiter_end(s, earliest(body, from, n), line, n);
+    chars_end(s, from, end)
 }
 
 // Past the characters of the body from a place on, to where it ends with the delimiter, or no character stands. The line is looked at once.

@@ -11,6 +11,7 @@ mod here;
 mod machine;
 mod quotes;
 mod runs;
+mod search;
 mod signs;
 mod words;
 

@@ -11,7 +11,7 @@ use Rattle.laws.specs.Texts.{span}
 use Rattle.laws.proofs.Blocks.{block-short, block-on}
 use Rattle.texts.specs.Runs.{block}
 
-not-not : (x y : Bool) → not x ≡ y → x ≡ not y
+pub not-not : (x y : Bool) → not x ≡ y → x ≡ not y
 not-not true y e = ap not e
 not-not false y e = ap not e
 

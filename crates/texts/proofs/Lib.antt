@@ -1,3 +1,4 @@
 pub mod Blocks
 pub mod Marks
 pub mod Together
+pub mod Searched

@@ -7,12 +7,15 @@ ghost use Rattle.laws.specs.Texts.{starts, begins, same};
 mod apart;
 mod pairs;
 mod runs;
+mod search;
 
 pub use apart::apart_end;
 pub use pairs::pairs_at;
 pub use runs::blank_end;
 pub use runs::find;
 pub use runs::plain_end;
+pub use search::agreeing;
+pub use search::find_pair;
 
 // Whether b stands at a place.
 pub fn starts_at(t: &[u8], from: usize, b: u8) -> bool
