@@ -64,7 +64,7 @@ begins-past s at n w solid =
     }
 
 -- and reading on there starts with it
-start-first : (s : List ℕ) (a c n : ℕ) → inner.First s a c n → startFrom a (chars (drop a s)) ≡ At c a n
+pub start-first : (s : List ℕ) (a c n : ℕ) → inner.First s a c n → startFrom a (chars (drop a s)) ≡ At c a n
 unfolding startFrom
 start-first s a c n F = ap (startFrom a) (F .first) ∙ rw (F .solid) (ap (At c a) (sym (F .on)))
 

@@ -10,6 +10,8 @@ pub mod Gives
 pub mod Scans
 pub mod Nexts
 pub mod Glances
+pub mod Stood
+pub mod Strung
 pub mod Tells
 pub mod Sharps
 pub mod Skims

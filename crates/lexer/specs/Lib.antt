@@ -5,4 +5,5 @@ pub mod Text
 pub mod Inner
 pub mod ReadOn
 pub mod Glance
+pub mod Begun
 pub mod Writing

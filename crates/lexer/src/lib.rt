@@ -3,6 +3,7 @@
 // the source beside its position. Which items a text has is document 01's "An item", defined in crate `items`; what each call answers is
 // defined in specs/ of this crate and in items/specs/Whole.
 use items::Nine;
+use items::Phase;
 use items::Record;
 use meaning::Range;
 
@@ -10,6 +11,7 @@ mod glance;
 mod opening;
 mod reader;
 mod reading;
+mod strings;
 mod text;
 mod whole;
 
@@ -113,4 +115,14 @@ pub enum NextAnswer {
     TooLong,
     // 22, with the text bytes needed
     NoRoom(usize),
+}
+
+// Where the item begins that comes next, as far as one look reads it. Internal.
+pub enum Begun {
+    // it starts at a place, and stands in a phase at another
+    At(usize, usize, Phase),
+    // it is the error of a string that starts right here, and ends at a place
+    Wrong(usize),
+    // there is none
+    Nothing,
 }

@@ -1,11 +1,16 @@
 // One item a turn, from a spot of the source on.
+use crate::Begun;
 use crate::Found;
 use crate::Spot;
 use crate::Start;
+use crate::strings::begin_string;
+use crate::strings::quote_at;
+use crate::strings::wrong;
 use chars::Decoded;
 use chars::decode_at;
 use chars::is_blank;
 use items::Outcome;
+use items::Phase;
 use items::kinds::COMMENT;
 use meaning::Means;
 use meaning::Meant;
@@ -20,7 +25,7 @@ use steps::scan;
 use texts::blank_end;
 ghost use mathlib.Core.Path.{_≡_};
 ghost use mathlib.Core.Bool.{true, false, _&&_};
-ghost use Prim.Native.Nat.{_+_, _≤_};
+ghost use Prim.Native.Nat.{_+_, _≤_, _<_, _^_};
 ghost use lib.ListN.{length, drop};
 ghost use lib.Dec.{eqb, leb};
 ghost use Rattle.laws.specs.Texts.{span};
@@ -28,13 +33,14 @@ ghost use Rattle.texts.specs.Runs.{blank};
 ghost use Rattle.chars.specs.Utf8.{chars};
 ghost use Rattle.items.specs.Readers.{soFar};
 ghost use Rattle.items.specs.Kinds as kinds;
-ghost use Rattle.items.specs.Items.{placeOf};
+ghost use Rattle.items.specs.Items.{placeOf, rangeAfter, standing};
 ghost use Rattle.items.specs.Whole.{limit};
-ghost use Rattle.meaning.specs.Places.{placeIn, rangeOf};
+ghost use Rattle.meaning.specs.Places.{placeIn, rangeOf, reach, reachFrom};
 ghost use Rattle.meaning.specs.Records.{nineFor, TextFits};
 ghost use Rattle.lexer.specs.declared.Found.the-variants.{One};
-ghost use Rattle.lexer.specs.Reading.{moved, turnOf, turnAt, turn, nextAt, startFrom, foundOf};
-ghost use Rattle.lexer.specs.Inner.{ExtentFits, First};
+ghost use Rattle.lexer.specs.Reading.{moved, turnOf, turn, nextAt, startFrom, foundOf};
+ghost use Rattle.lexer.specs.Inner.{ExtentFits};
+ghost use Rattle.lexer.specs.Begun.{Stands, BegunAs};
 
 // The blanks of ASCII are the space and those from the tab to the carriage return.
 const TAB: u8 = 0x09;
@@ -130,7 +136,7 @@ pub fn consume_whitespace(source: &[u8], from: usize) -> Start
 }
 
 // Past an extent that ends here, with the last error range then.
-fn past(p: Spot, at: usize, last: Range) -> Spot
+pub fn past(p: Spot, at: usize, last: Range) -> Spot
     ensures { λ r. ⌜ r ≡ moved p at (placeIn last) false ⌝ }
 {
     Spot {
@@ -167,6 +173,18 @@ fn one(report: bool, m: Means, extent: Range, last: Range, free: usize, after: S
     )
 }
 
+// The range that an error's place is taken from, where `last` is the last one after the extent: in plain mode they are the same.
+fn shown(p: Spot, what: Outcome, extent: Range, last: Range, raw: &[u8]) -> Range
+    requires { ⌜ (reachFrom what < 2 ^ 32) × (reach what < 2 ^ 32) × (extent .from + length (now raw) < 2 ^ 32) ⌝ }
+    requires { ⌜ last ≡ rangeOf (rangeAfter (p .report) (placeIn (p .last)) (extent .from) what (soFar (now raw) (extent .to))) ⌝ }
+    ensures { λ r. ⌜ r ≡ rangeOf (rangeAfter (p .report) (standing (p .report) (placeIn (p .last))) (extent .from) what (soFar (now (raw .entry)) (extent .to))) ⌝ }
+{
+    if p.report {
+        return range_shown(true, p.last, what, extent, raw);
+    }
+    last
+}
+
 // What an extent gives, by its outcome, its first place and its bytes.
 fn found(p: Spot, free: usize, start: usize, what: Outcome, raw: &[u8]) -> Found
     requires { ⌜ ExtentFits (p .report) free start (now raw) what ⌝ }
@@ -177,27 +195,39 @@ fn found(p: Spot, free: usize, start: usize, what: Outcome, raw: &[u8]) -> Found
         from: start as u32,
         to: end as u32,
     };
-    let before = p.last;
-    let shown = range_shown(p.report, before, what, extent, raw);
-    let last = range_after(p.report, before, what, extent, raw);
+    let last = range_after(p.report, p.last, what, extent, raw);
+    let set = shown(p, what, extent, last, raw);
     match meaning(p.report, what, start, raw) {
-        Meant::One(m) => one(p.report, m, extent, shown, free, past(p, end, last)),
+        Meant::One(m) => one(p.report, m, extent, set, free, past(p, end, last)),
         Meant::Two(m, n) => {
             if p.second {
-                one(p.report, n, extent, shown, free, past(p, end, last))
+                one(p.report, n, extent, set, free, past(p, end, last))
             } else {
-                one(p.report, m, extent, shown, free, stand(p, start, true))
+                one(p.report, m, extent, set, free, stand(p, start, true))
             }
         }
     }
 }
 
-// The item that starts with a character at a place.
-fn item_at(source: &[u8], p: Spot, free: usize, code: u32, at: usize, next: usize) -> Found
-    requires { ⌜ (length (now source) ≤ limit) × (free ≤ at) × First (now source) at code next ⌝ }
-    ensures { λ r. ⌜ r ≡ foundOf free (turnAt p at code (chars (drop next (now (source .entry))))) ⌝ }
+// Where the item begins that comes next from a place on.
+fn begin_at(source: &[u8], at: usize) -> Begun
+    ensures { λ r. ⌜ BegunAs (now (source .entry)) at r ⌝ }
 {
-    let scanned = scan(source, p.report, at, next, first_phase(code));
+    if quote_at(source, at) {
+        return begin_string(source, at);
+    }
+    match consume_whitespace(source, at) {
+        Start::At(code, start, next) => Begun::At(start, next, first_phase(code)),
+        Start::Nothing => Begun::Nothing,
+    }
+}
+
+// The item at a spot that starts at a place and stands in a phase at another.
+fn item_at(source: &[u8], p: Spot, free: usize, at: usize, from: usize, phase: Phase) -> Found
+    requires { ⌜ (length (now source) ≤ limit) × (free ≤ p .at) × Stands (now source) (p .at) at from phase ⌝ }
+    ensures { λ r. ⌜ r ≡ foundOf free (turn (now (source .entry)) p) ⌝ }
+{
+    let scanned = scan(source, p.report, at, from, phase);
     let what = scanned.what;
     let end = scanned.end;
     found(p, free, at, what, &source[at..end])
@@ -208,9 +238,10 @@ fn turn_at(source: &[u8], p: Spot, free: usize) -> Found
     requires { ⌜ (length (now source) ≤ limit) × (free ≤ p .at) ⌝ }
     ensures { λ r. ⌜ r ≡ foundOf free (turn (now (source .entry)) p) ⌝ }
 {
-    match consume_whitespace(source, p.at) {
-        Start::At(code, at, next) => item_at(source, p, free, code, at, next),
-        Start::Nothing => Found::End,
+    match begin_at(source, p.at) {
+        Begun::At(at, from, phase) => item_at(source, p, free, at, from, phase),
+        Begun::Wrong(end) => wrong(source, p, end),
+        Begun::Nothing => Found::End,
     }
 }
 

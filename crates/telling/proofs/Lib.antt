@@ -1,3 +1,4 @@
 pub mod Firsts
 pub mod WordKinds
 pub mod Tells
+pub mod Escaped

@@ -15,6 +15,10 @@ ghost use Rattle.meaning.specs.declared.Text.the-variants.{Nowhere};
 ghost use Rattle.telling.specs.declared.Quick.the-variants.{Item};
 ghost use Rattle.telling.specs.Tells.{Tells};
 
+mod strings;
+
+pub use strings::string_at;
+
 // How many bytes a quote is.
 const QUOTE: usize = 1;
 
@@ -26,6 +30,16 @@ pub enum Quick {
     Bracket(Means, usize, usize),
     // anything else
     Other,
+}
+
+// What the bytes of a string tell from a place on.
+pub enum Strung {
+    // it is whole, and ends at a place
+    Whole(usize),
+    // it is an error, at the character at a place, which ends it
+    Fails(usize),
+    // it goes on at a place, and the scan tells the rest
+    On(usize),
 }
 
 // An item without text that is no bracket.

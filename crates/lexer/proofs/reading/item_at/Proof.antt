@@ -1,44 +1,33 @@
--- The scan from the first character on is the definition's reader there; its extent lies in the source, so everything made of it fits.
-use mathlib.Core.Path.{_≡_, refl, ap, _∙_}
+-- The scan from where the item stands is the definition's reader there; its extent lies in the source, so everything made of it fits.
+use mathlib.Core.Path.{_≡_, refl, sym, ap, _∙_}
 use Prim.Native.Nat.{_≤_}
-use lib.ListN.{length, drop}
+use lib.ListN.{length}
 use native.Mathlib.Omega.{arith}
 use denote.Ref.{now}
-use Rattle.chars.specs.Utf8.{chars}
 use Rattle.items.specs.Classes.{firstOf}
-use Rattle.items.specs.Readers.{soFar}
-use Rattle.items.specs.Machine.{scanOf, onFirst, depthOf}
-use Rattle.items.specs.declared.Phase.{Phase}
-use Rattle.steps.specs.Scan.{part, scanned}
-use Rattle.lexer.proofs.Scans.{first-depth, inside, end-inside, scan-fits, found-is}
-use borrow.Author.Needs.{needs}
+use Rattle.items.specs.Machine.{onFirst}
+use Rattle.steps.specs.Scan.{answer}
+use Rattle.lexer.specs.Reading.{foundOf}
+use Rattle.lexer.proofs.Turns.{turn-started}
+use Rattle.lexer.proofs.Scans.{end-inside, scan-fits, found-is}
+use Rattle.lexer.proofs.Stood.{stands-started, stands-first}
 use Rattle.lexer.proofs.reading.item_at.Statement.{statement}
 use Rattle.lexer.proofs.reading.item_at.Tie as tie
 
 from-first : (c : tie.After-scan)
-    → c .scan .result ≡ scanned (scanOf (c .before .before .before .args .p .report) (onFirst (firstOf (c .before .before .before .args .code)))
-    (soFar (part (now (c .before .before .before .args .source)) (c .before .before .before .args .at) (c .before .before .before .args .next))
-    (c .before .before .before .args .next)) (chars (drop (c .before .before .before .args .next) (now (c .before .before .before .args .source)))))
-from-first c =
-    let entry = c .before .before .before in
-    c .scan .ensures
-    ∙ ap (λ (f : Phase). scanned (scanOf (entry .args .p .report) f (soFar (part (now (entry .args .source)) (entry .args .at) (entry .args .next))
-    (entry .args .next)) (chars (drop (entry .args .next) (now (entry .args .source)))))) (c .before .first-phase .ensures)
+    → c .scan .result ≡ answer (now (c .before .before .args .source)) (c .before .before .args .p .report) (c .before .before .args .at)
+    (onFirst (firstOf (c .before .before .pre .2 .c))) (c .before .before .pre .2 .next)
+from-first c = c .scan .ensures ∙ c .before .before .pre .2 .same (c .before .before .args .p .report)
 
-within : (c : tie.After-scan) → (c .before .before .before .args .at ≤ c .scan .result .end) × (c .scan .result .end ≤ length (now (c .before .before .before .args .source)))
+within : (c : tie.After-scan) → (c .before .before .args .at ≤ c .scan .result .end) × (c .scan .result .end ≤ length (now (c .before .before .args .source)))
 within c =
-    let entry = c .before .before .before in
-    end-inside (now (entry .args .source))
-    (entry .args .p .report) (entry .args .at) (entry .args .code) (entry .args .next) (entry .pre .2) (c .scan .result) (from-first c)
-
-first-phase-requires : tie.Need-first-phase-requires
-first-phase-requires c κs = search needs
+    let entry = c .before .before in
+    let a = entry .args in
+    let S = entry .pre .2 in
+    end-inside (now (a .source)) (a .p .report) (a .at) (S .c) (S .next) (stands-first (now (a .source)) (a .p .at) (a .at) (a .from) (a .phase) S) (c .scan .result) (from-first c)
 
 scan-requires : tie.Need-scan-requires
-scan-requires c κs =
-    let entry = c .before .before in
-    let i = inside (now (entry .args .source)) (entry .args .p .report) (entry .args .at) (entry .args .code) (entry .args .next) (entry .pre .2) in
-    (i .0, i .1, omega (arith, ap depthOf (c .first-phase .ensures) ∙ first-depth (firstOf (entry .args .code))))
+scan-requires c κs = let S = c .before .pre .2 in (S .ahead, S .inside, S .deep)
 
 sub-found : tie.Need-sub-found
 sub-found c = omega (arith, within c)
@@ -51,22 +40,26 @@ part-found-end c = omega (arith, within c)
 
 found-requires : tie.Need-found-requires
 found-requires c κs =
-    let entry = c .before .before .before .before in
-    scan-fits (now (entry .args .source)) (entry .args .p .report) (entry .args .at) (entry .args .code) (entry .args .next)
-    (entry .pre .2) (c .before .scan .result) (from-first (c .before)) (entry .args .free) (omega (arith, entry .pre .0)) (entry .pre .1)
+    let entry = c .before .before .before in
+    let a = entry .args in
+    let S = entry .pre .2 in
+    scan-fits (now (a .source)) (a .p .report) (a .at) (S .c) (S .next) (stands-first (now (a .source)) (a .p .at) (a .at) (a .from) (a .phase) S)
+    (c .before .scan .result) (from-first (c .before)) (a .free) (omega (arith, entry .pre .0))
+    (omega (arith, entry .pre .1, stands-started (now (a .source)) (a .p .at) (a .at) (a .from) (a .phase) S .ahead))
 
 returns : tie.Need-returns
 returns c =
-    let entry = c .before .before .before .before .before in
-    found-is (now (entry .args .source)) (entry .args .p .report) (entry .args .at)
-    (entry .args .code) (entry .args .next) (entry .pre .2) (c .before .before .scan .result)
-    (from-first (c .before .before)) (entry .args .free) (entry .args .p) (c .found .result) refl (c .found .ensures)
+    let entry = c .before .before .before .before in
+    let a = entry .args in
+    let S = entry .pre .2 in
+    found-is (now (a .source)) (a .p .report) (a .at) (S .c) (S .next) (stands-first (now (a .source)) (a .p .at) (a .at) (a .from) (a .phase) S)
+    (c .before .before .scan .result) (from-first (c .before .before)) (a .free) (a .p) (c .found .result) refl (c .found .ensures)
+    ∙ sym (ap (foundOf (a .free)) (turn-started (now (a .source)) (a .p) (S .c) (a .at) (S .next) (stands-started (now (a .source)) (a .p .at) (a .at) (a .from) (a .phase) S)))
 
 pub item-at-spec : {M : Type 1} → statement M
 item-at-spec =
     tie.close
     (tie.spec
-    first-phase-requires
     scan-requires
     sub-found
     part-found-start

@@ -1,59 +1,43 @@
--- A turn is what the first character that is no blank begins.
-use mathlib.Core.Path.{refl, sym, ap, _∙_}
-use lib.ListN.{drop}
-use native.Mathlib.Omega.{arith}
+-- A turn is the item that begins next, if there is one.
+use mathlib.Core.Path.{sym, ap, subst}
 use denote.Ref.{now}
-use Rattle.chars.specs.Utf8.{chars}
 use Rattle.lexer.specs.Reading.{foundOf}
-use Rattle.lexer.proofs.Turns.{Started, started, turn-started, turn-nothing}
+use Rattle.lexer.specs.Begun.{BegunAs}
+use Rattle.lexer.specs.declared.Begun.{Begun}
+use Rattle.lexer.proofs.Turns.{turn-nothing}
 use borrow.Author.Needs.{needs}
 use Rattle.lexer.proofs.reading.turn_at.Statement.{statement}
 use Rattle.lexer.proofs.reading.turn_at.Tie as tie
 
-starts : (c : tie.After-known-told)
-    → Started (now (c .before .before .before .before .before .args .source)) (c .before .before .before .before .before .args .p .at)
-    (chars (drop (c .before .before .before .before .before .args .p .at) (now (c .before .before .before .before .before .args .source))))
-    (c .before .code .given .0 .0) (c .before .code .given .0 .1 .0) (c .before .code .given .0 .1 .1 .0)
-starts c =
-    let entry = c .before .before .before .before .before in
-    started (now (entry .args .source)) (chars (drop (entry .args .p .at) (now (entry .args .source))))
-    (entry .args .p .at) refl (c .before .code .given .0 .0) (c .before .code .given .0 .1 .0)
-    (c .before .code .given .0 .1 .1 .0) (sym (c .before .before .before .consume-whitespace .ensures) ∙ c .before .code .given .1)
-
-consume-whitespace-requires : tie.Need-consume-whitespace-requires
-consume-whitespace-requires c κs = search needs
-
-enum-known-code : tie.Need-enum-known-code
-enum-known-code c = search needs
-
 item-at-requires : tie.Need-item-at-requires
 item-at-requires c κs =
     let entry = c .before .before .before .before .before in
-    let S = starts c in (entry .pre .0, omega (arith, S .ahead, entry .pre .1), record { first = S .first; on = S .next; solid = S .solid })
+    (entry .pre .0, entry .pre .1, subst (λ (b : Begun). BegunAs (now (entry .args .source)) (entry .args .p .at) b) (c .before .at .given .1) (c .before .before .before .begin-at .ensures))
 
-enum-told : tie.Need-enum-told
-enum-told c = search needs
-
-returns : tie.Need-returns
-returns c =
-    let told = c .before .before in
-    let entry = told .before .before .before .before in
-    c .item-at .ensures ∙ sym (ap (foundOf (entry .args .free)) (turn-started (now (entry .args .source))
-    (entry .args .p) (told .code .given .0 .0) (told .code .given .0 .1 .0) (told .code .given .0 .1 .1 .0) (starts (c .before))))
+wrong-requires : tie.Need-wrong-requires
+wrong-requires c κs =
+    let entry = c .before .before .before .before .before in
+    (entry .pre .0, subst (λ (b : Begun). BegunAs (now (entry .args .source)) (entry .args .p .at) b) (c .before .end .given .1) (c .before .before .before .begin-at .ensures))
 
 returns-2 : tie.Need-returns-2
-returns-2 c =
+returns-2 c = c .wrong .ensures (c .before .before .before .before .before .before .args .free)
+
+returns-3 : tie.Need-returns-3
+returns-3 c =
     let entry = c .before .before .before .before in
-    sym (ap (foundOf (entry .args .free))
-    (turn-nothing (now (entry .args .source)) (entry .args .p) (sym (c .before .before .consume-whitespace .ensures) ∙ c .enum-told .given .1)))
+    sym (ap (foundOf (entry .args .free)) (turn-nothing (now (entry .args .source)) (entry .args .p)
+    (subst (λ (b : Begun). BegunAs (now (entry .args .source)) (entry .args .p .at) b) (c .enum-told .given .1) (c .before .before .begin-at .ensures))))
 
 pub turn-at-spec : {M : Type 1} → statement M
 turn-at-spec =
     tie.close
     (tie.spec
-    consume-whitespace-requires
-    enum-known-code
+    (λ c κs. search needs)
+    (λ c. search needs)
     item-at-requires
-    enum-told
-    returns
-    returns-2)
+    (λ c. search needs)
+    wrong-requires
+    (λ c. search needs)
+    (λ c. search needs)
+    returns-2
+    returns-3)
