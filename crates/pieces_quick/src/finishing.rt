@@ -261,3 +261,26 @@ pub fn give_item(w: Words, s: PieceSpot, b: u8, buf: &mut [u8], text: &mut [u8])
         Offer::Not => finish_decoded(w, s, b, buf, text),
     }
 }
+
+// Gives the comment that ends before a byte.
+pub fn give_comment(w: Words, s: PieceSpot, b: u8, buf: &mut [u8], text: &[u8]) -> Offer
+    requires { ⌜ Held w s (now buf) (now text) × (s .stage ≡ 31) × (s .which ≡ kind.Comment) × (s .detail ≡ 0) ⌝ }
+    ensures { λ r. ⌜ Finished w s b (now (buf .entry)) (now (buf .exit)) (now (text .entry)) (now (text .entry)) r ⌝ }
+{
+    let f = first(b);
+    if f < IDLE {
+        return Offer::Not;
+    }
+    if w.skip == 1 {
+        return Offer::Not;
+    }
+    let depth = w.depth as u32;
+    let m = Means {
+        kind: kinds::COMMENT,
+        detail: kinds::NO_DETAIL,
+        text: Text::Nowhere,
+    };
+    let r = record_of(m, s, NOWHERE, 0, depth);
+    let next = after(s, b, f, buf);
+    Offer::Given(next, w.depth, r)
+}

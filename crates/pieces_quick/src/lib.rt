@@ -2,6 +2,7 @@
 // string, an identifier in vertical lines or a comment to the end of its line, past a number sign or past a token. It goes from spot to spot
 // (crate `pieces_spots`) to an item or to the end of the piece (`quickly`). Where it stops short, and for words that it does not know, the
 // crate `lent` goes on (`plainly`). The crate `flat` puts the answers into the words that are lent.
+use finishing::give_comment;
 use finishing::give_item;
 use items::Record;
 use lent::Told;
@@ -9,6 +10,7 @@ use lent::Words;
 use lent::calls::piece_stood;
 use lent::calls::piece_words;
 use lent::codes::DONE_TOKEN;
+use lent::codes::IN_LINE;
 use lent::codes::IN_RUN;
 use lent::codes::IN_WORD;
 use pieces::LONGEST;
@@ -16,6 +18,7 @@ use pieces_spots::PieceSpot;
 use pieces_spots::begin;
 use pieces_spots::close;
 use pieces_spots::past;
+use pieces_spots::past_line;
 use pieces_spots::run_on;
 use ready::is_ready;
 ghost use mathlib.Core.Path.{_≡_};
@@ -25,6 +28,7 @@ ghost use lib.ListN.{length};
 ghost use Rattle.pieces.specs.Expected.{longest};
 ghost use Rattle.lent.specs.Stood.{Stood};
 ghost use Rattle.pieces_spots.specs.Spots.{Fits, Onward};
+ghost use Rattle.pieces_spots.specs.Lines.{Commented};
 ghost use Rattle.pieces_quick.specs.Words.{Ready};
 ghost use Rattle.pieces_quick.specs.Gives.{Reaches, Comes, Answers, Says, Continues};
 
@@ -87,6 +91,30 @@ fn from_spot(w: Words, s: PieceSpot, buf: &mut [u8], piece: &[u8], text: &mut [u
     }
 }
 
+// Past the line of a comment that was begun before.
+fn lined(s: PieceSpot, buf: &mut [u8], piece: &[u8]) -> PieceSpot
+    requires { ⌜ Fits s (now buf) (now piece) ⌝ }
+    ensures { λ r. ⌜ Fits r (now (buf .exit)) (now (piece .entry)) × Onward s (now (buf .entry)) r (now (buf .exit)) (now (piece .entry))
+        × (s .stage ≡ 7 → r .stage ≡ 31 → Commented r (now (piece .entry))) ⌝ }
+{
+    if s.stage == IN_LINE {
+        return past_line(s, buf, piece);
+    }
+    s
+}
+
+// The comment that ends before the byte at a spot, or the spot itself.
+fn from_comment(w: Words, s: PieceSpot, buf: &mut [u8], piece: &[u8], text: &[u8]) -> Reached
+    requires { ⌜ Fits s (now buf) (now piece) × Reaches w s (now buf) (now text) × (s .stage ≡ 31) × Commented s (now piece) ⌝ }
+    ensures { λ r. ⌜ Comes w s (now (piece .entry)) (now (buf .entry)) (now (buf .exit)) (now (text .entry)) (now (text .entry)) r ⌝ }
+{
+    let i = s.i;
+    match give_comment(w, s, piece[i], buf, text) {
+        Offer::Given(next, depth, record) => Reached::Item(next, depth, record),
+        Offer::Not => Reached::Before(s),
+    }
+}
+
 // Reads on in a piece from words that are ready, from spot to spot.
 pub fn quickly(words: Words, buf: &mut [u8], piece: &[u8], text: &mut [u8]) -> Reached
     requires { ⌜ (length (now buf) ≡ longest) × (longest ≤ length (now text)) × Ready words (length (now piece)) ⌝ }
@@ -101,7 +129,16 @@ pub fn quickly(words: Words, buf: &mut [u8], piece: &[u8], text: &mut [u8]) -> R
         len: words.len as usize,
         i: 0,
     };
-    let last = through(start, buf, piece);
+    let s = lined(start, buf, piece);
+    if words.stage == IN_LINE {
+        if s.stage == DONE_TOKEN {
+            return from_comment(words, s, buf, piece, text);
+        }
+        if piece.len() <= s.i {
+            return Reached::More(s);
+        }
+    }
+    let last = through(s, buf, piece);
     from_spot(words, last, buf, piece, text)
 }
 

@@ -30,7 +30,7 @@ ghost use lib.ListN.{length};
 ghost use Rattle.pieces_spots.specs.Spots.{Fits, Onward, Keeps, Closes};
 
 // The lesser of two numbers.
-fn fewer(a: usize, b: usize) -> usize
+pub(crate) fn fewer(a: usize, b: usize) -> usize
     ensures { λ r. ⌜ (r ≤ a) × (r ≤ b) ⌝ }
 {
     if a < b {
