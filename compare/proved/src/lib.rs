@@ -1,74 +1,15 @@
 //! The proved functions (crates/exports and others of their kind), each behind a safe function. A slice is passed as a pointer and a length.
+//! They are declared once, in `mihadrena::raw`, whose crate links them too.
 pub mod lines;
 
 pub mod names;
 
 pub mod writing;
 
-extern "C" {
-    fn mihadrena_good_bytes(text: *const u8, length: usize) -> usize;
-    fn mihadrena_code_at(text: *const u8, length: usize, at: usize) -> u32;
-    fn mihadrena_next_at(text: *const u8, length: usize, at: usize) -> usize;
-    fn mihadrena_is_blank(code: u32) -> bool;
-    fn mihadrena_put_char(code: u32, text: *mut u8, length: usize) -> usize;
-    fn mihadrena_number(text: *const u8, length: usize, words: *mut u64, count: usize) -> u32;
-    fn mihadrena_number_by(choice: u32, text: *const u8, length: usize, words: *mut u64, count: usize) -> u32;
-    fn mihadrena_read(
-        source: *const u8,
-        length: usize,
-        mode: u32,
-        skip: bool,
-        records: *mut u32,
-        words: usize,
-        text: *mut u8,
-        bytes: usize,
-        values: *mut u64,
-        count: usize,
-    ) -> u32;
-    fn mihadrena_read_fields(
-        source: *const u8,
-        length: usize,
-        ends: *const u32,
-        parts: usize,
-        mode: u32,
-        skip: bool,
-        rows: *mut u32,
-        row_words: usize,
-        records: *mut u32,
-        words: usize,
-        text: *mut u8,
-        bytes: usize,
-        values: *mut u64,
-        count: usize,
-    ) -> u32;
-    fn mihadrena_open(mode: u32, skip: bool, bytes: *mut u8, room: usize, words: *mut u64, count: usize) -> u32;
-    fn mihadrena_piece(
-        bytes: *mut u8,
-        room: usize,
-        words: *mut u64,
-        count: usize,
-        piece: *const u8,
-        length: usize,
-        text: *mut u8,
-        text_length: usize,
-        record: *mut u32,
-        record_length: usize,
-        values: *mut u64,
-        values_length: usize,
-    ) -> u32;
-    fn mihadrena_end(
-        bytes: *mut u8,
-        room: usize,
-        words: *mut u64,
-        count: usize,
-        text: *mut u8,
-        text_length: usize,
-        record: *mut u32,
-        record_length: usize,
-        values: *mut u64,
-        values_length: usize,
-    ) -> u32;
-}
+use mihadrena::raw::{
+    mihadrena_code_at, mihadrena_end, mihadrena_good_bytes, mihadrena_is_blank, mihadrena_next_at, mihadrena_number,
+    mihadrena_number_by, mihadrena_open, mihadrena_piece, mihadrena_put_char, mihadrena_read, mihadrena_read_fields,
+};
 
 /// What `code_at` answers where no character stands.
 pub const BAD: u32 = 0x110000;

@@ -1,4 +1,8 @@
 //! The functions about lines (crates/lines_exports).
+use mihadrena::raw::{
+    mihadrena_lines, mihadrena_lines_end, mihadrena_lines_open, mihadrena_lines_piece, mihadrena_locate,
+    mihadrena_locate_all,
+};
 
 /// How many words the state of an index from pieces has.
 pub const STATE_WORDS: usize = 8;
@@ -12,16 +16,6 @@ pub const ALIEN: u32 = 48;
 
 /// An answer's number and its two values.
 pub type Answer = (u32, [u64; 2]);
-
-#[rustfmt::skip]
-extern "C" {
-    fn mihadrena_lines(text: *const u8, bytes: usize, index: *mut u32, words: usize, values: *mut u64, count: usize) -> u32;
-    fn mihadrena_locate(text: *const u8, bytes: usize, index: *const u32, words: usize, place: usize, values: *mut u64, count: usize) -> u32;
-    fn mihadrena_locate_all(text: *const u8, bytes: usize, index: *const u32, words: usize, places: *const u32, many: usize, found: *mut usize, room: usize, values: *mut u64, count: usize) -> u32;
-    fn mihadrena_lines_open(state: *mut u32, length: usize, index: *mut u32, words: usize);
-    fn mihadrena_lines_piece(state: *mut u32, length: usize, piece: *const u8, bytes: usize, index: *mut u32, words: usize);
-    fn mihadrena_lines_end(state: *const u32, length: usize, index: *const u32, words: usize, values: *mut u64, count: usize) -> u32;
-}
 
 fn answer(call: impl FnOnce(*mut u64, usize) -> u32) -> Answer {
     let mut values = [u64::MAX; 2];

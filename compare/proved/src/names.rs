@@ -1,27 +1,5 @@
 //! The name table (crates/names_exports).
-
-extern "C" {
-    fn mihadrena_names_open(words: *mut u32, words_length: usize, bytes: *const u8, bytes_length: usize) -> u32;
-    fn mihadrena_names_enter(
-        words: *mut u32,
-        words_length: usize,
-        bytes: *mut u8,
-        bytes_length: usize,
-        party: u32,
-        name: *const u8,
-        name_length: usize,
-        number: *mut u32,
-    ) -> u32;
-    fn mihadrena_names_place(
-        words: *const u32,
-        words_length: usize,
-        bytes: *const u8,
-        bytes_length: usize,
-        number: u32,
-        start: *mut usize,
-        end: *mut usize,
-    ) -> u32;
-}
+use mihadrena::raw::{mihadrena_names_enter, mihadrena_names_open, mihadrena_names_place};
 
 /// How many words and bytes a table takes.
 pub const WORDS: usize = 3078;

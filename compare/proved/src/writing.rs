@@ -1,19 +1,5 @@
 //! Writing a plan back (crates/items_writing_exports).
-
-extern "C" {
-    fn mihadrena_write(
-        records: *const u32,
-        records_length: usize,
-        source: *const u8,
-        source_length: usize,
-        text: *const u8,
-        text_length: usize,
-        out: *mut u8,
-        out_length: usize,
-        values: *mut u64,
-        values_length: usize,
-    ) -> u32;
-}
+use mihadrena::raw::mihadrena_write;
 
 pub fn write(records: &[u32], source: &[u8], text: &[u8], out: &mut [u8], values: &mut [u64]) -> u32 {
     unsafe {

@@ -7,7 +7,7 @@ use lib.Dec.{T, leb, eqb, ltb, leb→le}
 use borrow.Author.Tests.{eq-eqb, ne-eqb, eqb-true, eqb-false}
 use lib.ListN.{getD, drop}
 use Rattle.laws.specs.Quoted.{oneOf}
-use Rattle.laws.proofs.Choice.{by-bool}
+use Rattle.laws.proofs.Choice.{by-bool, impossible}
 use Rattle.laws.proofs.Places.{past, here}
 use Rattle.chars.specs.Blank.{blanks, isBlank}
 
@@ -21,7 +21,7 @@ passes-at zero f e k h = absurd (omega arith)
 passes-at (suc n) f e k h = go (f n) refl (λ p j. passes-at n f p k j) e
   where
     go : (x : Bool) → f n ≡ x → (passes n f ≡ true → k < n → f k ≡ true) → (x && passes n f) ≡ true → f k ≡ true
-    go false y ih p = let z : _≡_ {A = ℕ} 0 1 = cc in absurd (omega arith)
+    go false y ih p = impossible cc
     go true y ih p = by-bool (eqb k n) (λ q. ap f (eqb-true k n q) ∙ y) (λ q. let d = eqb-false k n q in ih p (omega arith))
 
 -- ---- the table, row by row: what the rows from one on say

@@ -6,6 +6,7 @@ use mathlib.Core.List.{List, [], _∷_}
 use mathlib.Core.Bool.{true}
 use lib.ListN.{length, take, drop, length-drop}
 use lib.Seq.{drop-drop, length-take-le}
+use Rattle.laws.proofs.Choice.{impossible}
 use Rattle.chars.specs.declared.Decoded.{Decoded}
 use Rattle.chars.specs.declared.Decoded.the-variants as decoded
 use Rattle.chars.specs.Utf8.{Front, char, bad, cut, none, front, placed, Sequence, onward, sequences, codePoints, chars}
@@ -76,9 +77,9 @@ module _ (s : List ℕ) (at : ℕ) where
             on = p ∙ ap (λ (i : ℕ). at + i) k;
             inside = omega (arith, p, w .2, length-drop at s, h);
           }
-      go (bad n) f w q = let z : _≡_ {A = ℕ} 0 1 = cc in absurd (omega arith)
-      go cut f w q = let z : _≡_ {A = ℕ} 0 1 = cc in absurd (omega arith)
-      go none f w q = let z : _≡_ {A = ℕ} 0 1 = cc in absurd (omega arith)
+      go (bad n) f w q = impossible cc
+      go cut f w q = impossible cc
+      go none f w q = impossible cc
 
   pub nothing-at : (o : Decoded) → o ≡ placed at (front (drop at s)) → ((c n : ℕ) → o ≡ decoded.Char c n → ⊥) → chars (drop at s) ≡ []
   nothing-at o e h = go (front (drop at s)) refl e

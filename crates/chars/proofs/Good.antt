@@ -7,6 +7,7 @@ use mathlib.Core.List.{List, [], _∷_}
 use mathlib.Core.Bool.{true}
 use lib.ListN.{length, drop, length-drop, take-append-drop}
 use lib.Seq.{drop-at}
+use Rattle.laws.proofs.Choice.{impossible}
 use Rattle.chars.specs.declared.Utf8.the-variants as verdicts
 use Rattle.chars.specs.Utf8.{Front, char, bad, cut, none, front, sequences, verdict, firstBad, chars}
 use Rattle.chars.specs.Encode.{isScalar, utf8, width, bytesOf}
@@ -52,10 +53,10 @@ on (suc n) l at h g = turn l (λ m k a v. on n m k a v) h g
             (rec (drop m (b ∷ l)) (at + m) (omega (arith, length-drop m (b ∷ l), char-some (b ∷ l) c m f)) (sym (ap verdict (sequences-char at (b ∷ l) c m f)) ∙ g))
         go (bad m) f =
             let z : verdicts.Bad at ≡ verdicts.Good = sym (ap verdict (sequences-bad at (b ∷ l) m f)) ∙ g in
-            let y : _≡_ {A = ℕ} 0 1 = cc in absurd (omega arith)
+            impossible cc
         go cut f =
             let z : verdicts.Bad at ≡ verdicts.Good = sym (ap verdict (sequences-cut at (b ∷ l) f)) ∙ g in
-            let y : _≡_ {A = ℕ} 0 1 = cc in absurd (omega arith)
+            impossible cc
         go none f = absurd (not-none b l f)
 
 -- A text that `first_bad` calls good is the bytes of its characters.

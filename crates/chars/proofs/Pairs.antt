@@ -9,7 +9,7 @@ use lib.Dec.{leb, ltb}
 use lib.ListN.{length, getD}
 use borrow.Author.Tests.{leb-true, leb-false, ltb-true, lt-leb, not-true}
 use Rattle.laws.proofs.Choice.{by-bool, and-true, no-yes, if-all}
-use Rattle.texts.specs.Pairs.{lead, tail, agree, paired, Paired, pairs}
+use Rattle.byte_runs.specs.Pairs.{lead, tail, agree, paired, Paired, pairs}
 use Rattle.chars.specs.Wide.{Passed}
 use Rattle.chars.proofs.Table.{within-in}
 use Rattle.chars.proofs.Wide.{at-two, passed-none, passed-on, passed-wide, passed-small}

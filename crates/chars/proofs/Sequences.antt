@@ -7,7 +7,7 @@ use mathlib.Core.Path.{_≡_, refl, ap, sym, subst, _∙_}
 use mathlib.Core.List.{List, [], _∷_}
 use lib.ListN.{drop}
 use lib.Seq.{drop-drop}
-use Rattle.laws.proofs.Choice.{if-all}
+use Rattle.laws.proofs.Choice.{if-all, impossible}
 use Rattle.chars.specs.declared.Step.{Step}
 use Rattle.chars.specs.declared.Step.the-variants as steps
 use Rattle.chars.specs.declared.Decoded.{Decoded}
@@ -52,7 +52,7 @@ after-ends steps.Bad s = tt
 -- a character has a byte
 pub char-some : (l : List ℕ) (c n : ℕ) → front l ≡ char c n → 1 ≤ n
 unfolding front
-char-some [] c n e = let z : _≡_ {A = ℕ} 0 1 = cc in absurd (omega arith)
+char-some [] c n e = impossible cc
 char-some (b ∷ l) c n e = omega (arith, wants-some (first b), subst (Ends (wants (first b))) e (after-ends (first b) l))
 
 -- something stands at the front of a text that is not empty
@@ -75,19 +75,19 @@ module _ (at : ℕ) where
   sequences-char l c n e = go l n e (char-some l c n e)
     where
       go : (l : List ℕ) (n : ℕ) → front l ≡ char c n → 1 ≤ n → sequences 0 at l ≡ read c at (at + n) ∷ sequences 0 (at + n) (drop n l)
-      go [] n e h = let z : _≡_ {A = ℕ} 0 1 = cc in absurd (omega arith)
+      go [] n e h = impossible cc
       go (b ∷ l) zero e h = absurd (omega arith)
       go (b ∷ l) (suc m) e h =
           rw (e, sub-one) (ap (λ (x : List Sequence). read c at (at + suc m) ∷ x) (skips l m (at + 1) ∙ ap (λ (j : ℕ). sequences 0 j (drop m l)) (omega arith)))
 
   pub sequences-bad : (l : List ℕ) (n : ℕ) → front l ≡ bad n → sequences 0 at l ≡ broken at (at + n) ∷ []
   unfolding sequences front
-  sequences-bad [] n e = let z : _≡_ {A = ℕ} 0 1 = cc in absurd (omega arith)
+  sequences-bad [] n e = impossible cc
   sequences-bad (b ∷ l) n e = rw e
 
   pub sequences-cut : (l : List ℕ) → front l ≡ cut → sequences 0 at l ≡ short at ∷ []
   unfolding sequences front
-  sequences-cut [] e = let z : _≡_ {A = ℕ} 0 1 = cc in absurd (omega arith)
+  sequences-cut [] e = impossible cc
   sequences-cut (b ∷ l) e = rw e
 
   pub sequences-none : (l : List ℕ) → front l ≡ none → sequences 0 at l ≡ []
@@ -120,6 +120,6 @@ further s at c next = go (front (drop at s)) refl
   where
     go : (F : Front) → front (drop at s) ≡ F → decoded.Char c next ≡ placed at F → at < next
     go (char d n) f e = let p : next ≡ at + n = cc in omega (arith, char-some (drop at s) d n f)
-    go (bad n) f e = let z : _≡_ {A = ℕ} 0 1 = cc in absurd (omega arith)
-    go cut f e = let z : _≡_ {A = ℕ} 0 1 = cc in absurd (omega arith)
-    go none f e = let z : _≡_ {A = ℕ} 0 1 = cc in absurd (omega arith)
+    go (bad n) f e = impossible cc
+    go cut f e = impossible cc
+    go none f e = impossible cc

@@ -7,7 +7,7 @@ use mathlib.Core.Bool.{Bool, true, false}
 use lib.ListN.{length, getD, take, drop}
 use lib.Seq.{split-at, length-take-le}
 use Rattle.laws.specs.Choice.{if_then_else_}
-use Rattle.laws.proofs.Choice.{if-all}
+use Rattle.laws.proofs.Choice.{if-all, impossible}
 use Rattle.chars.specs.declared.Step.{Step}
 use Rattle.chars.specs.declared.Step.the-variants as steps
 use Rattle.laws.specs.Quoted.{within}
@@ -80,8 +80,8 @@ same-byte n lo hi c k b q t B f = go (within lo hi b)
 rest-dead : (p : List ℕ) (n lo hi c k b : ℕ) (q t : List ℕ) → rest n lo hi c k (p ++ b ∷ q) ≡ bad (k + (length p + 1))
     → rest n lo hi c k (p ++ b ∷ t) ≡ bad (k + (length p + 1))
 unfolding rest
-rest-dead [] zero lo hi c k b q t e = let z : _≡_ {A = ℕ} 0 1 = cc in absurd (omega arith)
-rest-dead (a ∷ p) zero lo hi c k b q t e = let z : _≡_ {A = ℕ} 0 1 = cc in absurd (omega arith)
+rest-dead [] zero lo hi c k b q t e = impossible cc
+rest-dead (a ∷ p) zero lo hi c k b q t e = impossible cc
 rest-dead [] (suc n) lo hi c k b q t e =
     same-byte n lo hi c k b q t (bad (k + (0 + 1)))
     (not-there (rest n 0x80 0xBF (c * 64 + b % 64) (k + 1) q) (k + 1) (k + 1 + length q) (k + (0 + 1)) (rest-shown n q 0x80 0xBF (c * 64 + b % 64) (k + 1)) (omega arith)) e
@@ -96,14 +96,14 @@ unfolding front
 dead [] b q t = go (first b)
   where
     go : (o : Step) → after o q ≡ bad 1 → after o t ≡ bad 1
-    go (steps.Char c) e = let z : _≡_ {A = ℕ} 0 1 = cc in absurd (omega arith)
+    go (steps.Char c) e = impossible cc
     go (steps.More u) e =
         not-there (rest (u .need) (u .low) (u .high) (u .code) 1 q) 1 (1 + length q) 1 (rest-shown (u .need) q (u .low) (u .high) (u .code) 1) (omega arith) e
     go steps.Bad e = refl
 dead (a ∷ p) b q t = go (first a)
   where
     go : (o : Step) → after o (p ++ b ∷ q) ≡ bad (suc (length p) + 1) → after o (p ++ b ∷ t) ≡ bad (suc (length p) + 1)
-    go (steps.Char c) e = let z : _≡_ {A = ℕ} 0 1 = cc in absurd (omega arith)
+    go (steps.Char c) e = impossible cc
     go (steps.More u) e =
         let z : suc (length p) + 1 ≡ 1 + (length p + 1) = omega arith in
         rest-dead p (u .need) (u .low) (u .high) (u .code) 1 b q t (e ∙ ap bad z) ∙ ap bad (sym z)
@@ -130,7 +130,7 @@ rest-open : (p : List ℕ) (n lo hi c k b : ℕ) (q : List ℕ) → lo ≤ hi �
     → Whole (rest n lo hi c k) k p
 unfolding rest
 rest-open [] n lo hi c k b q h e = rest-fill n lo hi c k h
-rest-open (a ∷ p) zero lo hi c k b q h e = let z : _≡_ {A = ℕ} 0 1 = cc in absurd (omega arith)
+rest-open (a ∷ p) zero lo hi c k b q h e = impossible cc
 rest-open (a ∷ p) (suc n) lo hi c k b q h e =
     go (λ g. rest-open p n 0x80 0xBF (c * 64 + a % 64) (k + 1) b q (omega arith) (g ∙ ap bad (omega arith))) (within lo hi a) refl e
   where
@@ -152,7 +152,7 @@ alive (a ∷ p) b q e = go (first a) (first-fine a) e
   where
     go : (o : Step) → Fine o → after o (p ++ b ∷ q) ≡ bad (suc (length p) + 1)
         → (t : List ℕ) × (c : ℕ) × (after o (p ++ t) ≡ char c (suc (length (p ++ t))))
-    go (steps.Char c) h e = let z : _≡_ {A = ℕ} 0 1 = cc in absurd (omega arith)
+    go (steps.Char c) h e = impossible cc
     go (steps.More u) h e =
         let r = rest-open p (u .need) (u .low) (u .high) (u .code) 1 b q (h .1) (e ∙ ap bad (omega arith)) in
         (r .0, r .1, r .2 ∙ ap (char (r .1)) (omega arith))

@@ -12,7 +12,7 @@ use Rattle.laws.specs.Texts.{span}
 use Rattle.laws.proofs.Choice.{by-bool, and-true}
 use Rattle.laws.proofs.Places.{here}
 use Rattle.laws.proofs.Runs.{span-le, span-hit, span-stop}
-use Rattle.texts.specs.Runs.{plain}
+use Rattle.byte_runs.specs.Runs.{plain}
 use Rattle.chars.specs.Utf8.{front}
 use Rattle.chars.specs.Walk.{Walk, goes}
 use Rattle.chars.proofs.Round.{one-read}

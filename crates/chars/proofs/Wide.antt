@@ -9,7 +9,7 @@ use lib.ListN.{length, getD, take, drop}
 use lib.Seq.{drop-cons, drop-drop}
 use borrow.Author.Tests.{eqb-true, eqb-false, ltb-true, ltb-false}
 use Rattle.laws.specs.Quoted.{within}
-use Rattle.laws.proofs.Choice.{by-bool, within-is}
+use Rattle.laws.proofs.Choice.{by-bool, within-is, impossible}
 use Rattle.chars.specs.Utf8.{more, first, char, front, sequences, verdict}
 use Rattle.chars.specs.Wide.{second3, second4, PastAscii, Wide, Wides, empty, longer, Solid, Passed}
 use Rattle.chars.proofs.Table.{within-in, first-c2, first-e0, first-e1, first-ed, first-ee, first-f0, first-f1, first-f4}
@@ -156,7 +156,7 @@ no-solid l c e = absurd (omega (arith, char-some l c 0 e))
 
 module _ (b : ℕ) (t : List ℕ) (no-c2 : b ≡ 0xC2 → ⊥) (no-e : within 0xE1 0xE3 b ≡ false) where
   off : (lo hi : ℕ) → within lo hi b ≡ false → (lo ≤ b) → b ≤ hi → ⊥
-  off lo hi e l h = let z : true ≡ false = sym (within-in lo hi b l h) ∙ e in let y : _≡_ {A = ℕ} 0 1 = cc in omega arith
+  off lo hi e l h = let z : true ≡ false = sym (within-in lo hi b l h) ∙ e in impossible cc
 
   spelled-solid : (c n : ℕ) → take (suc n) (b ∷ t) ≡ utf8 c → 0x80 ≤ b → isBlank c ≡ false
   spelled-solid c n w past =

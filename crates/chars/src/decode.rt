@@ -4,7 +4,7 @@ use crate::Decoded;
 use crate::Step;
 use crate::Utf8;
 use crate::letters::wide_end;
-use texts::pairs_at;
+use byte_runs::pairs_at;
 ghost use mathlib.Core.Path.{_≡_};
 ghost use Prim.Native.Nat.{_+_};
 ghost use lib.Dec.{leb};

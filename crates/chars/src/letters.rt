@@ -3,7 +3,7 @@
 use crate::decode::ASCII_END;
 use crate::decode::TAIL_HIGH;
 use crate::decode::TAIL_LOW;
-use texts::plain_end;
+use byte_runs::plain_end;
 ghost use mathlib.Core.Path.{_≡_};
 ghost use Prim.Native.Nat.{_≤_, _<_};
 ghost use lib.ListN.{length, getD, drop};

@@ -10,7 +10,7 @@ use lib.Seq.{drop-drop}
 use borrow.Author.Tests.{eqb-true}
 use Rattle.laws.specs.Quoted.{code}
 use Rattle.laws.specs.Texts.{span, starts}
-use Rattle.laws.proofs.Choice.{by-bool, if-all, if-is, within-is}
+use Rattle.laws.proofs.Choice.{by-bool, if-all, if-is, within-is, impossible}
 use Rattle.laws.proofs.Places.{past}
 use Rattle.chars.specs.declared.Utf8.the-variants as utf8
 use Rattle.chars.specs.Utf8.{ascii, firstBad}
@@ -73,7 +73,7 @@ unfolding uinteger
 uinteger-ascii s e =
     by-bool (ltb 0 (length s))
     (λ f. let k = eqb-true (digits 10 s) (length s) (rw f at e) in digits-ascii s (rw (past s (digits 10 s) (omega arith)) tt))
-    (λ f. absurd (let g = rw f at e in let z : _≡_ {A = ℕ} 0 1 = cc in omega arith))
+    (λ f. absurd (let g = rw f at e in impossible cc))
 
 marker-ascii : (c : ℕ) → exponentMarker c ≡ true → c < 0x80
 unfolding exponentMarker

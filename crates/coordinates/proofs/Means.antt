@@ -3,14 +3,13 @@ use mathlib.Core.Path.{_≡_, refl, ap, subst}
 use mathlib.Core.Bool.{Bool, true}
 use mathlib.Core.List.{List}
 use Prim.Native.Nat.{ℕ, suc, _≤_, _<_}
-use native.Mathlib.Omega.{arith}
 use lib.ListN.{length}
 use lib.Dec.{T, ltb, leb, lit<}
 use lib.IntN.{ℤ, pos, negsuc}
 use lib.Ieee.{Float, binary64, round, fits}
 use lib.Ieee.Fits.{round-fits}
 use borrow.Author.Tests.{le-leb, le-ltb, leb-true}
-use Rattle.laws.proofs.Choice.{if-is}
+use Rattle.laws.proofs.Choice.{if-is, impossible}
 use Rattle.refusal.specs.Refusals.{limit}
 use Rattle.chars.specs.declared.Utf8.{Utf8}
 use Rattle.chars.specs.declared.Utf8.the-variants as utf8
@@ -110,4 +109,4 @@ outside-exactly s l u n = else-outside (coordinate s) whole (λ x e. n x (value-
 pub means-not-outside : (s : List ℕ) (x : Float) → length s ≤ limit → firstBad s ≡ utf8.Good → T (fits binary64 x) → Means s x
     → coordinate s ≡ outside → ⊥
 means-not-outside s x l u f a e =
-    let g = means-value s x l u f a in let z : _≡_ {A = ℕ} 0 1 = cc in omega arith
+    let g = means-value s x l u f a in impossible cc

@@ -5,12 +5,11 @@ use mathlib.Core.Bool.{Bool, true, false}
 use mathlib.Core.List.{List}
 use mathlib.Core.Logic.{_⊎_, inl, inr}
 use Prim.Native.Nat.{ℕ, _-_, _≤_}
-use native.Mathlib.Omega.{arith}
 use lib.Dec.{eqb, leb}
 use lib.ListN.{length, take, drop}
 use borrow.Author.Tests.{le-leb, lt-leb, le-ltb, leb-true, leb-false, eq-eqb, eqb-true, ne-eqb, eqb-false}
 use Rattle.laws.specs.Choice.{if_then_else_}
-use Rattle.laws.proofs.Choice.{by-bool}
+use Rattle.laws.proofs.Choice.{by-bool, impossible}
 use Rattle.refusal.specs.Refusals.{limit}
 use Rattle.chars.specs.declared.Utf8.the-variants as utf8
 use Rattle.chars.specs.Utf8.{firstBad}
@@ -28,7 +27,7 @@ module _ (s : List ℕ) where
   unfolding ofPoint scaled
   point-only p d e = by-bool (leb (allDigits s p) mostDigits)
       (λ f. by-bool (inRange (scale s p))
-      (λ g. absurd (let z = rw (f, g) at e in let y : _≡_ {A = ℕ} 0 1 = cc in omega arith))
+      (λ g. absurd (let z = rw (f, g) at e in impossible cc))
       (λ g. outOfRange p d g))
       (λ f. tooManyDigits p d (leb-false _ _ f))
 

@@ -24,7 +24,7 @@ fn exponent(t: &[u8], from: usize, neg: bool, m: u64, f: u64) -> CoordinateAnswe
     requires { ⌜ f < 2 ^ 32 ⌝ }
     ensures { λ r. ⌜ answered r ≡ suffixed (now (t .entry)) neg m f (exponent from (drop from (now (t .entry)))) ⌝ }
 {
-    let down = texts::starts_at(t, from, b'-');
+    let down = byte_runs::starts_at(t, from, b'-');
     let start = sign_end(t, from);
     let e = long_run(t, start, 0);
     if e.end == start {
@@ -83,10 +83,10 @@ pub(crate) fn read(t: &[u8], wholes: bool) -> CoordinateAnswer
     requires { ⌜ length (now t) < 2 ^ 32 ⌝ }
     ensures { λ r. ⌜ answered r ≡ wanted wholes (now (t .entry)) ⌝ }
 {
-    let neg = texts::starts_at(t, 0, b'-');
+    let neg = byte_runs::starts_at(t, 0, b'-');
     let start = sign_end(t, 0);
     let whole = run(t, start, 0);
-    if texts::starts_at(t, whole.end, b'.') {
+    if byte_runs::starts_at(t, whole.end, b'.') {
         return dotted(t, neg, start, whole);
     }
     undotted(t, neg, start, whole, wholes)

@@ -5,9 +5,9 @@ use mathlib.Core.Bool.{false}
 use mathlib.Core.List.{List, [], _∷_}
 use lib.IntN.{negsuc}
 use lib.Ieee.{fin, round}
-use native.Mathlib.Omega.{arith}
 use Rattle.laws.specs.Quoted.{codes, within}
 use Rattle.laws.specs.Texts.{span, starts}
+use Rattle.laws.proofs.Choice.{impossible}
 use Rattle.refusal.specs.Refusals.{notUtf8, outOfBounds}
 use Rattle.chars.specs.Utf8.{firstBad, sequences, front, rest, first}
 use Rattle.digits.specs.Digits.{digitOf, sign, uinteger, value, signed}
@@ -50,4 +50,4 @@ goes-back = refl
 
 never-refused : (a : CoordinateAnswer) (n p : ℕ) → answered a ≡ refused n p
     → answered a ≡ recordCoordinate (codes "(a 1.5 2.5)") kind.Number 3 6 → ⊥
-never-refused a n p h k = let e = corner in let z : _≡_ {A = ℕ} 0 1 = cc in omega arith
+never-refused a n p h k = let e = corner in impossible cc

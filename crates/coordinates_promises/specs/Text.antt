@@ -10,6 +10,7 @@ use native.Mathlib.Omega.{arith}
 use Rattle.laws.specs.Choice.{if_then_else_}
 use Rattle.laws.specs.Quoted.{codes, within}
 use Rattle.laws.specs.Texts.{span, starts}
+use Rattle.laws.proofs.Choice.{impossible}
 use Rattle.refusal.specs.Refusals.{tooLong, notUtf8, outOfBounds}
 use Rattle.chars.specs.Utf8.{firstBad, sequences, front, rest, first}
 use Rattle.digits.specs.Digits.{digitOf, sign, uinteger, value, signed}
@@ -99,7 +100,7 @@ no-text = refl
 
 -- no program that refuses everything meets the promise, and none that answers one value
 never-refused : (a : CoordinateAnswer) (n p : ℕ) → answered a ≡ refused n p → answered a ≡ coordinate (codes "1e22") → ⊥
-never-refused a n p h k = let e = largest-power in let z : _≡_ {A = ℕ} 0 1 = cc in omega arith
+never-refused a n p h k = let e = largest-power in impossible cc
 
 -- the significant bits of a float
 abbrev bits : Answer → ℕ

@@ -5,9 +5,9 @@ use mathlib.Core.Bool.{true, false}
 use mathlib.Core.List.{[], _∷_}
 use lib.IntN.{pos, negsuc}
 use lib.Ieee.{Float, fin, round}
-use native.Mathlib.Omega.{arith}
 use Rattle.laws.specs.Quoted.{codes, within}
 use Rattle.laws.specs.Texts.{span, starts}
+use Rattle.laws.proofs.Choice.{impossible}
 use Rattle.chars.specs.Utf8.{firstBad, sequences, front, rest, first}
 use Rattle.digits.specs.Digits.{digitOf, sign, uinteger, value, signed}
 use Rattle.numbers.specs.Reals.{exponentMarker, exponent, suffix, pointOf, dotted, undotted, decimal, pointIn, oneDecimal}
@@ -58,4 +58,4 @@ never-unwritten : valueOr (fin false 1 (pos 0)) (coordinate (codes "-0.0")) ≡ 
 -- the list only permits the computing
 unfolding coordinate judged oneDecimal pointIn ofDecimal ofPoint allDigits scale scaled value decimal dotted undotted suffix exponent uinteger
     pointOf signed firstBad sequences front first rest round starts span sign digitOf exponentMarker within
-never-unwritten h = let z : _≡_ {A = ℕ} 0 1 = cc in omega arith
+never-unwritten h = impossible cc

@@ -1,7 +1,7 @@
 -- One digit, a run of digits, a sign: what the definitions say at a place of a text.
 use Rattle.digits.specs.Digits.{noDigit, digitOf, digits, sign, uinteger}
 use Rattle.laws.specs.Quoted.{code, within}
-use Rattle.laws.proofs.Choice.{by-bool, if-all, if-is, within-is}
+use Rattle.laws.proofs.Choice.{by-bool, if-all, if-is, within-is, impossible}
 use Rattle.laws.proofs.Places.{past, here}
 use Rattle.laws.proofs.Runs.{span-hit, span-stop, span-end}
 use Prim.Native.Nat.{ℕ, _+_, _-_, _≤_, _<_}
@@ -112,5 +112,5 @@ module _ (R : ℕ) (t : List ℕ) (i : ℕ) where
   pub uinteger-in : true ≡ uinteger R (drop i t) → length t ≡ i + length (drop i t)
   uinteger-in h =
       by-bool (leb (length t) i)
-      (λ e. let f = uinteger-past (leb-true _ _ e) in let z : _≡_ {A = ℕ} 0 1 = cc in absurd (omega arith))
+      (λ e. let f = uinteger-past (leb-true _ _ e) in impossible cc)
       (λ e. omega (arith, leb-false (length t) i e, length-drop i t))

@@ -7,7 +7,7 @@ use Rattle.digits.specs.Digits.{noDigit, digitOf, sign, uinteger, value,
 use Rattle.digits.proofs.Digits.{digit-le, uinteger-in}
 use Rattle.laws.specs.Quoted.{code}
 use Rattle.laws.specs.Texts.{starts}
-use Rattle.laws.proofs.Choice.{by-bool}
+use Rattle.laws.proofs.Choice.{by-bool, impossible}
 use Rattle.laws.proofs.Places.{past, cut-at}
 use Prim.Native.Nat.{ℕ, zero, suc, _+_, _-_, _*_, _/_, _^_, _≤_, _<_}
 use mathlib.Core.Path.{_≡_, refl}
@@ -76,7 +76,7 @@ module _ (n : ℕ) where
   pub fit-not : Large ≡ fit n → 2 ^ 63 < n
   fit-not h =
       by-bool (leb n (2 ^ 63))
-      (λ e. let f = fit-fits (leb-true _ _ e) in let z : _≡_ {A = ℕ} 0 1 = cc in absurd (omega arith))
+      (λ e. let f = fit-fits (leb-true _ _ e) in impossible cc)
       (λ e. leb-false _ _ e)
 
 -- a signed number from its magnitude

@@ -235,7 +235,7 @@ pub fn integer(t: &[u8], from: usize, radix: u64) -> MaybeInt
     requires { ⌜ (1 ≤ radix) × (radix ≤ 16) ⌝ }
     ensures { λ r. ⌜ r ≡ integer radix from (drop from (now (t .entry))) ⌝ }
 {
-    let neg = texts::starts_at(t, from, b'-');
+    let neg = byte_runs::starts_at(t, from, b'-');
     let a = sign_end(t, from);
     whole(t, a, radix, neg)
 }

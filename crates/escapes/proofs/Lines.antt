@@ -12,7 +12,7 @@ use borrow.Author.Tests.{eqb-true}
 use Rattle.laws.specs.Choice.{if_then_else_}
 use Rattle.laws.specs.Quoted.{code}
 use Rattle.laws.specs.Texts.{span, starts}
-use Rattle.laws.proofs.Choice.{by-bool}
+use Rattle.laws.proofs.Choice.{by-bool, impossible}
 use Rattle.laws.proofs.Compared.{starts-in}
 use Rattle.laws.proofs.Places.{cut-at}
 use Rattle.laws.proofs.Runs.{span-le}
@@ -52,7 +52,7 @@ module _ (k : Quotes) where
     unfolding unescapeTrim inTrim unescape
     trim-solid e n =
         by-bool (eqb c (code " "))
-        (λ f. let g = rw f at e in let z : _≡_ {A = ℕ} 0 1 = cc in absurd (omega arith))
+        (λ f. let g = rw f at e in impossible cc)
         (λ f. let g = rw f at e in rw (f, g, n, unescapeTrim, unescape))
 
   -- past its newline

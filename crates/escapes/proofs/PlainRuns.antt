@@ -13,7 +13,7 @@ use Rattle.laws.specs.Texts.{span}
 use Rattle.laws.proofs.Choice.{by-bool, and-true}
 use Rattle.laws.proofs.Places.{cut-at}
 use Rattle.laws.proofs.Runs.{span-le}
-use Rattle.texts.specs.Runs.{plain}
+use Rattle.byte_runs.specs.Runs.{plain}
 use Rattle.items.specs.declared.Quotes.{Quotes}
 use Rattle.items.specs.Classes.{delimOf, inQuotes}
 use Rattle.items.specs.Classes as class

@@ -12,11 +12,11 @@ ghost use Rattle.items.specs.Meaning.{unescape, unescapeNext, unescapeBrace, un
 ghost use Rattle.escapes.specs.Elements.{element, closedHex, isSpace, GoesOn, Unescapes};
 use crate::Element;
 use crate::Given;
-use characters::scalar_of;
+use byte_runs::starts_at;
 use digits::hex_value;
 use items::CharValue;
 use items::Quotes;
-use texts::starts_at;
+use spellings::characters::scalar_of;
 
 const ALARM: u8 = 0x07;
 

@@ -9,7 +9,7 @@ ghost use lib.ListN.{length, drop};
 ghost use Rattle.laws.specs.Lent.{written};
 ghost use Rattle.laws.specs.Quoted.{code};
 ghost use Rattle.laws.specs.Texts.{span};
-ghost use Rattle.texts.specs.Runs.{plain};
+ghost use Rattle.byte_runs.specs.Runs.{plain};
 ghost use Rattle.items.specs.Classes.{delimOf};
 ghost use Rattle.items.specs.Meaning.{escaped, unescape};
 ghost use Rattle.escapes.specs.Elements.{bytesGiven, sound};
@@ -18,11 +18,11 @@ mod elements;
 
 use crate::elements::delimiter;
 use crate::elements::read_element;
+use byte_runs::find;
+use byte_runs::plain_end;
 use chars::char_width;
 use chars::put_char;
 use items::Quotes;
-use texts::find;
-use texts::plain_end;
 
 // What an element of a text gives.
 pub enum Given {

@@ -1,6 +1,7 @@
-// The piece calls of the crate `flat`, by their names in C.
+// The piece calls of module `flat`, by their names in C.
+use crate::flat;
 ghost use mathlib.Core.Path.{_≡_};
-ghost use Rattle.flat.specs.Piece.{opened, openLeft, left, memory, pieceLeft, endLeft};
+ghost use Rattle.exports.specs.Piece.{opened, openLeft, left, memory, pieceLeft, endLeft};
 
 // Opens a state of 4,096 bytes and 19 words: 0, or document 01's refusals 25 (with a plain state) and 27 (slices of other lengths, left as
 // they were).

@@ -1,5 +1,5 @@
 // The whole-text call of the crate `lexer`: its answer as a number and two values.
-use flat::put_values;
+use exports_values::put_values;
 use lexer::ReadAnswer;
 use refusal::LIMIT_VALUE;
 use refusal::NO_MODE;
@@ -15,17 +15,17 @@ ghost use Rattle.lexer.specs.Answers.{answerOf};
 ghost use Rattle.exports.specs.Read.{readNumber, readValues};
 
 // An answer: its number and its two values.
-struct Told {
+struct NumberAndValues {
     number: u32,
     first: u64,
     second: u64,
 }
 
 // An answer of a number and two values.
-fn tell(number: u32, first: u64, second: u64) -> Told
+fn tell(number: u32, first: u64, second: u64) -> NumberAndValues
     ensures { λ r. ⌜ (r .number ≡ number) × (r .first ∷ r .second ∷ [] ≡ first ∷ second ∷ []) ⌝ }
 {
-    Told {
+    NumberAndValues {
         number,
         first,
         second,
@@ -33,7 +33,7 @@ fn tell(number: u32, first: u64, second: u64) -> Told
 }
 
 // An answer by its number and its values.
-fn answer(a: ReadAnswer) -> Told
+fn answer(a: ReadAnswer) -> NumberAndValues
     ensures { λ r. ⌜ (r .number ≡ readNumber (answerOf a)) × (r .first ∷ r .second ∷ [] ≡ readValues (answerOf a)) ⌝ }
 {
     match a {

@@ -13,8 +13,8 @@ use Rattle.findings.specs.Told.{toldFrom, errorsIn}
 use Rattle.findings.specs.Laid.{counted, countOn, laidFindings, laidBehind, Telling, telling, allTold}
 use Rattle.findings.specs.declared.Finding.{Finding}
 use Rattle.findings.specs.declared.Counted.{Counted}
-use Rattle.findings.specs.declared.Told.{Told}
-use Rattle.findings.specs.declared.Told.the-variants.{Nothing, One}
+use Rattle.findings.specs.declared.RowTold.{RowTold}
+use Rattle.findings.specs.declared.RowTold.the-variants.{Nothing, One}
 
 errors-append : (a b : List Finding) → errorsIn (a ++ b) ≡ errorsIn a + errorsIn b
 unfolding errorsIn
@@ -34,7 +34,7 @@ unfolding flat
 words-length [] = omega arith
 words-length (f ∷ fs) = length-append (wordsOf f) (flat (map wordsOf fs)) ∙ omega (arith, words-length fs)
 
-pub listed-few : (t : Told) → length (listed t) ≤ 1
+pub listed-few : (t : RowTold) → length (listed t) ≤ 1
 listed-few Nothing = omega arith
 listed-few (One f) = omega arith
 
@@ -99,7 +99,7 @@ module _ (f : ℕ → List Finding) (count : ℕ) (old : List ℕ) where
         rw e (held-told (g .held))
 
     -- row p tells t, and then u
-    pub rows-turn : (t u : Told) {next : List ℕ} {r : Counted} → p < count → f p ≡ listed t ++ listed u
+    pub rows-turn : (t u : RowTold) {next : List ℕ} {r : Counted} → p < count → f p ≡ listed t ++ listed u
         → Held ((g .done ++ listed t) ++ listed u) old next r → RowByRow f count old next r (p + 1)
     unfolding toldFrom
     rows-turn t u h e held = record {

@@ -20,8 +20,8 @@ use Rattle.findings.specs.Slips.{swallower}
 use Rattle.findings.specs.Told.{leftOver, rowTold, listTold, toldAt, toldFrom, toldOf}
 use Rattle.findings.specs.Find.{findOf}
 use Rattle.findings.specs.declared.Finding.{Finding}
-use Rattle.findings.specs.declared.Told.{Told}
-use Rattle.findings.specs.declared.Told.the-variants.{Nothing, One}
+use Rattle.findings.specs.declared.RowTold.{RowTold}
+use Rattle.findings.specs.declared.RowTold.the-variants.{Nothing, One}
 
 -- ---- among what some rows tell
 
@@ -43,10 +43,10 @@ of-row f (suc n) i {x} m = go (λ k. of-row f n (i + 1) k) (List·Memᴰ·append
     go later (inl k) = (i, omega arith, k)
     go later (inr k) = let r = later k in (r .0, omega (arith, r .1), r .2)
 
-in-listed : (t : Told) {x : Finding} → t ≡ One x → List·Memᴰ x (listed t)
+in-listed : (t : RowTold) {x : Finding} → t ≡ One x → List·Memᴰ x (listed t)
 in-listed t e = rw e (List·Memᴰ·head refl)
 
-of-listed : (t : Told) {x : Finding} → List·Memᴰ x (listed t) → t ≡ One x
+of-listed : (t : RowTold) {x : Finding} → List·Memᴰ x (listed t) → t ≡ One x
 of-listed Nothing m = absurd (List·Memᴰ·not-nil m)
 of-listed (One f) m = ap One (sym (List·Memᴰ·eq-of-singleton m))
 

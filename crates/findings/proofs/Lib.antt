@@ -1,3 +1,7 @@
+-- Theorems that stand in the docs
+-- `told-by-a-row`, `row-is-told`
+pub mod Exactly
+-- What they stand on, and what other crates cite
 pub mod LineStarts
 pub mod Searches
 pub mod MisfitPass
@@ -5,4 +9,3 @@ pub mod OddNames
 pub mod Swallows
 pub mod AllTold
 pub mod Calls
-pub mod Exactly

@@ -22,8 +22,8 @@ use Rattle.chars.proofs.Sequences.{sequences-char, sequences-bad, sequences-cut
 use Rattle.chars.proofs.Round.{one-read}
 use Rattle.findings.specs.Finding.{warning, single}
 use Rattle.findings.specs.Slips.{isQuote, isDash, isInvisible, oddCode, firstOdd}
-use Rattle.findings.specs.declared.Told.{Told}
-use Rattle.findings.specs.declared.Told.the-variants.{Nothing, One}
+use Rattle.findings.specs.declared.RowTold.{RowTold}
+use Rattle.findings.specs.declared.RowTold.the-variants.{Nothing, One}
 
 -- a printable character of ASCII is not odd
 pub plain-even : (c : ℕ) → within 0x20 0x7E c ≡ true → oddCode c ≡ 0
@@ -50,11 +50,11 @@ plain-even c w =
     )
 
 -- what the characters of s from place i on tell, where the text of s starts at a
-abbrev pub oddFrom : List ℕ → ℕ → ℕ → Told
+abbrev pub oddFrom : List ℕ → ℕ → ℕ → RowTold
 oddFrom s a i = firstOdd (sequences 0 (a + i) (drop i s))
 
 -- the same by what stands at i
-abbrev pub oddSaid : List ℕ → ℕ → ℕ → Decoded → Told
+abbrev pub oddSaid : List ℕ → ℕ → ℕ → Decoded → RowTold
 oddSaid s a i (decoded.Char c next) = if eqb (oddCode c) 0 then oddFrom s a next else One (single warning (oddCode c) c (a + i) (a + next))
 oddSaid s a i decoded.Bad = Nothing
 oddSaid s a i decoded.Cut = Nothing

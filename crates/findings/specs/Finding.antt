@@ -2,8 +2,8 @@
 use Prim.Native.Nat.{ℕ}
 use mathlib.Core.List.{List, [], _∷_}
 use Rattle.findings.specs.declared.Finding.{Finding}
-use Rattle.findings.specs.declared.Told.{Told}
-use Rattle.findings.specs.declared.Told.the-variants.{Nothing, One}
+use Rattle.findings.specs.declared.RowTold.{RowTold}
+use Rattle.findings.specs.declared.RowTold.the-variants.{Nothing, One}
 
 -- ---- severities
 
@@ -82,6 +82,6 @@ abbrev pub single : ℕ → ℕ → ℕ → ℕ → ℕ → Finding
 single s n d a b = both s n d a b 0 0
 
 -- nothing, or one finding, as a list
-abbrev pub listed : Told → List Finding
+abbrev pub listed : RowTold → List Finding
 listed Nothing = []
 listed (One f) = f ∷ []

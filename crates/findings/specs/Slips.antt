@@ -11,8 +11,8 @@ use Rattle.findings.specs.Finding.{warning, single, noDetail, commaNumbe
 use Rattle.findings.specs.Rows.{byteAt, part, rowAt, firstRow}
 use Rattle.findings.specs.Lines.{isNewline, isSpace}
 use Rattle.findings.specs.declared.Row.{Row}
-use Rattle.findings.specs.declared.Told.{Told}
-use Rattle.findings.specs.declared.Told.the-variants.{Nothing, One}
+use Rattle.findings.specs.declared.RowTold.{RowTold}
+use Rattle.findings.specs.declared.RowTold.the-variants.{Nothing, One}
 
 -- ---- names
 
@@ -49,13 +49,13 @@ oddCode c =
     else 0
 
 -- the first odd character of some characters
-unfoldable pub firstOdd : List Sequence → Told
+unfoldable pub firstOdd : List Sequence → RowTold
 firstOdd [] = Nothing
 firstOdd (read c f t ∷ l) = let more = firstOdd l in if eqb (oddCode c) 0 then more else One (single warning (oddCode c) c f t)
 firstOdd (broken f t ∷ l) = Nothing
 firstOdd (short f ∷ l) = Nothing
 
-abbrev pub oddIn : List ℕ → ℕ → ℕ → Told
+abbrev pub oddIn : List ℕ → ℕ → ℕ → RowTold
 oddIn source a b = firstOdd (sequences 0 a (part source a b))
 
 abbrev pub isDigit : ℕ → Bool
@@ -74,7 +74,7 @@ commaFollows source rows p =
     && isDigit (byteAt source (rest .start))
 
 -- W01 with the length of what stands before the comma, or W02
-unfoldable pub numberSlip : List ℕ → List ℕ → ℕ → Told
+unfoldable pub numberSlip : List ℕ → List ℕ → ℕ → RowTold
 numberSlip source rows p =
     let r : Row = rowAt rows p in
     if likeNumber source (r .start)
@@ -84,12 +84,12 @@ numberSlip source rows p =
     else One (single warning numberName noDetail (r .start) (r .end)))
     else Nothing
 
-abbrev pub orElse : Told → Told → Told
+abbrev pub orElse : RowTold → RowTold → RowTold
 orElse Nothing other = other
 orElse (One f) other = One f
 
 -- "the first of these that holds"
-unfoldable pub nameTold : List ℕ → List ℕ → ℕ → Told
+unfoldable pub nameTold : List ℕ → List ℕ → ℕ → RowTold
 nameTold source rows p = orElse (oddIn source (rowAt rows p .start) (rowAt rows p .end)) (numberSlip source rows p)
 
 -- ---- texts

@@ -13,8 +13,8 @@ use Rattle.findings.specs.Lists.{listOf}
 use Rattle.findings.specs.Slips.{isName, nameTold, swallower, endsOtherwise}
 use Rattle.findings.specs.declared.Finding.{Finding}
 use Rattle.findings.specs.declared.Row.{Row}
-use Rattle.findings.specs.declared.Told.{Told}
-use Rattle.findings.specs.declared.Told.the-variants.{Nothing, One}
+use Rattle.findings.specs.declared.RowTold.{RowTold}
+use Rattle.findings.specs.declared.RowTold.the-variants.{Nothing, One}
 use Rattle.findings.specs.declared.ListTold.{ListTold}
 use Rattle.findings.specs.declared.ListTold.the-variants.{Silent, At}
 
@@ -40,34 +40,34 @@ errorEnd r =
     else r .to
 
 -- an error's row, as it is
-abbrev pub errorOf : Row → Told
+abbrev pub errorOf : Row → RowTold
 errorOf r = One (single error (r .error) (r .about) (r .from) (errorEnd r))
 
 -- E01 to E13; a left-over quote is told where the closing one is missing
-unfoldable pub errorTold : List ℕ → Bool → ℕ → Told
+unfoldable pub errorTold : List ℕ → Bool → ℕ → RowTold
 errorTold rows left p = if left && eqb (p + 1) (countOf rows) then Nothing else errorOf (rowAt rows p)
 
 -- W06; or E02 with the left-over quote. a and b are where the text and the left-over quote start
-unfoldable pub swallowTold : Bool → ℕ → ℕ → Told
+unfoldable pub swallowTold : Bool → ℕ → ℕ → RowTold
 swallowTold left a b =
     if left
     then One (both error kind.IncompleteString noDetail a (bytesOn 1 a) b (bytesOn 1 b))
     else One (single warning swallowing noDetail a (bytesOn 1 a))
 
 -- only the first swallower tells
-unfoldable pub textTold : List ℕ → ℕ → Bool → ℕ → Told
+unfoldable pub textTold : List ℕ → ℕ → Bool → ℕ → RowTold
 textTold rows first left p = if eqb p first then swallowTold left (rowAt rows p .start) (lastRow rows .start) else Nothing
 
 -- W07, with the byte that follows
-unfoldable pub numberTold : List ℕ → List ℕ → ℕ → Told
+unfoldable pub numberTold : List ℕ → List ℕ → ℕ → RowTold
 numberTold source rows p =
     let r : Row = rowAt rows p in
     if endsOtherwise source rows p then One (single warning modesDiffer (byteAt source (r .end)) (r .start) (r .end)) else Nothing
 
-unfoldable pub nameOrNothing : List ℕ → List ℕ → ℕ → Told
+unfoldable pub nameOrNothing : List ℕ → List ℕ → ℕ → RowTold
 nameOrNothing source rows p = if isName source rows p then nameTold source rows p else Nothing
 
-unfoldable pub rowTold : List ℕ → List ℕ → ℕ → Bool → ℕ → Told
+unfoldable pub rowTold : List ℕ → List ℕ → ℕ → Bool → ℕ → RowTold
 rowTold source rows first left p =
     let r : Row = rowAt rows p in
     if ltb 0 (r .error) then errorTold rows left p
@@ -77,7 +77,7 @@ rowTold source rows first left p =
     else Nothing
 
 -- the finding about lists, if it is told at row p
-abbrev pub listTold : ListTold → ℕ → Told
+abbrev pub listTold : ListTold → ℕ → RowTold
 listTold Silent p = Nothing
 listTold (At i f) p = if eqb i p then One f else Nothing
 

@@ -1,7 +1,7 @@
 // Findings in lent memory: counted, and written as long as there is room.
 use crate::Counted;
 use crate::Finding;
-use crate::Told;
+use crate::RowTold;
 use crate::codes::ERROR;
 use crate::codes::FINDING_WORDS;
 ghost use mathlib.Core.Path.{_≡_};
@@ -37,16 +37,16 @@ fn lay_one(findings: &mut [u32], n: usize, f: Finding)
 }
 
 // What a row tells, behind what was told before.
-pub fn lay(findings: &mut [u32], n: Counted, t: Told) -> Counted
+pub fn lay(findings: &mut [u32], n: Counted, t: RowTold) -> Counted
     requires { ⌜ (n .findings < 2 ^ 62) × (n .errors ≤ n .findings) ⌝ }
     ensures { λ r. ⌜ telling r (now (findings .exit)) ≡ telling (countOn n (listed t)) (laidBehind (n .findings) (listed t) (now (findings .entry))) ⌝ }
 {
     match t {
-        Told::Nothing => Counted {
+        RowTold::Nothing => Counted {
             findings: n.findings,
             errors: n.errors,
         },
-        Told::One(f) => {
+        RowTold::One(f) => {
             lay_one(findings, n.findings, f);
             if f.severity == ERROR {
                 return Counted {

@@ -46,7 +46,7 @@ pub struct Row {
 }
 
 // What a row tells.
-pub enum Told {
+pub enum RowTold {
     Nothing,
     One(Finding),
 }

@@ -3,8 +3,6 @@ use crate::rows;
 ghost use mathlib.Core.Path.{_≡_};
 ghost use Rattle.findings.specs.Lines.{isSpace, lineStart, firstOnLine};
 
-pub const NEWLINE: u8 = b'\n';
-
 // A space or a tab.
 pub fn is_space(b: u8) -> bool
     ensures { λ r. ⌜ r ≡ isSpace b ⌝ }
@@ -27,7 +25,7 @@ pub fn line_from(source: &[u8], from: usize, line: usize, to: usize) -> usize
         start = 0;
     }
     while i < to {
-        if rows::byte_at(source, i) == NEWLINE {
+        if rows::byte_at(source, i) == b'\n' {
             start = i + 1;
         }
         i += 1;
@@ -43,7 +41,7 @@ pub fn first_on_line(source: &[u8], a: usize) -> bool
     while 0 < i {
         i -= 1;
         let b = rows::byte_at(source, i);
-        if b == NEWLINE {
+        if b == b'\n' {
             return true;
         }
         if !is_space(b) {

@@ -10,8 +10,8 @@ use crate::codes::NOWHERE;
 use crate::codes::STRAY;
 use crate::misfits;
 use crate::rows;
+use items::RECORD_WORDS;
 use items::kinds;
-use meaning::records::WORDS;
 use nested::Nested;
 use refusal::BRACKET_OPEN;
 use refusal::MARK_WAITS;
@@ -209,7 +209,7 @@ fn mark_waits(rows: &[u32], p: usize) -> ListTold
 fn innermost_open(rows: &[u32]) -> ListTold
     ensures { λ r. ⌜ r ≡ innermost (now (rows .entry)) ⌝ }
 {
-    let count = rows.len() / WORDS;
+    let count = rows.len() / RECORD_WORDS;
     let depth = rows::depth_at(rows, count);
     at_row(rows, BRACKET_OPEN, depth, opener_of(rows, depth, count))
 }
@@ -218,7 +218,7 @@ fn innermost_open(rows: &[u32]) -> ListTold
 fn around_misfit(rows: &[u32], k: usize) -> ListTold
     ensures { λ r. ⌜ r ≡ around (now (rows .entry)) k ⌝ }
 {
-    let depth = rows::depth_at(rows, rows.len() / WORDS);
+    let depth = rows::depth_at(rows, rows.len() / RECORD_WORDS);
     let row = rows::row_at(rows, k);
     let q = opener_of(rows, row.depth, k);
     at_rows(rows, BRACKET_OPEN, depth, q, k)
@@ -243,7 +243,7 @@ fn bracket_open(source: &[u8], rows: &[u32]) -> ListTold
         return ListTold::Silent;
     }
     let k = misfits::first_misfit(source, rows);
-    if k < rows.len() / WORDS {
+    if k < rows.len() / RECORD_WORDS {
         return around_misfit(rows, k);
     }
     innermost_open(rows)

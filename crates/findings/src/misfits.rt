@@ -3,8 +3,8 @@
 use crate::Row;
 use crate::lines;
 use crate::rows;
+use items::RECORD_WORDS;
 use items::kinds;
-use meaning::records::WORDS;
 ghost use mathlib.Core.Path.{_≡_};
 ghost use mathlib.Core.Bool.{_&&_};
 ghost use Prim.Native.Nat.{_-_, _≤_};
@@ -77,7 +77,7 @@ fn is_misfit(source: &[u8], row: Row, line: usize, starts: &[usize], offsets: &[
 pub fn first_misfit(source: &[u8], rows: &[u32]) -> usize
     ensures { λ r. ⌜ r ≡ firstRow (isMisfit (now (source .entry)) (now (rows .entry))) (now (rows .entry)) ⌝ }
 {
-    let count = rows.len() / WORDS;
+    let count = rows.len() / RECORD_WORDS;
     let first = rows::row_at(rows, 0);
     let mut at = first.start as usize;
     let mut line = lines::line_from(source, 0, 0, at);

@@ -2,7 +2,7 @@
 use crate::Counted;
 use crate::FindAnswer;
 use crate::Finding;
-use crate::Told;
+use crate::RowTold;
 use crate::codes::ERROR;
 use crate::codes::NO_DETAIL;
 use crate::codes::NOWHERE;
@@ -11,7 +11,7 @@ use crate::rows;
 use crate::telling::tell;
 use chars::Utf8;
 use chars::first_bad;
-use meaning::records::WORDS;
+use items::RECORD_WORDS;
 use refusal::LIMIT;
 use refusal::NOT_UTF8;
 use refusal::TOO_LONG;
@@ -32,7 +32,7 @@ fn alone(rows: &[u32], findings: &mut [u32], f: Finding) -> FindAnswer
         findings: 0,
         errors: 0,
     };
-    let n = laying::lay(findings, none, Told::One(f));
+    let n = laying::lay(findings, none, RowTold::One(f));
     FindAnswer::Found(n.findings, n.errors)
 }
 
@@ -59,10 +59,10 @@ fn find_good(source: &[u8], rows: &mut [u32], findings: &mut [u32]) -> FindAnswe
         ≡ delivered (toldOf (now (source .entry)) (flat (rowsOf (now (source .entry))))) (rowsOf (now (source .entry))) (now (rows .entry)) (now (findings .entry)) ⌝ }
 {
     let count = findings_rows::rows(source, rows);
-    if rows.len() / WORDS < count {
+    if rows.len() / RECORD_WORDS < count {
         return FindAnswer::TooFew(count);
     }
-    let end = count * WORDS;
+    let end = count * RECORD_WORDS;
     let n = tell(source, &rows[..end], findings);
     FindAnswer::Found(n.findings, n.errors)
 }

@@ -1,7 +1,7 @@
 // Bytes and rows by their places, with a default past the end.
 use crate::Row;
+use items::RECORD_WORDS;
 use items::kinds;
-use meaning::records::WORDS;
 use meaning::records::depth_after;
 use refusal::LIMIT;
 ghost use mathlib.Core.Path.{_≡_};
@@ -43,8 +43,8 @@ pub fn bytes_on(n: u32, a: u32) -> u32
 pub fn row_at(rows: &[u32], p: usize) -> Row
     ensures { λ r. ⌜ r ≡ rowAt (now (rows .entry)) p ⌝ }
 {
-    if p < rows.len() / WORDS {
-        let i = p * WORDS;
+    if p < rows.len() / RECORD_WORDS {
+        let i = p * RECORD_WORDS;
         return Row {
             kind: rows[i],
             start: rows[i + 2],
@@ -72,7 +72,7 @@ pub fn row_at(rows: &[u32], p: usize) -> Row
 pub fn last_row(rows: &[u32]) -> Row
     ensures { λ r. ⌜ r ≡ lastRow (now (rows .entry)) ⌝ }
 {
-    let count = rows.len() / WORDS;
+    let count = rows.len() / RECORD_WORDS;
     if count == 0 {
         return row_at(rows, 0);
     }
@@ -83,7 +83,7 @@ pub fn last_row(rows: &[u32]) -> Row
 pub fn depth_at(rows: &[u32], p: usize) -> u32
     ensures { λ r. ⌜ r ≡ depthAt (now (rows .entry)) p ⌝ }
 {
-    if p < rows.len() / WORDS {
+    if p < rows.len() / RECORD_WORDS {
         let row = row_at(rows, p);
         return row.depth;
     }

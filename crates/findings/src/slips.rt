@@ -1,6 +1,6 @@
 // The tests of names: each answers for one row.
 use crate::Finding;
-use crate::Told;
+use crate::RowTold;
 use crate::codes::COMMA_NUMBER;
 use crate::codes::INVISIBLE;
 use crate::codes::NO_DETAIL;
@@ -29,10 +29,10 @@ const FIRST_PLAIN: u8 = b' ';
 const LAST_PLAIN: u8 = b'~';
 
 // A warning with no second place.
-pub fn warn(code: u32, detail: u32, start: u32, end: u32) -> Told
-    ensures { λ r. ⌜ r ≡ Told.One (single warning code detail start end) ⌝ }
+pub fn warn(code: u32, detail: u32, start: u32, end: u32) -> RowTold
+    ensures { λ r. ⌜ r ≡ RowTold.One (single warning code detail start end) ⌝ }
 {
-    Told::One(Finding {
+    RowTold::One(Finding {
         severity: WARNING,
         code,
         detail,
@@ -156,7 +156,7 @@ fn is_plain(b: u8) -> bool
 }
 
 // The first odd character of a part that starts at the place a.
-fn first_odd(part: &[u8], a: usize) -> Told
+fn first_odd(part: &[u8], a: usize) -> RowTold
     requires { ⌜ a + length (now part) ≤ limit ⌝ }
     ensures { λ r. ⌜ r ≡ firstOdd (sequences 0 a (now (part .entry))) ⌝ }
 {
@@ -174,22 +174,22 @@ fn first_odd(part: &[u8], a: usize) -> Told
                     i = next;
                 }
                 Decoded::Bad => {
-                    return Told::Nothing;
+                    return RowTold::Nothing;
                 }
                 Decoded::Cut => {
-                    return Told::Nothing;
+                    return RowTold::Nothing;
                 }
                 Decoded::End => {
-                    return Told::Nothing;
+                    return RowTold::Nothing;
                 }
             }
         }
     }
-    Told::Nothing
+    RowTold::Nothing
 }
 
 // The first odd character of an extent.
-fn odd_in(source: &[u8], start: u32, end: u32) -> Told
+fn odd_in(source: &[u8], start: u32, end: u32) -> RowTold
     ensures { λ r. ⌜ r ≡ oddIn (now (source .entry)) start end ⌝ }
 {
     let part = rows::part(source, start as usize, end as usize);
@@ -261,7 +261,7 @@ fn length_of(start: u32, end: u32) -> u32
 }
 
 // W01 or W02.
-fn number_slip(source: &[u8], rows: &[u32], p: usize) -> Told
+fn number_slip(source: &[u8], rows: &[u32], p: usize) -> RowTold
     requires { ⌜ p < countOf (now rows) ⌝ }
     ensures { λ r. ⌜ r ≡ numberSlip (now (source .entry)) (now (rows .entry)) p ⌝ }
 {
@@ -278,18 +278,18 @@ fn number_slip(source: &[u8], rows: &[u32], p: usize) -> Told
         }
         return warn(NUMBER_NAME, NO_DETAIL, row.start, row.end);
     }
-    Told::Nothing
+    RowTold::Nothing
 }
 
 // What the name of row p tells.
-pub fn name_told(source: &[u8], rows: &[u32], p: usize) -> Told
+pub fn name_told(source: &[u8], rows: &[u32], p: usize) -> RowTold
     requires { ⌜ p < countOf (now rows) ⌝ }
     ensures { λ r. ⌜ r ≡ nameTold (now (source .entry)) (now (rows .entry)) p ⌝ }
 {
     let row = rows::row_at(rows, p);
     let odd = odd_in(source, row.start, row.end);
     match odd {
-        Told::Nothing => number_slip(source, rows, p),
-        Told::One(f) => Told::One(f),
+        RowTold::Nothing => number_slip(source, rows, p),
+        RowTold::One(f) => RowTold::One(f),
     }
 }

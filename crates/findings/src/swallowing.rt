@@ -1,8 +1,8 @@
 // Texts that pass a line's end before a `(`.
 use crate::lines;
 use crate::rows;
+use items::RECORD_WORDS;
 use items::kinds;
-use meaning::records::WORDS;
 ghost use mathlib.Core.Path.{_≡_};
 ghost use mathlib.Core.Bool.{_&&_, false};
 ghost use lib.Dec.{eqb};
@@ -38,7 +38,7 @@ fn has_swallowed(part: &[u8]) -> bool
     let mut i: usize = 0;
     while i < part.len() {
         let b = part[i];
-        if b == lines::NEWLINE {
+        if b == b'\n' {
             fresh = true;
         } else {
             if opens_line(fresh, b) {
@@ -69,7 +69,7 @@ fn is_swallower(source: &[u8], rows: &[u32], p: usize) -> bool
 pub fn first_swallower(source: &[u8], rows: &[u32]) -> usize
     ensures { λ r. ⌜ r ≡ swallower (now (source .entry)) (now (rows .entry)) ⌝ }
 {
-    let count = rows.len() / WORDS;
+    let count = rows.len() / RECORD_WORDS;
     let mut p: usize = 0;
     while p < count {
         if is_swallower(source, rows, p) {

@@ -3,7 +3,7 @@ use crate::Counted;
 use crate::Finding;
 use crate::ListTold;
 use crate::Row;
-use crate::Told;
+use crate::RowTold;
 use crate::codes::ERROR;
 use crate::codes::MODES_DIFFER;
 use crate::codes::NO_DETAIL;
@@ -14,8 +14,8 @@ use crate::lists;
 use crate::rows;
 use crate::slips;
 use crate::swallowing;
+use items::RECORD_WORDS;
 use items::kinds;
-use meaning::records::WORDS;
 ghost use mathlib.Core.Path.{_≡_};
 ghost use mathlib.Core.Bool.{_&&_};
 ghost use Prim.Native.Nat.{_+_, _<_};
@@ -40,7 +40,7 @@ fn ends_in_text(source: &[u8], rows: &[u32]) -> bool
 fn is_left_over(source: &[u8], rows: &[u32], first: usize) -> bool
     ensures { λ r. ⌜ r ≡ (ltb first (countOf (now (rows .entry))) && endsInText (now (source .entry)) (now (rows .entry))) ⌝ }
 {
-    if first < rows.len() / WORDS {
+    if first < rows.len() / RECORD_WORDS {
         return ends_in_text(source, rows);
     }
     false
@@ -68,17 +68,17 @@ fn is_left_quote(rows: &[u32], left: bool, p: usize) -> bool
     ensures { λ r. ⌜ r ≡ (left && eqb (p + 1) (countOf (now (rows .entry)))) ⌝ }
 {
     if left {
-        return p + 1 == rows.len() / WORDS;
+        return p + 1 == rows.len() / RECORD_WORDS;
     }
     false
 }
 
 // An error's row, as it is.
-fn error_of(row: Row) -> Told
+fn error_of(row: Row) -> RowTold
     ensures { λ r. ⌜ r ≡ errorOf row ⌝ }
 {
     let end = error_end(row);
-    Told::One(Finding {
+    RowTold::One(Finding {
         severity: ERROR,
         code: row.error,
         detail: row.about,
@@ -90,22 +90,22 @@ fn error_of(row: Row) -> Told
 }
 
 // E01 to E13.
-fn error_told(rows: &[u32], left: bool, p: usize) -> Told
+fn error_told(rows: &[u32], left: bool, p: usize) -> RowTold
     requires { ⌜ p < countOf (now rows) ⌝ }
     ensures { λ r. ⌜ r ≡ errorTold (now (rows .entry)) left p ⌝ }
 {
     if is_left_quote(rows, left, p) {
-        return Told::Nothing;
+        return RowTold::Nothing;
     }
     error_of(rows::row_at(rows, p))
 }
 
 // The text that has swallowed a line's end, by where it and the left-over quote start.
-fn swallow_told(left: bool, a: u32, b: u32) -> Told
+fn swallow_told(left: bool, a: u32, b: u32) -> RowTold
     ensures { λ r. ⌜ r ≡ swallowTold left a b ⌝ }
 {
     if left {
-        return Told::One(Finding {
+        return RowTold::One(Finding {
             severity: ERROR,
             code: kinds::INCOMPLETE_STRING,
             detail: NO_DETAIL,
@@ -119,7 +119,7 @@ fn swallow_told(left: bool, a: u32, b: u32) -> Told
 }
 
 // W06 or E02.
-fn text_told(rows: &[u32], first: usize, left: bool, p: usize) -> Told
+fn text_told(rows: &[u32], first: usize, left: bool, p: usize) -> RowTold
     ensures { λ r. ⌜ r ≡ textTold (now (rows .entry)) first left p ⌝ }
 {
     if p == first {
@@ -127,7 +127,7 @@ fn text_told(rows: &[u32], first: usize, left: bool, p: usize) -> Told
         let last = rows::last_row(rows);
         return swallow_told(left, row.start, last.start);
     }
-    Told::Nothing
+    RowTold::Nothing
 }
 
 // `;`, `"` or `|`, which end a number in report mode only.
@@ -144,7 +144,7 @@ fn ends_in_report(b: u8) -> bool
 }
 
 // W07.
-fn number_told(source: &[u8], rows: &[u32], p: usize) -> Told
+fn number_told(source: &[u8], rows: &[u32], p: usize) -> RowTold
     ensures { λ r. ⌜ r ≡ numberTold (now (source .entry)) (now (rows .entry)) p ⌝ }
 {
     let row = rows::row_at(rows, p);
@@ -152,22 +152,22 @@ fn number_told(source: &[u8], rows: &[u32], p: usize) -> Told
     if ends_in_report(b) {
         return slips::warn(MODES_DIFFER, b as u32, row.start, row.end);
     }
-    Told::Nothing
+    RowTold::Nothing
 }
 
 // A name that warnings are told of, and no other, tells something.
-fn name_or_nothing(source: &[u8], rows: &[u32], p: usize) -> Told
+fn name_or_nothing(source: &[u8], rows: &[u32], p: usize) -> RowTold
     requires { ⌜ p < countOf (now rows) ⌝ }
     ensures { λ r. ⌜ r ≡ nameOrNothing (now (source .entry)) (now (rows .entry)) p ⌝ }
 {
     if slips::is_name(source, rows, p) {
         return slips::name_told(source, rows, p);
     }
-    Told::Nothing
+    RowTold::Nothing
 }
 
 // What row p tells.
-fn row_told(source: &[u8], rows: &[u32], first: usize, left: bool, p: usize) -> Told
+fn row_told(source: &[u8], rows: &[u32], first: usize, left: bool, p: usize) -> RowTold
     requires { ⌜ p < countOf (now rows) ⌝ }
     ensures { λ r. ⌜ r ≡ rowTold (now (source .entry)) (now (rows .entry)) first left p ⌝ }
 {
@@ -184,20 +184,20 @@ fn row_told(source: &[u8], rows: &[u32], first: usize, left: bool, p: usize) -> 
     if row.kind == kinds::NUMBER {
         return number_told(source, rows, p);
     }
-    Told::Nothing
+    RowTold::Nothing
 }
 
 // The finding about lists, if row p tells it.
-fn list_told(list: ListTold, p: usize) -> Told
+fn list_told(list: ListTold, p: usize) -> RowTold
     ensures { λ r. ⌜ r ≡ listTold list p ⌝ }
 {
     match list {
-        ListTold::Silent => Told::Nothing,
+        ListTold::Silent => RowTold::Nothing,
         ListTold::At(i, f) => {
             if i == p {
-                return Told::One(f);
+                return RowTold::One(f);
             }
-            Told::Nothing
+            RowTold::Nothing
         }
     }
 }
@@ -209,7 +209,7 @@ pub fn tell(source: &[u8], rows: &[u32], findings: &mut [u32]) -> Counted
     let list = lists::list_of(source, rows);
     let first = swallowing::first_swallower(source, rows);
     let left = is_left_over(source, rows, first);
-    let count = rows.len() / WORDS;
+    let count = rows.len() / RECORD_WORDS;
     let mut n = Counted {
         findings: 0,
         errors: 0,

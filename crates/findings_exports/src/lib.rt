@@ -1,25 +1,11 @@
 // The call of the crate `findings` for programs in C and Rust: its answer as a number and two values.
+use exports_values::put_values;
 use findings::FindAnswer;
 use refusal::SERVED;
 use refusal::TOO_FEW;
 ghost use mathlib.Core.Path.{_≡_};
-ghost use mathlib.Core.List.{[], _∷_};
 ghost use Rattle.chars.specs.Encode.{lay};
 ghost use Rattle.findings_exports.specs.Told.{numberIn, valuesIn, leftBehind, findLeft};
-
-// How many values are written.
-const VALUES: usize = 2;
-
-// Writes both values, if there is room for them.
-fn put_values(values: &mut [u64], first: u64, second: u64)
-    ensures { λ _. ⌜ now (values .exit) ≡ lay (first ∷ second ∷ []) (now (values .entry)) ⌝ }
-{
-    if values.len() < VALUES {
-        return;
-    }
-    values[0] = first;
-    values[1] = second;
-}
 
 // An answer told: its values go to the lent memory, and its number back.
 fn tell(a: FindAnswer, values: &mut [u64]) -> u32

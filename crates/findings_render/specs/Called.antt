@@ -5,12 +5,12 @@ use mathlib.Core.List.{List, []}
 use lib.Dec.{eqb}
 use Rattle.laws.specs.Choice.{if_then_else_}
 use Rattle.laws.specs.Quoted.{code}
-use Rattle.findings_render_messages.specs.declared.Told.{Told}
+use Rattle.findings_render_messages.specs.declared.ToldFinding.{ToldFinding}
 use Rattle.findings_render_messages.specs.Messages.{toldOf, isTold}
 use Rattle.findings_render.specs.Rendered.{lines}
 use Rattle.findings_render.specs.Json.{json}
 
-abbrev pub inStyle : ℕ → Bool → Told → List ℕ → List ℕ → List ℕ
+abbrev pub inStyle : ℕ → Bool → ToldFinding → List ℕ → List ℕ → List ℕ
 inStyle style colour t s name =
     if eqb style 0 then lines true colour t s name
     else if eqb style 1 then lines false colour t s name

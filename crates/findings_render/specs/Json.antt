@@ -7,7 +7,7 @@ use lib.ListN.{take}
 use Rattle.laws.specs.Choice.{if_then_else_}
 use Rattle.laws.specs.Quoted.{codes, code}
 use Rattle.findings_render_parts.specs.declared.Seen.{Seen}
-use Rattle.findings_render_messages.specs.declared.Told.{Told}
+use Rattle.findings_render_messages.specs.declared.ToldFinding.{ToldFinding}
 use Rattle.findings_render_parts.specs.Laid.{marked}
 use Rattle.findings_render_parts.specs.Printed.{digits, number}
 use Rattle.findings_render_parts.specs.Shown.{asByte, walked}
@@ -33,28 +33,28 @@ spotFields line column s p = line ++ (number (lineNumber s p) ++ (column ++ numb
 unfoldable pub byteFields : ℕ → ℕ → List ℕ
 byteFields p q = codes ",\"byte\":" ++ (number p ++ (codes ",\"end_byte\":" ++ number q))
 
-unfoldable pub placeFields : Told → List ℕ → List ℕ
+unfoldable pub placeFields : ToldFinding → List ℕ → List ℕ
 placeFields t s =
     spotFields (codes "\",\"line\":") (codes ",\"column\":") s (t .start)
     ++ (spotFields (codes ",\"end_line\":") (codes ",\"end_column\":") s (t .end) ++ byteFields (t .start) (t .end))
 
-unfoldable pub wordFields : Told → List ℕ → List ℕ
+unfoldable pub wordFields : ToldFinding → List ℕ → List ℕ
 wordFields t s =
     codes ",\"severity\":\""
     ++ (severityWord t
     ++ (codes "\",\"code\":\"" ++ (codeOf t ++ (codes "\",\"message\":\"" ++ (marked true (textOf t s (code ".")) ++ codes "\"")))))
 
-unfoldable pub helpField : Told → List ℕ → List ℕ
+unfoldable pub helpField : ToldFinding → List ℕ → List ℕ
 helpField t s =
     if isTold t (code "?") then codes ",\"help\":\"" ++ (marked true (textOf t s (code "?")) ++ codes "\"") else codes ",\"help\":null"
 
-unfoldable pub seeField : Told → List ℕ → List ℕ
+unfoldable pub seeField : ToldFinding → List ℕ → List ℕ
 seeField t s =
     if isTold t (code "!")
     then spotFields (codes ",\"see\":{\"line\":") (codes ",\"column\":") s (t .from)
     ++ (byteFields (t .from) (t .to) ++ (codes ",\"message\":\"" ++ (marked true (textOf t s (code "!")) ++ codes "\"}")))
     else codes ",\"see\":null"
 
-unfoldable pub json : Told → List ℕ → List ℕ → List ℕ
+unfoldable pub json : ToldFinding → List ℕ → List ℕ → List ℕ
 json t s name =
     codes "{\"file\":\"" ++ (nameString name ++ (placeFields t s ++ (wordFields t s ++ (helpField t s ++ (seeField t s ++ codes "}\n")))))

@@ -10,7 +10,7 @@ use lib.Dec.{eqb, ltb}
 use lib.ListN.{take, drop}
 use Rattle.laws.specs.Choice.{if_then_else_}
 use Rattle.laws.specs.Quoted.{codes, code}
-use Rattle.findings_render_messages.specs.declared.Told.{Told}
+use Rattle.findings_render_messages.specs.declared.ToldFinding.{ToldFinding}
 use Rattle.findings_render_parts.specs.declared.Window.{Window}
 use Rattle.findings_render_parts.specs.Printed.{number, aligned}
 use Rattle.findings_render_parts.specs.Shown.{shown, under, carets}
@@ -72,31 +72,31 @@ picture colour s p q = lineOf s (windowOf s p) (lineNumber s p) ++ underLine col
 unfoldable pub spot : List ℕ → List ℕ → ℕ → List ℕ
 spot name s p = name ++ (codes ":" ++ (number (lineNumber s p) ++ (codes ":" ++ (number (columnNumber s p) ++ codes ": "))))
 
-abbrev pub isError : Told → Bool
+abbrev pub isError : ToldFinding → Bool
 isError t = ltb 1 (t .severity)
 
-unfoldable pub severityWord : Told → List ℕ
+unfoldable pub severityWord : ToldFinding → List ℕ
 severityWord t = if isError t then codes "error" else codes "warning"
 
-unfoldable pub severity : Bool → Told → List ℕ
+unfoldable pub severity : Bool → ToldFinding → List ℕ
 severity colour t = onlyIf colour (if isError t then red else magenta) ++ (severityWord t ++ (codes ": " ++ onlyIf colour plain))
 
 -- `NAME:LINE:COLUMN: error: MESSAGE [E41]`
-unfoldable pub headline : Bool → Told → List ℕ → List ℕ → List ℕ
+unfoldable pub headline : Bool → ToldFinding → List ℕ → List ℕ → List ℕ
 headline colour t s name = spot name s (t .start) ++ (severity colour t ++ (textOf t s (code ".") ++ (codes " [" ++ (codeOf t ++ codes "]\n"))))
 
-unfoldable pub help : Told → List ℕ → List ℕ
+unfoldable pub help : ToldFinding → List ℕ → List ℕ
 help t s = if isTold t (code "?") then codes "      = help: " ++ (textOf t s (code "?") ++ codes "\n") else []
 
-unfoldable pub note : Bool → Bool → Told → List ℕ → List ℕ → List ℕ
+unfoldable pub note : Bool → Bool → ToldFinding → List ℕ → List ℕ → List ℕ
 note full colour t s name =
     if isTold t (code "!")
     then spot name s (t .from) ++ (codes "note: " ++ (textOf t s (code "!") ++ (codes "\n" ++ onlyIf full (picture colour s (t .from) (t .to)))))
     else []
 
 -- what stands under the headline, in full
-unfoldable pub body : Bool → Told → List ℕ → List ℕ
+unfoldable pub body : Bool → ToldFinding → List ℕ → List ℕ
 body colour t s = picture colour s (t .start) (t .end) ++ help t s
 
-unfoldable pub lines : Bool → Bool → Told → List ℕ → List ℕ → List ℕ
+unfoldable pub lines : Bool → Bool → ToldFinding → List ℕ → List ℕ → List ℕ
 lines full colour t s name = headline colour t s name ++ (onlyIf full (body colour t s) ++ note full colour t s name)

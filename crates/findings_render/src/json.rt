@@ -3,7 +3,7 @@ use crate::lines::put_severity_word;
 use findings_render_messages::HELP;
 use findings_render_messages::MESSAGE;
 use findings_render_messages::NOTE;
-use findings_render_messages::Told;
+use findings_render_messages::ToldFinding;
 use findings_render_messages::code_of;
 use findings_render_messages::is_told;
 use findings_render_messages::put_text;
@@ -77,7 +77,7 @@ fn put_byte_fields(out: &mut [u8], at: usize, p: usize, q: usize) -> usize
     put_number(out, second, false, q)
 }
 
-fn put_place_fields(out: &mut [u8], at: usize, t: Told, s: &[u8]) -> usize
+fn put_place_fields(out: &mut [u8], at: usize, t: ToldFinding, s: &[u8]) -> usize
     requires { ⌜ IsPlace (now s) (t .start) × IsPlace (now s) (t .end) ⌝ }
     ensures { λ r. ⌜ Laid false (placeFields t (now (s .entry))) at (now (out .entry)) r (now (out .exit)) ⌝ }
 {
@@ -86,7 +86,7 @@ fn put_place_fields(out: &mut [u8], at: usize, t: Told, s: &[u8]) -> usize
     put_byte_fields(out, ended, t.start, t.end)
 }
 
-fn put_word_fields(out: &mut [u8], at: usize, t: Told, s: &[u8]) -> usize
+fn put_word_fields(out: &mut [u8], at: usize, t: ToldFinding, s: &[u8]) -> usize
     ensures { λ r. ⌜ Laid false (wordFields t (now (s .entry))) at (now (out .entry)) r (now (out .exit)) ⌝ }
 {
     let first = put(out, at, false, b",\"severity\":\"");
@@ -99,7 +99,7 @@ fn put_word_fields(out: &mut [u8], at: usize, t: Told, s: &[u8]) -> usize
     put(out, worded, false, b"\"")
 }
 
-fn put_help_field(out: &mut [u8], at: usize, t: Told, s: &[u8]) -> usize
+fn put_help_field(out: &mut [u8], at: usize, t: ToldFinding, s: &[u8]) -> usize
     ensures { λ r. ⌜ Laid false (helpField t (now (s .entry))) at (now (out .entry)) r (now (out .exit)) ⌝ }
 {
     if !is_told(t, HELP) {
@@ -110,7 +110,7 @@ fn put_help_field(out: &mut [u8], at: usize, t: Told, s: &[u8]) -> usize
     put(out, worded, false, b"\"")
 }
 
-fn put_see_field(out: &mut [u8], at: usize, t: Told, s: &[u8]) -> usize
+fn put_see_field(out: &mut [u8], at: usize, t: ToldFinding, s: &[u8]) -> usize
     requires { ⌜ IsPlace (now s) (t .from) ⌝ }
     ensures { λ r. ⌜ Laid false (seeField t (now (s .entry))) at (now (out .entry)) r (now (out .exit)) ⌝ }
 {
@@ -125,7 +125,7 @@ fn put_see_field(out: &mut [u8], at: usize, t: Told, s: &[u8]) -> usize
 }
 
 // A finding as an object of JSON.
-pub fn put_json(out: &mut [u8], at: usize, t: Told, s: &[u8], name: &[u8]) -> usize
+pub fn put_json(out: &mut [u8], at: usize, t: ToldFinding, s: &[u8], name: &[u8]) -> usize
     requires { ⌜ IsPlace (now s) (t .start) × IsPlace (now s) (t .end) ⌝ }
     requires { ⌜ IsPlace (now s) (t .from) ⌝ }
     ensures { λ r. ⌜ Laid false (json t (now (s .entry)) (now (name .entry))) at (now (out .entry)) r (now (out .exit)) ⌝ }

@@ -3,7 +3,7 @@
 use crate::json::put_json;
 use crate::lines::put_lines;
 use findings_render_messages::MESSAGE;
-use findings_render_messages::Told;
+use findings_render_messages::ToldFinding;
 use findings_render_messages::is_told;
 ghost use mathlib.Core.Path.{_≡_};
 ghost use mathlib.Core.Bool.{false};
@@ -47,13 +47,13 @@ fn within(s: &[u8], place: u32) -> usize
     place as usize
 }
 
-fn read_words(finding: &[u32], s: &[u8]) -> Told
+fn read_words(finding: &[u32], s: &[u8]) -> ToldFinding
     ensures { λ r. ⌜ (r ≡ toldOf (now (finding .entry)) (now (s .entry)))
         × IsPlace (now (s .entry)) (r .start)
         × IsPlace (now (s .entry)) (r .end)
         × IsPlace (now (s .entry)) (r .from) ⌝ }
 {
-    Told {
+    ToldFinding {
         severity: word(finding, 0),
         code: word(finding, 1),
         detail: word(finding, 2),
@@ -64,7 +64,14 @@ fn read_words(finding: &[u32], s: &[u8]) -> Told
     }
 }
 
-fn put_style(out: &mut [u8], style: u32, colour: bool, t: Told, s: &[u8], name: &[u8]) -> usize
+fn put_style(
+    out: &mut [u8],
+    style: u32,
+    colour: bool,
+    t: ToldFinding,
+    s: &[u8],
+    name: &[u8],
+) -> usize
     requires { ⌜ IsPlace (now s) (t .start) × IsPlace (now s) (t .end) ⌝ }
     requires { ⌜ IsPlace (now s) (t .from) ⌝ }
     ensures { λ r. ⌜ Laid false (inStyle style colour t (now (s .entry)) (now (name .entry))) 0 (now (out .entry)) r (now (out .exit)) ⌝ }

@@ -4,7 +4,7 @@ use crate::picture::put_picture;
 use findings_render_messages::HELP;
 use findings_render_messages::MESSAGE;
 use findings_render_messages::NOTE;
-use findings_render_messages::Told;
+use findings_render_messages::ToldFinding;
 use findings_render_messages::code_of;
 use findings_render_messages::is_told;
 use findings_render_messages::put_text;
@@ -35,7 +35,7 @@ fn put_spot(out: &mut [u8], at: usize, name: &[u8], s: &[u8], p: usize) -> usize
 }
 
 // `error` or `warning`.
-pub fn put_severity_word(out: &mut [u8], at: usize, t: Told) -> usize
+pub fn put_severity_word(out: &mut [u8], at: usize, t: ToldFinding) -> usize
     ensures { λ r. ⌜ Laid false (severityWord t) at (now (out .entry)) r (now (out .exit)) ⌝ }
 {
     if WARNING < t.severity {
@@ -44,7 +44,7 @@ pub fn put_severity_word(out: &mut [u8], at: usize, t: Told) -> usize
     put(out, at, false, b"warning")
 }
 
-fn put_paint(out: &mut [u8], at: usize, colour: bool, t: Told) -> usize
+fn put_paint(out: &mut [u8], at: usize, colour: bool, t: ToldFinding) -> usize
     ensures { λ r. ⌜ Laid false (onlyIf colour (if isError t then red else magenta)) at (now (out .entry)) r (now (out .exit)) ⌝ }
 {
     if WARNING < t.severity {
@@ -53,7 +53,7 @@ fn put_paint(out: &mut [u8], at: usize, colour: bool, t: Told) -> usize
     put_if(out, at, colour, b"\x1b[1;35m")
 }
 
-fn put_severity(out: &mut [u8], at: usize, colour: bool, t: Told) -> usize
+fn put_severity(out: &mut [u8], at: usize, colour: bool, t: ToldFinding) -> usize
     ensures { λ r. ⌜ Laid false (severity colour t) at (now (out .entry)) r (now (out .exit)) ⌝ }
 {
     let painted = put_paint(out, at, colour, t);
@@ -62,7 +62,14 @@ fn put_severity(out: &mut [u8], at: usize, colour: bool, t: Told) -> usize
     put_if(out, ended, colour, b"\x1b[0m")
 }
 
-fn put_headline(out: &mut [u8], at: usize, colour: bool, t: Told, s: &[u8], name: &[u8]) -> usize
+fn put_headline(
+    out: &mut [u8],
+    at: usize,
+    colour: bool,
+    t: ToldFinding,
+    s: &[u8],
+    name: &[u8],
+) -> usize
     requires { ⌜ IsPlace (now s) (t .start) ⌝ }
     ensures { λ r. ⌜ Laid false (headline colour t (now (s .entry)) (now (name .entry))) at (now (out .entry)) r (now (out .exit)) ⌝ }
 {
@@ -75,7 +82,7 @@ fn put_headline(out: &mut [u8], at: usize, colour: bool, t: Told, s: &[u8], name
     put(out, coded, false, b"]\n")
 }
 
-fn put_help(out: &mut [u8], at: usize, t: Told, s: &[u8]) -> usize
+fn put_help(out: &mut [u8], at: usize, t: ToldFinding, s: &[u8]) -> usize
     ensures { λ r. ⌜ Laid false (help t (now (s .entry))) at (now (out .entry)) r (now (out .exit)) ⌝ }
 {
     if !is_told(t, HELP) {
@@ -109,7 +116,7 @@ fn put_note(
     at: usize,
     full: bool,
     colour: bool,
-    t: Told,
+    t: ToldFinding,
     s: &[u8],
     name: &[u8],
 ) -> usize
@@ -127,7 +134,14 @@ fn put_note(
 }
 
 // What stands under the headline, in full.
-fn put_body_if(out: &mut [u8], at: usize, full: bool, colour: bool, t: Told, s: &[u8]) -> usize
+fn put_body_if(
+    out: &mut [u8],
+    at: usize,
+    full: bool,
+    colour: bool,
+    t: ToldFinding,
+    s: &[u8],
+) -> usize
     requires { ⌜ IsPlace (now s) (t .start) ⌝ }
     ensures { λ r. ⌜ Laid false (onlyIf full (body colour t (now (s .entry)))) at (now (out .entry)) r (now (out .exit)) ⌝ }
 {
@@ -144,7 +158,7 @@ pub fn put_lines(
     at: usize,
     full: bool,
     colour: bool,
-    t: Told,
+    t: ToldFinding,
     s: &[u8],
     name: &[u8],
 ) -> usize

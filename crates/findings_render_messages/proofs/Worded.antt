@@ -12,7 +12,7 @@ use Rattle.laws.specs.Choice.{if_then_else_}
 use Rattle.laws.specs.Texts.{before, begins}
 use Rattle.laws.proofs.Choice.{and-true, no-yes}
 use Rattle.laws.proofs.Places.{past, here}
-use Rattle.findings_render_messages.specs.declared.Told.{Told}
+use Rattle.findings_render_messages.specs.declared.ToldFinding.{ToldFinding}
 use Rattle.findings_render_parts.specs.Shown.{isNil}
 use Rattle.findings_render_messages.specs.Messages.{behind, pieceOf, inserted, filled}
 
@@ -45,7 +45,7 @@ pub piece-is : (key t : List ℕ) (from end : ℕ) → drop from t ≡ behind ke
 unfolding pieceOf
 piece-is key t from end h e = let n : end - from ≡ before 0 (drop from t) = omega arith in rw (n, h)
 
-module _ (t : Told) (s text : List ℕ) (i : ℕ) where
+module _ (t : ToldFinding) (s text : List ℕ) (i : ℕ) where
   pub filled-on : i < length text → filled t s (drop i text) ≡ inserted t s (getD text i 0) ++ filled t s (drop (i + 1) text)
   unfolding filled
   filled-on h = rw (here text i h)

@@ -7,7 +7,7 @@ use lib.ListN.{length, getD, take, drop}
 use Rattle.laws.specs.Choice.{if_then_else_}
 use Rattle.laws.specs.Quoted.{codes, code, oneOf}
 use Rattle.laws.specs.Texts.{before, begins}
-use Rattle.findings_render_messages.specs.declared.Told.{Told}
+use Rattle.findings_render_messages.specs.declared.ToldFinding.{ToldFinding}
 use Rattle.findings_render_parts.specs.Printed.{digit, digits, hexCount, number}
 use Rattle.findings_render_parts.specs.Shown.{shown, isNil}
 
@@ -85,7 +85,7 @@ pieceOf key t = take (before 0 (behind key true t)) (behind key true t)
 abbrev pub cut : List ℕ → ℕ → ℕ
 cut s p = if ltb (length s) p then length s else p
 
-unfoldable pub toldOf : List ℕ → List ℕ → Told
+unfoldable pub toldOf : List ℕ → List ℕ → ToldFinding
 toldOf f s =
     record {
       severity = getD f 0 0;
@@ -98,7 +98,7 @@ toldOf f s =
     }
 
 -- E for an error, 2, and W for a warning, 1, or one that counts as an error, 3; codes have two digits
-unfoldable pub letterOf : Told → ℕ
+unfoldable pub letterOf : ToldFinding → ℕ
 letterOf t =
     if ltb 99 (t .code) then 0
     else if eqb (t .severity) 2 then code "E"
@@ -107,27 +107,27 @@ letterOf t =
     else 0
 
 -- E11, E41 and E42 differ by their detail, E02 and E40 by whether there is a second place, and E40 by how many brackets are open
-unfoldable pub variantOf : Told → ℕ
+unfoldable pub variantOf : ToldFinding → ℕ
 variantOf t =
     if oneOf (11 ∷ 41 ∷ 42 ∷ []) (t .code) then (if ltb (t .detail) 9 then t .detail else 9)
     else if oneOf (2 ∷ 40 ∷ []) (t .code) then (if ltb (t .from) (t .to) then 2 else if ltb 1 (t .detail) then 1 else 0)
     else 0
 
-unfoldable pub codeOf : Told → List ℕ
+unfoldable pub codeOf : ToldFinding → List ℕ
 codeOf t = letterOf t ∷ digit ((t .code / 10) % 10) ∷ digit (t .code % 10) ∷ []
 
-unfoldable pub keyOf : Told → ℕ → List ℕ
+unfoldable pub keyOf : ToldFinding → ℕ → List ℕ
 keyOf t which = letterOf t ∷ digit ((t .code / 10) % 10) ∷ digit (t .code % 10) ∷ digit (variantOf t) ∷ which ∷ []
 
 -- ---- its texts
 
-abbrev pub placeText : Told → List ℕ → List ℕ
+abbrev pub placeText : ToldFinding → List ℕ → List ℕ
 placeText t s = take (t .end - t .start) (drop (t .start) s)
 
-abbrev pub seeText : Told → List ℕ → List ℕ
+abbrev pub seeText : ToldFinding → List ℕ → List ℕ
 seeText t s = take (t .to - t .from) (drop (t .from) s)
 
-unfoldable pub insertedMore : Told → List ℕ → ℕ → List ℕ
+unfoldable pub insertedMore : ToldFinding → List ℕ → ℕ → List ℕ
 insertedMore t s b =
     if eqb b (code "*") then digits true (hexCount (t .detail)) (t .detail)
     else if eqb b (code "~") then digits true 2 (t .detail)
@@ -135,7 +135,7 @@ insertedMore t s b =
     else if eqb b (code ">") then shown (drop (t .detail + 1) (placeText t s))
     else b ∷ []
 
-unfoldable pub inserted : Told → List ℕ → ℕ → List ℕ
+unfoldable pub inserted : ToldFinding → List ℕ → ℕ → List ℕ
 inserted t s b =
     if eqb b (code "@") then shown (placeText t s)
     else if eqb b (code "&") then shown (seeText t s)
@@ -143,13 +143,13 @@ inserted t s b =
     else if eqb b (code "$") then shown ((t .detail % 256) ∷ [])
     else insertedMore t s b
 
-unfoldable pub filled : Told → List ℕ → List ℕ → List ℕ
+unfoldable pub filled : ToldFinding → List ℕ → List ℕ → List ℕ
 filled t s [] = []
 filled t s (b ∷ bs) = inserted t s b ++ filled t s bs
 
-unfoldable pub textOf : Told → List ℕ → ℕ → List ℕ
+unfoldable pub textOf : ToldFinding → List ℕ → ℕ → List ℕ
 textOf t s which = filled t s (pieceOf (keyOf t which) table)
 
 -- whether there is such a text
-unfoldable pub isTold : Told → ℕ → Bool
+unfoldable pub isTold : ToldFinding → ℕ → Bool
 isTold t which = not (isNil (pieceOf (keyOf t which) table))

@@ -1,4 +1,6 @@
 // What is said of each finding, in one table: a message, a help, a note. How a finding reads as a whole is for crate `findings_render`.
+use byte_runs::begins_with;
+use byte_runs::find;
 use findings_render_parts::characters::part;
 use findings_render_parts::characters::put_shown;
 use findings_render_parts::laying::put_byte;
@@ -6,8 +8,6 @@ use findings_render_parts::numbers::digit_byte;
 use findings_render_parts::numbers::hex_count;
 use findings_render_parts::numbers::put_digits;
 use findings_render_parts::numbers::put_number;
-use texts::begins_with;
-use texts::find;
 ghost use mathlib.Core.Path.{_≡_};
 ghost use mathlib.Core.Bool.{true, _&&_};
 ghost use mathlib.Core.List.{[], _∷_};
@@ -19,7 +19,7 @@ ghost use Rattle.findings_render_parts.specs.Laid.{Laid};
 ghost use Rattle.findings_render_messages.specs.Messages.{table, behind, pieceOf, letterOf, variantOf, codeOf, keyOf, insertedMore, inserted, filled, textOf, isTold};
 
 // A finding's words, and its places as far as the text goes.
-pub struct Told {
+pub struct ToldFinding {
     pub severity: u32,
     pub code: u32,
     pub detail: u32,
@@ -139,7 +139,7 @@ fn piece<'a>(t: &'a [u8], key: &[u8]) -> &'a [u8]
     part(t, from, find(t, from, 0))
 }
 
-fn letter(t: Told) -> u8
+fn letter(t: ToldFinding) -> u8
     ensures { λ r. ⌜ r ≡ letterOf t ⌝ }
 {
     if 99 < t.code {
@@ -178,7 +178,7 @@ fn is_by_second(code: u32) -> bool
     code == 40
 }
 
-fn variant(t: Told) -> usize
+fn variant(t: ToldFinding) -> usize
     ensures { λ r. ⌜ (r ≡ variantOf t) × (r < 10) ⌝ }
 {
     if is_by_detail(t.code) {
@@ -199,7 +199,7 @@ fn variant(t: Told) -> usize
 }
 
 // A finding's code, as `E41`.
-pub fn code_of(t: Told) -> [u8; 3]
+pub fn code_of(t: ToldFinding) -> [u8; 3]
     ensures { λ r. ⌜ r ≡ codeOf t ⌝ }
 {
     [
@@ -209,7 +209,7 @@ pub fn code_of(t: Told) -> [u8; 3]
     ]
 }
 
-fn key_of(t: Told, which: u8) -> [u8; 5]
+fn key_of(t: ToldFinding, which: u8) -> [u8; 5]
     ensures { λ r. ⌜ r ≡ keyOf t which ⌝ }
 {
     [
@@ -225,7 +225,7 @@ fn put_inserted_more(
     out: &mut [u8],
     at: usize,
     quoted: bool,
-    t: Told,
+    t: ToldFinding,
     source: &[u8],
     b: u8,
 ) -> usize
@@ -260,7 +260,14 @@ fn put_inserted_more(
     }
 }
 
-fn put_inserted(out: &mut [u8], at: usize, quoted: bool, t: Told, source: &[u8], b: u8) -> usize
+fn put_inserted(
+    out: &mut [u8],
+    at: usize,
+    quoted: bool,
+    t: ToldFinding,
+    source: &[u8],
+    b: u8,
+) -> usize
     ensures { λ r. ⌜ Laid quoted (inserted t (now (source .entry)) b) at (now (out .entry)) r (now (out .exit)) ⌝ }
 {
     match b {
@@ -276,7 +283,14 @@ fn put_inserted(out: &mut [u8], at: usize, quoted: bool, t: Told, source: &[u8],
 }
 
 // A text of the table, filled in.
-fn put_filled(out: &mut [u8], at: usize, quoted: bool, t: Told, source: &[u8], text: &[u8]) -> usize
+fn put_filled(
+    out: &mut [u8],
+    at: usize,
+    quoted: bool,
+    t: ToldFinding,
+    source: &[u8],
+    text: &[u8],
+) -> usize
     ensures { λ r. ⌜ Laid quoted (filled t (now (source .entry)) (now (text .entry))) at (now (out .entry)) r (now (out .exit)) ⌝ }
 {
     let mut next = at;
@@ -289,7 +303,14 @@ fn put_filled(out: &mut [u8], at: usize, quoted: bool, t: Told, source: &[u8], t
 }
 
 // A finding's message, help or note.
-pub fn put_text(out: &mut [u8], at: usize, quoted: bool, t: Told, source: &[u8], which: u8) -> usize
+pub fn put_text(
+    out: &mut [u8],
+    at: usize,
+    quoted: bool,
+    t: ToldFinding,
+    source: &[u8],
+    which: u8,
+) -> usize
     ensures { λ r. ⌜ Laid quoted (textOf t (now (source .entry)) which) at (now (out .entry)) r (now (out .exit)) ⌝ }
 {
     let texts = TEXTS;
@@ -298,7 +319,7 @@ pub fn put_text(out: &mut [u8], at: usize, quoted: bool, t: Told, source: &[u8],
 }
 
 // Whether a finding has such a text.
-pub fn is_told(t: Told, which: u8) -> bool
+pub fn is_told(t: ToldFinding, which: u8) -> bool
     ensures { λ r. ⌜ r ≡ isTold t which ⌝ }
 {
     let texts = TEXTS;

@@ -8,6 +8,7 @@ use native.Mathlib.Omega.{arith}
 use lib.ListN.{length, getD, take, drop, length-drop, drop-of-length-le}
 use lib.Seq.{take-nil, take-all, drop-drop, drop-cons, getD-drop}
 use Rattle.laws.specs.Quoted.{within}
+use Rattle.laws.proofs.Choice.{impossible}
 use Rattle.laws.proofs.Lent.{part-rest}
 use Rattle.laws.proofs.Places.{past, here}
 use Rattle.chars.specs.Utf8.{Front, char, bad, cut, none, front, placed}
@@ -58,9 +59,9 @@ module _ (t : List ℕ) (at : ℕ) where
       let far : next ≡ at + n = cc in
       let size : next - at ≡ n = omega arith in
       rw (same, size)
-  seen-char (bad n) c next e = let z : _≡_ {A = ℕ} 0 1 = cc in absurd (omega arith)
-  seen-char cut c next e = let z : _≡_ {A = ℕ} 0 1 = cc in absurd (omega arith)
-  seen-char none c next e = let z : _≡_ {A = ℕ} 0 1 = cc in absurd (omega arith)
+  seen-char (bad n) c next e = impossible cc
+  seen-char cut c next e = impossible cc
+  seen-char none c next e = impossible cc
 
   pub seen-else : (f : Front) (o : Decoded) → o ≡ placed at f → ((c n : ℕ) → o ≡ decoded.Char c n → ⊥)
       → record { size = 1; kind = asByte; code = getD t 0 0 } ≡ seen t f

@@ -1,14 +1,12 @@
 // Lines and columns, counted from a text's start, and the part of a line that is shown.
 use crate::Window;
-use texts::find;
+use byte_runs::find;
 ghost use mathlib.Core.Path.{_≡_};
 ghost use Prim.Native.Nat.{_+_, _-_, _≤_};
 ghost use lib.ListN.{length};
 ghost use Rattle.laws.specs.Choice.{if_then_else_};
 ghost use Rattle.laws.specs.Quoted.{within};
 ghost use Rattle.findings_render_parts.specs.Spots.{IsPlace, countIn, startOf, lineNumber, columnNumber, cutReturn, endOf, later, nextCharacter, shownFrom, shownTo, windowOf};
-
-const NEWLINE: u8 = b'\n';
 
 const CARRIAGE_RETURN: u8 = b'\r';
 
@@ -61,7 +59,7 @@ pub fn line_start(s: &[u8], at: usize) -> usize
 {
     let mut i = at;
     while 0 < i {
-        if s[i - 1] == NEWLINE {
+        if s[i - 1] == b'\n' {
             return i;
         }
         i -= 1;
@@ -74,7 +72,7 @@ pub fn line_number(s: &[u8], at: usize) -> usize
     requires { ⌜ IsPlace (now s) at ⌝ }
     ensures { λ r. ⌜ r ≡ lineNumber (now (s .entry)) at ⌝ }
 {
-    1 + count(s, 0, at, NEWLINE, NEWLINE)
+    1 + count(s, 0, at, b'\n', b'\n')
 }
 
 // The column of a place.
@@ -104,7 +102,7 @@ fn line_end(s: &[u8], at: usize) -> usize
     requires { ⌜ at ≤ length (now s) ⌝ }
     ensures { λ r. ⌜ r ≡ endOf (now (s .entry)) at ⌝ }
 {
-    cut_return(s, line_start(s, at), find(s, at, NEWLINE))
+    cut_return(s, line_start(s, at), find(s, at, b'\n'))
 }
 
 // The first place from one on that does not lie in a character.

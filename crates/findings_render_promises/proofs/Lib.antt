@@ -1,1 +1,3 @@
+-- Theorems that stand in the docs
+-- `one-answer-written`
 pub mod Answers

@@ -9,6 +9,7 @@ use lib.Dec.{ltb}
 use native.Mathlib.Omega.{arith}
 use borrow.Author.Tests.{lt-leb, lt-ltb, le-ltb}
 use Rattle.laws.specs.Choice.{if_then_else_}
+use Rattle.laws.proofs.Choice.{impossible}
 use Rattle.laws.proofs.Places.{here}
 use Rattle.chars.specs.Utf8.{Front, char, bad, cut, none, front, sequences}
 use Rattle.chars.proofs.Sequences.{char-some, not-none, sequences-char, sequences-bad, sequences-cut}
@@ -59,7 +60,7 @@ module _ (s : List ℕ) (p : ℕ) (inside : p ≤ length s) where
           let shape : column p m (sequences 0 at (drop at s)) ≡ (if ltb p (at + w) then Inside else column p (m + 1) (sequences 0 (at + w) (drop w (drop at s)))) =
           rw (sequences-char at (drop at s) c w f, lt-leb p at a) in
           by-less p (at + w)
-          (λ l. let x : Inside ≡ Whole r = sym (shape ∙ rw (lt-ltb p (at + w) l)) ∙ e in let z : _≡_ {A = ℕ} 0 1 = cc in absurd (omega arith))
+          (λ l. let x : Inside ≡ Whole r = sym (shape ∙ rw (lt-ltb p (at + w) l)) ∙ e in impossible cc)
           (λ l.
           let x : column p (m + 1) (sequences 0 (at + w) (drop w (drop at s))) ≡ Whole r = sym (shape ∙ rw (le-ltb p (at + w) l)) ∙ e in
           let on : r + tailed (at + w) ≡ m + 1 + (p - (at + w)) =
@@ -67,10 +68,10 @@ module _ (s : List ℕ) (p : ℕ) (inside : p ≤ length s) where
           omega (arith, on, passed-char at c w k l))
       go (bad k) f =
           let x : Inside ≡ Whole r = sym (rw (sequences-bad at (drop at s) k f, lt-leb p at a)) ∙ e in
-          let z : _≡_ {A = ℕ} 0 1 = cc in absurd (omega arith)
+          impossible cc
       go cut f =
           let x : Inside ≡ Whole r = sym (rw (sequences-cut at (drop at s) f, lt-leb p at a)) ∙ e in
-          let z : _≡_ {A = ℕ} 0 1 = cc in absurd (omega arith)
+          impossible cc
       go none f = absurd (not-none (getD s at 0) (drop (at + 1) s) (sym (ap front (here s at (omega arith))) ∙ f))
 
   turn : (n : ℕ) → Counting n → Counting (suc n)

@@ -12,7 +12,7 @@ use Rattle.laws.proofs.Choice.{if-all, within-below, within-from}
 use Rattle.chars.specs.Encode.{utf8, width}
 use Rattle.chars.proofs.Width.{width-utf8}
 use Rattle.items.proofs.Every.{Every}
-use Rattle.lines_items.proofs.Bytes.{Within, Spelt, low, high, spelt}
+use Rattle.lines_theorems.proofs.Bytes.{Within, Spelt, low, high, spelt}
 use Rattle.findings_render_parts.specs.Spots.{countIn}
 
 module _ (a b : ℕ) where

@@ -13,10 +13,10 @@ use Rattle.laws.specs.Choice.{if_then_else_}
 use Rattle.laws.specs.Quoted.{within}
 use Rattle.laws.proofs.Choice.{by-bool, within-is}
 use Rattle.laws.proofs.Places.{here}
-use Rattle.coverage.proofs.Bytes.{passed}
+use Rattle.items_coverage.proofs.Bytes.{passed}
 use Rattle.lines.specs.Starts.{startsFrom, starts}
 use Rattle.lines.specs.Place.{lineOf}
-use Rattle.lines_items.proofs.Failing.{stands-at}
+use Rattle.lines_theorems.proofs.Failing.{stands-at}
 use Rattle.findings_render_parts.specs.Spots.{newline, countIn, startOf}
 
 -- no start from a place on is as early as p

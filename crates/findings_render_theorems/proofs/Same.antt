@@ -7,7 +7,7 @@ use mathlib.Core.List.{List}
 use lib.ListN.{length, getD, drop}
 use native.Mathlib.Omega.{arith}
 use borrow.Author.Tests.{lt-ltb, le-ltb}
-use Rattle.laws.proofs.Choice.{by-bool}
+use Rattle.laws.proofs.Choice.{by-bool, impossible}
 use Rattle.chars.specs.Utf8.{sequences}
 use Rattle.lines.specs.Starts.{starts}
 use Rattle.lines.specs.Place.{isIndex, column, answered, placeOf, locateOf}
@@ -18,7 +18,7 @@ use Rattle.lines.proofs.Back.{line-last}
 use Rattle.lines.proofs.Bounds.{since-line}
 use Rattle.lines.proofs.Index.{index-is}
 use Rattle.lines.proofs.Tests.{by-less}
-use Rattle.lines_items.proofs.Records.{Answered}
+use Rattle.lines_theorems.proofs.Records.{Answered}
 use Rattle.findings.specs.Finding.{findingWords}
 use Rattle.findings.specs.Find.{callOf}
 use Rattle.findings.specs.declared.FindAnswer.the-variants.{Found}
@@ -42,14 +42,14 @@ module _ (s : List ℕ) (p : ℕ) (inside : p ≤ length s) (line col : ℕ) whe
       let count : n + countIn 0x80 0xBF s (startOf s p) (p - startOf s p) ≡ 1 + (p - startOf s p) =
       subst (λ (from : ℕ). n + countIn 0x80 0xBF s from (p - from) ≡ 1 + (p - from)) b (column-count s p inside (getD (starts s) k 0) 1 n c e) in
       (omega arith, omega (arith, count-le 0x80 0xBF s (startOf s p) (p - startOf s p)))
-  by-column k Inside a b c e q = let z : _≡_ {A = ℕ} 0 1 = cc in absurd (omega arith)
+  by-column k Inside a b c e q = impossible cc
 
 pub same-spot : (s index : List ℕ) (p line col : ℕ) → locateOf s index p ≡ At line col → (line ≡ lineNumber s p) × (col ≡ columnNumber s p)
 unfolding locateOf placeOf
 same-spot s index p line col =
     by-bool (isIndex s index)
     (λ i. let x = index-is s index i in rw i (rw (x .2) (by-less (length s) p
-    (λ h. rw (lt-ltb (length s) p h) (λ e. let z : _≡_ {A = ℕ} 0 1 = cc in absurd (omega arith)))
+    (λ h. rw (lt-ltb (length s) p h) (λ e. impossible cc))
     (λ h.
     let v = line-last s p in
     let d : v .0 + 1 - 1 ≡ v .0 = omega arith in
@@ -57,7 +57,7 @@ same-spot s index p line col =
     rw (le-ltb (length s) p h, v .1, d, since-line s (v .0) (x .1) (v .2))
     (by-column s p h line col (v .0) (column p 1 (sequences 0 (getD (starts s) (v .0) 0) (drop (getD (starts s) (v .0) 0) s)))
     k (ap (λ (n : ℕ). getD (starts s) n 0) k ∙ line-start s p h) (v .3) refl)))))
-    (λ i. rw i (λ e. let z : _≡_ {A = ℕ} 0 1 = cc in absurd (omega arith)))
+    (λ i. rw i (λ e. impossible cc))
 
 -- a place that is answered lies in the text, so that it is rendered as it is
 answered-cut : (s index : List ℕ) (p line col : ℕ) → locateOf s index p ≡ At line col → cut s p ≡ p
@@ -65,9 +65,9 @@ unfolding locateOf placeOf
 answered-cut s index p line col =
     by-bool (isIndex s index)
     (λ i. rw i (by-less (length s) p
-    (λ h. rw (lt-ltb (length s) p h) (λ e. let z : _≡_ {A = ℕ} 0 1 = cc in absurd (omega arith)))
+    (λ h. rw (lt-ltb (length s) p h) (λ e. impossible cc))
     (λ h _. rw (le-ltb (length s) p h))))
-    (λ i. rw i (λ e. let z : _≡_ {A = ℕ} 0 1 = cc in absurd (omega arith)))
+    (λ i. rw i (λ e. impossible cc))
 
 -- finding j of those that are written, and its place in the word k
 module _ (s rows memory : List ℕ) (n errors : ℕ) (answers : callOf s rows memory .answer ≡ Found n errors) (j : ℕ) (there : j < n)

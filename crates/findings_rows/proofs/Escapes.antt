@@ -10,7 +10,7 @@ use native.Mathlib.Numerals.{add-one}
 use native.Mathlib.Omega.{arith}
 use borrow.Author.Tests.{eq-eqb, ne-eqb, eqb-true}
 use Rattle.laws.specs.Quoted.{code, oneOf}
-use Rattle.laws.proofs.Choice.{by-bool}
+use Rattle.laws.proofs.Choice.{by-bool, impossible}
 use Rattle.items.specs.Kinds as kind
 use Rattle.findings_rows.specs.declared.Closing.the-variants.{Behind, Nowhere}
 use Rattle.findings_rows.specs.Mended.{escapeErrors, closing, restFrom}
@@ -47,7 +47,7 @@ module _ (k : ℕ) where
       )))
     where
       false-true : false ≡ true → ⊥
-      false-true e = let z : _≡_ {A = ℕ} 0 1 = cc in omega arith
+      false-true e = impossible cc
 
 -- ---- the closing quote
 

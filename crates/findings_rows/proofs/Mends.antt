@@ -8,7 +8,7 @@ use lib.Dec.{eqb}
 use native.Mathlib.Omega.{arith}
 use Rattle.laws.specs.Choice.{if_then_else_}
 use Rattle.laws.specs.Quoted.{code}
-use Rattle.laws.proofs.Choice.{by-bool}
+use Rattle.laws.proofs.Choice.{by-bool, impossible}
 use Rattle.items.specs.Kinds as kind
 use Rattle.items.specs.Items.{Item}
 use Rattle.items.specs.declared.Nine.{Nine}
@@ -28,7 +28,7 @@ use Rattle.findings_rows.specs.Inner.{endedNine, unclosedNine, mendedBy,
 -- behind a byte of those that are looked at
 pub closing-inside : (quote : ℕ) (escaped : Bool) (at : ℕ) (bs : List ℕ) (e : ℕ) → closing quote escaped at bs ≡ Behind e → (at < e) × (e ≤ at + length bs)
 unfolding closing
-closing-inside quote escaped at [] e h = let z : _≡_ {A = ℕ} 0 1 = cc in absurd (omega arith)
+closing-inside quote escaped at [] e h = impossible cc
 closing-inside quote true at (b ∷ bs) e h = let r = closing-inside quote false (at + 1) bs e h in (omega (arith, r), omega (arith, r))
 closing-inside quote false at (b ∷ bs) e h = by-bool (eqb b quote)
     (λ t. let z : Behind (at + 1) ≡ Behind e = rw t at h in let y : at + 1 ≡ e = cc in (omega arith, omega arith))
@@ -70,7 +70,7 @@ module _ (s : List ℕ) (p : Spot) where
       (record { smaller = omega (arith, m .smaller, size-on s q (length s) (m .inside)); ahead = omega (arith, m .memory, m .inside); inside = omega arith })
 
   turn-forward : (t : Turn) → nextAt s p ≡ t → (j : Item) (u : Spot) → mendTurn s t ≡ gives j u → Forward s p u
-  turn-forward ends e j u h = let z : _≡_ {A = ℕ} 0 1 = cc in absurd (omega arith)
+  turn-forward ends e j u h = impossible cc
   turn-forward (gives i q) e j u h =
       let m : Moved s p i q = next-moved s p q i e in
       by-bool (slips s (i .kind) (i .start))

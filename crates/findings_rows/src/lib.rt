@@ -2,6 +2,7 @@
 // two differences. After a bad escape the rest of its string or name is passed over, so that one slip is one error; and an error's row is an
 // atom to the nested lists. specs/Mended and specs/Rows define them, specs/Laid what the lent memory then holds.
 use items::Nine;
+use items::RECORD_WORDS;
 use items::Record;
 use items::kinds::FIRST_ERROR;
 use items::kinds::IDENTIFIER;
@@ -11,7 +12,6 @@ use lexer::Found;
 use lexer::Spot;
 use lexer::begin;
 use lexer::next_item;
-use meaning::records::WORDS;
 use meaning::records::depth_after;
 use meaning::records::put;
 use refusal::LIMIT;
@@ -100,10 +100,10 @@ fn row_of(r: Nine, depth: u32) -> Record
 fn lay(words: &mut [u32], w: usize, row: Record)
     ensures { λ _. ⌜ now (words .exit) ≡ laidAt w (wordsOf row) (now (words .entry)) ⌝ }
 {
-    if words.len() < WORDS {
+    if words.len() < RECORD_WORDS {
         return;
     }
-    if words.len() - WORDS < w {
+    if words.len() - RECORD_WORDS < w {
         return;
     }
     put(&mut words[w..], row);
@@ -122,11 +122,11 @@ fn lay_from(source: &[u8], spot: Spot, words: &mut [u32]) -> usize
             Found::One(r, q) => {
                 lay(words, w, row_of(r, depth));
                 depth = depth_after(r.kind, depth);
-                w += WORDS;
+                w += RECORD_WORDS;
                 p = q;
             }
             Found::End => {
-                return w / WORDS;
+                return w / RECORD_WORDS;
             }
         }
     }

@@ -1,5 +1,6 @@
 // Slips: bad escapes inside a string or an identifier in vertical lines, and where the rest of the text that they stand in ends.
 use crate::Closing;
+use byte_runs::starts_at;
 use items::Nine;
 use items::kinds::FIRST_ERROR;
 use items::kinds::INCOMPLETE_IDENTIFIER;
@@ -12,7 +13,6 @@ use items::kinds::NO_DETAIL;
 use items::kinds::UNCLOSED_HEX_ESCAPE;
 use lexer::Found;
 use lexer::Spot;
-use texts::starts_at;
 ghost use mathlib.Core.Path.{_≡_};
 ghost use mathlib.Core.Bool.{false};
 ghost use Prim.Native.Nat.{_≤_};
@@ -25,8 +25,6 @@ ghost use Rattle.findings_rows.specs.Inner.{endedNine, unclosedNine, men
 const DOUBLE: u8 = b'"';
 
 const LINE: u8 = b'|';
-
-const HASH: u8 = b'#';
 
 const BACKSLASH: u8 = b'\\';
 
@@ -61,7 +59,7 @@ fn character_at(source: &[u8], at: usize) -> bool
     requires { ⌜ at ≤ limit ⌝ }
     ensures { λ r. ⌜ r ≡ characterAt (now (source .entry)) at ⌝ }
 {
-    if starts_at(source, at, HASH) {
+    if starts_at(source, at, b'#') {
         return starts_at(source, at + 1, BACKSLASH);
     }
     false

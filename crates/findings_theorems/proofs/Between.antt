@@ -14,7 +14,7 @@ use borrow.Author.Tests.{eqb-true}
 use Rattle.laws.specs.Choice.{if_then_else_}
 use Rattle.laws.specs.Quoted.{code}
 use Rattle.laws.specs.Texts.{starts}
-use Rattle.laws.proofs.Choice.{by-bool, if-all}
+use Rattle.laws.proofs.Choice.{by-bool, if-all, impossible}
 use Rattle.chars.specs.Utf8.{firstBad, chars}
 use Rattle.chars.specs.Encode.{width, bytesOf}
 use Rattle.chars.specs.Blank.{isBlank}
@@ -32,12 +32,12 @@ use Rattle.lexer.specs.Reading.{Turn, gives, ends, moved, pick, turnAt, turnFro
 use Rattle.lexer.specs.declared.Spot.{Spot}
 use Rattle.lexer.proofs.Here.{Here, char-here}
 use Rattle.lexer.proofs.Moves.{extent-ends}
-use Rattle.coverage.proofs.Bytes.{passed}
-use Rattle.coverage.proofs.Located.{itemsThere}
+use Rattle.items_coverage.proofs.Bytes.{passed}
+use Rattle.items_coverage.proofs.Located.{itemsThere}
 use Rattle.lines.proofs.Between.{Between}
-use Rattle.lines_items.proofs.Along.{Along, at-start, read-along}
-use Rattle.lines_items.proofs.Failing.{stands-at}
-use Rattle.lines_items.proofs.Records.{Marked, extent-marked, every-both}
+use Rattle.lines_theorems.proofs.Along.{Along, at-start, read-along}
+use Rattle.lines_theorems.proofs.Failing.{stands-at}
+use Rattle.lines_theorems.proofs.Records.{Marked, extent-marked, every-both}
 use Rattle.findings_rows.specs.declared.Closing.{Closing}
 use Rattle.findings_rows.specs.declared.Closing.the-variants.{Behind, Nowhere}
 use Rattle.findings_rows.specs.Mended.{slips, quoteOf, closing, restFrom, closingOf, unclosedKind, unclosedAt, slipTurn, mendTurn, mendedAt, mendedFrom, mendedOf, openingSpot}
@@ -157,7 +157,7 @@ module _ (s : List ℕ) (good : firstBad s ≡ Good) where
   closing-between : (quote : ℕ) → quote < 0x80 → (escaped : Bool) (at : ℕ) (bs : List ℕ) → drop at s ≡ bs → (e : ℕ) → closing quote escaped at bs ≡ Behind e
       → B e
   unfolding closing
-  closing-between quote low escaped at [] f e h = let z : _≡_ {A = ℕ} 0 1 = cc in absurd (omega arith)
+  closing-between quote low escaped at [] f e h = impossible cc
   closing-between quote low true at (b ∷ bs) f e h = closing-between quote low false (at + 1) bs (passed s at (b ∷ []) bs f) e h
   closing-between quote low false at (b ∷ bs) f e h = by-bool (eqb b quote)
       (λ t. let z : Behind (at + 1) ≡ Behind e = rw t at h in

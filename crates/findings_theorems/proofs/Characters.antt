@@ -7,20 +7,22 @@ use lib.ListN.{length, getD, take, drop, length-append, length-drop, take-append
 use lib.Seq.{take-add, take-all, drop-append-seam}
 use native.Mathlib.Omega.{arith}
 use native.Mathlib.Nat.{zero-add}
+use Rattle.laws.proofs.Choice.{impossible}
 use Rattle.chars.specs.Utf8.{Front, char, bad, cut, none, front, Sequence, onward, sequences, verdict, firstBad, chars}
 use Rattle.chars.specs.Encode.{utf8, width, bytesOf}
 use Rattle.chars.specs.declared.Utf8.the-variants.{Good, Bad}
+use Rattle.chars.proofs.Bytes.{bytes-append}
 use Rattle.chars.proofs.Sequences.{char-some, not-none, sequences-char, sequences-bad, sequences-cut}
 use Rattle.chars.proofs.Spells.{Spells, spells}
 use Rattle.chars.proofs.Chars.{chars-char, chars-bad, chars-cut, char-width}
 use Rattle.chars.proofs.Good.{Scalars, good-bytes, chars-encoded}
 use Rattle.items.proofs.Every.{Every}
-use Rattle.coverage.proofs.Bytes.{bytes-append, passed}
-use Rattle.error_places.proofs.Rows.{every-scalar}
+use Rattle.items_coverage.proofs.Bytes.{passed}
+use Rattle.items_errors.proofs.Rows.{every-scalar}
 use Rattle.lines.proofs.Back.{length-bytes}
 use Rattle.lines.proofs.Between.{Between}
-use Rattle.lines_items.proofs.Along.{Along, along, at-end}
-use Rattle.lines_items.proofs.Failing.{IsChar, char-there, byte-there}
+use Rattle.lines_theorems.proofs.Along.{Along, along, at-end}
+use Rattle.lines_theorems.proofs.Failing.{IsChar, char-there, byte-there}
 use Rattle.findings_theorems.proofs.Places.{OfChar}
 
 -- a place from a to b
@@ -58,12 +60,12 @@ bad-next n x l at b ih h g = go (front (x ∷ l)) refl
 
 bad-turn : (n : ℕ) → BadBehind n → BadBehind (suc n)
 unfolding sequences
-bad-turn n ih [] at b h g = let y : _≡_ {A = ℕ} 0 1 = cc in absurd (omega arith)
+bad-turn n ih [] at b h g = impossible cc
 bad-turn n ih (x ∷ l) at b h g = bad-next n x l at b ih h g
 
 bad-none : BadBehind zero
 unfolding sequences
-bad-none [] at b h g = let y : _≡_ {A = ℕ} 0 1 = cc in absurd (omega arith)
+bad-none [] at b h g = impossible cc
 bad-none (x ∷ l) at b h g = absurd (omega arith)
 
 bad-behind : (n : ℕ) → BadBehind n

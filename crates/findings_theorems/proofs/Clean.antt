@@ -28,8 +28,8 @@ use Rattle.findings.specs.Slips.{isName, oddCode, firstOdd, oddIn, likeNumber, 
 use Rattle.findings.specs.Told.{errorOf, swallowTold, textTold, numberTold, nameOrNothing, rowTold, toldFrom, errorsIn}
 use Rattle.findings.specs.declared.Finding.{Finding}
 use Rattle.findings.specs.declared.Row.{Row}
-use Rattle.findings.specs.declared.Told.{Told}
-use Rattle.findings.specs.declared.Told.the-variants.{Nothing, One}
+use Rattle.findings.specs.declared.RowTold.{RowTold}
+use Rattle.findings.specs.declared.RowTold.the-variants.{Nothing, One}
 use Rattle.findings.specs.declared.ListTold.{ListTold}
 use Rattle.findings.specs.declared.ListTold.the-variants.{Silent, At}
 use Rattle.findings_theorems.proofs.Unmended.{Fine}
@@ -68,7 +68,7 @@ module _ (f : ℕ → List Finding) where
       ∙ omega (arith, h p (omega arith) (omega arith), quiet-all n (p + 1) (λ q l m. h q (omega arith) (omega arith)))
 
 -- told without an error
-abbrev pub Mild : Told → Type 0
+abbrev pub Mild : RowTold → Type 0
 Mild t = errorsIn (listed t) ≡ 0
 
 pub loud : (f : Finding) → f .severity ≡ error → errorsIn (listed (One f)) ≡ 0 → ⊥
@@ -102,7 +102,7 @@ mild-number source rows p =
     if-all Mild (likeNumber source (rowAt rows p .start))
     (if-all Mild (commaFollows source rows p) (mild-warning commaNumber _ _ _) (mild-warning numberName _ _ _)) mild-nothing
 
-mild-else : (t u : Told) → Mild t → Mild u → Mild (orElse t u)
+mild-else : (t u : RowTold) → Mild t → Mild u → Mild (orElse t u)
 mild-else Nothing u h k = k
 mild-else (One f) u h k = h
 

@@ -8,7 +8,7 @@ use native.Mathlib.Omega.{arith}
 use borrow.Author.Tests.{ltb-false, le-ltb}
 use Rattle.laws.specs.Choice.{if_then_else_}
 use Rattle.laws.specs.Quoted.{code}
-use Rattle.laws.proofs.Choice.{by-bool, if-all}
+use Rattle.laws.proofs.Choice.{by-bool, if-all, impossible}
 use Rattle.chars.specs.Utf8.{firstBad}
 use Rattle.chars.specs.declared.Utf8.{Utf8}
 use Rattle.chars.specs.declared.Utf8.the-variants.{Good, Bad}
@@ -91,7 +91,7 @@ module _ (s : List ℕ) where
     unfolding callOf
     errors-are = by-bool (leb (length (neededRows s)) (length rows / recordWords))
         (λ b. let z : Found (length (findOf s)) (errorsIn (findOf s)) ≡ Found n errors = rw b at answered in let y : errorsIn (findOf s) ≡ errors = cc in sym y)
-        (λ b. let z : TooFew (length (neededRows s)) ≡ Found n errors = rw b at answered in let y : _≡_ {A = ℕ} 0 1 = cc in absurd (omega arith))
+        (λ b. let z : TooFew (length (neededRows s)) ≡ Found n errors = rw b at answered in impossible cc)
 
     pub clean-exactly : (errors ≡ 0 → Accepted s) × (Accepted s → errors ≡ 0)
     clean-exactly = ((λ e. accepted-if-quiet (sym errors-are ∙ e)), (λ a. errors-are ∙ quiet-if-accepted a))

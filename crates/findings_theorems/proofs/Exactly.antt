@@ -8,7 +8,7 @@ use lib.Dec.{eqb, ltb}
 use native.Mathlib.Omega.{arith}
 use borrow.Author.Tests.{eqb-true, eq-eqb, ltb-true, ltb-false}
 use Rattle.laws.specs.Choice.{if_then_else_}
-use Rattle.laws.proofs.Choice.{by-bool, and-true, and-no, no-yes}
+use Rattle.laws.proofs.Choice.{by-bool, and-true, and-no, no-yes, impossible}
 use Rattle.refusal.specs.Refusals as refusal
 use Rattle.items.specs.Kinds as kind
 use Rattle.items.specs.Items.{Item, recordWords}
@@ -56,7 +56,7 @@ swallower-string source rows p e = by-bool (eqb (rowAt rows p .kind) kind.String
 -- no records, no refusal
 none-stops : {P : Type 0} (s : List ℕ) (n p : ℕ) → run 0 start (itemsFrom 0 0 s) ≡ No n p → P
 unfolding readOn itemsFrom
-none-stops s n p h = let y : _≡_ {A = ℕ} 0 1 = cc in absurd (omega arith)
+none-stops s n p h = impossible cc
 
 -- ---- no error is told: no row is an error
 
@@ -146,7 +146,7 @@ module _ (source : List ℕ) (is : List Item) where
     few-only : (r : Result) → ((n p : ℕ) → r ≡ No n p → ⊥) → (n p : ℕ) → given r rows [] .answer ≡ Refused n p → n ≡ refusal.fewNodes
     few-only (No m q) h n p e = absurd (h m q refl)
     few-only (Nodes ns) h n p e = by-bool (fits rows ns [])
-        (λ b. let z : Built (length ns) ≡ Refused n p = rw b at e in let y : _≡_ {A = ℕ} 0 1 = cc in absurd (omega arith))
+        (λ b. let z : Built (length ns) ≡ Refused n p = rw b at e in impossible cc)
         (λ b. let z : Refused refusal.fewNodes 0 ≡ Refused n p = rw b at e in let y : refusal.fewNodes ≡ n = cc in sym y)
 
     pub quiet-data : errorsIn (toldOf source rows) ≡ 0 → Data rows

@@ -34,8 +34,8 @@ use Rattle.findings.specs.Told.{leftOver, errorTold, swallowTold, textTold, num
 use Rattle.findings.specs.Find.{toldIf, findOf}
 use Rattle.findings.specs.declared.Finding.{Finding}
 use Rattle.findings.specs.declared.Row.{Row}
-use Rattle.findings.specs.declared.Told.{Told}
-use Rattle.findings.specs.declared.Told.the-variants.{Nothing, One}
+use Rattle.findings.specs.declared.RowTold.{RowTold}
+use Rattle.findings.specs.declared.RowTold.the-variants.{Nothing, One}
 use Rattle.findings.specs.declared.ListTold.{ListTold}
 use Rattle.findings.specs.declared.ListTold.the-variants.{Silent, At}
 use Rattle.findings_theorems.proofs.Words as words
@@ -59,17 +59,17 @@ sorted-append lo m [] gs h s e t = sorted-lower lo m gs h t
 sorted-append lo m (f ∷ fs) gs h s e t = (s .0, sorted-append (f .start) m fs gs (e .0) (s .1) (e .1) t)
 
 -- a finding, if there is one, that starts from a place to a place
-abbrev Between : ℕ → ℕ → Told → Type 0
+abbrev Between : ℕ → ℕ → RowTold → Type 0
 Between lo hi Nothing = Unit {0}
 Between lo hi (One f) = (lo ≤ f .start) × (f .start ≤ hi)
 
-two-sorted : (lo hi : ℕ) (t u : Told) → Between lo lo t → Between lo hi u → Sorted lo (listed t ++ listed u)
+two-sorted : (lo hi : ℕ) (t u : RowTold) → Between lo lo t → Between lo hi u → Sorted lo (listed t ++ listed u)
 two-sorted lo hi Nothing Nothing h k = tt
 two-sorted lo hi Nothing (One g) h k = (k .0, tt)
 two-sorted lo hi (One f) Nothing h k = (h .0, tt)
 two-sorted lo hi (One f) (One g) h k = (h .0, (omega (arith, h .1, k .0), tt))
 
-two-within : (lo hi : ℕ) (t u : Told) → lo ≤ hi → Between lo lo t → Between lo hi u → Every (λ (f : Finding). f .start ≤ hi) (listed t ++ listed u)
+two-within : (lo hi : ℕ) (t u : RowTold) → lo ≤ hi → Between lo lo t → Between lo hi u → Every (λ (f : Finding). f .start ≤ hi) (listed t ++ listed u)
 two-within lo hi Nothing Nothing l h k = tt
 two-within lo hi Nothing (One g) l h k = (k .1, tt)
 two-within lo hi (One f) Nothing l h k = (omega (arith, h .1), tt)
@@ -102,7 +102,7 @@ odd-between lo hi (read c f t ∷ l) h = if-all (Between lo hi) (eqb (oddCode c)
 odd-between lo hi (broken f t ∷ l) h = tt
 odd-between lo hi (short f ∷ l) h = tt
 
-else-between : (lo hi : ℕ) (t u : Told) → Between lo hi t → Between lo hi u → Between lo hi (orElse t u)
+else-between : (lo hi : ℕ) (t u : RowTold) → Between lo hi t → Between lo hi u → Between lo hi (orElse t u)
 else-between lo hi Nothing u h k = k
 else-between lo hi (One f) u h k = h
 
@@ -115,7 +115,7 @@ module _ (source rows : List ℕ) (p : ℕ) where
   name-between : r .start ≤ r .end → Between (r .start) (r .end) (nameTold source rows p)
   unfolding nameTold numberSlip
   name-between h =
-      let B : Told → Type 0 = Between (r .start) (r .end) in
+      let B : RowTold → Type 0 = Between (r .start) (r .end) in
       let here : B (One (single warning 1 0 (r .start) 0)) = (omega arith, h) in
       else-between (r .start) (r .end) (oddIn source (r .start) (r .end)) (numberSlip source rows p)
       (odd-between (r .start) (r .end) _
@@ -128,16 +128,16 @@ module _ (source rows : List ℕ) (p : ℕ) where
   Whole = (r .start ≤ r .end) × (r .start ≤ r .from) × (r .from ≤ r .end)
 
   module _ (first : ℕ) (left : Bool) where
-    abbrev B : Told → Type 0
+    abbrev B : RowTold → Type 0
     B = Between (r .start) (r .end)
 
     text-between : {hi : ℕ} → r .start ≤ hi → Between (r .start) hi (textTold rows first left p)
     unfolding textTold swallowTold
-    text-between {hi} h = let C : Told → Type 0 = Between (r .start) hi in if-all C (eqb p first) (if-all C left (omega arith, h) (omega arith, h)) tt
+    text-between {hi} h = let C : RowTold → Type 0 = Between (r .start) hi in if-all C (eqb p first) (if-all C left (omega arith, h) (omega arith, h)) tt
 
     number-between : {hi : ℕ} → r .start ≤ hi → Between (r .start) hi (numberTold source rows p)
     unfolding numberTold
-    number-between {hi} h = let C : Told → Type 0 = Between (r .start) hi in if-all C (endsOtherwise source rows p) (omega arith, h) tt
+    number-between {hi} h = let C : RowTold → Type 0 = Between (r .start) hi in if-all C (endsOtherwise source rows p) (omega arith, h) tt
 
     row-between : Whole → B (rowTold source rows first left p)
     unfolding rowTold errorTold nameOrNothing
@@ -162,13 +162,13 @@ module _ (source rows : List ℕ) (p : ℕ) where
         → Between (r .start) (r .start) (rowTold source rows first left p)
     unfolding rowTold nameOrNothing
     pair-between e k h =
-        let C : Told → Type 0 = Between (r .start) (r .start) in
+        let C : RowTold → Type 0 = Between (r .start) (r .start) in
         rw (e, unnamed k h)
         (if-all C (eqb (r .kind) kind.Identifier) tt
         (if-all C (eqb (r .kind) kind.StringLiteral) (text-between (omega arith))
         (if-all C (eqb (r .kind) kind.Number) (number-between (omega arith)) tt)))
 
-weaken : (lo a b : ℕ) (t : Told) → a ≤ b → Between lo a t → Between lo b t
+weaken : (lo a b : ℕ) (t : RowTold) → a ≤ b → Between lo a t → Between lo b t
 weaken lo a b Nothing h k = tt
 weaken lo a b (One f) h k = (k .0, omega (arith, k .1))
 
@@ -270,7 +270,7 @@ module _ (s : List ℕ) where
   abbrev pub tells : ℕ → List Finding
   tells = toldAt s rows (listOf s rows) (swallower s rows) (leftOver s rows)
 
-  abbrev own : ℕ → Told
+  abbrev own : ℕ → RowTold
   own p = rowTold s rows (swallower s rows) (leftOver s rows) p
 
   -- what a row tells starts no later than the next row

@@ -27,7 +27,7 @@ use Rattle.items.specs.Meaning.{Row, Meaning, lookup, wordKind, wordMeans, runM
 use Rattle.items.specs.Items.{Place, Item, itemsOf, extentItems, items, rangeAfter, standing}
 use Rattle.items.proofs.Every.{Every, every-any}
 use Rattle.items.proofs.Meanings.{word-le}
-use Rattle.coverage.proofs.Located.{every-item}
+use Rattle.items_coverage.proofs.Located.{every-item}
 use Rattle.nested.specs.Items.{hasDetail}
 use Rattle.findings_theorems.proofs.Sorts.{Sorted, zero-detail, Sort, SortValue, value-sort, read-sort}
 

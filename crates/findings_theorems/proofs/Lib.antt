@@ -1,22 +1,34 @@
+-- Theorems that stand in the docs
+-- `unmended`
 pub mod Unmended
-pub mod Sorts
+-- `items-laid`
 pub mod Layouts
+-- `stop-of`
+pub mod Numbers
+-- `clean-exactly`
+pub mod CleanExactly
+-- `rows-in-order`
+pub mod Order
+-- `mended-placed`
+pub mod Placed
+-- `in-order`
+pub mod InOrder
+-- `places-within`
+pub mod InText
+-- `places-between`
+pub mod PlacesBetween
+-- `places-in-text`, `places-answered`
+pub mod Written
+-- What they stand on, and what other crates cite
+pub mod Sorts
 pub mod Turns
 pub mod Words
-pub mod Numbers
 pub mod Clean
 pub mod Exactly
 pub mod Records
-pub mod CleanExactly
-pub mod Order
 pub mod Within
 pub mod Spans
-pub mod Placed
-pub mod InOrder
 pub mod Places
-pub mod InText
 pub mod Characters
 pub mod Openers
 pub mod Between
-pub mod PlacesBetween
-pub mod Written

@@ -9,7 +9,7 @@ use lib.ListN.{length}
 use lib.Dec.{eqb, ltb, leb}
 use native.Mathlib.Omega.{arith}
 use borrow.Author.Tests.{le-leb}
-use Rattle.laws.proofs.Choice.{by-bool}
+use Rattle.laws.proofs.Choice.{by-bool, impossible}
 use Rattle.items.specs.Kinds as kind
 use Rattle.items.proofs.Every.{Every}
 use Rattle.nested.specs.Items.{Item, item, sortOf, classOf, countOf, classAt, itemsFrom, itemsOf}
@@ -132,13 +132,13 @@ no-number e = (cc, cc)
 stops-at : (xs : List Item) (e : ℕ) (st : Levels) (n p : ℕ) → Every (KnownItem e) xs → readOn xs e st ≡ No n p → Stop e n p
 unfolding readOn
 stops-at [] e (state (level f i ns) ls) n p k h = by-bool (eqb (ending f) 0)
-    (λ b. let z : Nodes ns ≡ No n p = rw b at h in let y : _≡_ {A = ℕ} 0 1 = cc in absurd (omega arith))
+    (λ b. let z : Nodes ns ≡ No n p = rw b at h in impossible cc)
     (λ b. let z : No (ending f) e ≡ No n p = rw b at h in
     let q = no-number z in
     ⊎-elim (λ w. let y : eqb (ending f) 0 ≡ true = rw w in no-both b y) (λ w. inr (sym (q .1), subst AtEnd (q .0) w)) (ending-number f))
   where
     no-both : {P : Type 0} {b : Bool} → b ≡ false → b ≡ true → P
-    no-both {P} {b} x y = let z : false ≡ true = sym x ∙ y in let w : _≡_ {A = ℕ} 0 1 = cc in absurd (omega arith)
+    no-both {P} {b} x y = let z : false ≡ true = sym x ∙ y in impossible cc
 stops-at (item q c ∷ xs) e (state (level f i ns) ls) n p k h = by-bool (eqb (wrong c f (length ls)) 0)
     (λ b. stops-at xs e (after c q f i ns ls) n p (k .1) (rw b at h))
     (λ b. let z : No (wrong c f (length ls)) q ≡ No n p = rw b at h in
@@ -147,7 +147,7 @@ stops-at (item q c ∷ xs) e (state (level f i ns) ls) n p k h = by-bool (eqb (w
     (λ w. inl (omega (arith, k .0 .0, r .1), subst AtRecord (r .0) w)) (wrong-number c f (length ls) (k .0 .1)))
   where
     no-both : {P : Type 0} {b : Bool} → b ≡ false → b ≡ true → P
-    no-both {P} {b} x y = let z : false ≡ true = sym x ∙ y in let w : _≡_ {A = ℕ} 0 1 = cc in absurd (omega arith)
+    no-both {P} {b} x y = let z : false ≡ true = sym x ∙ y in impossible cc
 
 items-known : (s : List ℕ) (e n p : ℕ) → p + n ≤ e → ((q : ℕ) → q < e → Known (classAt s q)) → Every (KnownItem e) (itemsFrom n p s)
 unfolding itemsFrom

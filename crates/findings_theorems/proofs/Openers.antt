@@ -26,10 +26,10 @@ use Rattle.items.proofs.Every.{Every}
 use Rattle.items.proofs.Meanings.{word-le}
 use Rattle.items.proofs.Own.{Own, holds}
 use Rattle.items.proofs.OwnSteps.{read-own}
-use Rattle.coverage.proofs.Located.{itemsThere}
-use Rattle.lines_items.proofs.Along.{Along}
-use Rattle.lines_items.proofs.Outcomes.{Second, Known, read-known}
-use Rattle.lines_items.proofs.First.{first-byte}
+use Rattle.items_coverage.proofs.Located.{itemsThere}
+use Rattle.lines_theorems.proofs.Along.{Along}
+use Rattle.lines_theorems.proofs.Outcomes.{Second, Known, read-known}
+use Rattle.lines_theorems.proofs.First.{first-byte}
 use Rattle.findings_theorems.proofs.Spans.{four}
 
 -- of an item of kind k with the bytes raw: an error's first byte is ASCII, and the second of error 4

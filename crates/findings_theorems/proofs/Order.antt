@@ -10,7 +10,7 @@ use lib.Dec.{eqb, ltb}
 use native.Mathlib.Omega.{arith}
 use Rattle.laws.specs.Choice.{if_then_else_}
 use Rattle.laws.specs.Quoted.{code}
-use Rattle.laws.proofs.Choice.{by-bool, and-no, if-all}
+use Rattle.laws.proofs.Choice.{by-bool, and-no, if-all, impossible}
 use Rattle.chars.specs.Utf8.{chars}
 use Rattle.numbers.specs.Grammar.{parseNumber}
 use Rattle.numbers.specs.declared.Parsed.{Parsed}
@@ -28,8 +28,8 @@ use Rattle.items.proofs.Every.{Every}
 use Rattle.meaning.specs.Places.{placeIn}
 use Rattle.lexer.specs.Reading.{Turn, gives, ends, turnOf, turn, startFrom, nextFrom, nextAt, sizeOf}
 use Rattle.lexer.specs.declared.Spot.{Spot}
-use Rattle.lexer.specs.declared.Start.{Start}
-use Rattle.lexer.specs.declared.Start.the-variants.{At, Nothing}
+use Rattle.lexer.specs.declared.FirstChar.{FirstChar}
+use Rattle.lexer.specs.declared.FirstChar.the-variants.{At, Nothing}
 use Rattle.lexer.proofs.Cases.{past, halfway, both, by-turn, turn-here}
 use Rattle.lexer.proofs.Turns.{Started, started, turn-started, turn-nothing}
 use Rattle.lexer.proofs.Moves.{Moved, turn-moved, extent-ends}
@@ -142,11 +142,11 @@ module _ (s : List ℕ) (p : Spot) (c a n : ℕ) (S : Started s (p .at) (chars (
 pub turn-went : (s : List ℕ) (p : Spot) (i : Item) (q : Spot) → turn s p ≡ gives i q → Went s p i q
 turn-went s p i q e = go (startFrom (p .at) (chars (drop (p .at) s))) refl
   where
-    go : (x : Start) → startFrom (p .at) (chars (drop (p .at) s)) ≡ x → Went s p i q
+    go : (x : FirstChar) → startFrom (p .at) (chars (drop (p .at) s)) ≡ x → Went s p i q
     go (At c a n) f =
         let S : Started s (p .at) (chars (drop (p .at) s)) c a n = started s (chars (drop (p .at) s)) (p .at) refl c a n f in
         went s p c a n S i q (sym (turn-started s p c a n S) ∙ e)
-    go Nothing f = let z : gives i q ≡ ends = sym e ∙ turn-nothing s p f in let y : _≡_ {A = ℕ} 0 1 = cc in absurd (omega arith)
+    go Nothing f = let z : gives i q ≡ ends = sym e ∙ turn-nothing s p f in impossible cc
 
 -- ---- the next item, comments passed over
 
@@ -161,11 +161,11 @@ module _ (s : List ℕ) where
 
   next-came : (n : ℕ) (p : Spot) (i : Item) (q : Spot) → nextFrom n s p ≡ gives i q → Came p i q
   unfolding nextFrom
-  next-came zero p i q e = let z : _≡_ {A = ℕ} 0 1 = cc in absurd (omega arith)
+  next-came zero p i q e = impossible cc
   next-came (suc n) p i q e = go (turn s p) refl (λ t f. next-came n t i q f)
     where
       go : (t : Turn) → turn s p ≡ t → ((t : Spot) → nextFrom n s t ≡ gives i q → Came t i q) → Came p i q
-      go ends f rec = let z : ends ≡ gives i q = rw f at e in let y : _≡_ {A = ℕ} 0 1 = cc in absurd (omega arith)
+      go ends f rec = let z : ends ≡ gives i q = rw f at e in impossible cc
       go (gives x t) f rec = by-bool (p .skip && eqb (x .kind) kind.Comment)
           (λ b. let m : Moved s p x t = turn-moved s p x t f in
           let k : Came t i q = rec t (rw (f, b) at e) in
@@ -232,7 +232,7 @@ module _ (s : List ℕ) where
       ap (λ (y : Spot). y .at) (sym u) ∙ ap (λ (y : Item). y .end) o
 
   step-next : (p : Spot) (t : Turn) → nextAt s p ≡ t → (i : Item) (q : Spot) → mendTurn s t ≡ gives i q → Given (Next i) (mendedAt s q)
-  step-next p ends e i q h = let z : _≡_ {A = ℕ} 0 1 = cc in absurd (omega arith)
+  step-next p ends e i q h = impossible cc
   step-next p (gives x t) e i q h = by-bool (slips s (x .kind) (x .start))
       (λ b. slip (closingOf s (x .kind) (x .start) (t .at)) (sym (mend-slip s x t b) ∙ h))
       (λ b. let z : gives x t ≡ gives i q = sym (mend-fine s x t b) ∙ h in

@@ -9,7 +9,7 @@ use lib.ListN.{length}
 use lib.Dec.{eqb, ltb}
 use native.Mathlib.Omega.{arith}
 use Rattle.laws.specs.Quoted.{code}
-use Rattle.laws.proofs.Choice.{by-bool, no-yes, if-all}
+use Rattle.laws.proofs.Choice.{by-bool, no-yes, if-all, impossible}
 use Rattle.items.specs.Kinds as kind
 use Rattle.items.specs.Items.{Item, range}
 use Rattle.items.specs.Whole.{limit}
@@ -102,7 +102,7 @@ module _ (s : List ℕ) where
           )
 
   good-step : (p : Spot) → p .report ≡ true → (t : Turn) → nextAt s p ≡ t → (i : Item) (q : Spot) → mendTurn s t ≡ gives i q → Good i q
-  good-step p r ends e i q h = let z : _≡_ {A = ℕ} 0 1 = cc in absurd (omega arith)
+  good-step p r ends e i q h = impossible cc
   good-step p r (gives x t) e i q h = by-bool (slips s (x .kind) (x .start))
       (λ b. good-slip p r x t e b (closingOf s (x .kind) (x .start) (t .at)) refl i q (sym (mend-slip s x t b) ∙ h))
       (λ b. good-same x i t q (sym (mend-fine s x t b) ∙ h) (good-fine p r x t e))

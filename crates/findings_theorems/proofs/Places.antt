@@ -25,8 +25,8 @@ use Rattle.findings.specs.Slips.{isName, oddCode, firstOdd, oddIn, likeNumber, 
 use Rattle.findings.specs.Told.{endsInText, leftOver, errorEnd, errorTold, swallowTold, textTold, numberTold, nameOrNothing, rowTold, listTold, toldAt, toldFrom, toldOf}
 use Rattle.findings.specs.declared.Finding.{Finding}
 use Rattle.findings.specs.declared.Row.{Row}
-use Rattle.findings.specs.declared.Told.{Told}
-use Rattle.findings.specs.declared.Told.the-variants.{Nothing, One}
+use Rattle.findings.specs.declared.RowTold.{RowTold}
+use Rattle.findings.specs.declared.RowTold.the-variants.{Nothing, One}
 use Rattle.findings.specs.declared.ListTold.{ListTold}
 use Rattle.findings.specs.declared.ListTold.the-variants.{Silent, At}
 use Rattle.findings_theorems.proofs.Clean.{past-row}
@@ -59,7 +59,7 @@ module _ (R : ℕ → ℕ → Type 0) where
     pub nest : (p : ℕ) → p < countOf rows → rowAt rows p .error ≡ kind.IncompleteComment → R (rowAt rows p .from) (bytesOn 2 (rowAt rows p .from))
     pub quote : (p : ℕ) → p < countOf rows → byteAt source (rowAt rows p .start) ≡ code "\"" → R (rowAt rows p .start) (bytesOn 1 (rowAt rows p .start))
 
-  abbrev OfTold : Told → Type 0
+  abbrev OfTold : RowTold → Type 0
   OfTold Nothing = Unit {0}
   OfTold (One f) = BothPlaces f
 
@@ -67,7 +67,7 @@ module _ (R : ℕ → ℕ → Type 0) where
   OfList Silent = Unit {0}
   OfList (At i f) = BothPlaces f
 
-  of-two : (t u : Told) → OfTold t → OfTold u → Every BothPlaces (listed t ++ listed u)
+  of-two : (t u : RowTold) → OfTold t → OfTold u → Every BothPlaces (listed t ++ listed u)
   of-two Nothing Nothing h k = tt
   of-two Nothing (One g) h k = (k, tt)
   of-two (One f) Nothing h k = (h, tt)
@@ -77,7 +77,7 @@ module _ (R : ℕ → ℕ → Type 0) where
   of-list Silent p h = tt
   of-list (At i f) p h = if-all OfTold (eqb i p) h tt
 
-  of-else : (t u : Told) → OfTold t → OfTold u → OfTold (orElse t u)
+  of-else : (t u : RowTold) → OfTold t → OfTold u → OfTold (orElse t u)
   of-else Nothing u h k = k
   of-else (One f) u h k = h
 

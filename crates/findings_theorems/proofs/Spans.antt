@@ -38,8 +38,8 @@ use Rattle.meaning.specs.Places.{placeIn}
 use Rattle.lexer.specs.Reading.{moved, pick, turnAt, turnFrom, turn}
 use Rattle.lexer.specs.declared.Spot.{Spot}
 use Rattle.lexer.proofs.Here.{room}
-use Rattle.lines_items.proofs.Along.{along}
-use Rattle.lines_items.proofs.Outcomes.{Second, Known, read-known}
+use Rattle.lines_theorems.proofs.Along.{along}
+use Rattle.lines_theorems.proofs.Outcomes.{Second, Known, read-known}
 use Rattle.findings_theorems.proofs.Turns.{Given}
 
 -- the law that says nothing

@@ -9,12 +9,12 @@ use lib.Seq.{getD-append-add}
 use lib.Dec.{leb}
 use native.Mathlib.Omega.{arith}
 use borrow.Author.Tests.{le-leb}
-use Rattle.laws.proofs.Choice.{by-bool}
+use Rattle.laws.proofs.Choice.{by-bool, impossible}
 use Rattle.items.specs.Items.{recordWords}
 use Rattle.items.proofs.Every.{Every}
 use Rattle.lines.specs.Place.{isIndex}
 use Rattle.lines.proofs.Between.{Between, answered-between}
-use Rattle.lines_items.proofs.Records.{Answered}
+use Rattle.lines_theorems.proofs.Records.{Answered}
 use Rattle.findings_rows.specs.Laid.{laidRows}
 use Rattle.findings.specs.Finding.{findingWords, wordsOf}
 use Rattle.findings.specs.Laid.{laidFindings}
@@ -66,7 +66,7 @@ module _ (s : List ℕ) where
     unfolding callOf
     served = by-bool (leb (length (neededRows s)) (length rows / recordWords))
         (λ b. let z : Found (length (findOf s)) (errorsIn (findOf s)) ≡ Found n errors = rw b at answered in let y : n ≡ length (findOf s) = cc in (y, rw b))
-        (λ b. let z : TooFew (length (neededRows s)) ≡ Found n errors = rw b at answered in let y : _≡_ {A = ℕ} 0 1 = cc in absurd (omega arith))
+        (λ b. let z : TooFew (length (neededRows s)) ≡ Found n errors = rw b at answered in impossible cc)
 
     -- finding j of those that are written, and its place in the word k
     module _ (j : ℕ) (there : j < n) (fits : j * findingWords + findingWords ≤ length memory) (k : ℕ) (from : firstPlace ≤ k) (to : k < findingWords) where

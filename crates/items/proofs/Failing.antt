@@ -56,7 +56,7 @@ Inside m (Scalar c) = Unit {0}
 Inside m (Wrong e d) = Unit {0}
 Inside m (WrongAt e d p) = p ≤ m
 
-abbrev HexInside : ℕ → Hex → Type 0
+abbrev pub HexInside : ℕ → Hex → Type 0
 HexInside m (hex.Value v) = Unit {0}
 HexInside m (hex.Wrong d p) = p ≤ m
 

@@ -1,21 +1,14 @@
 -- What an outcome says of its item: a string's bytes stand between quotes, an error's range lies in the text, a detail is a small number
--- or a character of the text. Here for what is asked of an item's bytes.
-use Rattle.items.specs.declared.Quotes.{Quotes}
-use Rattle.items.specs.declared.Quotes.the-variants.{Double, Lines}
+-- or a character of the text. That it holds of the items that are read, stands in `Outcomes`.
 use Rattle.items.specs.declared.Outcome.{Outcome}
 use Rattle.items.specs.declared.Outcome.the-variants.{Token, Str, HereStr, Word, Run, Lined, Keyword, Character, Error, ErrorAt}
-use Rattle.items.specs.declared.HashKind.{HashKind}
-use Rattle.items.specs.declared.HashKind.the-variants.{Decided, Bracket, Undecided}
 use Rattle.items.specs.declared.CharValue.{CharValue}
 use Rattle.items.specs.declared.CharValue.the-variants.{Scalar, Wrong, WrongAt}
-use Rattle.items.specs.Classes.{delimOf}
-use Rattle.items.specs.Machine.{hashLast}
-use Rattle.items.specs.Readers.{firstIs, lastIs, linedOf, closed, unclosed, cut, scalarOf, boolKind, quoteKind, formKind, orElse}
-use Rattle.items.specs.Readers.{hashKind, hereEnds}
+use Rattle.items.specs.Readers.{lastIs, scalarOf}
+use Rattle.items.specs.Readers.{hereEnds}
 use Rattle.laws.specs.Quoted.{code}
-use Rattle.laws.specs.Texts.{begins, same}
 use Rattle.laws.proofs.Choice.{if-all, if-is}
-use Rattle.chars.specs.Encode.{isScalar, spelled}
+use Rattle.chars.specs.Encode.{isScalar}
 use Rattle.digits.specs.declared.Hex.{Hex}
 use Rattle.digits.specs.Hex.{hexValue, hexDigits, hexAfterPlus}
 use Rattle.digits.specs.Digits.{digitOf}
@@ -24,9 +17,9 @@ use mathlib.Core.Path.{_≡_}
 use mathlib.Core.Bool.{true}
 use mathlib.Core.List.{List, [], _∷_}
 use lib.ListN.{length}
-use lib.Dec.{eqb, leb, ltb}
+use lib.Dec.{eqb, ltb}
 use native.Mathlib.Omega.{arith}
-use borrow.Author.Tests.{ltb-true, leb-false}
+use borrow.Author.Tests.{ltb-true}
 use Rattle.digits.specs.declared.Hex.the-variants as hex
 use Rattle.items.specs.Kinds as kind
 
@@ -54,18 +47,13 @@ Fine D n raw Character = Unit {0}
 Fine D n raw (Error e d) = Numbered D e d
 Fine D n raw (ErrorAt e d a b) = Numbered D e d × Ranged n a b
 
-abbrev pub FineKind : (ℕ → Type 0) → ℕ → List ℕ → HashKind → Type 0
-FineKind D n raw (Decided o) = Fine D n raw o
-FineKind D n raw (Bracket d) = D d
-FineKind D n raw Undecided = Unit {0}
-
 -- a character's value, and the value of hex digits
 abbrev pub FineValue : (ℕ → Type 0) → CharValue → Type 0
 FineValue D (Scalar c) = D c
 FineValue D (Wrong e d) = Numbered D e d
 FineValue D (WrongAt e d p) = Numbered D e d
 
-abbrev FineHex : Hex → Type 0
+abbrev pub FineHex : Hex → Type 0
 FineHex (hex.Value v) = v < 2 ^ 32
 FineHex (hex.Wrong d p) = d < 2 ^ 32
 
@@ -84,7 +72,7 @@ unfolding hexAfterPlus
 hex-plus [] = omega arith
 hex-plus (c ∷ s) = hex-digits 1 0 (c ∷ s) (omega arith)
 
-hex-value : (s : List ℕ) → FineHex (hexValue s)
+pub hex-value : (s : List ℕ) → FineHex (hexValue s)
 unfolding hexValue
 hex-value [] = omega arith
 hex-value (c ∷ s) = if-all FineHex (eqb c (code "+")) (hex-plus s) (hex-digits 0 0 (c ∷ s) (omega arith))
@@ -99,70 +87,3 @@ module _ (D : ℕ → Type 0) (small : (d : ℕ) → d < 2 ^ 32 → D d) where
 
   pub fine-scalar : (s : List ℕ) → FineValue D (scalarOf (hexValue s))
   fine-scalar s = fine-hex (hexValue s) (hex-value s)
-
--- ---- what is asked of the bytes
-
-module _ (D : ℕ → Type 0) (small : (d : ℕ) → d < 2 ^ 32 → D d) (n : ℕ) where
-  fine-lined : (raw : List ℕ) → Fine D n raw (linedOf raw)
-  unfolding linedOf
-  fine-lined raw =
-      let P : Outcome → Type 0 = Fine D n raw in
-      let no : P (Error kind.IncompleteIdentifier 0) = (omega arith, small 0 (omega arith)) in
-      if-is P (leb (length raw) 1) (λ e. no)
-      (λ e. if-all P (firstIs (code "+") raw) tt
-      (if-all P (firstIs (code "|") raw) (if-is P (lastIs (code "|") raw) (λ f. (omega (arith, leb-false (length raw) 1 e), f)) (λ f. no)) no))
-
-  pub fine-closed : (k : Quotes) (raw : List ℕ) → Between (delimOf k) raw → Fine D n raw (closed k raw)
-  fine-closed Double raw h = h
-  fine-closed Lines raw h = fine-lined raw
-
-  pub fine-unclosed : (k : Quotes) (raw : List ℕ) → Fine D n raw (unclosed k raw)
-  fine-unclosed Double raw = (omega arith, small 0 (omega arith))
-  fine-unclosed Lines raw = fine-lined raw
-
-  pub fine-cut : (k : Quotes) (raw : List ℕ) → Fine D n raw (cut k)
-  fine-cut Double raw = (omega arith, small 0 (omega arith))
-  fine-cut Lines raw = (omega arith, small 0 (omega arith))
-
-  fine-bool : (raw : List ℕ) → FineKind D n raw (boolKind raw)
-  unfolding boolKind
-  fine-bool raw =
-      let P : HashKind → Type 0 = FineKind D n raw in
-      let yes : P (Decided (Token kind.BooleanLiteral 1)) = (omega arith, small 1 (omega arith)) in
-      let no : P (Decided (Token kind.BooleanLiteral 0)) = (omega arith, small 0 (omega arith)) in
-      if-all P (same raw (spelled "#true")) yes (if-all P (same raw (spelled "#t")) yes
-      (if-all P (same raw (spelled "#false")) no (if-all P (same raw (spelled "#f")) no tt)))
-
-  fine-quote : (raw : List ℕ) → FineKind D n raw (quoteKind raw)
-  unfolding quoteKind
-  fine-quote raw =
-      let P : HashKind → Type 0 = FineKind D n raw in
-      if-all P (same raw (spelled "#'")) (omega arith, small 0 (omega arith))
-      (if-all P (same raw (spelled "#`")) (omega arith, small 0 (omega arith))
-      (if-all P (same raw (spelled "#,")) (omega arith, small 0 (omega arith))
-      (if-all P (same raw (spelled "#,@")) (omega arith, small 0 (omega arith)) tt)))
-
-  fine-form : (raw : List ℕ) → FineKind D n raw (formKind raw)
-  unfolding formKind
-  fine-form raw =
-      let P : HashKind → Type 0 = FineKind D n raw in
-      if-all P (begins (spelled "#:") raw) tt
-      (if-all P (begins (spelled "#\\") raw) (if-all P (leb (length raw) 2) (omega arith, small 0 (omega arith)) tt)
-      (if-all P (same raw (spelled "#")) (small 3 (omega arith))
-      (if-all P (same raw (spelled "#u8")) (small 6 (omega arith)) tt)))
-
-  fine-else : (raw : List ℕ) (j k : HashKind) → FineKind D n raw j → FineKind D n raw k → FineKind D n raw (orElse j k)
-  fine-else raw (Decided o) k p q = p
-  fine-else raw (Bracket d) k p q = p
-  fine-else raw Undecided k p q = q
-
-  pub fine-kind : (raw : List ℕ) → FineKind D n raw (hashKind raw)
-  unfolding hashKind
-  fine-kind raw =
-      fine-else raw (boolKind raw) (orElse (quoteKind raw) (formKind raw)) (fine-bool raw)
-      (fine-else raw (quoteKind raw) (formKind raw) (fine-quote raw) (fine-form raw))
-
-  pub fine-last : (raw : List ℕ) (k : HashKind) → FineKind D n raw k → Fine D n raw (hashLast k)
-  fine-last raw (Decided o) p = p
-  fine-last raw (Bracket d) p = tt
-  fine-last raw Undecided p = tt

@@ -16,7 +16,7 @@ use Rattle.items.proofs.Fine.{Between, Fine, FineValue, fine-scalar}
 use Rattle.items.proofs.Shorter.{decoded-shorter}
 use Rattle.laws.specs.Quoted.{code, within}
 use Rattle.laws.specs.Texts.{before, same}
-use Rattle.laws.proofs.Choice.{by-bool, if-all, if-is, and-true, within-is}
+use Rattle.laws.proofs.Choice.{by-bool, if-all, if-is, and-true, within-is, impossible}
 use Rattle.chars.specs.declared.Step.{Step}
 use Rattle.chars.specs.Utf8.{first, rest, front, Front}
 use Rattle.numbers.specs.declared.Parsed.{Parsed}
@@ -159,7 +159,7 @@ module _ (s e : ℕ) (raw : List ℕ) (long : e ≡ s + length raw) where
   here-le : hereEnds raw ≡ true → length (lineOf (hereInside raw)) ≤ length (afterLine (hereInside raw))
   unfolding hereEnds endsWith
   here-le h = by-bool (ltb (length (afterLine (hereInside raw))) (length (lineOf (hereInside raw))))
-      (λ f. let z : false ≡ true = rw f at h in let n : _≡_ {A = ℕ} 0 1 = cc in absurd (omega arith))
+      (λ f. let z : false ≡ true = rw f at h in impossible cc)
       (λ f. ltb-false _ _ f)
 
   here-inside : hereEnds raw ≡ true → Inside s e (hereText s e raw)

@@ -1,42 +1,33 @@
--- In report mode an error points at its own place: what is known of an outcome, which carries its own range, and of each phase, where a
--- backslash's place lies between the item's start and the place read to. The steps stand in `OwnSteps`.
+-- In report mode an error points at its own place: what is known of an outcome, which carries its own range, and of a character that is none. That
+-- an item that is read has it, stands in `OwnSteps`.
 use Prim.Native.Nat.{ℕ, suc, _+_, _-_, _≤_, _<_}
 use mathlib.Core.Path.{_≡_, refl}
 use mathlib.Core.Bool.{Bool, true, false, _&&_, _||_}
 use mathlib.Core.List.{List, [], _∷_, map}
 use mathlib.Core.Logic.{_⊎_, inl, inr}
 use lib.ListN.{length, getD, take, drop}
-use lib.Dec.{T, eqb, leb, ltb}
+use lib.Dec.{T, eqb, ltb}
 use native.Mathlib.Omega.{arith}
 use borrow.Author.Tests.{eqb-true, ltb-true, ltb-false}
 use Rattle.laws.specs.Quoted.{code, oneOf}
-use Rattle.laws.specs.Texts.{span, begins, same}
-use Rattle.laws.proofs.Choice.{by-bool, if-all, if-is}
-use Rattle.chars.specs.Encode.{isScalar, spelled}
+use Rattle.laws.specs.Texts.{span}
+use Rattle.laws.proofs.Choice.{by-bool, if-all, if-is, impossible}
+use Rattle.chars.specs.Encode.{isScalar}
 use Rattle.chars.specs.Utf8.{front, Front}
 use Rattle.chars.specs.Utf8 as Utf8
 use Rattle.chars.proofs.Round.{one-read}
 use Rattle.digits.specs.Hex.{hexValue}
 use Rattle.digits.specs.declared.Hex.{Hex}
 use Rattle.digits.specs.declared.Hex.the-variants as hex
-use Rattle.items.specs.declared.Quotes.{Quotes}
-use Rattle.items.specs.declared.Quotes.the-variants.{Double, Lines}
 use Rattle.items.specs.declared.Outcome.{Outcome}
 use Rattle.items.specs.declared.Outcome.the-variants.{Token, Str, HereStr, Word, Run, Lined, Keyword, Character, Error, ErrorAt}
-use Rattle.items.specs.declared.Phase.{Phase}
-use Rattle.items.specs.declared.Next.{Next}
-use Rattle.items.specs.declared.Next.the-variants.{Eat, Stop}
-use Rattle.items.specs.declared.HashKind.{HashKind}
-use Rattle.items.specs.declared.HashKind.the-variants.{Decided, Bracket, Undecided}
 use Rattle.items.specs.declared.CharValue.{CharValue}
 use Rattle.items.specs.declared.CharValue.the-variants.{Scalar, Wrong, WrongAt}
 use Rattle.items.specs.Kinds as kind
 use Rattle.items.specs.Meaning.{lookup}
 use Rattle.items.specs.Meaning.{lower, charNames, unnamed, isDelimiter, beforeDelimiter, nameless, onlyOne, later, hexNamed, spelledOut, characterOf}
-use Rattle.items.specs.Points.{escapeErrors, extentErrors, PointsAt}
-use Rattle.items.specs.Machine.{hashLast}
-use Rattle.items.specs.Readers.{eat, firstIs, lastIs, linedOf, closed, unclosed, cut, scalarOf, pastFailing, boolKind, quoteKind, formKind, orElse, hashKind, SoFar}
-use Rattle.items.proofs.Phases.{InPhase}
+use Rattle.items.specs.Points.{extentErrors, PointsAt}
+use Rattle.items.specs.Readers.{firstIs, lastIs, cut, scalarOf, pastFailing}
 
 pub holds : (b : Bool) → T b → b ≡ true
 holds true t = refl
@@ -56,96 +47,7 @@ Own s e Character = Unit {0}
 Own s e (Error n d) = T (oneOf extentErrors n)
 Own s e (ErrorAt n d a b) = (0 < b) × PointsAt s e n a b
 
-abbrev pub OwnKind : ℕ → ℕ → HashKind → Type 0
-OwnKind s e (Decided o) = Own s e o
-OwnKind s e (Bracket d) = Unit {0}
-OwnKind s e Undecided = Unit {0}
-
--- what is known in a phase of an item that starts at s
-abbrev pub Holds : ℕ → SoFar → Phase → Type 0
-Holds s i = InPhase (record {
-  nest = λ d. Unit {0};
-  closed = λ k. Unit {0};
-  escape = λ from. (s ≤ from) × (from + 1 ≡ i .at);
-  brace = λ from. (s ≤ from) × (from < i .at);
-  digits = λ closer from m. (s ≤ from) × (from + (length (i .bytes) - m) < i .at);
-  done = Own s (i .at);
-})
-
-abbrev pub Goes : ℕ → SoFar → ℕ → Next → Type 0
-Goes s i c (Eat q) = Holds s (eat i c) q
-Goes s i c (Stop o) = Own s (i .at) o
-
-module _ (s e : ℕ) where
-  own-lined : (raw : List ℕ) → Own s e (linedOf raw)
-  unfolding linedOf
-  own-lined raw =
-      let P : Outcome → Type 0 = Own s e in
-      if-all P (leb (length raw) 1) tt
-      (if-all P (firstIs (code "+") raw) tt (if-all P (firstIs (code "|") raw) (if-all P (lastIs (code "|") raw) tt tt) tt))
-
-  pub own-closed : (k : Quotes) (raw : List ℕ) → Own s e (closed k raw)
-  own-closed Double raw = tt
-  own-closed Lines raw = own-lined raw
-
-  pub own-unclosed : (k : Quotes) (raw : List ℕ) → Own s e (unclosed k raw)
-  own-unclosed Double raw = tt
-  own-unclosed Lines raw = own-lined raw
-
-  pub own-cut : (k : Quotes) → Own s e (cut k)
-  own-cut Double = tt
-  own-cut Lines = tt
-
-  own-bool : (raw : List ℕ) → OwnKind s e (boolKind raw)
-  unfolding boolKind
-  own-bool raw =
-      let P : HashKind → Type 0 = OwnKind s e in
-      if-all P (same raw (spelled "#true")) tt (if-all P (same raw (spelled "#t")) tt
-      (if-all P (same raw (spelled "#false")) tt (if-all P (same raw (spelled "#f")) tt tt)))
-
-  own-quote : (raw : List ℕ) → OwnKind s e (quoteKind raw)
-  unfolding quoteKind
-  own-quote raw =
-      let P : HashKind → Type 0 = OwnKind s e in
-      if-all P (same raw (spelled "#'")) tt (if-all P (same raw (spelled "#`")) tt
-      (if-all P (same raw (spelled "#,")) tt (if-all P (same raw (spelled "#,@")) tt tt)))
-
-  own-form : (raw : List ℕ) → OwnKind s e (formKind raw)
-  unfolding formKind
-  own-form raw =
-      let P : HashKind → Type 0 = OwnKind s e in
-      if-all P (begins (spelled "#:") raw) tt
-      (if-all P (begins (spelled "#\\") raw) (if-all P (leb (length raw) 2) tt tt)
-      (if-all P (same raw (spelled "#")) tt (if-all P (same raw (spelled "#u8")) tt tt)))
-
-  own-else : (j k : HashKind) → OwnKind s e j → OwnKind s e k → OwnKind s e (orElse j k)
-  own-else (Decided o) k p q = p
-  own-else (Bracket d) k p q = p
-  own-else Undecided k p q = q
-
-  pub own-kind : (raw : List ℕ) → OwnKind s e (hashKind raw)
-  unfolding hashKind
-  own-kind raw =
-      own-else (boolKind raw) (orElse (quoteKind raw) (formKind raw)) (own-bool raw)
-      (own-else (quoteKind raw) (formKind raw) (own-quote raw) (own-form raw))
-
-  pub own-last : (k : HashKind) → OwnKind s e k → Own s e (hashLast k)
-  own-last (Decided o) p = p
-  own-last (Bracket d) p = tt
-  own-last Undecided p = tt
-
 -- ---- a character that is none
-
--- the error of hex digits
-abbrev pub HexFails : CharValue → Type 0
-HexFails (Scalar x) = Unit {0}
-HexFails (Wrong n d) = T (oneOf escapeErrors n)
-HexFails (WrongAt n d p) = n ≡ kind.InvalidHexEscapeLiteral
-
-pub scalar-fails : (h : Hex) → HexFails (scalarOf h)
-unfolding scalarOf
-scalar-fails (hex.Value v) = if-all HexFails (isScalar v) tt tt
-scalar-fails (hex.Wrong d p) = refl
 
 -- the error of any bytes t after `#\`: where it fails there is a digit or none, or a delimiter after the first character
 abbrev pub Fails : List ℕ → CharValue → Type 0
@@ -170,8 +72,7 @@ delimiter-small c h = by-bool (ltb c 0x80) (λ e. ltb-true c 0x80 e) (λ e. absu
         let d : eqb c (code "'") ≡ false = eqb-no c (code "'") g (omega arith) in
         let e : eqb c (code ",") ≡ false = eqb-no c (code ",") g (omega arith) in
         let z : false ≡ true = rw (a, b, d, e) at h in
-        let w : _≡_ {A = ℕ} 0 1 = cc in
-        omega arith
+        impossible cc
       where
         eqb-no : (c k : ℕ) → 0x80 ≤ c → k < 0x80 → eqb c k ≡ false
         eqb-no c k g h = by-bool (eqb c k) (λ e. let z : c ≡ k = eqb-true c k e in absurd (omega arith)) (λ e. e)

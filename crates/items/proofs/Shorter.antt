@@ -10,7 +10,7 @@ use Rattle.items.proofs.Cases.{by-quotes, by-backslash, by-hex, by-trim
 use Rattle.items.proofs.Fine.{Between}
 use Rattle.chars.proofs.Width.{width-le, width-utf8}
 use Rattle.laws.specs.Quoted.{code}
-use Rattle.laws.proofs.Choice.{by-bool, if-all}
+use Rattle.laws.proofs.Choice.{by-bool, if-all, impossible}
 use Rattle.chars.specs.Encode.{isScalar, encode}
 use Rattle.digits.specs.Hex.{hexValue}
 use Rattle.digits.specs.declared.Hex.{Hex}
@@ -32,7 +32,7 @@ encode-le v = if-all (λ (l : List ℕ). length l ≤ 4) (isScalar v) (omega (ar
 -- a value has a digit
 digit-there : (ds : List ℕ) (v : ℕ) → scalarOf (hexValue ds) ≡ Scalar v → 1 ≤ length ds
 unfolding hexValue scalarOf
-digit-there [] v e = let no : _≡_ {A = ℕ} 0 1 = cc in absurd (omega arith)
+digit-there [] v e = impossible cc
 digit-there (d ∷ ds) v e = omega arith
 
 -- digits that spell a character spell a scalar value
@@ -41,8 +41,8 @@ unfolding scalarOf
 scalar-is (hex.Value n) v e =
     by-bool (isScalar n)
     (λ y. let f = rw y at e in let q : n ≡ v = cc in rw (← q) y)
-    (λ y. let f = rw y at e in let z : _≡_ {A = ℕ} 0 1 = cc in absurd (omega arith))
-scalar-is (hex.Wrong d p) v e = let z : _≡_ {A = ℕ} 0 1 = cc in absurd (omega arith)
+    (λ y. let f = rw y at e in impossible cc)
+scalar-is (hex.Wrong d p) v e = impossible cc
 
 -- E is what is known of the bytes, t how much shorter than these the text is for it
 module _ (k : Quotes) (t : ℕ) (small : t ≤ 1) (E : List ℕ → Type 0) (tail : (c : ℕ) (cs : List ℕ) → E (c ∷ cs) → E cs)
@@ -131,7 +131,7 @@ ends-in b c (d ∷ cs) h =
 -- a plain character is not the last, nor is the closer of hex digits
 plain-not : (k : Quotes) (c : ℕ) (cs : List ℕ) → EndsIn (delimOf k) (c ∷ cs) → inQuotes k c ≡ plain → 1 ≤ length cs
 unfolding inQuotes
-plain-not k c [] h e = let z : ends ≡ plain = rw h at e in let no : _≡_ {A = ℕ} 0 1 = cc in absurd (omega arith)
+plain-not k c [] h e = let z : ends ≡ plain = rw h at e in impossible cc
 plain-not k c (d ∷ cs) h e = omega arith
 
 closer-not : (k : Quotes) (closer c : ℕ) (cs : List ℕ) → eqb (delimOf k) closer ≡ false → EndsIn (delimOf k) (c ∷ cs) → inHex k closer c ≡ closes
@@ -141,8 +141,8 @@ closer-not k closer c [] a h e =
     let f : c ≡ delimOf k = eqb-true c (delimOf k) h in
     let g : eqb c closer ≡ false = rw f a in
     by-bool (stopsHex c)
-    (λ s. let z : stops ≡ closes = rw (g, s) at e in let n : _≡_ {A = ℕ} 0 1 = cc in absurd (omega arith))
-    (λ s. let z : stops ≡ closes = rw (g, s, h) at e in let n : _≡_ {A = ℕ} 0 1 = cc in absurd (omega arith))
+    (λ s. let z : stops ≡ closes = rw (g, s) at e in impossible cc)
+    (λ s. let z : stops ≡ closes = rw (g, s, h) at e in impossible cc)
 closer-not k closer c (d ∷ cs) a h e = omega arith
 
 -- the text between quotes is at least two bytes shorter than the item

@@ -8,6 +8,12 @@
 pub mod kinds;
 pub mod modes;
 
+// How many words a record has.
+pub const RECORD_WORDS: usize = 10;
+
+// How many bytes what opens or closes quotes is.
+pub const QUOTE_LENGTH: usize = 1;
+
 // What stands between quotes.
 pub enum Quotes {
     // a string: "a"

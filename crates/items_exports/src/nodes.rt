@@ -4,7 +4,7 @@ ghost use Prim.Native.Nat.{_+_, _*_, _<_, _≤_};
 ghost use Rattle.items_exports.specs.Nodes.{nodesOf, pastOf, boundOf, childOf, siblingOf};
 
 // How many words a node has, and which of them says how many nodes lie beneath it.
-const WORDS: usize = 3;
+const NODE_WORDS: usize = 3;
 
 const BENEATH: usize = 2;
 
@@ -13,8 +13,8 @@ fn past(nodes: &[u32], at: usize) -> usize
     requires { ⌜ at < nodesOf (now nodes) ⌝ }
     ensures { λ r. ⌜ r ≡ pastOf (now (nodes .entry)) at ⌝ }
 {
-    let count = nodes.len() / WORDS;
-    let beneath = nodes[at * WORDS + BENEATH] as usize;
+    let count = nodes.len() / NODE_WORDS;
+    let beneath = nodes[at * NODE_WORDS + BENEATH] as usize;
     if count - at <= beneath {
         return count;
     }
@@ -26,7 +26,7 @@ fn past(nodes: &[u32], at: usize) -> usize
 pub extern "C" fn mihadrena_first_child(nodes: &[u32], at: usize) -> usize
     ensures { λ r. ⌜ r ≡ childOf (now (nodes .entry)) at ⌝ }
 {
-    let count = nodes.len() / WORDS;
+    let count = nodes.len() / NODE_WORDS;
     if count <= at {
         return count;
     }
@@ -40,7 +40,7 @@ pub extern "C" fn mihadrena_first_child(nodes: &[u32], at: usize) -> usize
 fn bound(nodes: &[u32], within: usize) -> usize
     ensures { λ r. ⌜ r ≡ boundOf (now (nodes .entry)) within ⌝ }
 {
-    let count = nodes.len() / WORDS;
+    let count = nodes.len() / NODE_WORDS;
     if count <= within {
         return count;
     }
@@ -53,7 +53,7 @@ fn bound(nodes: &[u32], within: usize) -> usize
 pub extern "C" fn mihadrena_next_sibling(nodes: &[u32], within: usize, at: usize) -> usize
     ensures { λ r. ⌜ r ≡ siblingOf (now (nodes .entry)) within at ⌝ }
 {
-    let count = nodes.len() / WORDS;
+    let count = nodes.len() / NODE_WORDS;
     if count <= at {
         return count;
     }

@@ -1,4 +1,5 @@
 // Questions about records.
+use items::RECORD_WORDS;
 use items::kinds::OPEN_PAREN;
 ghost use mathlib.Core.Path.{_≡_};
 ghost use mathlib.Core.Bool.{_&&_};
@@ -6,9 +7,6 @@ ghost use Prim.Native.Nat.{_+_, _*_, _<_, _≤_};
 ghost use lib.ListN.{length, getD};
 ghost use lib.Dec.{leb};
 ghost use Rattle.items_exports.specs.Records.{countOf, opensInside, openBefore, openerOf, textFits, recordFits, recordsFit};
-
-// How many words a record has, and which of them is what.
-const WORDS: usize = 10;
 
 const START: usize = 2;
 
@@ -38,7 +36,7 @@ fn opens_inside(records: &[u32], p: usize, depth: u32) -> bool
     requires { ⌜ p < countOf (now records) ⌝ }
     ensures { λ r. ⌜ r ≡ opensInside (now (records .entry)) depth p ⌝ }
 {
-    let first = p * WORDS;
+    let first = p * RECORD_WORDS;
     if records[first] == OPEN_PAREN {
         return records[first + DEPTH] == depth;
     }
@@ -66,11 +64,11 @@ fn open_before(records: &[u32], depth: u32, none: usize, p: usize) -> usize
 pub extern "C" fn mihadrena_opener(records: &[u32], at: usize) -> usize
     ensures { λ r. ⌜ r ≡ openerOf (now (records .entry)) at ⌝ }
 {
-    let count = records.len() / WORDS;
+    let count = records.len() / RECORD_WORDS;
     if count <= at {
         return count;
     }
-    let depth = records[at * WORDS + DEPTH];
+    let depth = records[at * RECORD_WORDS + DEPTH];
     if depth == 0 {
         return count;
     }
@@ -105,7 +103,7 @@ fn record_fits(records: &[u32], p: usize, source: usize, text: usize) -> bool
     requires { ⌜ p < countOf (now records) ⌝ }
     ensures { λ r. ⌜ r ≡ recordFits (now (records .entry)) source text p ⌝ }
 {
-    let first = p * WORDS;
+    let first = p * RECORD_WORDS;
     if !lies(records[first + START], records[first + END], source) {
         return false;
     }
@@ -130,7 +128,7 @@ fn record_fits(records: &[u32], p: usize, source: usize, text: usize) -> bool
 pub extern "C" fn mihadrena_records_fit(records: &[u32], source: usize, text: usize) -> bool
     ensures { λ r. ⌜ r ≡ recordsFit (now (records .entry)) source text ⌝ }
 {
-    let mut left = records.len() / WORDS;
+    let mut left = records.len() / RECORD_WORDS;
     while 0 < left {
         left -= 1;
         if !record_fits(records, left, source, text) {

@@ -10,6 +10,7 @@ use borrow.Author.Tests.{lt-ltb, le-ltb}
 use Rattle.items.specs.Items.{recordWords}
 use Rattle.items_files.specs.Layout.{first}
 use Rattle.laws.specs.Lent.{written}
+use Rattle.laws.proofs.Choice.{impossible}
 use Rattle.refusal.specs.Refusals.{tooFew, goesBack}
 use Rattle.items_files.specs.Answers.{served, refused, outcome}
 use Rattle.items_files.specs.Write.{wholeRecords, file, Goes, on, back, goes, found, measured, writeOf}
@@ -36,7 +37,7 @@ module _ (records out : List ℕ) {n : ℕ} where
 
 found-bytes : (g : Goes) (k n : ℕ) → found g k ≡ Bytes n → (g ≡ on) × (k ≡ n)
 found-bytes on k n e = (refl, let q : k ≡ n = cc in q)
-found-bytes (back j) k n e = let z : _≡_ {A = ℕ} 0 1 = cc in absurd (omega arith)
+found-bytes (back j) k n e = impossible cc
 
 pub measured-bytes : (ws : List ℕ) {n : ℕ} → measured ws ≡ Bytes n → (goes first 0 ws ≡ on) × (length (file first ws) ≡ n)
 unfolding measured
@@ -44,10 +45,10 @@ measured-bytes ws {n} e = found-bytes (goes first 0 ws) (length (file first ws))
 
 sizes-served : (f : Found) (n : ℕ) → served n ≡ sizes f → (f ≡ all (wordsIn f)) × (length (wordsIn f) ≡ n)
 sizes-served (all ws) n e = (refl, let q : length ws ≡ n = cc in q)
-sizes-served (fails k j) n e = let z : _≡_ {A = ℕ} 0 1 = cc in absurd (omega arith)
+sizes-served (fails k j) n e = impossible cc
 
 sizes-refused : (f : Found) (k j : ℕ) → refused k j ≡ sizes f → f ≡ fails k j
-sizes-refused (all ws) k j e = let z : _≡_ {A = ℕ} 0 1 = cc in absurd (omega arith)
+sizes-refused (all ws) k j e = impossible cc
 sizes-refused (fails a b) k j e = let q : fails a b ≡ fails k j = cc in q
 
 module _ (bytes records : List ℕ) where

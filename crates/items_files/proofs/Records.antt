@@ -7,7 +7,7 @@ use native.Mathlib.Omega.{arith}
 use lib.ListN.{length, getD, drop}
 use lib.Dec.{ltb}
 use borrow.Author.Tests.{lt-ltb, le-ltb, ltb-true, ltb-false}
-use Rattle.laws.proofs.Choice.{by-bool, no-yes, yes-no}
+use Rattle.laws.proofs.Choice.{by-bool, no-yes, yes-no, impossible}
 use Rattle.laws.proofs.Places.{here}
 use Rattle.items.specs.Items.{recordWords, wordsOf}
 use Rattle.items.specs.declared.Nine.{Nine}
@@ -150,8 +150,7 @@ module _ (r : Record) (l p : ℕ) (rest : List ℕ) where
       by-bool (goesBack p (r .nine))
       (λ h.
       let q : Bytes 0 ≡ Back (j / recordWords) = sym (ap (λ (g : Goes). found g 0) e) ∙ record-back j 0 tens h in
-      let z : _≡_ {A = ℕ} 0 1 = cc in
-      absurd (omega arith))
+      impossible cc)
       (λ h. h)
 
   -- ---- its bytes

@@ -11,6 +11,7 @@ use Rattle.items_files.specs.Layout.{base, after, first, numbers}
 use Rattle.laws.specs.Choice.{if_then_else_}
 use Rattle.items_files.specs.Groups.{image, images}
 use Rattle.laws.specs.Lent.{written}
+use Rattle.laws.proofs.Choice.{impossible}
 use Rattle.refusal.specs.Refusals.{tooFew, goesBack}
 use Rattle.items_files.specs.Answers.{served, refused, Outcome, outcome}
 use Rattle.items_files.specs.Write.{wholeRecords, file, on, goes, found, measured, writeOf}
@@ -68,9 +69,9 @@ whole-length : (records : List ℕ) → length (wholeRecords records) ≡ length
 whole-length records = length-take-le (length records / recordWords * recordWords) records (omega arith)
 
 store-served : (m : Measured) (bytes out : List ℕ) (n : ℕ) (now : List ℕ) → writer.store m bytes out ≡ outcome (served n) now → (m ≡ Bytes n) × (n ≤ length out) × (now ≡ written bytes out)
-store-served (Back k) bytes out n now = λ e. let f : refused goesBack k ≡ served n = ap (λ (o : Outcome). o .answer) e in let z : _≡_ {A = ℕ} 0 1 = cc in absurd (omega arith)
+store-served (Back k) bytes out n now = λ e. let f : refused goesBack k ≡ served n = ap (λ (o : Outcome). o .answer) e in impossible cc
 store-served (Bytes k) bytes out n now = by-less (length out) k
-    (λ h. rw (lt-ltb (length out) k h) (λ e. let f : refused tooFew k ≡ served n = ap (λ (o : Outcome). o .answer) e in let z : _≡_ {A = ℕ} 0 1 = cc in absurd (omega arith)))
+    (λ h. rw (lt-ltb (length out) k h) (λ e. let f : refused tooFew k ≡ served n = ap (λ (o : Outcome). o .answer) e in impossible cc))
     (λ h. rw (le-ltb (length out) k h) (λ e. let f : served k ≡ served n = ap (λ (o : Outcome). o .answer) e in let q : k ≡ n = cc in (ap Bytes q, omega arith, sym (ap (λ (o : Outcome). o .memory) e))))
 
 -- a call of the writer that was served, then one of the reader on the bytes written: the records come back
@@ -88,9 +89,9 @@ trip-there records out n now memory u e h =
 
 read-served : (f : Found) (memory : List ℕ) (k : ℕ) (now : List ℕ) → reader.load f memory ≡ outcome (served k) now
     → (ws : List ℕ) × (f ≡ all ws) × (length ws / recordWords ≡ k) × (now ≡ written ws memory)
-read-served (fails n j) memory k now = λ e. let f : refused n j ≡ served k = ap (λ (o : Outcome). o .answer) e in let z : _≡_ {A = ℕ} 0 1 = cc in absurd (omega arith)
+read-served (fails n j) memory k now = λ e. let f : refused n j ≡ served k = ap (λ (o : Outcome). o .answer) e in impossible cc
 read-served (all ws) memory k now = by-less (length memory / recordWords) (length ws / recordWords)
-    (λ h. rw (lt-ltb (length memory / recordWords) (length ws / recordWords) h) (λ e. let f : refused tooFew (length ws / recordWords) ≡ served k = ap (λ (o : Outcome). o .answer) e in let z : _≡_ {A = ℕ} 0 1 = cc in absurd (omega arith)))
+    (λ h. rw (lt-ltb (length memory / recordWords) (length ws / recordWords) h) (λ e. let f : refused tooFew (length ws / recordWords) ≡ served k = ap (λ (o : Outcome). o .answer) e in impossible cc))
     (λ h. rw (le-ltb (length memory / recordWords) (length ws / recordWords) h) (λ e. let f : served (length ws / recordWords) ≡ served k = ap (λ (o : Outcome). o .answer) e in let q : length ws / recordWords ≡ k = cc in (ws, refl, q, sym (ap (λ (o : Outcome). o .memory) e))))
 
 back-with : (s ws memory : List ℕ) (k : ℕ) (now out : List ℕ) → Writable ws → file first ws ≡ s → length ws / recordWords ≡ k → now ≡ written ws memory → length s ≤ length out

@@ -8,7 +8,7 @@ use lib.Seq.{take-all}
 use lib.Dec.{ltb}
 use borrow.Author.Tests.{le-ltb}
 use Rattle.laws.specs.Lent.{written}
-use Rattle.laws.proofs.Choice.{if-all}
+use Rattle.laws.proofs.Choice.{if-all, impossible}
 use Rattle.items.specs.Items.{recordWords}
 use Rattle.refusal.specs.Refusals.{tooFew, goesBack}
 use Rattle.items_files.specs.Groups.{image}
@@ -43,5 +43,5 @@ module _ (ws out : List ℕ) (g : Writable ws) where
       let n : ℕ = length (file first ws) in
       if-all (λ (o : Outcome). o .answer ≡ refused goesBack k → ⊥) (ltb (length out) n)
       (λ q. let z : tooFew ≡ goesBack = cc in omega (arith, z))
-      (λ q. let z : _≡_ {A = ℕ} 0 1 = cc in omega arith)
+      (λ q. impossible cc)
       (sym (ap (λ (o : Outcome). o .answer) stored) ∙ e)

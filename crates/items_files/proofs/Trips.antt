@@ -18,7 +18,7 @@ use Rattle.items_files.specs.Write.{file, Goes, on, back, goes}
 use Rattle.items_files.specs.Numbers.{fifth}
 use Rattle.items_files.specs.Read.{Reading, Took, goesOn, word, bad, entered, taken, between, Found, all, fails, push, told, ended, readFrom, opening}
 use Rattle.items_files.specs.declared.Before.{Before}
-use Rattle.laws.proofs.Choice.{by-bool}
+use Rattle.laws.proofs.Choice.{by-bool, impossible}
 use Rattle.lines.proofs.Tests.{by-less, by-equal}
 use Rattle.items_files.proofs.Writer.{no-back}
 use Rattle.items_files.proofs.Groups.{last-group, more-groups}
@@ -106,12 +106,12 @@ ended-all : (r : Reading) (j : ℕ) (ws : List ℕ) → ended r j ≡ all ws →
 ended-all r j ws = by-bool (eqb (r .weight) 1)
     (λ a. rw a (by-bool (eqb (r .before .which) 0)
     (λ b. rw b (λ q. (eqb-true _ _ a, eqb-true _ _ b, let e : ws ≡ [] = cc in e)))
-    (λ b. rw b (λ q. let z : _≡_ {A = ℕ} 0 1 = cc in absurd (omega arith)))))
-    (λ a. rw a (λ q. let z : _≡_ {A = ℕ} 0 1 = cc in absurd (omega arith)))
+    (λ b. rw b (λ q. impossible cc))))
+    (λ a. rw a (λ q. impossible cc))
 
 push-all : (w : ℕ) (f : Found) (ws : List ℕ) → push w f ≡ all ws → (l : List ℕ) × (f ≡ all l) × (ws ≡ w ∷ l)
 push-all w (all l) ws q = (l, refl, let e : ws ≡ w ∷ l = cc in e)
-push-all w (fails n j) ws q = let z : _≡_ {A = ℕ} 0 1 = cc in absurd (omega arith)
+push-all w (fails n j) ws q = impossible cc
 
 after-which : (b : Before) (w : ℕ) → b .which < recordWords → ((b .which ≡ ownWords) × (after b w .which ≡ 0)) ⊎ ((b .which < ownWords) × (after b w .which ≡ b .which + 1))
 unfolding after
@@ -161,7 +161,7 @@ turn c s r p j ws h w b (v-word n k z e m f) rec q =
     (returns-word r p c n s (u .0) h w k z e f
     (rec (between (after (r .before) (base (r .before) + n))) [] (j + 1) (u .0) (held-none (after (r .before) (base (r .before) + n)))
     (after-small (r .before) (base (r .before) + n) w) (u .1)))
-turn c s r p j ws h w b (v-bad k) rec q = let z : _≡_ {A = ℕ} 0 1 = cc in absurd (omega arith)
+turn c s r p j ws h w b (v-bad k) rec q = impossible cc
 
 pub returns : (s : List ℕ) (r : Reading) (p : List ℕ) (j : ℕ) (ws : List ℕ) → Held r p → r .before .which < recordWords → Bytes s
     → readFrom r j s ≡ all ws → Returns (r .before) (p ++ s) ws

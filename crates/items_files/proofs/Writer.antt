@@ -10,6 +10,7 @@ use borrow.Author.Tests.{lt-ltb, le-ltb}
 use borrow.Rule.Slice.PartMut.{putMid}
 use Rattle.laws.specs.Choice.{if_then_else_}
 use Rattle.laws.specs.Lent.{written}
+use Rattle.laws.proofs.Choice.{impossible}
 use Rattle.laws.proofs.Places.{past}
 use Rattle.items.specs.Items.{recordWords, wordsOf}
 use Rattle.items.specs.declared.Record.{Record}
@@ -33,7 +34,7 @@ goes-end s b i h = rw (past s i h)
 -- a list that goes on has no word below its base
 pub no-back : (t : ℕ) (w k : ℕ) (g : Goes) → (if ltb w k then back t else g) ≡ on → (k ≤ w) × (g ≡ on)
 no-back t w k g e = by-less w k
-    (λ h. let x : back t ≡ on = rw (lt-ltb w k h) at e in let z : _≡_ {A = ℕ} 0 1 = cc in absurd (omega arith))
+    (λ h. let x : back t ≡ on = rw (lt-ltb w k h) at e in impossible cc)
     (λ h. (h, rw (le-ltb w k h) at e))
 
 record-size : (r : Record) (l p : ℕ) (rest : List ℕ)

@@ -1,7 +1,7 @@
 // Item files: a list of records as numbers in groups of seven bits, and back (02 (x)). specs/Layout says which numbers an item has,
 // specs/Groups how a number is stored, specs/Write and specs/Read what the two calls answer and write.
+use items::RECORD_WORDS;
 use items::Record;
-use meaning::records::WORDS;
 ghost use mathlib.Core.Path.{_≡_};
 ghost use Rattle.items_files.specs.Answers.{wrote, got, outcome};
 ghost use Rattle.items_files.specs.Write.{writeOf};
@@ -81,7 +81,7 @@ pub enum ReadAnswer {
 pub fn write(records: &[u32], out: &mut [u8]) -> WriteAnswer
     ensures { λ r. ⌜ outcome (wrote r) (now (out .exit)) ≡ writeOf (now (records .entry)) (now (out .entry)) ⌝ }
 {
-    let n = records.len() / WORDS * WORDS;
+    let n = records.len() / RECORD_WORDS * RECORD_WORDS;
     let words = &records[..n];
     let seen = storing::measure(words);
     match seen {
@@ -106,8 +106,8 @@ pub fn read(file: &[u8], records: &mut [u32]) -> ReadAnswer
         Scanned::Wrong(at) => ReadAnswer::Wrong(at),
         Scanned::Over(at) => ReadAnswer::Over(at),
         Scanned::Words(words) => {
-            let items = words / WORDS;
-            if records.len() / WORDS < items {
+            let items = words / RECORD_WORDS;
+            if records.len() / RECORD_WORDS < items {
                 return ReadAnswer::TooFew(items);
             }
             loading::fill(file, records);

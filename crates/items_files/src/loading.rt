@@ -4,7 +4,7 @@ use crate::Number;
 use crate::Scanned;
 use crate::glance;
 use crate::layout;
-use meaning::records::WORDS;
+use items::RECORD_WORDS;
 use meaning::records::put;
 ghost use mathlib.Core.Bool.{true};
 ghost use mathlib.Core.Path.{_≡_};
@@ -16,7 +16,7 @@ ghost use Rattle.items_files.specs.Numbers.{numberOf};
 ghost use Rattle.items_files.specs.Read.{opening, readFrom, sizes, wordsIn, sound};
 
 // The largest number of 32 bits.
-const MOST: u64 = 4294967295;
+const LARGEST_NUMBER: u64 = 4294967295;
 
 // The weight of the fifth group.
 const FIFTH: u32 = 268435456;
@@ -38,7 +38,7 @@ fn groups_at(file: &[u8], at: usize) -> Number
                 return Number::Wrong;
             }
             let n = value as u64 + weight as u64 * c as u64;
-            if MOST < n {
+            if LARGEST_NUMBER < n {
                 return Number::Wrong;
             }
             return Number::Whole(n as u32, i + 1);
@@ -76,14 +76,14 @@ pub fn scan(file: &[u8]) -> Scanned
         let past = glance::item_end(file, i, b);
         if 0 < past {
             b = layout::after_item(b.start + file[i + 2] as u32, file[past - 1] as u32);
-            n += WORDS;
+            n += RECORD_WORDS;
             i = past;
         } else {
             let number = number_at(file, i);
             match number {
                 Number::Whole(value, next) => {
                     let word = layout::base_of(b) as u64 + value as u64;
-                    if MOST < word {
+                    if LARGEST_NUMBER < word {
                         return Scanned::Over(n);
                     }
                     b = layout::after_word(b, word as u32);
@@ -119,7 +119,7 @@ pub fn fill(file: &[u8], records: &mut [u32])
             Light::Item(record, past) => {
                 put(&mut records[n..], record);
                 b = layout::after_item(record.nine.start, record.depth);
-                n += WORDS;
+                n += RECORD_WORDS;
                 i = past;
             }
             Light::Other => {

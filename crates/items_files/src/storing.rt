@@ -1,8 +1,8 @@
 // The writer's two passes: how many bytes, then the bytes. Both go record by record.
 use crate::Measured;
 use items::Nine;
+use items::RECORD_WORDS;
 use items::Record;
-use meaning::records::WORDS;
 ghost use mathlib.Core.Bool.{false};
 ghost use mathlib.Core.Path.{_≡_};
 ghost use mathlib.Core.List.{_++_};
@@ -53,7 +53,7 @@ fn goes_back(r: Nine, last: u32) -> bool
 }
 
 // The ten numbers of a record that does not go back.
-fn numbers_of(r: Record, last: u32) -> [u32; WORDS]
+fn numbers_of(r: Record, last: u32) -> [u32; RECORD_WORDS]
     requires { ⌜ goesBack last (r .nine) ≡ false ⌝ }
     ensures { λ ns. ⌜ ns ≡ numbersOf last r ⌝ }
 {
@@ -81,13 +81,13 @@ fn group_count(n: u32) -> usize
 }
 
 // How many groups ten numbers take.
-fn counts(ns: [u32; WORDS]) -> usize
+fn counts(ns: [u32; RECORD_WORDS]) -> usize
     requires { ⌜ length ns ≡ recordWords ⌝ }
     ensures { λ r. ⌜ r ≡ length (images ns) ⌝ }
 {
     let mut total: usize = 0;
     let mut k: usize = 0;
-    while k < WORDS {
+    while k < RECORD_WORDS {
         total = total + group_count(ns[k]);
         k += 1;
     }
@@ -124,13 +124,13 @@ fn put_number(n: u32, out: &mut [u8]) -> usize
 }
 
 // The groups of ten numbers, one after the other.
-fn put_numbers(ns: [u32; WORDS], out: &mut [u8]) -> usize
+fn put_numbers(ns: [u32; RECORD_WORDS], out: &mut [u8]) -> usize
     requires { ⌜ (length ns ≡ recordWords) × (length (images ns) ≤ length (now out)) ⌝ }
     ensures { λ r. ⌜ (r ≡ length (images ns)) × (now (out .exit) ≡ written (images ns) (now (out .entry))) ⌝ }
 {
     let mut at: usize = 0;
     let mut k: usize = 0;
-    while k < WORDS {
+    while k < RECORD_WORDS {
         let count = put_number(ns[k], &mut out[at..]);
         at = at + count;
         k += 1;
@@ -149,12 +149,12 @@ pub fn measure(words: &[u32]) -> Measured
     while i < words.len() {
         let record = record_at(words, i);
         if goes_back(record.nine, last) {
-            return Measured::Back(i / WORDS);
+            return Measured::Back(i / RECORD_WORDS);
         }
         let count = counts(numbers_of(record, last));
         total = total + count;
         last = record.nine.start;
-        i = i + WORDS;
+        i = i + RECORD_WORDS;
     }
     Measured::Bytes(total)
 }
@@ -173,6 +173,6 @@ pub fn put_words(words: &[u32], out: &mut [u8])
         let count = put_numbers(ns, &mut out[at..]);
         at = at + count;
         last = record.nine.start;
-        i = i + WORDS;
+        i = i + RECORD_WORDS;
     }
 }

@@ -1,4 +1,5 @@
 // The calls of the crate `items_files` for programs in C and Rust: each answer as a number and one value.
+use exports_values::put_value;
 use items_files::ReadAnswer;
 use items_files::WriteAnswer;
 use refusal::CUT_SHORT;
@@ -15,27 +16,24 @@ ghost use Rattle.items_files.specs.Write.{writeOf};
 ghost use Rattle.items_files.specs.Read.{readOf};
 ghost use Rattle.items_files_exports.specs.Told.{numberOf, valueOf};
 
-// How many values are written.
-const VALUES: usize = 1;
-
 // An answer: its number and its value.
-struct Told {
+struct NumberAndValue {
     number: u32,
     value: u64,
 }
 
 // An answer of a number and a value.
-fn tell(number: u32, value: usize) -> Told
+fn tell(number: u32, value: usize) -> NumberAndValue
     ensures { λ r. ⌜ (r .number ≡ number) × (r .value ≡ value) ⌝ }
 {
-    Told {
+    NumberAndValue {
         number,
         value: value as u64,
     }
 }
 
 // The writer's answer by its number and its value.
-fn tell_write(a: WriteAnswer) -> Told
+fn tell_write(a: WriteAnswer) -> NumberAndValue
     ensures { λ r. ⌜ (r .number ≡ numberOf (wrote a)) × (r .value ≡ valueOf (wrote a)) ⌝ }
 {
     match a {
@@ -46,7 +44,7 @@ fn tell_write(a: WriteAnswer) -> Told
 }
 
 // The reader's answer by its number and its value.
-fn tell_read(a: ReadAnswer) -> Told
+fn tell_read(a: ReadAnswer) -> NumberAndValue
     ensures { λ r. ⌜ (r .number ≡ numberOf (got a)) × (r .value ≡ valueOf (got a)) ⌝ }
 {
     match a {
@@ -56,16 +54,6 @@ fn tell_read(a: ReadAnswer) -> Told
         ReadAnswer::Over(number) => tell(OVER_SUM, number),
         ReadAnswer::TooFew(items) => tell(TOO_FEW, items),
     }
-}
-
-// Writes the value, if there is room.
-fn put_value(values: &mut [u64], value: u64)
-    ensures { λ _. ⌜ now (values .exit) ≡ lay (value ∷ []) (now (values .entry)) ⌝ }
-{
-    if values.len() < VALUES {
-        return;
-    }
-    values[0] = value;
 }
 
 // Stores the records as an item file, from the front of `out` on. `values` gets how many bytes it has, or what the refusal comes with;

@@ -9,7 +9,7 @@ use native.Mathlib.Omega.{arith}
 use borrow.Author.Tests.{eq-eqb, ne-eqb}
 use Rattle.laws.specs.Quoted.{code, codes}
 use Rattle.laws.specs.Texts.{begins}
-use Rattle.laws.proofs.Choice.{by-bool, no-yes, and-no}
+use Rattle.laws.proofs.Choice.{by-bool, no-yes, and-no, impossible}
 use Rattle.chars.specs.Blank.{isBlank}
 use Rattle.chars.specs.Encode.{width, bytesOf}
 use Rattle.chars.proofs.Good.{Scalars}
@@ -31,11 +31,11 @@ use Rattle.items.specs.Meaning.{Text, none, source, decoded, Meaning, means, me
 use Rattle.items.specs.Items.{Item, Place, unset, rangeAfter, itemsOf, extentItems, itemsFrom, items, byteCount}
 use Rattle.items.specs.Kinds as kind
 use Rattle.items.proofs.Cases.{by-next}
-use Rattle.items.proofs.Few.{OneOrTwo, few-items}
+use Rattle.items.proofs.OneOrTwo.{OneOrTwo, few-items}
 use Rattle.items.proofs.Order.{items-length}
 use Rattle.items.proofs.Same.{item-same}
 use Rattle.items.proofs.Splits.{length-bytes}
-use Rattle.agreement.proofs.Reading.{eats, whole, eats-whole}
+use Rattle.items_r7rs.proofs.Reading.{eats, whole, eats-whole}
 use Rattle.items_writing.specs.declared.Stand.{Stand}
 use Rattle.items_writing.specs.declared.Stand.the-variants.{Ends, Apart}
 use Rattle.items_writing.specs.Written.{gap, isPart, isWord, bare}
@@ -194,10 +194,10 @@ name-bald : (o w : Outcome) (raw : List ℕ) → bald o ≡ bald w → isName o 
 name-bald o w raw e = name-of o raw ∙ (ap (λ (x : Outcome). isName x raw) e ∙ sym (name-of w raw))
 
 apart : (q : Phase) (o : Outcome) {A : Type 0} → next (Eat q) ≡ next (Stop o) → A
-apart q o e = let w : _≡_ {A = ℕ} 0 1 = cc in absurd (omega arith)
+apart q o e = impossible cc
 
 apart-too : (q : Phase) (o : Outcome) {A : Type 0} → next (Stop o) ≡ next (Eat q) → A
-apart-too q o e = let w : _≡_ {A = ℕ} 0 1 = cc in absurd (omega arith)
+apart-too q o e = impossible cc
 
 module _ (last : Bool) (raw : List ℕ) where
   close-alike : (l : Bool) (p q : Phase) (i j : SoFar) → flat p ≡ flat q → i .bytes ≡ j .bytes → standsAs (closeOf l p i) raw ≡ standsAs (closeOf l q j) raw

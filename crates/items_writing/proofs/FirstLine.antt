@@ -11,7 +11,7 @@ use Rattle.laws.specs.Texts.{begins}
 use Rattle.chars.specs.Encode.{bytesOf}
 use Rattle.items.specs.Readers.{firstIs}
 use Rattle.items.specs.Items.{items, itemsAt, itemsFrom, afterPound}
-use Rattle.agreement.proofs.Bytes.{first-differs}
+use Rattle.items_r7rs.proofs.Bytes.{first-differs}
 use Rattle.items_writing.specs.Written.{gap}
 
 differ : (a b : ℕ) → eqb a b ≡ false → eqb b a ≡ false

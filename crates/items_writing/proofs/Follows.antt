@@ -17,7 +17,7 @@ use Rattle.items.specs.Readers.{SoFar, Read, got, readItem}
 use Rattle.items.specs.Meaning.{Meaning, meaningOf, characterOf, charInside, characterMeans}
 use Rattle.items.specs.Items.{Place, rangeAfter, characterSets, byteCount}
 use Rattle.items.specs.Kinds as kind
-use Rattle.agreement.proofs.Reading.{whole}
+use Rattle.items_r7rs.proofs.Reading.{whole}
 use Rattle.items_writing.specs.Written.{gap}
 use Rattle.items_writing.proofs.Moved.{Placeless, read-moved}
 use Rattle.items_writing.proofs.Phases.{space-end}

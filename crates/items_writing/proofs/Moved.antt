@@ -5,8 +5,7 @@ use mathlib.Core.Bool.{Bool, true, false}
 use mathlib.Core.List.{List, [], _∷_}
 use lib.ListN.{length, drop}
 use lib.Dec.{eqb}
-use native.Mathlib.Omega.{arith}
-use Rattle.laws.proofs.Choice.{by-bool}
+use Rattle.laws.proofs.Choice.{by-bool, impossible}
 use Rattle.laws.specs.Quoted.{code}
 use Rattle.digits.specs.Hex.{hexValue, empty}
 use Rattle.items.specs.declared.Quotes.{Quotes}
@@ -27,7 +26,7 @@ use Rattle.items.specs.Items.{byteCount}
 use Rattle.items.proofs.Cases.{by-next}
 use Rattle.items.proofs.Same.{item-same}
 use Rattle.items.proofs.Splits.{read-at, length-bytes}
-use Rattle.agreement.proofs.Reading.{whole}
+use Rattle.items_r7rs.proofs.Reading.{whole}
 
 abbrev pub bald : Outcome → Outcome
 bald (Token k d) = Token k d
@@ -218,9 +217,9 @@ module _ (report : Bool) where
       by-next (stepOf report p i c)
       (λ x g. by-next (stepOf report q j c)
       (λ y h. rw (g, h, scanOf) (scans-alike x y (eat i c) (eat j c) cs (let z : next (Eat x) ≡ next (Eat y) = rw (g, h) at s in cc) (rw f)))
-      (λ y h. let z : next (Eat x) ≡ next (Stop y) = rw (g, h) at s in let w : _≡_ {A = ℕ} 0 1 = cc in absurd (omega arith)))
+      (λ y h. let z : next (Eat x) ≡ next (Stop y) = rw (g, h) at s in impossible cc))
       (λ x g. by-next (stepOf report q j c)
-      (λ y h. let z : next (Stop x) ≡ next (Eat y) = rw (g, h) at s in let w : _≡_ {A = ℕ} 0 1 = cc in absurd (omega arith))
+      (λ y h. let z : next (Stop x) ≡ next (Eat y) = rw (g, h) at s in impossible cc)
       (λ y h. rw (g, h, scanOf) (record { what = (let z : next (Stop x) ≡ next (Stop y) = rw (g, h) at s in cc); bytes = f; rest = refl })))
 
 -- ---- an item

@@ -5,10 +5,9 @@ use mathlib.Core.Bool.{Bool, true, false}
 use mathlib.Core.List.{List, [], _∷_, _++_}
 use lib.ListN.{length, drop}
 use lib.Dec.{eqb, leb}
-use native.Mathlib.Omega.{arith}
 use borrow.Author.Tests.{eqb-true}
 use Rattle.laws.specs.Quoted.{code, codes, oneOf}
-use Rattle.laws.proofs.Choice.{by-bool, if-all, if-is}
+use Rattle.laws.proofs.Choice.{by-bool, if-all, if-is, impossible}
 use Rattle.chars.specs.Encode.{bytesOf}
 use Rattle.digits.specs.Hex.{hexValue, empty}
 use Rattle.items.specs.declared.Quotes.{Quotes}
@@ -114,7 +113,7 @@ module _ (v : List ℕ) (c : ℕ) where
 
   two-then : Two v → Goes v c (hashThen (hashKind (bytesOf v)) c)
   two-then t = goes-then (hashKind (bytesOf v)) (λ o e. decided o t e)
-      (λ d e f. calm-on (c ∷ []) (two-calm t (λ g. let z : _≡_ {A = ℕ} 0 1 = cc in omega arith)))
+      (λ d e f. calm-on (c ∷ []) (two-calm t (λ g. impossible cc)))
 
   goes-hash : (x : InHash) → Two v → Goes v c (onHash x (bytesOf v) c)
   goes-hash skipsTwo t = two-on c t
@@ -142,17 +141,17 @@ module _ (v : List ℕ) (c : ℕ) where
       (λ e. eqb-true c (code "<") e)
       (λ e. let z = rw e at h in
       by-bool (oneOf (codes "xXdDoObB") c)
-      (λ f. let y = rw f at z in let w : _≡_ {A = ℕ} 0 1 = cc in absurd (omega arith))
+      (λ f. let y = rw f at z in impossible cc)
       (λ f. let y = rw f at z in
       by-bool (eqb c (code "|"))
-      (λ g. let x = rw g at y in let w : _≡_ {A = ℕ} 0 1 = cc in absurd (omega arith))
+      (λ g. let x = rw g at y in impossible cc)
       (λ g. let x = rw g at y in
       by-bool (eqb c (code ";"))
-      (λ k. let u = rw k at x in let w : _≡_ {A = ℕ} 0 1 = cc in absurd (omega arith))
+      (λ k. let u = rw k at x in impossible cc)
       (λ k. let u = rw k at x in
       by-bool (eqb c (code "#"))
-      (λ l. let t = rw l at u in let w : _≡_ {A = ℕ} 0 1 = cc in absurd (omega arith))
-      (λ l. let t = rw l at u in let w : _≡_ {A = ℕ} 0 1 = cc in absurd (omega arith))))))
+      (λ l. let t = rw l at u in impossible cc)
+      (λ l. let t = rw l at u in impossible cc)))))
 
 -- the first character after `#`
 module _ (c : ℕ) where
@@ -164,14 +163,14 @@ module _ (c : ℕ) where
   lone-hash tick = lone-two
   lone-hash commas = lone-two
   lone-hash stopsHash = rw lone-open (goes-then (codes "#") c (Bracket kind.Vector)
-      (λ o e. let z : _≡_ {A = ℕ} 0 1 = cc in absurd (omega arith))
+      (λ o e. impossible cc)
       (λ d e f. next (rw f)))
   lone-hash staysHash = lone-two
 
   lone-after : (x : AfterHash) → afterHash c ≡ x → Goes (codes "#") c (onAfterHash x (bytesOf (codes "#")) c)
-  lone-after radix e = next (not-mark (codes "#") c (λ f. let z : _≡_ {A = ℕ} 0 1 = cc in omega arith))
-  lone-after opensNest e = next (not-mark (codes "#") c (λ f. let z : _≡_ {A = ℕ} 0 1 = cc in omega arith))
-  lone-after datum e = (((refl, refl), (refl, refl)), next (not-mark (codes "#") c (λ f. let z : _≡_ {A = ℕ} 0 1 = cc in omega arith)))
+  lone-after radix e = next (not-mark (codes "#") c (λ f. impossible cc))
+  lone-after opensNest e = next (not-mark (codes "#") c (λ f. impossible cc))
+  lone-after datum e = (((refl, refl), (refl, refl)), next (not-mark (codes "#") c (λ f. impossible cc)))
   lone-after twice e = tt
   lone-after angle e = rw (angle-is (codes "#") c e)
   lone-after value e = lone-hash (inHash c)

@@ -7,11 +7,10 @@ use mathlib.Core.Bool.{true, false}
 use mathlib.Core.List.{List, [], _∷_, _++_, append-assoc}
 use lib.ListN.{length}
 use lib.Dec.{eqb, leb}
-use native.Mathlib.Omega.{arith}
 use borrow.Author.Tests.{eqb-true}
 use Rattle.laws.specs.Quoted.{code, codes}
 use Rattle.laws.specs.Texts.{begins, same}
-use Rattle.laws.proofs.Choice.{by-bool, if-all, if-is}
+use Rattle.laws.proofs.Choice.{by-bool, if-all, if-is, impossible}
 use Rattle.chars.specs.Encode.{utf8, bytesOf, spelled}
 use Rattle.items.specs.declared.Quotes.{Quotes}
 use Rattle.items.specs.declared.Quotes.the-variants.{Double, Lines}
@@ -199,7 +198,7 @@ known-kindly (ErrorAt n d a b) h c = tt
 pub decided : (o : Outcome) {v : List ℕ} → Two v → hashKind (bytesOf v) ≡ Decided o → Known v o
 decided o {v} t e =
     let k : KindlyAll (Decided o) = subst KindlyAll e (kindly (bytesOf v)) in
-    known-kindly o k (two-calm t (λ f. let z : _≡_ {A = ℕ} 0 1 = cc in omega arith))
+    known-kindly o k (two-calm t (λ f. impossible cc))
 
 pub lone-open : hashKind (bytesOf (codes "#")) ≡ Bracket kind.Vector
 unfolding hashKind boolKind quoteKind formKind same begins bytesOf utf8

@@ -34,14 +34,14 @@ use Rattle.items.specs.Meaning.{Meaning, meaningOf, lookup, words, wordKind, wo
 use Rattle.items.specs.Items.{Item, Place, unset, rangeAfter, itemOf, itemsOf, extentItems, itemsFrom, items, byteCount}
 use Rattle.items.specs.Kinds as kind
 use Rattle.items.proofs.Cases.{by-word}
-use Rattle.items.proofs.Few.{OneOrTwo, few-items}
+use Rattle.items.proofs.OneOrTwo.{OneOrTwo, few-items}
 use Rattle.items.proofs.Order.{items-length}
 use Rattle.items.proofs.Splits.{length-bytes}
 use Rattle.steps.specs.Runs.{ofRun}
 use Rattle.steps.proofs.Kept.{kept-stays}
-use Rattle.agreement.proofs.Reading.{whole}
-use Rattle.agreement.proofs.Bytes.{utf8-low, bytes-ascii}
-use Rattle.agreement.proofs.Written.{stays-ascii}
+use Rattle.items_r7rs.proofs.Reading.{whole}
+use Rattle.items_r7rs.proofs.Bytes.{utf8-low, bytes-ascii}
+use Rattle.items_r7rs.proofs.Written.{stays-ascii}
 use Rattle.items_writing.specs.declared.Stand.{Stand}
 use Rattle.items_writing.specs.declared.Stand.the-variants.{Ends, Apart}
 use Rattle.items_writing.specs.Written.{gap, isPart, named, isPair, splits}

@@ -5,9 +5,8 @@ use mathlib.Core.Bool.{true}
 use mathlib.Core.List.{List}
 use lib.ListN.{drop}
 use lib.Dec.{eqb, leb}
-use native.Mathlib.Omega.{arith}
 use Rattle.laws.specs.Quoted.{code}
-use Rattle.laws.proofs.Choice.{by-bool}
+use Rattle.laws.proofs.Choice.{by-bool, impossible}
 use Rattle.chars.specs.Blank.{isBlank}
 use Rattle.digits.specs.Hex.{hexValue}
 use Rattle.items.specs.declared.Quotes.{Quotes}
@@ -31,7 +30,7 @@ use Rattle.items.specs.Readers.{SoFar, eat, scalarOf, hashKind, hereEnds}
 
 -- a step that eats does not stop
 pub eats-on : {q : Phase} {o : Outcome} → Eat q ≡ Stop o → ⊥
-eats-on e = let z : _≡_ {A = ℕ} 0 1 = cc in omega arith
+eats-on e = impossible cc
 
 pub stop-is : {o w : Outcome} → Stop o ≡ Stop w → o ≡ w
 stop-is e = cc

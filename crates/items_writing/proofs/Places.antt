@@ -9,17 +9,17 @@ use native.Mathlib.Omega.{arith}
 use borrow.Author.Tests.{eqb-true}
 use Rattle.laws.specs.Quoted.{code, codes, within}
 use Rattle.laws.specs.Texts.{begins}
-use Rattle.laws.proofs.Choice.{by-bool, no-yes, and-no}
+use Rattle.laws.proofs.Choice.{by-bool, no-yes, and-no, impossible}
 use Rattle.chars.specs.Blank.{isBlank}
 use Rattle.chars.specs.Encode.{isScalar, utf8, width, bytesOf}
 use Rattle.chars.specs.Utf8.{chars, sequences, front, first as first-byte}
+use Rattle.chars.proofs.Bytes.{bytes-append}
 use Rattle.chars.proofs.Good.{Scalars, chars-encoded}
 use Rattle.items.specs.Items.{Item, unset, itemsFrom, itemsAt, pastLine, afterPound, items}
 use Rattle.items.specs.Kinds as kind
 use Rattle.items.proofs.Every.{Every, every-then}
-use Rattle.agreement.specs.Reading.{bytes, ReadAs}
+use Rattle.items_r7rs.specs.Reading.{bytes, ReadAs}
 use Rattle.items.proofs.Splits.{length-bytes}
-use Rattle.coverage.proofs.Bytes.{bytes-append}
 use Rattle.items_writing.specs.Written.{gap, isWord, isPair, bare, splits}
 use Rattle.items_writing.proofs.FirstLine.{other-start, other-next, lone-start}
 use Rattle.items_writing.proofs.ReadsBack.{ReadTwo, later, word-starts, word-reads, pair-reads}
@@ -105,7 +105,7 @@ stands-on last c t w = record {
   tail = t;
   is = refl;
   reads = λ f. word-reads c t last 1 (length (t ++ gap last)) (rw (length-bytes (c ∷ t)) at w) f;
-  no-line = λ e. absurd (let z : _≡_ {A = ℕ} 0 1 = cc in omega arith);
+  no-line = λ e. impossible cc;
 }
 
 stands-first : (last : Bool) (c : ℕ) (t : List ℕ) → isWord 0 (0 + length (bytesOf (c ∷ t))) (items true (c ∷ t ++ gap last)) ≡ true → Stands true last (c ∷ t)

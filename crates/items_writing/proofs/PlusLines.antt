@@ -9,7 +9,7 @@ use lib.Dec.{eqb, leb}
 use native.Mathlib.Omega.{arith}
 use borrow.Author.Tests.{eqb-true, lt-ltb, lt-leb}
 use Rattle.laws.specs.Quoted.{code, codes}
-use Rattle.laws.proofs.Choice.{by-bool}
+use Rattle.laws.proofs.Choice.{by-bool, impossible}
 use Rattle.chars.specs.Encode.{utf8}
 use Rattle.digits.specs.Hex.{hexValue}
 use Rattle.items.specs.declared.Quotes.the-variants.{Lines}
@@ -18,7 +18,7 @@ use Rattle.items.specs.declared.Phase.the-variants as ph
 use Rattle.items.specs.Classes.{inQuotes, ends, afterBackslash, inHex, stopsHex, inTrim}
 use Rattle.items.specs.Readers.{SoFar, eat, linedOf, scalarOf}
 use Rattle.items.proofs.Cases.{by-quotes, by-backslash, by-hex, by-trim, by-value}
-use Rattle.agreement.proofs.Lined.{last-line}
+use Rattle.items_r7rs.proofs.Lined.{last-line}
 use Rattle.items_writing.specs.declared.Stand.{Stand}
 use Rattle.items_writing.specs.Decide.{standFrom, isPairOf, pairsAs, isLined, linesAs}
 
@@ -43,8 +43,8 @@ unfolding inQuotes utf8
 line-closes c e = by-bool (eqb c (code "|"))
     (λ f. rw (eqb-true c (code "|") f))
     (λ f. by-bool (eqb c (code "\\"))
-    (λ g. let z = rw (f, g) at e in let no : _≡_ {A = ℕ} 0 1 = cc in absurd (omega arith))
-    (λ g. let z = rw (f, g) at e in let no : _≡_ {A = ℕ} 0 1 = cc in absurd (omega arith)))
+    (λ g. let z = rw (f, g) at e in impossible cc)
+    (λ g. let z = rw (f, g) at e in impossible cc))
 
 past-front : (p l : List ℕ) (n : ℕ) → drop (length p + n) (p ++ l) ≡ drop n l
 past-front [] l n = let e : 0 + n ≡ n = omega arith in rw e

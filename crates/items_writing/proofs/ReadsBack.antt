@@ -9,7 +9,7 @@ use native.Mathlib.Omega.{arith}
 use native.Mathlib.Nat.{le-refl}
 use borrow.Author.Tests.{eqb-true}
 use Rattle.laws.specs.Quoted.{code}
-use Rattle.laws.proofs.Choice.{by-bool, and-true, no-yes}
+use Rattle.laws.proofs.Choice.{by-bool, and-true, no-yes, impossible}
 use Rattle.chars.specs.Blank.{isBlank}
 use Rattle.chars.specs.Encode.{width, bytesOf}
 use Rattle.chars.proofs.Width.{wide}
@@ -27,12 +27,12 @@ use Rattle.items.specs.Meaning.{characterOf, charInside, characterMeans}
 use Rattle.items.specs.Items.{Item, Place, unset, rangeAfter, itemOf, itemsOf, extentItems, itemsFrom, byteCount}
 use Rattle.items.specs.Kinds as kind
 use Rattle.items.proofs.Every.{Every, every-any}
-use Rattle.items.proofs.Few.{OneOrTwo, few-items}
+use Rattle.items.proofs.OneOrTwo.{OneOrTwo, few-items}
 use Rattle.items.proofs.Order.{from-laws, after-ranged, items-length}
 use Rattle.items.proofs.Splits.{read-forward, read-end}
-use Rattle.agreement.specs.Reading.{bytes, item, ReadAs}
-use Rattle.agreement.proofs.Bytes.{spells-whole}
-use Rattle.agreement.proofs.Reading.{whole, read-one}
+use Rattle.items_r7rs.specs.Reading.{bytes, item, ReadAs}
+use Rattle.items_r7rs.proofs.Bytes.{spells-whole}
+use Rattle.items_r7rs.proofs.Reading.{whole, read-one}
 use Rattle.items_writing.specs.Written.{gap, isPart, named, isWord, isPair}
 use Rattle.items_writing.proofs.Moved.{Placeless}
 use Rattle.items_writing.proofs.Follows.{Follows, read-followed, read-anyhow, read-bytes, good-placeless, good-keeps}
@@ -121,9 +121,9 @@ module _ (a n at : ℕ) (raw : List ℕ) where
   unfolding wordMeans
   word-anywhere h = by-bool (eqb (wordKind raw) kind.Identifier)
       (λ e. by-bool (firstIs (code "+") raw && ltb 1 (length raw))
-      (λ f. let z = rw (e, f) at h in let y : _≡_ {A = ℕ} 0 1 = cc in absurd (omega arith))
+      (λ f. let z = rw (e, f) at h in impossible cc)
       (λ f. rw (e, f)))
-      (λ e. let z = ap textIn (rw e at h) in let y : _≡_ {A = ℕ} 0 1 = cc in absurd (omega arith))
+      (λ e. let z = ap textIn (rw e at h) in impossible cc)
 
   run-anywhere : (p : Parsed) → runMeans p a (a + n) raw ≡ one kind.Identifier 0 (source a (a + n))
       → runMeans p at (at + n) raw ≡ one kind.Identifier 0 (source at (at + n))
@@ -141,12 +141,12 @@ module _ (a n at : ℕ) (raw : List ℕ) where
   lined-other : linedText a (a + n) raw ≡ source a (a + n) → ⊥
   unfolding linedText
   lined-other h = by-bool (escaped raw && ltb 0 (length (unescape Lines (drop 1 raw))))
-      (λ e. let z = rw e at h in let y : _≡_ {A = ℕ} 0 1 = cc in omega arith)
+      (λ e. let z = rw e at h in impossible cc)
       (λ e. let z : source (a + 1) (a + n - 1) ≡ source a (a + n) = rw e at h in let y : a + 1 ≡ a = cc in omega arith)
 
   means-anywhere : (o : Outcome) → meaningOf true o a (a + n) raw ≡ one kind.Identifier 0 (source a (a + n))
       → meaningOf true o at (at + n) raw ≡ one kind.Identifier 0 (source at (at + n))
-  means-anywhere (Token k d) h = let z = ap textIn h in let y : _≡_ {A = ℕ} 0 1 = cc in absurd (omega arith)
+  means-anywhere (Token k d) h = let z = ap textIn h in impossible cc
   means-anywhere Str h = absurd (omega (arith, ap kindIn h))
   means-anywhere HereStr h = absurd (omega (arith, ap kindIn h))
   means-anywhere Word h = word-anywhere h
@@ -170,8 +170,8 @@ module _ (n at : ℕ) (raw : List ℕ) where
   word-twice h = by-bool (eqb (wordKind raw) kind.Identifier)
       (λ e. by-bool (firstIs (code "+") raw && ltb 1 (length raw))
       (λ f. rw (e, f))
-      (λ f. let z = rw (e, f) at h in let y : _≡_ {A = ℕ} 0 1 = cc in absurd (omega arith)))
-      (λ e. let z = rw e at h in let y : _≡_ {A = ℕ} 0 1 = cc in absurd (omega arith))
+      (λ f. let z = rw (e, f) at h in impossible cc))
+      (λ e. let z = rw e at h in impossible cc)
 
   run-twice : (p : Parsed) → runMeans p 0 (0 + n) raw ≡ first-pair → runMeans p at (at + n) raw ≡ pair at
   unfolding runMeans
@@ -180,12 +180,12 @@ module _ (n at : ℕ) (raw : List ℕ) where
   run-twice parsed.ZeroDenominator h = absurd (omega (arith, ap kindIn h))
 
   means-twice : (o : Outcome) → meaningOf true o 0 (0 + n) raw ≡ first-pair → meaningOf true o at (at + n) raw ≡ pair at
-  means-twice (Token k d) h = let z = ap textIn h in let y : _≡_ {A = ℕ} 0 1 = cc in absurd (omega arith)
+  means-twice (Token k d) h = let z = ap textIn h in impossible cc
   means-twice Str h = absurd (omega (arith, ap kindIn h))
   means-twice HereStr h = absurd (omega (arith, ap kindIn h))
   means-twice Word h = word-twice h
   means-twice Run h = run-twice (parseNumber raw) h
-  means-twice Lined h = let y : _≡_ {A = ℕ} 0 1 = cc in absurd (omega arith)
+  means-twice Lined h = impossible cc
   means-twice Keyword h = absurd (omega (arith, ap kindIn h))
   means-twice Character h = absurd (character-other 0 n at raw (characterOf true (charInside raw)) h)
   means-twice (Error k d) h = absurd (omega (arith, ap kindIn h))

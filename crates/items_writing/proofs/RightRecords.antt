@@ -8,7 +8,7 @@ use lib.Seq.{length-take-le}
 use lib.Dec.{eqb, leb}
 use native.Mathlib.Omega.{arith}
 use borrow.Author.Tests.{leb-true, le-leb, lt-leb, eq-eqb, ne-eqb, eqb-true, eqb-false, le-ltb, lt-ltb}
-use Rattle.laws.proofs.Choice.{by-bool, and-true, no-yes}
+use Rattle.laws.proofs.Choice.{by-bool, and-true, no-yes, impossible}
 use Rattle.chars.specs.Utf8.{firstBad, sequences}
 use Rattle.chars.specs.declared.Utf8.{Utf8}
 use Rattle.chars.specs.declared.Utf8.the-variants.{Good, Bad}
@@ -188,9 +188,9 @@ module _ (records source text : List ℕ) where
   fine-right n [] h = tt
   fine-right n (r ∷ rs) h = by-bool (isRight source text r)
       (λ e. by-bool (isLeft (r .kind))
-      (λ f. let z = rw (e, f) at h in let y : _≡_ {A = ℕ} 0 1 = cc in absurd (omega arith))
+      (λ f. let z = rw (e, f) at h in impossible cc)
       (λ f. (e, fine-right (n + 1) rs (rw (e, f) at h))))
-      (λ e. let z = rw e at h in let y : _≡_ {A = ℕ} 0 1 = cc in absurd (omega arith))
+      (λ e. let z = rw e at h in impossible cc)
 
   pub all-right : judged 0 ≡ Fine → AllRight source text (recordsIn records)
   all-right h = fine-right 0 (recordsIn records) h

@@ -5,6 +5,7 @@ use mathlib.Core.Bool.{Bool}
 use mathlib.Core.List.{List, [], _∷_, _++_, append-assoc, append-nil}
 use native.Mathlib.Omega.{arith}
 use Rattle.chars.specs.Encode.{utf8, width, bytesOf}
+use Rattle.chars.proofs.Bytes.{bytes-append}
 use Rattle.chars.proofs.Width.{wide}
 use Rattle.items.specs.declared.Outcome.{Outcome}
 use Rattle.items.specs.declared.Phase.{Phase}
@@ -15,8 +16,7 @@ use Rattle.items.specs.Readers.{SoFar, soFar, eat, Read, got, readItem}
 use Rattle.items.specs.Items.{byteCount}
 use Rattle.items.proofs.Cases.{by-next}
 use Rattle.items.proofs.Same.{item-same}
-use Rattle.coverage.proofs.Bytes.{bytes-append}
-use Rattle.agreement.proofs.Reading.{eats, whole, eats-whole}
+use Rattle.items_r7rs.proofs.Reading.{eats, whole, eats-whole}
 use Rattle.items_writing.proofs.OutcomeTells.{Known, Holds, Goes}
 use Rattle.items_writing.proofs.OutcomeSteps.{goes-on, finish-known, first-holds}
 

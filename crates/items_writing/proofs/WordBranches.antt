@@ -25,7 +25,7 @@ use Rattle.items_writing.specs.declared.Stand.{Stand}
 use Rattle.items_writing.specs.declared.Stand.the-variants.{Ends, Apart}
 use Rattle.items_writing.specs.Written.{bare}
 use Rattle.items_writing.specs.Decide.{standFrom, standsAs, isName, decide}
-use Rattle.agreement.proofs.Bytes.{bytes-ascii}
+use Rattle.items_r7rs.proofs.Bytes.{bytes-ascii}
 use Rattle.items_writing.proofs.FirstLine.{first-is}
 use Rattle.items_writing.proofs.WordTable.{line-chars}
 use Rattle.items_writing.proofs.BareDecided.{bare-decided}

@@ -4,11 +4,10 @@ use mathlib.Core.Path.{_≡_, refl, sym, subst, _∙_}
 use mathlib.Core.Bool.{true, false}
 use mathlib.Core.List.{List, [], _∷_}
 use lib.Dec.{eqb, leb}
-use native.Mathlib.Omega.{arith}
 use borrow.Author.Tests.{eq-eqb, eqb-true}
 use Rattle.laws.specs.Quoted.{code, codes, within}
 use Rattle.laws.specs.Texts.{span, starts, begins, same}
-use Rattle.laws.proofs.Choice.{by-bool, if-all, no-yes}
+use Rattle.laws.proofs.Choice.{by-bool, if-all, no-yes, impossible}
 use Rattle.laws.proofs.Compared.{same-is}
 use Rattle.chars.specs.Encode.{utf8, bytesOf}
 use Rattle.digits.specs.Digits.{digitOf, sign, uinteger, value, fit, signed, wholeOf, integer}
@@ -24,7 +23,7 @@ use Rattle.items_writing.proofs.FirstLine.{other-start, other-next, lon
 -- what holds of every row's text holds of a text that has a row
 lookup-row : (P : List ℕ → Type 0) (rows : List Row) (raw : List ℕ) (n : ℕ) → Every (λ (r : Row). P (r .text)) rows → eqb (lookup rows raw n) n ≡ false → P raw
 unfolding lookup
-lookup-row P [] raw n h e = let z : true ≡ false = rw (eq-eqb n n refl) at e in let y : _≡_ {A = ℕ} 0 1 = cc in absurd (omega arith)
+lookup-row P [] raw n h e = let z : true ≡ false = rw (eq-eqb n n refl) at e in impossible cc
 lookup-row P (r ∷ rs) raw n h e = by-bool (same raw (r .text))
     (λ f. subst P (sym (same-is raw (r .text) f)) (h .0))
     (λ f. lookup-row P rs raw n (h .1) (rw f at e))

@@ -19,7 +19,7 @@ use Rattle.numbers.specs.Grammar.{justOf, complexOf, polarOf, endsI, imaginary,
 use Rattle.numbers.specs.Grammar.{zeroInt, zeroReal, zeroParts, judged, radixMark, prefix, parseNumber}
 use Rattle.numbers.specs.declared.Parsed.the-variants.{NoNumber}
 use Rattle.items.specs.Kinds as kind
-use Rattle.agreement.specs.Reading.{bytes}
+use Rattle.items_r7rs.specs.Reading.{bytes}
 use Rattle.items.specs.Classes.{startsRun, firstOf, inQuotes, afterBackslash, stopsHex, inHex, inTrim, inNest, breaksWord, inWord, staysRun, endsRun, inRun, afterHash, endsHash, inHash, inDelim}
 use Rattle.items.specs.Readers.{readLine, linedOf, scalarOf, pastFailing, readWord, readRun, boolKind, quoteKind, formKind, hashKind}
 use Rattle.items.specs.Readers.{hashBracket, hashAt, hashComma, unreturned, endsWith, hereEnds, hereBody, hereDelim, afterAngle}

@@ -10,7 +10,7 @@ use Rattle.numbers.specs.Grammar.{parseNumber}
 use Rattle.items.specs.Kinds as kind
 use Rattle.items.specs.Meaning.{Text, none, source, decoded}
 use Rattle.items.specs.Items.{Item, depthAfter}
-use Rattle.agreement.specs.Reading.{Spelling, nothing, bytes}
+use Rattle.items_r7rs.specs.Reading.{Spelling, nothing, bytes}
 use Rattle.items_writing.specs.Written.{part}
 
 pub record Shape : Type 0 where

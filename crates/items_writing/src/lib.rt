@@ -7,6 +7,7 @@
 // (crate steps), over the name and one step more.
 use items::Outcome;
 use items::Quotes;
+use items::RECORD_WORDS;
 use refusal::LIMIT;
 ghost use mathlib.Core.Path.{_≡_};
 ghost use mathlib.Core.Bool.{true};
@@ -88,7 +89,7 @@ fn measure<'a>(records: &[u32], source: &'a [u8], text: &'a [u8]) -> usize
     requires { ⌜ AllRight (now source) (now text) (recordsIn (now records)) ⌝ }
     ensures { λ r. ⌜ Measured (onward (now (records .entry)) (now (source .entry)) (now (text .entry)) true 0) r ⌝ }
 {
-    let count = records.len() / records::WORDS;
+    let count = records.len() / RECORD_WORDS;
     let mut n: usize = 0;
     let mut p = 0;
     let mut first = true;
@@ -112,7 +113,7 @@ fn put<'a>(records: &[u32], source: &'a [u8], text: &'a [u8], out: &mut [u8])
     requires { ⌜ length (onward (now records) (now source) (now text) true 0) ≤ length (now out) ⌝ }
     ensures { λ _. ⌜ now (out .exit) ≡ written (onward (now (records .entry)) (now (source .entry)) (now (text .entry)) true 0) (now (out .entry)) ⌝ }
 {
-    let count = records.len() / records::WORDS;
+    let count = records.len() / RECORD_WORDS;
     let mut n: usize = 0;
     let mut p = 0;
     let mut first = true;

@@ -3,6 +3,7 @@ use crate::Judged;
 use crate::WriteWords;
 use crate::whole::is_inside;
 use crate::whole::is_whole;
+use items::RECORD_WORDS;
 use items::kinds;
 ghost use mathlib.Core.Path.{_≡_};
 ghost use mathlib.Core.Bool.{true};
@@ -10,9 +11,6 @@ ghost use Prim.Native.Nat.{_<_};
 ghost use Rattle.items_writing.specs.Written.{part};
 ghost use Rattle.items_writing.specs.Records.{countOf, wordsAt, recordsIn, isWhole, isKind, hasText, textRight, isRight, isLeft, judge, textOf, entryOf};
 ghost use Rattle.items_writing.specs.Pieces.{bodyOf, isExtent};
-
-// How many words a record has.
-pub const WORDS: usize = 10;
 
 // Text sources.
 const NO_TEXT: u32 = 0;
@@ -29,7 +27,7 @@ pub fn words_at(records: &[u32], p: usize) -> WriteWords
     requires { ⌜ p < countOf (now records) ⌝ }
     ensures { λ r. ⌜ r ≡ wordsAt (now (records .entry)) p ⌝ }
 {
-    let at = p * WORDS;
+    let at = p * RECORD_WORDS;
     WriteWords {
         kind: records[at],
         start: records[at + 2],
@@ -128,7 +126,7 @@ fn is_left(k: u32) -> bool
 pub fn judge(records: &[u32], source: &[u8], text: &[u8]) -> Judged
     ensures { λ r. ⌜ r ≡ judge (now (source .entry)) (now (text .entry)) 0 (recordsIn (now (records .entry))) ⌝ }
 {
-    let count = records.len() / WORDS;
+    let count = records.len() / RECORD_WORDS;
     let mut p = 0;
     while p < count {
         let w = words_at(records, p);

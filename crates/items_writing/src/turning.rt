@@ -13,6 +13,7 @@ use crate::records::words_at;
 use crate::word::reads_bare;
 use crate::word::reads_pair;
 use items::Quotes;
+use items::RECORD_WORDS;
 use items::kinds;
 ghost use mathlib.Core.Path.{_≡_};
 ghost use mathlib.Core.Bool.{true};
@@ -28,8 +29,6 @@ ghost use Rattle.items_writing.specs.Records.{countOf, recordsIn, isRigh
 ghost use Rattle.items_writing.specs.Pieces.{formFor, piece, AllRight, TurnSaid};
 
 const SPACE: u8 = b' ';
-
-const PLUS: u8 = b'+';
 
 // The form of an item of a kind, whose word is made of t.
 fn form_for(k: u32, t: &[u8], first: bool, last: bool) -> Form
@@ -65,7 +64,7 @@ fn joins<'a>(source: &'a [u8], text: &'a [u8], e: WriteWords, f: WriteWords) -> 
     if e.end != f.end {
         return false;
     }
-    if !texts::equal(text_of(source, text, e), b"+") {
+    if !byte_runs::equal(text_of(source, text, e), b"+") {
         return false;
     }
     reads_pair(text_of(source, text, f))
@@ -82,7 +81,7 @@ pub fn turn_at<'a>(
     requires { ⌜ (p < countOf (now records)) × AllRight (now source) (now text) (recordsIn (now records)) ⌝ }
     ensures { λ r. ⌜ TurnSaid (now (records .entry)) (now (source .entry)) (now (text .entry)) first p r ⌝ }
 {
-    let count = records.len() / crate::records::WORDS;
+    let count = records.len() / RECORD_WORDS;
     let e = words_at(records, p);
     let next = p + 1;
     if next < count {
@@ -112,7 +111,7 @@ pub fn piece_length(t: &[u8], turn: WriteTurn, first: bool) -> usize
     ensures { λ r. ⌜ r ≡ length (piece first (turn .pair) (turn .form) (now (t .entry))) ⌝ }
 {
     let form = turn.form;
-    lone_length(!first, SPACE) + lone_length(turn.pair, PLUS) + shown_length(t, form)
+    lone_length(!first, SPACE) + lone_length(turn.pair, b'+') + shown_length(t, form)
 }
 
 // A piece, from the memory's start on.
@@ -122,6 +121,6 @@ pub fn put_piece(t: &[u8], turn: WriteTurn, first: bool, out: &mut [u8]) -> usiz
 {
     let form = turn.form;
     let gap = put_lone(!first, SPACE, out);
-    let plus = gap + put_lone(turn.pair, PLUS, &mut out[gap..]);
+    let plus = gap + put_lone(turn.pair, b'+', &mut out[gap..]);
     plus + put_shown(t, form, &mut out[plus..])
 }

@@ -1,5 +1,7 @@
 // Whether a word reads back bare where it will stand: the machine over the word, and one step more.
 use crate::Stand;
+use byte_runs::begins_with;
+use byte_runs::starts_at;
 use chars::Decoded;
 use chars::decode_at;
 use chars::is_blank;
@@ -11,13 +13,11 @@ use items::kinds::IDENTIFIER;
 use numbers::Parsed;
 use numbers::parse_number;
 use numbers::plus_number;
+use spellings::words::word_kind;
 use steps::ascii_run;
 use steps::finish;
 use steps::first_phase;
 use steps::step;
-use texts::begins_with;
-use texts::starts_at;
-use words::word_kind;
 ghost use mathlib.Core.Path.{_≡_};
 ghost use Prim.Native.Nat.{_+_, _<_, _≤_};
 ghost use lib.ListN.{length, take, drop};
@@ -33,8 +33,6 @@ ghost use Rattle.items_writing.specs.Written.{bare, splits};
 ghost use Rattle.items_writing.specs.Decide.{closeOf, standFrom, nameWord, isName, isPairOf, isLined, linesAs};
 
 const SPACE: u32 = 0x20;
-
-const PLUS: u8 = b'+';
 
 const VERTICAL: u8 = b'|';
 
@@ -107,7 +105,7 @@ fn name_word(raw: &[u8]) -> bool
     if raw.len() <= 1 {
         return true;
     }
-    raw[0] != PLUS
+    raw[0] != b'+'
 }
 
 // Whether an extent is one identifier, which is its own text.

@@ -1,4 +1,5 @@
 // The call of the crate `items_writing` for programs in C and Rust: its answer as a number and one value.
+use exports_values::put_value;
 use items_writing::WriteAnswer;
 use refusal::ALIEN;
 use refusal::LIMIT_VALUE;
@@ -7,29 +8,24 @@ use refusal::TOO_FEW;
 use refusal::TOO_LONG;
 use refusal::UNWRITTEN;
 ghost use mathlib.Core.Path.{_≡_};
-ghost use mathlib.Core.List.{[], _∷_};
-ghost use Rattle.chars.specs.Encode.{lay};
 ghost use Rattle.items_writing.specs.Call.{writeOf, answered};
 ghost use Rattle.items_writing_exports.specs.Write.{numberOf, valueOf, sees, seen};
 
-// How many values are written.
-const VALUES: usize = 1;
-
 // An answer: its number and its value.
-struct Told {
+struct NumberAndValue {
     number: u32,
     value: u64,
 }
 
 // An answer of a number and a value.
-fn tell(number: u32, value: u64) -> Told
+fn tell(number: u32, value: u64) -> NumberAndValue
     ensures { λ r. ⌜ (r .number ≡ number) × (r .value ≡ value) ⌝ }
 {
-    Told { number, value }
+    NumberAndValue { number, value }
 }
 
 // An answer by its number and its value.
-fn answer(a: WriteAnswer) -> Told
+fn answer(a: WriteAnswer) -> NumberAndValue
     ensures { λ r. ⌜ (r .number ≡ numberOf (answered a)) × (r .value ≡ valueOf (answered a)) ⌝ }
 {
     match a {
@@ -39,16 +35,6 @@ fn answer(a: WriteAnswer) -> Told
         WriteAnswer::TooLong => tell(TOO_LONG, LIMIT_VALUE),
         WriteAnswer::NoRoom(bytes) => tell(TOO_FEW, bytes as u64),
     }
-}
-
-// Writes the value, if there is room.
-fn put_value(values: &mut [u64], value: u64)
-    ensures { λ _. ⌜ now (values .exit) ≡ lay (value ∷ []) (now (values .entry)) ⌝ }
-{
-    if values.len() < VALUES {
-        return;
-    }
-    values[0] = value;
 }
 
 // Writes the text of records, from the front of `out` on; `text` is the text memory that they name. `values` gets how many bytes it has, or

@@ -10,6 +10,7 @@ use borrow.Author.Tests.{lt-ltb, le-ltb}
 use Rattle.laws.specs.Choice.{if_then_else_}
 use Rattle.laws.specs.Quoted.{within, code}
 use Rattle.laws.specs.Lent as lent
+use Rattle.laws.proofs.Choice.{impossible}
 use Rattle.refusal.specs.Refusals as refusal
 use Rattle.chars.specs.Encode.{utf8, width, encode, bytesOf, spelled}
 use Rattle.chars.specs.Utf8.{first, rest, front, sequences, firstBad}
@@ -102,12 +103,12 @@ rows = record {
 -- no program that refuses everything meets the promise, whatever it says and leaves: these records are served
 never-refused : (n p : ℕ) (out : List ℕ) → call (refused n p) out ≡ writeOf brackets (spelled "()") [] (room 5) → ⊥
 never-refused n p out h =
-    let e : refused n p ≡ served 3 = ap (λ (c : Call). c .answer) (h ∙ rows .apart) in let z : _≡_ {A = ℕ} 0 1 = cc in omega arith
+    let e : refused n p ≡ served 3 = ap (λ (c : Call). c .answer) (h ∙ rows .apart) in impossible cc
 
 -- nor does one that refuses nothing
 never-served : (n : ℕ) (out : List ℕ) → call (served n) out ≡ writeOf brackets (spelled "()") [] (room 2) → ⊥
 never-served n out h =
-    let e : served n ≡ refused refusal.tooFew 3 = ap (λ (c : Call). c .answer) (h ∙ rows .no-room) in let z : _≡_ {A = ℕ} 0 1 = cc in omega arith
+    let e : served n ≡ refused refusal.tooFew 3 = ap (λ (c : Call). c .answer) (h ∙ rows .no-room) in impossible cc
 
 -- nor one that writes nothing
 never-unwritten : (a : Answer) → call a (room 5) ≡ writeOf brackets (spelled "()") [] (room 5) → ⊥

@@ -11,7 +11,7 @@ use borrow.Author.Tests.{eqb-true}
 use Rattle.chars.specs.Encode.{bytesOf}
 use Rattle.chars.proofs.Good.{Scalars}
 use Rattle.items.proofs.Fine.{Between}
-use Rattle.agreement.proofs.Bytes.{bytes-ascii}
+use Rattle.items_r7rs.proofs.Bytes.{bytes-ascii}
 use Rattle.items_writing_theorems.proofs.Characters.{Texty, nothing-bytes}
 use Rattle.items_writing_theorems.proofs.Fronts.{whole-front}
 

@@ -4,9 +4,8 @@ use mathlib.Core.Path.{_≡_, refl, sym, ap, subst, _∙_}
 use mathlib.Core.Bool.{Bool, true, false}
 use mathlib.Core.List.{List, [], _∷_, _++_, append-assoc, append-nil}
 use lib.Dec.{eqb, ltb}
-use native.Mathlib.Omega.{arith}
 use Rattle.laws.specs.Quoted.{code, codes, within}
-use Rattle.laws.proofs.Choice.{by-bool, if-all}
+use Rattle.laws.proofs.Choice.{by-bool, if-all, impossible}
 use Rattle.chars.specs.Encode.{isScalar, utf8, encode, bytesOf}
 use Rattle.chars.proofs.Good.{Scalars}
 use Rattle.digits.specs.Hex.{hexValue}
@@ -20,10 +19,10 @@ use Rattle.items.specs.Classes.{inHex, stopsHex, digit, inTrim, solid}
 use Rattle.items.specs.Meaning.{unescape, unescapeNext, unescapeBrace, unescapeHex, unescapeTrim}
 use Rattle.items.specs.Readers.{scalarOf}
 use Rattle.items.proofs.Cases.{by-quotes, by-backslash, by-hex, by-trim, by-value}
-use Rattle.agreement.specs.Repeated.{Many, done, more}
-use Rattle.agreement.proofs.Bytes.{High, Beyond, all-high, utf8-low, utf8-high}
-use Rattle.agreement.proofs.Classes.{beyond-differs, beyond-none}
-use Rattle.agreement.proofs.Unescaped.{high-plain, beyond-bytes, high-bytes}
+use Rattle.items_r7rs.specs.Repeated.{Many, done, more}
+use Rattle.items_r7rs.proofs.Bytes.{High, Beyond, all-high, utf8-low, utf8-high}
+use Rattle.items_r7rs.proofs.Classes.{beyond-differs, beyond-none}
+use Rattle.items_r7rs.proofs.Unescaped.{high-plain, beyond-bytes, high-bytes}
 
 -- bytes that are whole characters
 abbrev pub Texty : List ℕ → Type 0
@@ -47,8 +46,8 @@ scalar-is : (h : Hex) (v : ℕ) → scalarOf h ≡ Scalar v → isScalar v ≡ t
 unfolding scalarOf
 scalar-is (hex.Value x) v e = by-bool (isScalar x)
     (λ f. let z : Scalar x ≡ Scalar v = rw f at e in let y : x ≡ v = cc in rw (← y) f)
-    (λ f. let z = rw f at e in let y : _≡_ {A = ℕ} 0 1 = cc in absurd (omega arith))
-scalar-is (hex.Wrong d p) v e = let y : _≡_ {A = ℕ} 0 1 = cc in absurd (omega arith)
+    (λ f. let z = rw f at e in impossible cc)
+scalar-is (hex.Wrong d p) v e = impossible cc
 
 abbrev SimpleAscii : AfterBackslash → Type 0
 SimpleAscii (simple x) = (ltb x 0x80 ≡ true) × (isScalar x ≡ true)

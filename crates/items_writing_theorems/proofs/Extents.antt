@@ -24,9 +24,9 @@ use Rattle.items.specs.Meaning.{Text, none, source, decoded, means, meaningOf, 
 use Rattle.items.specs.Items.{Item, Place, itemOf, itemsOf, byteCount}
 use Rattle.items.specs.Kinds as kind
 use Rattle.items.proofs.Fine.{Between, Fine}
-use Rattle.agreement.specs.Reading.{bytes}
+use Rattle.items_r7rs.specs.Reading.{bytes}
 use Rattle.items.proofs.Splits.{length-bytes}
-use Rattle.agreement.proofs.Bytes.{bytes-ascii}
+use Rattle.items_r7rs.proofs.Bytes.{bytes-ascii}
 use Rattle.items_writing.specs.Written.{part, textBytes, entry}
 use Rattle.items_writing.specs.Shapes.{spells, numberOf, shapeOf}
 use Rattle.items_writing.specs.Records.{hasText}

@@ -7,10 +7,10 @@ use mathlib.Core.Logic.{_⊎_, inl, inr, ⊎-elim}
 use lib.Dec.{ltb}
 use native.Mathlib.Omega.{arith}
 use borrow.Author.Tests.{ltb-true}
-use Rattle.laws.proofs.Choice.{if-is, if-all}
+use Rattle.laws.proofs.Choice.{if-is, if-all, impossible}
 use Rattle.chars.specs.Encode.{isScalar, utf8, bytesOf}
 use Rattle.chars.proofs.Good.{Scalars}
-use Rattle.agreement.specs.Repeated.{Many, done, more}
+use Rattle.items_r7rs.specs.Repeated.{Many, done, more}
 use Rattle.items_writing_theorems.proofs.Characters.{Texty, texty-none, texty-more}
 
 -- a character's first byte, and each further one
@@ -44,7 +44,7 @@ Left xs r p d = (q : List ℕ) × ((p ≡ xs ++ q) × (r ≡ q ++ d))
 -- no text of characters starts with a later byte of one
 no-tail : (z : ℕ) (l d : List ℕ) → Tail z → z ∷ l ≡ bytesOf d → ⊥
 unfolding bytesOf
-no-tail z l [] t e = let y : _≡_ {A = ℕ} 0 1 = cc in omega arith
+no-tail z l [] t e = impossible cc
 no-tail z l (c ∷ d) t e = go (utf8-spelt c) e
   where
     go : {bs : List ℕ} → Spelt bs → z ∷ l ≡ bs ++ bytesOf d → ⊥
@@ -68,7 +68,7 @@ one-peeled (spelt {x = x} {xs = xs} h m) r y p d e =
 
 no-front : (p d : List ℕ) → [] ≡ p ++ d → Texty p
 no-front [] d e = texty-none
-no-front (y ∷ p) d e = let z : _≡_ {A = ℕ} 0 1 = cc in absurd (omega arith)
+no-front (y ∷ p) d e = impossible cc
 
 -- one character more
 more-front : (c : ℕ) (b : List ℕ) → isScalar c ≡ true → ((p d : List ℕ) → bytesOf b ≡ p ++ bytesOf d → Texty p)

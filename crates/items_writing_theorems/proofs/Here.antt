@@ -15,9 +15,9 @@ use Rattle.laws.proofs.Compared.{same-begins, same-is}
 use Rattle.chars.specs.Encode.{bytesOf}
 use Rattle.chars.proofs.Good.{Scalars}
 use Rattle.items.specs.Readers.{unreturned, lineOf, afterLine, hereInside, endsWith, hereEnds}
-use Rattle.agreement.specs.Repeated.{Many, done, more}
-use Rattle.agreement.proofs.Bytes.{High, Beyond, all-high}
-use Rattle.agreement.proofs.Classes.{beyond-differs}
+use Rattle.items_r7rs.specs.Repeated.{Many, done, more}
+use Rattle.items_r7rs.proofs.Bytes.{High, Beyond, all-high}
+use Rattle.items_r7rs.proofs.Classes.{beyond-differs}
 use Rattle.items_writing_theorems.proofs.Characters.{Texty, texty-none, texty-more, texty-ascii, split, nothing-bytes}
 use Rattle.items_writing_theorems.proofs.Fronts.{whole-front}
 

@@ -21,7 +21,7 @@ use Rattle.items.specs.declared.CharValue.the-variants.{Scalar, Wrong, WrongAt}
 use Rattle.items.specs.Meaning.{Meaning, means, one, meaningOf, wordKind, wordMeans, runMeans, characterOf, charInside}
 use Rattle.items.specs.Items.{Item, Place, itemOf, itemsOf, byteCount}
 use Rattle.items.specs.Kinds as kind
-use Rattle.agreement.specs.Reading.{Spelling, bytes, ReadAs}
+use Rattle.items_r7rs.specs.Reading.{Spelling, bytes, ReadAs}
 use Rattle.items.proofs.Splits.{length-bytes}
 use Rattle.items_writing.specs.Written.{part, entry, gap}
 use Rattle.items_writing.specs.Shapes.{shape, spells, numberOf}

@@ -14,14 +14,14 @@ use Rattle.items.specs.declared.Quotes.the-variants.{Double, Lines}
 use Rattle.items.specs.Classes.{delimOf, inQuotes, afterBackslash, plain, simple}
 use Rattle.items.specs.Meaning.{escaped}
 use Rattle.items.specs.Kinds as kind
-use Rattle.agreement.specs.Reading.{bytes, ReadAs}
-use Rattle.agreement.specs.Repeated.{Many, done, more}
-use Rattle.agreement.proofs.Bytes.{High, Beyond, all-high, utf8-low, utf8-high, bytes-some}
-use Rattle.agreement.proofs.Classes.{beyond-differs}
-use Rattle.agreement.proofs.Between.{between, between-bytes}
-use Rattle.agreement.proofs.Quoted.{Quoted, empty, character, escape as escape-one}
-use Rattle.agreement.proofs.String.{quoted-string}
-use Rattle.agreement.proofs.Lined.{quoted-lined, NamedSo}
+use Rattle.items_r7rs.specs.Reading.{bytes, ReadAs}
+use Rattle.items_r7rs.specs.Repeated.{Many, done, more}
+use Rattle.items_r7rs.proofs.Bytes.{High, Beyond, all-high, utf8-low, utf8-high, bytes-some}
+use Rattle.items_r7rs.proofs.Classes.{beyond-differs}
+use Rattle.items_r7rs.proofs.Between.{between, between-bytes}
+use Rattle.items_r7rs.proofs.Quoted.{Quoted, empty, character, escape as escape-one}
+use Rattle.items_r7rs.proofs.String.{quoted-string}
+use Rattle.items_r7rs.proofs.Lined.{quoted-lined, NamedSo}
 use Rattle.items_writing.proofs.Places.{scalars-append}
 use Rattle.items_writing.specs.Written.{escape, quoted}
 

@@ -9,6 +9,7 @@ use native.Mathlib.Nat.{le-refl, le-of-suc-le-suc}
 use Rattle.laws.specs.Quoted.{code}
 use Rattle.chars.specs.Blank.{isBlank}
 use Rattle.chars.specs.Encode.{utf8, width, bytesOf}
+use Rattle.chars.proofs.Bytes.{bytes-append}
 use Rattle.chars.proofs.Width.{width-utf8}
 use Rattle.numbers.specs.declared.Parsed.the-variants.{NoNumber}
 use Rattle.items.specs.Kinds as kind
@@ -17,9 +18,8 @@ use Rattle.items.specs.Meaning.{Text, none, source, decoded}
 use Rattle.items.proofs.Every.{every-any}
 use Rattle.items.proofs.Meanings.{Inside}
 use Rattle.items.proofs.Order.{from-laws}
-use Rattle.agreement.specs.Reading.{Spelling, bytes, spelling, item, ReadAs}
+use Rattle.items_r7rs.specs.Reading.{Spelling, bytes, spelling, item, ReadAs}
 use Rattle.items.proofs.Splits.{length-bytes}
-use Rattle.coverage.proofs.Bytes.{bytes-append}
 use Rattle.items_writing.specs.Written.{part}
 use Rattle.items_writing.specs.Shapes.{Shape, shape, spells, numberOf, shapeOf, shapes}
 use Rattle.items_writing.proofs.ReadsBack.{ReadTwo}

@@ -21,9 +21,9 @@ use Rattle.items.specs.Readers.{SoFar, Read, got, readItem}
 use Rattle.items.specs.Meaning.{Text, none, source, Meaning, one, meaningOf, wordKind, wordMeans, runMeans, characterOf, charInside, characterMeans}
 use Rattle.items.specs.Items.{byteCount}
 use Rattle.items.specs.Kinds as kind
-use Rattle.agreement.specs.Reading.{Spelling, nothing, bytes, spelling, ReadAs}
-use Rattle.agreement.proofs.Bytes.{spells-whole}
-use Rattle.agreement.proofs.Reading.{whole, read-one}
+use Rattle.items_r7rs.specs.Reading.{Spelling, nothing, bytes, spelling, ReadAs}
+use Rattle.items_r7rs.proofs.Bytes.{spells-whole}
+use Rattle.items_r7rs.proofs.Reading.{whole, read-one}
 use Rattle.items_writing.proofs.Moved.{Placeless, read-moved}
 use Rattle.items_writing.proofs.Trace.{Ended, Traced, traced, stops-here}
 use Rattle.items_writing.proofs.Follows.{Follows, space, space-on, good-placeless, good-keeps, nothing as ends}

@@ -4,12 +4,11 @@ use Prim.Native.Nat.{ℕ}
 use mathlib.Core.Path.{_≡_, refl, ap, subst, _∙_}
 use lib.Dec.{eqb, ltb}
 use borrow.Author.Tests.{not-true}
-use Rattle.laws.proofs.Choice.{by-bool, and-true, and-no, no-yes}
+use Rattle.laws.proofs.Choice.{by-bool, and-true, and-no, no-yes, impossible}
 use Rattle.items.specs.Kinds as kind
 use mathlib.Core.Bool.{Bool, true, not, _&&_}
 use mathlib.Core.List.{List, [], _∷_}
 use lib.ListN.{length}
-use native.Mathlib.Omega.{arith}
 use native.Mathlib.Nat.{le-refl}
 use Rattle.chars.specs.Encode.{bytesOf}
 use Rattle.chars.specs.Utf8.{chars, firstBad, sequences}
@@ -91,8 +90,8 @@ others (s ∷ ss) = ss
 same-depths : (s t : List ℕ) (d : ℕ) (is js : List Item) → shapes s is ≡ shapes t js → depths d is ≡ depths d js
 unfolding depths
 same-depths s t d [] [] h = refl
-same-depths s t d [] (j ∷ js) h = let z : _≡_ {A = ℕ} 0 1 = cc in absurd (omega arith)
-same-depths s t d (i ∷ is) [] h = let z : _≡_ {A = ℕ} 0 1 = cc in absurd (omega arith)
+same-depths s t d [] (j ∷ js) h = impossible cc
+same-depths s t d (i ∷ is) [] h = impossible cc
 same-depths s t d (i ∷ is) (j ∷ js) h =
     let e : i .kind ≡ j .kind = ap firstKind h in
     rw e (ap (λ (l : List ℕ). d ∷ l) (same-depths s t (depthAfter (j .kind) d) is js (ap others h)))
@@ -101,8 +100,8 @@ same-depths s t d (i ∷ is) (j ∷ js) h =
 same-clean : (s t : List ℕ) (is js : List Item) → shapes s is ≡ shapes t js → clean is ≡ clean js
 unfolding clean
 same-clean s t [] [] h = refl
-same-clean s t [] (j ∷ js) h = let z : _≡_ {A = ℕ} 0 1 = cc in absurd (omega arith)
-same-clean s t (i ∷ is) [] h = let z : _≡_ {A = ℕ} 0 1 = cc in absurd (omega arith)
+same-clean s t [] (j ∷ js) h = impossible cc
+same-clean s t (i ∷ is) [] h = impossible cc
 same-clean s t (i ∷ is) (j ∷ js) h =
     let e : i .kind ≡ j .kind = ap firstKind h in
     rw (e, same-clean s t is js (ap others h))

@@ -10,17 +10,17 @@ use native.Mathlib.Nat.{le-of-suc-le-suc}
 use borrow.Author.Tests.{eq-eqb, ne-eqb, ltb-true}
 use Rattle.laws.specs.Quoted.{code}
 use Rattle.laws.specs.Texts.{same}
-use Rattle.laws.proofs.Choice.{and-no}
+use Rattle.laws.proofs.Choice.{and-no, impossible}
 use Rattle.chars.specs.Blank.{isBlank}
 use Rattle.chars.specs.Encode.{utf8, width, bytesOf}
+use Rattle.chars.proofs.Bytes.{bytes-append}
 use Rattle.items.specs.Kinds as kind
 use Rattle.items.specs.Meaning.{Text, none, source, decoded}
 use Rattle.items.specs.Items.{Item, unset, itemsFrom, byteCount}
 use Rattle.items.proofs.Every.{Every}
 use Rattle.items.proofs.Splits.{length-bytes}
-use Rattle.agreement.specs.Reading.{Spelling, bytes, item, ReadAs}
-use Rattle.coverage.proofs.Bytes.{bytes-append}
-use Rattle.agreement.proofs.Bytes.{bytes-some, bytes-ascii}
+use Rattle.items_r7rs.specs.Reading.{Spelling, bytes, item, ReadAs}
+use Rattle.items_r7rs.proofs.Bytes.{bytes-some, bytes-ascii}
 use Rattle.items_writing.specs.Written.{Entry, textBytes, entry, entries, gap, splits, wordOf, twins, joined, written}
 use Rattle.items_writing.specs.Shapes.{spells}
 use Rattle.items_writing_theorems.proofs.Parts.{part-all}
@@ -101,7 +101,7 @@ rest-again (goes u s) pre (suc turns) h = after-space pre turns u s (le-of-suc-l
 apart-again : (first : Bool) (e : Entry) (l : List ℕ) (is : List Item) (n x : ℕ) {xs : List ℕ} → e .start < n → Every (λ (i : Item). n ≤ i .start) is
     → written false (entries l is) ≡ x ∷ xs → written first (e ∷ entries l is) ≡ gap first ++ wordOf first false e ++ (x ∷ xs)
 unfolding written
-apart-again first e l [] n x h g w = let z : _≡_ {A = ℕ} 0 1 = cc in absurd (omega arith)
+apart-again first e l [] n x h g w = impossible cc
 apart-again first e l (i ∷ is) n x h g w =
     written-apart first e (entry l i) (entries l is) (not-joined e (entry l i) (omega (arith, g .0))) ∙ ap (λ (y : List ℕ). gap first ++ wordOf first false e ++ y) w
 
@@ -125,7 +125,7 @@ pub record ReadFrom (k : ℕ) (raw : List ℕ) (w : Spelling) (e : Entry) : Type
   pub text-is : (b : List ℕ) → w ≡ bytes b → e .text ≡ b
 
 text-spelled : (s : List ℕ) (x : Text) (b : List ℕ) → spells s x ≡ bytes b → textBytes s x ≡ b
-text-spelled s none b h = let z : _≡_ {A = ℕ} 0 1 = cc in absurd (omega arith)
+text-spelled s none b h = impossible cc
 text-spelled s (source x y) b h = cc
 text-spelled s (decoded bs) b h = cc
 

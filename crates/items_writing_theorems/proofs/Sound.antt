@@ -12,13 +12,13 @@ use Rattle.laws.proofs.Choice.{by-bool, and-true, no-yes}
 use Rattle.laws.proofs.Compared.{same-is}
 use Rattle.chars.specs.Blank.{isBlank}
 use Rattle.chars.specs.Encode.{isScalar, utf8, bytesOf, spelled}
+use Rattle.chars.proofs.Bytes.{bytes-append}
 use Rattle.chars.proofs.Good.{Scalars}
 use Rattle.numbers.specs.declared.Parsed.the-variants.{NoNumber}
 use Rattle.items.specs.declared.Quotes.the-variants.{Double, Lines}
 use Rattle.items.specs.Kinds as kind
-use Rattle.agreement.specs.Reading.{Spelling, bytes, ReadAs}
-use Rattle.coverage.proofs.Bytes.{bytes-append}
-use Rattle.agreement.proofs.Between.{between}
+use Rattle.items_r7rs.specs.Reading.{Spelling, bytes, ReadAs}
+use Rattle.items_r7rs.proofs.Between.{between}
 use Rattle.items_writing.specs.Written.{Entry, escape, quoted, gap, bare, splits, identifier, wordOf, twins, joined, written}
 use Rattle.items_writing.specs.Shapes.{Shape, shape, numberOf}
 use Rattle.items_writing.proofs.FirstLine.{other-start}

@@ -7,7 +7,7 @@ use lib.ListN.{length}
 use lib.Dec.{eqb, ltb}
 use native.Mathlib.Omega.{arith}
 use Rattle.laws.specs.Quoted.{code}
-use Rattle.laws.proofs.Choice.{by-bool}
+use Rattle.laws.proofs.Choice.{by-bool, impossible}
 use Rattle.chars.specs.Blank.{isBlank}
 use Rattle.numbers.specs.Grammar.{parseNumber}
 use Rattle.items.specs.declared.Outcome.{Outcome}
@@ -59,8 +59,8 @@ pub word-is : (raw : List ℕ) → Plainly Word raw → eqb (wordKind raw) kind.
 unfolding wordMeans
 word-is raw h = by-bool (eqb (wordKind raw) kind.Identifier)
     (λ e. by-bool (firstIs (code "+") raw && ltb 1 (length raw))
-    (λ f. let z = rw (e, f) at (h 0 0 .1) in let y : _≡_ {A = ℕ} 0 1 = cc in absurd (omega arith))
-    (λ f. let z = rw (e, f) at (h 0 0 .1) in let y : _≡_ {A = ℕ} 0 1 = cc in absurd (omega arith)))
+    (λ f. let z = rw (e, f) at (h 0 0 .1) in impossible cc)
+    (λ f. let z = rw (e, f) at (h 0 0 .1) in impossible cc))
     (λ e. e)
 
 run-word : (raw : List ℕ) → Plainly Word raw → (s e : ℕ) → runMeans (parseNumber raw) s e raw ≡ wordMeans s e raw

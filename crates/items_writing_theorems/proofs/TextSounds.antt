@@ -10,9 +10,10 @@ use native.Mathlib.Omega.{arith}
 use native.Mathlib.Nat.{le-refl}
 use borrow.Author.Tests.{ltb-true, eqb-true}
 use Rattle.laws.specs.Quoted.{code}
-use Rattle.laws.proofs.Choice.{by-bool, and-true, no-yes, and-no}
+use Rattle.laws.proofs.Choice.{by-bool, and-true, no-yes, and-no, impossible}
 use Rattle.chars.specs.Blank.{isBlank}
 use Rattle.chars.specs.Encode.{utf8, width, bytesOf}
+use Rattle.chars.proofs.Bytes.{bytes-append}
 use Rattle.chars.proofs.Good.{Scalars}
 use Rattle.chars.proofs.Width.{width-utf8}
 use Rattle.numbers.specs.declared.Parsed.{Parsed}
@@ -29,7 +30,6 @@ use Rattle.items.specs.Kinds as kind
 use Rattle.items.proofs.Every.{Every, every-any}
 use Rattle.items.proofs.Outcomes.{read-fine}
 use Rattle.items.proofs.Splits.{length-bytes}
-use Rattle.coverage.proofs.Bytes.{bytes-append}
 use Rattle.items_writing.specs.Written.{entries}
 use Rattle.items_writing.specs.Shapes.{shapes, clean}
 use Rattle.items_writing.proofs.Trace.{Traced, traced}
@@ -96,12 +96,12 @@ LastOf is last = is ≡ [] → last ≡ true
 
 attach-one : (s : List ℕ) (i : Item) (is : List Item) → ((last : Bool) → LastOf is last → AllSound last s (i ∷ [])) → AllSounds s is → AllSounds s (i ∷ is)
 attach-one s i [] f r = let g = f true (λ e. refl) in (one-sound (g .0), (g .1, tt))
-attach-one s i (j ∷ is) f r = let g = f false (λ e. let z : _≡_ {A = ℕ} 0 1 = cc in absurd (omega arith)) in (more (g .0) (r .0), (g .1, r .1))
+attach-one s i (j ∷ is) f r = let g = f false (λ e. impossible cc) in (more (g .0) (r .0), (g .1, r .1))
 
 attach-two : (s : List ℕ) (i j : Item) (is : List Item) → ((last : Bool) → LastOf is last → AllSound last s (i ∷ j ∷ [])) → AllSounds s is → AllSounds s (i ∷ j ∷ is)
 attach-two s i j [] f r = let g = f true (λ e. refl) in (more (g .0 .0) (one-sound (g .1 .0)), (g .0 .1, (g .1 .1, tt)))
 attach-two s i j (k ∷ is) f r =
-    let g = f false (λ e. let z : _≡_ {A = ℕ} 0 1 = cc in absurd (omega arith)) in
+    let g = f false (λ e. impossible cc) in
     (more (g .0 .0) (more (g .1 .0) (r .0)), (g .0 .1, (g .1 .1, r .1)))
 
 -- ---- what is kept, and what is clean

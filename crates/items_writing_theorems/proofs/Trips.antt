@@ -10,14 +10,14 @@ use lib.Dec.{ltb}
 use native.Mathlib.Omega.{arith}
 use borrow.Author.Tests.{ltb-false, le-ltb}
 use Rattle.laws.specs.Lent as lent
-use Rattle.laws.proofs.Choice.{if-is}
+use Rattle.laws.proofs.Choice.{if-is, impossible}
 use Rattle.refusal.specs.Refusals as refusal
 use Rattle.chars.specs.Utf8.{firstBad}
 use Rattle.chars.specs.declared.Utf8.the-variants.{Good}
 use Rattle.items.specs.Items.{recordWords, records, texts}
 use Rattle.items.specs.Whole as whole
 use Rattle.items.proofs.Fit.{records-length}
-use Rattle.coverage.proofs.Calls.{Delivered, leaves}
+use Rattle.items_coverage.proofs.Calls.{Delivered, leaves}
 use Rattle.items_writing.specs.Written.{reads}
 use Rattle.items_writing.specs.Shapes.{shapes, depths}
 use Rattle.items_writing.specs.Call.{served, refused, Call, call, deliver, writeOf}
@@ -36,7 +36,7 @@ module _ (w out : List ℕ) (n : ℕ) where
   Tells k = k .answer ≡ served n → Wrote w out n k
 
   refused-not : (number a : ℕ) → Tells (call (refused number a) out)
-  refused-not number a e = let z : _≡_ {A = ℕ} 0 1 = cc in absurd (omega arith)
+  refused-not number a e = impossible cc
 
   wrote : Tells (deliver refusal.limit w out)
   unfolding deliver

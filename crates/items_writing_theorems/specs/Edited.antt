@@ -5,7 +5,7 @@ use Prim.Native.Nat.{ℕ}
 use lib.Dec.{eqb}
 use Rattle.laws.specs.Choice.{if_then_else_}
 use Rattle.items.specs.Kinds as kind
-use Rattle.agreement.specs.Reading.{bytes}
+use Rattle.items_r7rs.specs.Reading.{bytes}
 use Rattle.items_writing.specs.Written.{Entry}
 use Rattle.items_writing.specs.Shapes.{Shape, shape}
 

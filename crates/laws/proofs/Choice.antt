@@ -3,6 +3,7 @@ use Prim.Native.Nat.{ℕ, _≤_, _<_}
 use mathlib.Core.Path.{_≡_, refl}
 use mathlib.Core.Bool.{Bool, true, false, _&&_, true≢false, false≢true}
 use lib.Dec.{leb}
+use native.Mathlib.Omega.{arith}
 use borrow.Author.Tests.{le-leb, lt-leb, leb-true}
 use Rattle.laws.specs.Choice.{if_then_else_}
 use Rattle.laws.specs.Quoted.{within}
@@ -21,6 +22,10 @@ module _ {P : Type 0} where
   yes-no e = absurd (true≢false e)
 
 module _ {A : Type 0} where
+  -- whatever is wanted, from what says that 0 is 1: `cc` finds it where two constructors are equal
+  pub impossible : _≡_ {A = ℕ} 0 1 → A
+  impossible e = absurd (omega arith)
+
   -- what holds of both arms holds of a choice
   pub if-all : (P : A → Type 0) (b : Bool) {x y : A} → P x → P y → P (if b then x else y)
   if-all P true p q = p

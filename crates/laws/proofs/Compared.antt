@@ -11,7 +11,7 @@ use native.Mathlib.Numerals.{add-one}
 use native.Mathlib.Nat.{suc-inj}
 use borrow.Author.Tests.{eq-eqb, ne-eqb, eqb-true, leb-true, leb-false}
 use Rattle.laws.specs.Texts.{starts, begins, same}
-use Rattle.laws.proofs.Choice.{by-bool, and-no}
+use Rattle.laws.proofs.Choice.{by-bool, and-no, impossible}
 use Rattle.laws.proofs.Places.{past, here}
 
 module _ (b : ℕ) (t : List ℕ) (i : ℕ) where
@@ -27,7 +27,7 @@ module _ (b : ℕ) (t : List ℕ) (i : ℕ) where
   pub starts-in : true ≡ starts b (drop i t) → i < length t
   starts-in h =
       by-bool (leb (length t) i)
-      (λ e. let f = starts-past (leb-true _ _ e) in let z : _≡_ {A = ℕ} 0 1 = cc in omega arith)
+      (λ e. let f = starts-past (leb-true _ _ e) in impossible cc)
       (λ e. leb-false _ _ e)
 
 module _ (p s : List ℕ) (i : ℕ) where
@@ -72,9 +72,9 @@ same-past t (x ∷ w) i h = rw (past t i h) (ne-eqb (length (x ∷ w)) 0 (λ e. 
 pub same-is : (s t : List ℕ) → same s t ≡ true → s ≡ t
 unfolding same
 same-is [] [] h = refl
-same-is [] (y ∷ t) h = let z : _≡_ {A = ℕ} 0 1 = cc in absurd (omega arith)
-same-is (x ∷ s) [] h = let z : _≡_ {A = ℕ} 0 1 = cc in absurd (omega arith)
+same-is [] (y ∷ t) h = impossible cc
+same-is (x ∷ s) [] h = impossible cc
 same-is (x ∷ s) (y ∷ t) h =
     by-bool (eqb x y)
     (λ e. let k = rw e at h in rw (eqb-true x y e, same-is s t k))
-    (λ e. let k = rw e at h in let z : _≡_ {A = ℕ} 0 1 = cc in absurd (omega arith))
+    (λ e. let k = rw e at h in impossible cc)

@@ -5,11 +5,11 @@ use Rattle.items.specs.Kinds as kind
 use Rattle.items.specs.Readers.{Read, readItem}
 use Rattle.items.specs.Items.{Item, kept}
 use Rattle.meaning.specs.Places.{placeIn}
-use Rattle.laws.proofs.Choice.{by-bool}
+use Rattle.laws.proofs.Choice.{by-bool, impossible}
 use Rattle.lexer.specs.Reading.{Turn, gives, ends, turnOf, turn, startFrom, sizeOf, nextAt, andThen, allFrom, allItems}
 use Rattle.lexer.specs.declared.Spot.{Spot}
-use Rattle.lexer.specs.declared.Start.{Start}
-use Rattle.lexer.specs.declared.Start.the-variants.{At, Nothing}
+use Rattle.lexer.specs.declared.FirstChar.{FirstChar}
+use Rattle.lexer.specs.declared.FirstChar.the-variants.{At, Nothing}
 use Rattle.lexer.proofs.Left.{left-here}
 use Rattle.lexer.proofs.Turns.{itemsOn, Started, started, none-started}
 use Rattle.lexer.proofs.Cases.{past, halfway, both, by-turn, turn-here}
@@ -94,7 +94,7 @@ module _ (s : List ℕ) where
     one-extent m h = by-turn p a (it .what) (it .item)
         (λ x f g. single m x f (turns ∙ g) h)
         (λ x y f _ g. double m x y f (turns ∙ g) (again x y f) h)
-        (λ x y f t g. let z : true ≡ false = sym t ∙ b in let w : _≡_ {A = ℕ} 0 1 = cc in absurd (omega arith))
+        (λ x y f t g. let z : true ≡ false = sym t ∙ b in impossible cc)
 
   all-turns : (k m : ℕ) (p : Spot) → p .second ≡ false → sizeOf s p < k → sizeOf s p < m → turnsFrom m p ≡ itemsAfter p
   unfolding turn
@@ -105,7 +105,7 @@ module _ (s : List ℕ) where
       nothing zero h e f = absurd (omega arith)
       nothing (suc m) h e f = turns-end m p e ∙ sym f
 
-      go : (x : Start) → startFrom (p .at) (chars (drop (p .at) s)) ≡ x
+      go : (x : FirstChar) → startFrom (p .at) (chars (drop (p .at) s)) ≡ x
           → ((m : ℕ) (p : Spot) → p .second ≡ false → sizeOf s p < k → sizeOf s p < m → turnsFrom m p ≡ itemsAfter p)
           → turnsFrom m p ≡ itemsAfter p
       go (At c a n) f rec = one-extent k rec p b h c a n (started s (chars (drop (p .at) s)) (p .at) refl c a n f) m g

@@ -4,7 +4,7 @@ use Rattle.chars.specs.Blank.{isBlank}
 use Rattle.items.specs.Readers.{SoFar}
 use Rattle.items.specs.Items.{Item, rangeAfter, extentItems}
 use Rattle.items.specs.declared.Outcome.{Outcome}
-use Rattle.items.proofs.Few.{OneOrTwo, few-items}
+use Rattle.items.proofs.OneOrTwo.{OneOrTwo, few-items}
 use Rattle.laws.proofs.Choice.{by-bool}
 use Rattle.meaning.specs.Places.{placeIn}
 use Rattle.lexer.specs.Reading.{gives, moved, turnOf, turnAt, turnFrom, turn}

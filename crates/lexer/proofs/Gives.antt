@@ -1,5 +1,6 @@
 -- What the code makes of an extent is what the definition gives: its one meaning or two are the definition's, and the nine words built of
 -- a meaning are those of its item.
+use Rattle.laws.proofs.Choice.{impossible}
 use Rattle.items.specs.Readers.{soFar}
 use Rattle.items.specs.Meaning.{Text, none, source, decoded, Meaning, means, meaningOf}
 use Rattle.items.specs.Items.{Place, range, placeOf, Item, itemOf, itemsOf, rangeAfter, standing, extentItems}
@@ -20,27 +21,26 @@ use mathlib.Core.Path.{_≡_, refl, sym, ap, _∙_}
 use mathlib.Core.Bool.{Bool, true, false}
 use mathlib.Core.List.{List, [], _∷_}
 use lib.ListN.{length}
-use native.Mathlib.Omega.{arith}
 
 -- a lone meaning, and two
 one-meant : (l : List Meaning) (m : Means) → m ∷ [] ≡ sizedAll l → (x : Meaning) × ((l ≡ x ∷ []) × (sized x ≡ m))
-one-meant [] m e = let z : _≡_ {A = ℕ} 0 1 = cc in absurd (omega arith)
+one-meant [] m e = impossible cc
 one-meant (x ∷ []) m e = let z : m ≡ sized x = cc in (x, (refl, sym z))
-one-meant (x ∷ y ∷ l) m e = let z : _≡_ {A = ℕ} 0 1 = cc in absurd (omega arith)
+one-meant (x ∷ y ∷ l) m e = impossible cc
 
 two-meant : (l : List Meaning) (m n : Means) → m ∷ n ∷ [] ≡ sizedAll l → (x : Meaning) × ((y : Meaning) × ((l ≡ x ∷ y ∷ []) × ((sized x ≡ m) × (sized y ≡ n))))
-two-meant [] m n e = let z : _≡_ {A = ℕ} 0 1 = cc in absurd (omega arith)
-two-meant (x ∷ []) m n e = let z : _≡_ {A = ℕ} 0 1 = cc in absurd (omega arith)
+two-meant [] m n e = impossible cc
+two-meant (x ∷ []) m n e = impossible cc
 two-meant (x ∷ y ∷ []) m n e = let z : m ≡ sized x = cc in let w : n ≡ sized y = cc in (x, (y, (refl, (sym z, sym w))))
-two-meant (x ∷ y ∷ v ∷ l) m n e = let z : _≡_ {A = ℕ} 0 1 = cc in absurd (omega arith)
+two-meant (x ∷ y ∷ v ∷ l) m n e = impossible cc
 
 pub fits-one : (free : ℕ) (l : List Meaning) (m : Means) → m ∷ [] ≡ sizedAll l → TextsFit free l → TextFits free (m .text)
-fits-one free [] m e h = let z : _≡_ {A = ℕ} 0 1 = cc in absurd (omega arith)
+fits-one free [] m e h = impossible cc
 fits-one free (x ∷ l) m e h = let z : m ≡ sized x = cc in rw z (h .0)
 
 pub fits-two : (free : ℕ) (l : List Meaning) (m n : Means) → m ∷ n ∷ [] ≡ sizedAll l → TextsFit free l → TextFits free (m .text) × TextFits free (n .text)
-fits-two free [] m n e h = let z : _≡_ {A = ℕ} 0 1 = cc in absurd (omega arith)
-fits-two free (x ∷ []) m n e h = let z : _≡_ {A = ℕ} 0 1 = cc in absurd (omega arith)
+fits-two free [] m n e h = impossible cc
+fits-two free (x ∷ []) m n e h = impossible cc
 fits-two free (x ∷ y ∷ l) m n e h = let z : m ≡ sized x = cc in let w : n ≡ sized y = cc in (rw z (h .0), rw w (h .1 .0))
 
 packed-is : (free : ℕ) (report : Bool) (last : Place) (s e k d : ℕ) (t : Text)

@@ -27,10 +27,10 @@ use Rattle.lexer.specs.Inner as inner
 use Rattle.lexer.specs.Inner.{bytesFor, freeAfter}
 use Rattle.lexer.specs.Reading.{moved, turn, turnAt, nextAt, startFrom, foundOf}
 use Rattle.lexer.specs.Glance.{Begins, Glanced}
-use Rattle.telling.specs.Tells.{Undecoded}
-use Rattle.telling.proofs.Firsts.{past-first}
+use Rattle.items_telling.specs.Tells.{Undecoded}
+use Rattle.items_telling.proofs.Firsts.{past-first}
 use Rattle.lexer.specs.declared.Spot.{Spot}
-use Rattle.lexer.specs.declared.Start.the-variants.{At}
+use Rattle.lexer.specs.declared.FirstChar.the-variants.{At}
 use Rattle.lexer.specs.declared.Found.{Found}
 use Rattle.lexer.specs.declared.Found.the-variants.{One}
 use Rattle.lexer.proofs.Here.{char-found}

@@ -3,7 +3,7 @@ use Rattle.chars.specs.Utf8.{Front, char, bad, cut, none, front, placed, chars,
 use Rattle.chars.specs.Encode.{width}
 use Rattle.chars.specs.declared.Decoded.the-variants as decoded
 use Rattle.chars.proofs.Chars.{CharAt, char-at, nothing-at}
-use Rattle.laws.proofs.Choice.{by-bool}
+use Rattle.laws.proofs.Choice.{by-bool, impossible}
 use Rattle.laws.proofs.Places.{past}
 use Rattle.items.specs.Items.{byteCount}
 use Prim.Native.Nat.{ℕ, _+_, _≤_, _<_}
@@ -30,13 +30,13 @@ module _ (s : List ℕ) (at : ℕ) where
       by-bool (leb at (length s)) (λ h. char-at s at c next e (leb-true at (length s) h))
       (λ h. let q : front (drop at s) ≡ none = nothing-left s at (leb-false at (length s) h) .0 in
       let z : decoded.Char c next ≡ decoded.End = e ∙ ap (placed at) q in
-      let y : _≡_ {A = ℕ} 0 1 = cc in absurd (omega arith))
+      impossible cc)
 
   pub char-here : (c : ℕ) (cs : List ℕ) → chars (drop at s) ≡ c ∷ cs → Here s at c cs
   char-here c cs e = go (front (drop at s)) refl
     where
       absurdly : chars (drop at s) ≡ [] → Here s at c cs
-      absurdly n = let z : c ∷ cs ≡ [] = sym e ∙ n in let y : _≡_ {A = ℕ} 0 1 = cc in absurd (omega arith)
+      absurdly n = let z : c ∷ cs ≡ [] = sym e ∙ n in impossible cc
 
       go : (F : Front) → front (drop at s) ≡ F → Here s at c cs
       go (char d n) f =
@@ -49,9 +49,9 @@ module _ (s : List ℕ) (at : ℕ) where
             char = subst (λ (x : ℕ). CharAt s at c x) w (subst (λ (x : ℕ). CharAt s at x (at + n)) o k);
             rest = sym r ∙ ap (λ (x : ℕ). chars (drop x s)) w;
           }
-      go (bad n) f = absurdly (nothing-at s at decoded.Bad (sym (ap (placed at) f)) (λ c n z. let y : _≡_ {A = ℕ} 0 1 = cc in omega arith))
-      go cut f = absurdly (nothing-at s at decoded.Cut (sym (ap (placed at) f)) (λ c n z. let y : _≡_ {A = ℕ} 0 1 = cc in omega arith))
-      go none f = absurdly (nothing-at s at decoded.End (sym (ap (placed at) f)) (λ c n z. let y : _≡_ {A = ℕ} 0 1 = cc in omega arith))
+      go (bad n) f = absurdly (nothing-at s at decoded.Bad (sym (ap (placed at) f)) (λ c n z. impossible cc))
+      go cut f = absurdly (nothing-at s at decoded.Cut (sym (ap (placed at) f)) (λ c n z. impossible cc))
+      go none f = absurdly (nothing-at s at decoded.End (sym (ap (placed at) f)) (λ c n z. impossible cc))
 
 -- the characters from a place on lie in the source
 pub room : (s : List ℕ) (cs : List ℕ) (at : ℕ) → at ≤ length s → cs ≡ chars (drop at s) → at + byteCount cs ≤ length s

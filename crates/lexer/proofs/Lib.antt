@@ -1,3 +1,11 @@
+-- Theorems that stand in the docs
+-- `reads-all`
+pub mod Opens
+-- `reader-reads-all`
+pub mod ReadsOn
+-- `never-27`, `text-right`
+pub mod Placed
+-- What they stand on, and what other crates cite
 pub mod Here
 pub mod Left
 pub mod Turns
@@ -16,12 +24,9 @@ pub mod Tells
 pub mod Sharps
 pub mod Skims
 pub mod All
-pub mod Opens
 pub mod Memory
-pub mod Going
+pub mod ReadingOn
 pub mod Writing
-pub mod Quickly
+pub mod ToldTurns
 pub mod Delivered
 pub mod Texts
-pub mod ReadsOn
-pub mod Placed

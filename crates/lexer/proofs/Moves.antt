@@ -10,10 +10,11 @@ use Rattle.items.proofs.Meanings.{Inside, Meant}
 use Rattle.items.proofs.Splits.{read-forward}
 use Rattle.meaning.specs.Places.{placeIn}
 use Rattle.laws.specs.Choice.{if_then_else_}
+use Rattle.laws.proofs.Choice.{impossible}
 use Rattle.lexer.specs.Reading.{gives, ends, turnOf, turn, startFrom, sizeOf}
 use Rattle.lexer.specs.declared.Spot.{Spot}
-use Rattle.lexer.specs.declared.Start.{Start}
-use Rattle.lexer.specs.declared.Start.the-variants.{At, Nothing}
+use Rattle.lexer.specs.declared.FirstChar.{FirstChar}
+use Rattle.lexer.specs.declared.FirstChar.the-variants.{At, Nothing}
 use Rattle.lexer.proofs.Left.{ReadTo, left-here, part}
 use Rattle.lexer.proofs.Turns.{Started, started, none-started}
 use Rattle.lexer.proofs.Extents.{Any, extent-made}
@@ -141,10 +142,10 @@ pub turn-moved : (s : List ℕ) (p : Spot) (i : Item) (q : Spot) → turn s p �
 unfolding turn
 turn-moved s p i q e = go (startFrom (p .at) (chars (drop (p .at) s))) refl
   where
-    go : (x : Start) → startFrom (p .at) (chars (drop (p .at) s)) ≡ x → Moved s p i q
+    go : (x : FirstChar) → startFrom (p .at) (chars (drop (p .at) s)) ≡ x → Moved s p i q
     go (At c a n) f =
         let S : Started s (p .at) (chars (drop (p .at) s)) c a n = started s (chars (drop (p .at) s)) (p .at) refl c a n f in
         given s p c a n S i q (sym (S .turn p) ∙ e)
     go Nothing f =
         let z : gives i q ≡ ends = sym e ∙ none-started (chars (drop (p .at) s)) (p .at) f .0 p in
-        let y : _≡_ {A = ℕ} 0 1 = cc in absurd (omega arith)
+        impossible cc

@@ -3,7 +3,7 @@ use Rattle.items.specs.Kinds as kind
 use Rattle.items.specs.Items.{Item}
 use Rattle.items.specs.declared.Nine.{Nine}
 use Rattle.meaning.specs.Records.{packed}
-use Rattle.laws.proofs.Choice.{by-bool}
+use Rattle.laws.proofs.Choice.{by-bool, impossible}
 use Rattle.lexer.specs.Reading.{Turn, gives, ends, turn, sizeOf, nextFrom, nextAt, foundOf}
 use Rattle.lexer.specs.declared.Spot.{Spot}
 use Rattle.lexer.specs.declared.Found.the-variants.{One, End}
@@ -18,10 +18,10 @@ use native.Mathlib.Omega.{arith}
 -- what was found is an item of the definition, or the end
 pub found-gives : (free : ℕ) (t : Turn) (r : Nine) (q : Spot) → One r q ≡ foundOf free t → (i : Item) × ((t ≡ gives i q) × (r ≡ packed free i))
 found-gives free (gives i u) r q e = let a : r ≡ packed free i = cc in let b : u ≡ q = cc in (i, (ap (gives i) b, a))
-found-gives free ends r q e = let z : _≡_ {A = ℕ} 0 1 = cc in absurd (omega arith)
+found-gives free ends r q e = impossible cc
 
 pub found-ends : (free : ℕ) (t : Turn) → End ≡ foundOf free t → t ≡ ends
-found-ends free (gives i u) e = let z : _≡_ {A = ℕ} 0 1 = cc in absurd (omega arith)
+found-ends free (gives i u) e = impossible cc
 found-ends free ends e = refl
 
 -- what is left to find from a spot on is what was to find from the start
@@ -101,11 +101,11 @@ module _ (s : List ℕ) where
 
   from-moved : (n : ℕ) (p q : Spot) (i : Item) → nextFrom n s p ≡ gives i q → Moved s p i q
   unfolding nextFrom
-  from-moved zero p q i e = let z : _≡_ {A = ℕ} 0 1 = cc in absurd (omega arith)
+  from-moved zero p q i e = impossible cc
   from-moved (suc n) p q i e = go (λ t f. from-moved n t q i f) (turn s p) refl
     where
       go : ((t : Spot) → nextFrom n s t ≡ gives i q → Moved s t i q) → (t : Turn) → turn s p ≡ t → Moved s p i q
-      go rec ends f = let z : ends ≡ gives i q = sym (next-ends n p f) ∙ e in let y : _≡_ {A = ℕ} 0 1 = cc in absurd (omega arith)
+      go rec ends f = let z : ends ≡ gives i q = sym (next-ends n p f) ∙ e in impossible cc
       go rec (gives x t) f = by-bool (p .skip && eqb (x .kind) kind.Comment)
           (λ b. then-moved p t q x i (turn-moved s p x t f) (rec t (sym (next-skips n p t x f b) ∙ e)))
           (λ b. turn-moved s p i q (f ∙ (sym (next-gives n p t x f b) ∙ e)))

@@ -8,7 +8,7 @@ use Rattle.chars.specs.declared.Decoded.{Decoded}
 use Rattle.chars.specs.declared.Decoded.the-variants as decoded
 use Rattle.chars.proofs.Chars.{CharAt, nothing-at}
 use Rattle.laws.specs.Quoted.{code}
-use Rattle.laws.proofs.Choice.{by-bool}
+use Rattle.laws.proofs.Choice.{by-bool, impossible}
 use Rattle.items.specs.Items.{Item, unset, itemsFrom, itemsAt, pastLine, afterPound, items, kept, byteCount}
 use Rattle.items.specs.Whole.{call, limit, isMode, inReport, itemsIn, deliver, ifGood, readOf}
 use Rattle.items.specs.Whole as whole
@@ -141,9 +141,9 @@ module _ (s : List ℕ) (mode : ℕ) (skip : Bool) (recs text : List ℕ) where
   unfolding openOf readOf
   read-opened p e = by-bool (isMode mode)
       (λ m. by-bool (ltb limit (length s))
-      (λ l. let z : opened p ≡ refused refusal.tooLong limit = rw (m, l) at e in let y : _≡_ {A = ℕ} 0 1 = cc in absurd (omega arith))
+      (λ l. let z : opened p ≡ refused refusal.tooLong limit = rw (m, l) at e in impossible cc)
       (λ l. good m l (firstBad s) refl (rw (m, l) at e)))
-      (λ m. let z : opened p ≡ refused refusal.noMode mode = rw m at e in let y : _≡_ {A = ℕ} 0 1 = cc in absurd (omega arith))
+      (λ m. let z : opened p ≡ refused refusal.noMode mode = rw m at e in impossible cc)
     where
       good : isMode mode ≡ true → ltb limit (length s) ≡ false → (u : Utf8) → firstBad s ≡ u → opened p ≡ ifUtf8 (firstBad s) (opening s (inReport mode) skip)
           → Delivers p
@@ -154,7 +154,7 @@ module _ (s : List ℕ) (mode : ℕ) (skip : Bool) (recs text : List ℕ) where
           (ltb-false limit (length s) l, subst (Few s) (sym a) (few-items s (inReport mode) skip), f, rw (m, l, f) (ap (λ (i : List Item). deliver i recs text) (sym a)))
       good m l (Bad at) f h =
           let z : opened p ≡ refused refusal.notUtf8 at = h ∙ ap (λ (u : Utf8). ifUtf8 u (opening s (inReport mode) skip)) f in
-          let y : _≡_ {A = ℕ} 0 1 = cc in absurd (omega arith)
+          impossible cc
 
   pub read-refused : (n v : ℕ) → refused n v ≡ openOf s mode skip → call (whole.refused n v 0) recs text ≡ readOf s mode skip recs text
   unfolding openOf readOf
@@ -168,7 +168,7 @@ module _ (s : List ℕ) (mode : ℕ) (skip : Bool) (recs text : List ℕ) where
       same a b h = let x : n ≡ a = cc in let y : v ≡ b = cc in ap (λ (k : ℕ). call (whole.refused k v 0) recs text) x ∙ ap (λ (k : ℕ). call (whole.refused a k 0) recs text) y
 
       bad : (u : Utf8) → refused n v ≡ ifUtf8 u (opening s (inReport mode) skip) → call (whole.refused n v 0) recs text ≡ ifGood u (deliver (itemsIn s mode skip) recs text) recs text
-      bad Good h = let y : _≡_ {A = ℕ} 0 1 = cc in absurd (omega arith)
+      bad Good h = impossible cc
       bad (Bad at) h = same refusal.notUtf8 at h
 
 -- ---- opening, by the tests of the code

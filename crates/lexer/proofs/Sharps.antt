@@ -22,8 +22,8 @@ use Rattle.meaning.specs.Meant.{means}
 use Rattle.meaning.specs.declared.Means.{Means}
 use Rattle.meaning.specs.declared.Text.the-variants.{Nowhere}
 use Rattle.lexer.specs.Glance.{Begins, Sharp, Spells, Glanced, GlanceAt, SkimAt}
-use Rattle.telling.specs.declared.Quick.{Quick}
-use Rattle.telling.specs.declared.Quick.the-variants as quick
+use Rattle.items_telling.specs.declared.Quick.{Quick}
+use Rattle.items_telling.specs.declared.Quick.the-variants as quick
 use Rattle.lexer.proofs.Glances as glances
 use Rattle.lexer.proofs.Tells.{and-false}
 use Rattle.steps.specs.declared.Ending.the-variants as ending

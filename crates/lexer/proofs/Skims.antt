@@ -27,15 +27,15 @@ use Rattle.meaning.specs.Places.{rangeOf}
 use Rattle.meaning.specs.Records.{nineFor}
 use Rattle.laws.specs.Choice.{if_then_else_}
 use Rattle.lexer.specs.Glance.{Begins, WordedTo, Glanced, SkimAt}
-use Rattle.telling.specs.Tells.{Alone}
+use Rattle.items_telling.specs.Tells.{Alone}
 use Rattle.lexer.specs.Writing.{Going, Counting, Counts, Further, toldTo}
 use Rattle.lexer.specs.declared.Spot.{Spot}
 use Rattle.lexer.specs.Reading.{nextAt, sizeOf, foundOf}
 use Rattle.lexer.specs.declared.Found.the-variants.{One}
 use Rattle.lexer.proofs.Glances.{next-told, toldPlace, bare-nine}
-use Rattle.lexer.proofs.Going.{going-on, it, it-moved, size-le}
-use Rattle.lexer.proofs.Quickly.{here, Blanks, going-blanks, none-halfway}
-use Rattle.telling.proofs.Tells.{string-tells, identifier-tells, word-tells, run-tells}
+use Rattle.lexer.proofs.ReadingOn.{going-on, it, it-moved, size-le}
+use Rattle.lexer.proofs.ToldTurns.{here, Blanks, going-blanks, none-halfway}
+use Rattle.items_telling.proofs.Tells.{string-tells, identifier-tells, word-tells, run-tells}
 use Rattle.lexer.proofs.Tells.{and-false, spans, ends-here, line-told}
 use Prim.Native.Nat.{ℕ, _+_, _-_, _*_, _≤_, _<_}
 use mathlib.Core.Path.{_≡_, refl, sym, ap, _∙_, subst}

@@ -7,10 +7,10 @@ use Rattle.chars.proofs.Chars.{CharAt, nothing-at}
 use Rattle.laws.specs.Texts.{span}
 use Rattle.laws.proofs.Choice.{by-bool}
 use Rattle.laws.proofs.Runs.{span-le, span-hit, span-stop, span-end}
-use Rattle.texts.specs.Runs.{blank}
+use Rattle.byte_runs.specs.Runs.{blank}
 use Rattle.steps.proofs.Kept.{ascii-found, blank-ascii}
 use Rattle.lexer.specs.Reading.{startFrom}
-use Rattle.lexer.specs.declared.Start.the-variants.{At, Nothing}
+use Rattle.lexer.specs.declared.FirstChar.the-variants.{At, Nothing}
 use Rattle.lexer.proofs.Here.{char-found}
 use Prim.Native.Nat.{ℕ, zero, suc, _+_, _≤_, _<_}
 use mathlib.Core.Path.{_≡_, sym, ap, _∙_}

@@ -7,7 +7,7 @@ use Rattle.steps.specs.Scan.{answer}
 use Rattle.lexer.specs.Inner as inner
 use Rattle.lexer.specs.Reading.{startFrom}
 use Rattle.lexer.specs.Begun.{Stands}
-use Rattle.lexer.specs.declared.Start.the-variants.{At}
+use Rattle.lexer.specs.declared.FirstChar.the-variants.{At}
 use Rattle.lexer.proofs.Turns.{Started, started}
 use Rattle.lexer.proofs.Scans.{first-depth, inside}
 use Prim.Native.Nat.{ℕ}

@@ -18,8 +18,8 @@ use Rattle.meaning.specs.Meant.{means}
 use Rattle.meaning.specs.declared.Text.the-variants.{Nowhere}
 use Rattle.meaning.specs.Places.{placeIn, rangeOf}
 use Rattle.meaning.specs.Records.{nineFor}
-use Rattle.telling.specs.Strings.{failure, StrungAs}
-use Rattle.telling.specs.declared.Strung.the-variants as strung
+use Rattle.items_telling.specs.Strings.{failure, StrungAs}
+use Rattle.items_telling.specs.declared.Strung.the-variants as strung
 use Rattle.lexer.specs.Inner as inner
 use Rattle.lexer.specs.Reading.{moved, turn, turnAt, foundOf}
 use Rattle.lexer.specs.Glance.{Begins}

@@ -18,10 +18,10 @@ use Rattle.steps.specs.declared.Ending.the-variants as ending
 use Rattle.steps.proofs.Kept.{done-scan}
 use Rattle.meaning.specs.Meant.{means}
 use Rattle.meaning.specs.declared.Text.the-variants.{Nowhere}
-use Rattle.telling.specs.Tells.{Tells}
+use Rattle.items_telling.specs.Tells.{Tells}
 use Rattle.lexer.specs.Glance.{Begins, Worded, WordedTo, Glanced, GlanceAt}
-use Rattle.telling.specs.declared.Quick.{Quick}
-use Rattle.telling.specs.declared.Quick.the-variants.{Item, Bracket, Other}
+use Rattle.items_telling.specs.declared.Quick.{Quick}
+use Rattle.items_telling.specs.declared.Quick.the-variants.{Item, Bracket, Other}
 use Rattle.lexer.proofs.Scans.{inside, scan-fits, end-inside}
 use Rattle.lexer.proofs.Glances.{begins}
 use Prim.Native.Nat.{ℕ, _+_, _-_, _≤_, _<_}

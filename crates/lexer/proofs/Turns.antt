@@ -6,12 +6,12 @@ use Rattle.chars.specs.Blank.{isBlank}
 use Rattle.items.specs.Readers.{Read, readItem}
 use Rattle.items.specs.Items.{Place, Item, rangeAfter, extentItems, itemsFrom}
 use Rattle.items.proofs.Run.{turns-enough, read-left}
-use Rattle.laws.proofs.Choice.{by-bool}
+use Rattle.laws.proofs.Choice.{by-bool, impossible}
 use Rattle.laws.proofs.Places.{past}
 use Rattle.lexer.specs.Reading.{ends, moved, turnAt, turnFrom, turn, startFrom}
 use Rattle.lexer.specs.declared.Spot.{Spot}
-use Rattle.lexer.specs.declared.Start.{Start}
-use Rattle.lexer.specs.declared.Start.the-variants.{At, Nothing}
+use Rattle.lexer.specs.declared.FirstChar.{FirstChar}
+use Rattle.lexer.specs.declared.FirstChar.the-variants.{At, Nothing}
 use Rattle.lexer.proofs.Here.{Here, char-here}
 use Prim.Native.Nat.{ℕ, _+_, _≤_}
 use mathlib.Core.Path.{_≡_, refl, sym, ap, _∙_}
@@ -59,7 +59,7 @@ module _ (s : List ℕ) where
 
   pub started : (cs : List ℕ) (at : ℕ) → cs ≡ chars (drop at s) → (c a n : ℕ) → startFrom at cs ≡ At c a n → Started s at cs c a n
   unfolding startFrom turnFrom itemsFrom
-  started [] at e c a n f = let z : _≡_ {A = ℕ} 0 1 = cc in absurd (omega arith)
+  started [] at e c a n f = impossible cc
   started (d ∷ cs) at e c a n f = by-bool (isBlank d)
       (λ b. let k : Here s at d cs = char-here s at d cs (sym e) in
       let m : Started s (at + width d) cs c a n = started cs (at + width d) (k .rest) c a n (rw b at f) in
@@ -85,7 +85,7 @@ none-started [] at f = ((λ p. refl), (λ report last. refl))
 none-started (d ∷ cs) at f = by-bool (isBlank d)
     (λ b. let m = none-started cs (at + width d) (rw b at f) in
     ((λ p. rw (b, turnFrom) (m .0 p)), (λ report last. rw (b, itemsFrom) (m .1 report last))))
-    (λ b. let q : At d at (at + width d) ≡ Nothing = rw b at f in let z : _≡_ {A = ℕ} 0 1 = cc in absurd (omega arith))
+    (λ b. let q : At d at (at + width d) ≡ Nothing = rw b at f in impossible cc)
 
 -- ---- a turn of a spot
 
@@ -102,7 +102,7 @@ pub turn-past : (s : List ℕ) (p : Spot) (at next : ℕ) (last : Place) (second
     → turn s (moved p next last second) ≡ turn s (moved p at last second)
 turn-past s p at next last second e = go (startFrom at (chars (drop at s))) refl
   where
-    go : (o : Start) → startFrom at (chars (drop at s)) ≡ o → turn s (moved p next last second) ≡ turn s (moved p at last second)
+    go : (o : FirstChar) → startFrom at (chars (drop at s)) ≡ o → turn s (moved p next last second) ≡ turn s (moved p at last second)
     go (At c a n) f =
         turn-started s (moved p next last second) c a n (started s (chars (drop next s)) next refl c a n (e ∙ f))
         ∙ sym (turn-started s (moved p at last second) c a n (started s (chars (drop at s)) at refl c a n f))

@@ -14,7 +14,7 @@ use Rattle.lexer.proofs.Turns.{turn-end}
 use Rattle.lexer.proofs.Moves.{Moved, Whole}
 use Rattle.lexer.proofs.Nexts.{next-at-ends}
 use Rattle.lexer.proofs.Memory.{record-packed, bytes-packed, texts-join, texts-more, records-more, past-more}
-use Rattle.lexer.proofs.Going.{going, going-end, going-past, counted, going-on, it, it-packed, it-moved}
+use Rattle.lexer.proofs.ReadingOn.{going, going-end, going-past, counted, going-on, it, it-packed, it-moved}
 use Prim.Native.Nat.{ℕ, _+_, _-_, _/_, _≤_, _<_}
 use mathlib.Core.Path.{_≡_, refl, sym, ap, _∙_, subst}
 use mathlib.Core.List.{List, [], _∷_, _++_, append-nil}

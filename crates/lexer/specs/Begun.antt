@@ -11,13 +11,13 @@ use Rattle.items.specs.declared.Phase.{Phase}
 use Rattle.items.specs.declared.Phase.the-variants as ph
 use Rattle.items.specs.declared.Quotes.the-variants.{Double}
 use Rattle.steps.specs.Scan.{answer}
-use Rattle.telling.specs.Strings.{StrungAs}
-use Rattle.telling.specs.declared.Strung.the-variants.{Fails}
+use Rattle.items_telling.specs.Strings.{StrungAs}
+use Rattle.items_telling.specs.declared.Strung.the-variants.{Fails}
 use Rattle.lexer.specs.Reading.{startFrom}
 use Rattle.lexer.specs.Glance.{Begins}
-use Rattle.lexer.specs.declared.Start.the-variants as start
-use Rattle.lexer.specs.declared.Begun.{Begun}
-use Rattle.lexer.specs.declared.Begun.the-variants.{At, Wrong, Nothing}
+use Rattle.lexer.specs.declared.FirstChar.the-variants as start
+use Rattle.lexer.specs.declared.Beginning.{Beginning}
+use Rattle.lexer.specs.declared.Beginning.the-variants.{At, Wrong, Nothing}
 
 -- the item that comes next from the place `at` on starts at the place a, and a scan of it may go on in the phase p at the place `from`
 pub record Stands (s : List ℕ) (at a from : ℕ) (p : Phase) : Type 0 where
@@ -33,7 +33,7 @@ pub record Stands (s : List ℕ) (at a from : ℕ) (p : Phase) : Type 0 where
 abbrev pub WrongAt : List ℕ → ℕ → ℕ → Type 0
 WrongAt s at e = Begins s at (at + 1) (ph.Quoted Double) × StrungAs s (at + 1) (Fails e)
 
-abbrev pub BegunAs : List ℕ → ℕ → Begun → Type 0
+abbrev pub BegunAs : List ℕ → ℕ → Beginning → Type 0
 BegunAs s at (At a from p) = Stands s at a from p
 BegunAs s at (Wrong e) = WrongAt s at e
 BegunAs s at Nothing = startFrom at (chars (drop at s)) ≡ start.Nothing

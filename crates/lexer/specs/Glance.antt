@@ -23,9 +23,9 @@ use Rattle.steps.specs.declared.Ending.{Ending}
 use Rattle.steps.specs.declared.Ending.the-variants as ending
 use Rattle.meaning.specs.declared.Means.{Means}
 use Rattle.lexer.specs.Inner.{First}
-use Rattle.telling.specs.Tells.{Alone, Level}
-use Rattle.telling.specs.declared.Quick.{Quick}
-use Rattle.telling.specs.declared.Quick.the-variants.{Item, Bracket, Other}
+use Rattle.items_telling.specs.Tells.{Alone, Level}
+use Rattle.items_telling.specs.declared.Quick.{Quick}
+use Rattle.items_telling.specs.declared.Quick.the-variants.{Item, Bracket, Other}
 
 -- an item starts at a place with a character that ends at the place `next` and leaves it in a phase
 pub record Begins (s : List ℕ) (at next : ℕ) (p : Phase) : Type 0 where

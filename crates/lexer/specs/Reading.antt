@@ -16,8 +16,8 @@ use Rattle.items.specs.Items.{Place, rangeAfter, Item, extentItems}
 use Rattle.meaning.specs.Places.{placeIn, rangeOf}
 use Rattle.meaning.specs.Records.{packed}
 use Rattle.lexer.specs.declared.Spot.{Spot}
-use Rattle.lexer.specs.declared.Start.{Start}
-use Rattle.lexer.specs.declared.Start.the-variants.{At, Nothing}
+use Rattle.lexer.specs.declared.FirstChar.{FirstChar}
+use Rattle.lexer.specs.declared.FirstChar.the-variants.{At, Nothing}
 use Rattle.lexer.specs.declared.Found.{Found}
 use Rattle.lexer.specs.declared.Found.the-variants.{One, End}
 
@@ -89,7 +89,7 @@ allItems source p = allFrom (suc (sizeOf source p)) source p
 -- ---- as the code hands it on
 
 -- the first character that is no blank, where it stands, and the place past it
-unfoldable pub startFrom : ℕ → List ℕ → Start
+unfoldable pub startFrom : ℕ → List ℕ → FirstChar
 startFrom at [] = Nothing
 startFrom at (c ∷ cs) = let more = startFrom (at + width c) cs in if isBlank c then more else At c at (at + width c)
 

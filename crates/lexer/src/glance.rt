@@ -4,6 +4,11 @@
 use chars::letter_at;
 use escapes::has_escape;
 use items::kinds;
+use items_telling::Quick;
+use items_telling::bare;
+use items_telling::tell_run;
+use items_telling::tell_string;
+use items_telling::tell_word;
 use meaning::Means;
 use meaning::Text;
 use steps::Ending;
@@ -11,11 +16,6 @@ use steps::line_ending;
 use steps::run_ending;
 use steps::string_ending;
 use steps::word_ending;
-use telling::Quick;
-use telling::bare;
-use telling::tell_run;
-use telling::tell_string;
-use telling::tell_word;
 ghost use mathlib.Core.Path.{_≡_};
 ghost use mathlib.Core.Bool.{Bool, true};
 ghost use Prim.Native.Nat.{_+_, _≤_, _<_};
@@ -28,7 +28,7 @@ ghost use Rattle.items.specs.declared.Phase.the-variants.{InWord, InRun, InLine
 ghost use Rattle.items.specs.declared.Quotes.the-variants.{Double};
 ghost use Rattle.meaning.specs.Meant.{means};
 ghost use Rattle.meaning.specs.declared.Text.the-variants.{Nowhere};
-ghost use Rattle.telling.specs.declared.Quick.the-variants.{Bracket};
+ghost use Rattle.items_telling.specs.declared.Quick.the-variants.{Bracket};
 ghost use Rattle.lexer.specs.Glance.{Begins, Rare, Worded, WordedTo, Sharp, Spells, GlanceAt, SkimAt};
 
 // Below it a byte is a character of ASCII.

@@ -47,7 +47,7 @@ pub struct Position {
 }
 
 // The first character of an item.
-pub enum Start {
+pub enum FirstChar {
     // the character, its place, and the place past it
     At(u32, usize, usize),
     // only blanks are left
@@ -118,7 +118,7 @@ pub enum NextAnswer {
 }
 
 // Where the item begins that comes next, as far as one look reads it. Internal.
-pub enum Begun {
+pub enum Beginning {
     // it starts at a place, and stands in a phase at another
     At(usize, usize, Phase),
     // it is the error of a string that starts right here, and ends at a place

@@ -1,17 +1,17 @@
 // One item a turn, from a spot of the source on.
-use crate::Begun;
+use crate::Beginning;
+use crate::FirstChar;
 use crate::Found;
 use crate::Spot;
-use crate::Start;
 use crate::strings::begin_string;
 use crate::strings::quote_at;
 use crate::strings::wrong;
+use byte_runs::blank_end;
 use chars::Decoded;
 use chars::decode_at;
 use chars::is_blank;
 use items::Outcome;
 use items::Phase;
-use items::kinds::COMMENT;
 use meaning::Means;
 use meaning::Meant;
 use meaning::Range;
@@ -20,19 +20,18 @@ use meaning::places::place;
 use meaning::places::range_after;
 use meaning::places::range_shown;
 use meaning::records::nine_of;
+use meaning::records::skips;
 use steps::first_phase;
 use steps::scan;
-use texts::blank_end;
 ghost use mathlib.Core.Path.{_≡_};
-ghost use mathlib.Core.Bool.{true, false, _&&_};
+ghost use mathlib.Core.Bool.{false};
 ghost use Prim.Native.Nat.{_+_, _≤_, _<_, _^_};
 ghost use lib.ListN.{length, drop};
-ghost use lib.Dec.{eqb, leb};
+ghost use lib.Dec.{leb};
 ghost use Rattle.laws.specs.Texts.{span};
-ghost use Rattle.texts.specs.Runs.{blank};
+ghost use Rattle.byte_runs.specs.Runs.{blank};
 ghost use Rattle.chars.specs.Utf8.{chars};
 ghost use Rattle.items.specs.Readers.{soFar};
-ghost use Rattle.items.specs.Kinds as kinds;
 ghost use Rattle.items.specs.Items.{placeOf, rangeAfter, standing};
 ghost use Rattle.items.specs.Whole.{limit};
 ghost use Rattle.meaning.specs.Places.{placeIn, rangeOf, reach, reachFrom};
@@ -109,7 +108,7 @@ pub fn past_blanks(source: &[u8], at: usize) -> usize
 }
 
 // The first character from a place on that is no blank.
-pub fn consume_whitespace(source: &[u8], from: usize) -> Start
+pub fn consume_whitespace(source: &[u8], from: usize) -> FirstChar
     ensures { λ r. ⌜ r ≡ startFrom from (chars (drop from (now (source .entry)))) ⌝ }
 {
     let mut at = from;
@@ -119,17 +118,17 @@ pub fn consume_whitespace(source: &[u8], from: usize) -> Start
                 if is_blank(code) {
                     at = past_spaces(source, next);
                 } else {
-                    return Start::At(code, at, next);
+                    return FirstChar::At(code, at, next);
                 }
             }
             Decoded::Bad => {
-                return Start::Nothing;
+                return FirstChar::Nothing;
             }
             Decoded::Cut => {
-                return Start::Nothing;
+                return FirstChar::Nothing;
             }
             Decoded::End => {
-                return Start::Nothing;
+                return FirstChar::Nothing;
             }
         }
     }
@@ -210,15 +209,15 @@ fn found(p: Spot, free: usize, start: usize, what: Outcome, raw: &[u8]) -> Found
 }
 
 // Where the item begins that comes next from a place on.
-fn begin_at(source: &[u8], at: usize) -> Begun
+fn begin_at(source: &[u8], at: usize) -> Beginning
     ensures { λ r. ⌜ BegunAs (now (source .entry)) at r ⌝ }
 {
     if quote_at(source, at) {
         return begin_string(source, at);
     }
     match consume_whitespace(source, at) {
-        Start::At(code, start, next) => Begun::At(start, next, first_phase(code)),
-        Start::Nothing => Begun::Nothing,
+        FirstChar::At(code, start, next) => Beginning::At(start, next, first_phase(code)),
+        FirstChar::Nothing => Beginning::Nothing,
     }
 }
 
@@ -239,20 +238,10 @@ fn turn_at(source: &[u8], p: Spot, free: usize) -> Found
     ensures { λ r. ⌜ r ≡ foundOf free (turn (now (source .entry)) p) ⌝ }
 {
     match begin_at(source, p.at) {
-        Begun::At(at, from, phase) => item_at(source, p, free, at, from, phase),
-        Begun::Wrong(end) => wrong(source, p, end),
-        Begun::Nothing => Found::End,
+        Beginning::At(at, from, phase) => item_at(source, p, free, at, from, phase),
+        Beginning::Wrong(end) => wrong(source, p, end),
+        Beginning::Nothing => Found::End,
     }
-}
-
-// Whether an item is passed over.
-fn skips(skip: bool, kind: u32) -> bool
-    ensures { λ r. ⌜ r ≡ (skip && eqb kind kinds.Comment) ⌝ }
-{
-    if skip {
-        return kind == COMMENT;
-    }
-    false
 }
 
 // The next item from a spot on. Decoded text goes to the place `free` of the text memory.

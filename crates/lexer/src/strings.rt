@@ -1,5 +1,5 @@
 // A string at a place, by its bytes: it is whole, it is an error at an escape that is none, or the scan reads it on.
-use crate::Begun;
+use crate::Beginning;
 use crate::Found;
 use crate::Spot;
 use crate::reading::past;
@@ -8,12 +8,12 @@ use items::Phase;
 use items::Quotes;
 use items::kinds::FIRST_ERROR;
 use items::kinds::INVALID_STRING_ESCAPE;
+use items_telling::Strung;
+use items_telling::string_at;
 use meaning::Means;
 use meaning::Range;
 use meaning::Text;
 use meaning::records::nine_of;
-use telling::Strung;
-use telling::string_at;
 ghost use mathlib.Core.Path.{_≡_};
 ghost use mathlib.Core.Bool.{true};
 ghost use Prim.Native.Nat.{ℕ, _+_, _≤_};
@@ -36,14 +36,14 @@ pub fn quote_at(source: &[u8], at: usize) -> bool
 }
 
 // The string that starts at a place.
-pub fn begin_string(source: &[u8], at: usize) -> Begun
+pub fn begin_string(source: &[u8], at: usize) -> Beginning
     requires { ⌜ Begins (now source) at (at + 1) (Quoted Double) ⌝ }
     ensures { λ r. ⌜ BegunAs (now (source .entry)) at r ⌝ }
 {
     match string_at(source, at + 1) {
-        Strung::Whole(end) => Begun::At(at, end, Phase::Done(Outcome::Str)),
-        Strung::Fails(end) => Begun::Wrong(end),
-        Strung::On(from) => Begun::At(at, from, Phase::Quoted(Quotes::Double)),
+        Strung::Whole(end) => Beginning::At(at, end, Phase::Done(Outcome::Str)),
+        Strung::Fails(end) => Beginning::Wrong(end),
+        Strung::On(from) => Beginning::At(at, from, Phase::Quoted(Quotes::Double)),
     }
 }
 

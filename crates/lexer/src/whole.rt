@@ -16,18 +16,19 @@ use crate::reading::past_blanks;
 use crate::reading::stand;
 use escapes::decode;
 use items::Nine;
+use items::QUOTE_LENGTH;
 use items::Quotes;
+use items::RECORD_WORDS;
 use items::Record;
 use items::kinds::STRING_LITERAL;
+use items_telling::Quick;
 use meaning::Means;
 use meaning::Range;
 use meaning::records::IN_MEMORY;
-use meaning::records::WORDS;
 use meaning::records::depth_after;
 use meaning::records::nine_of;
 use meaning::records::put;
 use steps::Ending;
-use telling::Quick;
 ghost use mathlib.Core.Path.{_≡_};
 ghost use Prim.Native.Nat.{_*_, _/_, _^_, _≤_, _<_};
 ghost use lib.ListN.{length};
@@ -42,9 +43,6 @@ ghost use Rattle.lexer.specs.Reading.{allItems};
 ghost use Rattle.lexer.specs.Answers.{answerOf};
 ghost use Rattle.lexer.specs.Inner.{neededOf, quotesOf, bytesFor, freeAfter, deepAt, Few};
 ghost use Rattle.lexer.specs.Writing.{Counts, Further, Amid, ToldOn, toldTo};
-
-// How many bytes a quote is.
-const QUOTE: usize = 1;
 
 // The quotes of an item with decoded text, by its kind.
 fn quotes(kind: u32) -> Quotes
@@ -74,7 +72,7 @@ pub fn put_text(source: &[u8], r: Nine, free: &mut [u8])
     if r.source == IN_MEMORY {
         let start = r.start as usize;
         let end = r.end as usize;
-        decode(&source[start..end], QUOTE, quotes(r.kind), free);
+        decode(&source[start..end], QUOTE_LENGTH, quotes(r.kind), free);
     }
 }
 
@@ -172,13 +170,13 @@ fn put_told(source: &[u8], p: Spot, recs: &mut [u32], free: usize, from: usize, 
         match quick_at(source, p.report, p.skip, at) {
             Quick::Item(m, start, end) => {
                 put(&mut recs[w..], record_at(m, start, end, free, depth));
-                w += WORDS;
+                w += RECORD_WORDS;
                 at = past_blanks(source, end);
             }
             Quick::Bracket(m, start, end) => {
                 put(&mut recs[w..], record_at(m, start, end, free, depth));
                 depth = depth_after(m.kind, depth);
-                w += WORDS;
+                w += RECORD_WORDS;
                 at = past_blanks(source, end);
             }
             Quick::Other => {
@@ -208,7 +206,7 @@ fn put_rare(source: &[u8], p: Spot, recs: &mut [u32], free: usize, from: usize, 
         match quick_rare(source, at) {
             Quick::Item(m, start, end) => {
                 put(&mut recs[w..], record_at(m, start, end, free, deep));
-                w += WORDS;
+                w += RECORD_WORDS;
                 at = past_blanks(source, end);
             }
             _ => {
@@ -265,7 +263,7 @@ fn taken(words: usize, bytes: usize) -> Needed
     ensures { λ r. ⌜ r ≡ record { items = words / recordWords; text = bytes } ⌝ }
 {
     Needed {
-        items: words / WORDS,
+        items: words / RECORD_WORDS,
         text: bytes,
     }
 }
@@ -300,7 +298,7 @@ pub fn write(source: &[u8], spot: Spot, recs: &mut [u32], text: &mut [u8]) -> Ne
                 put(&mut recs[w..], row);
                 put_text(source, r, &mut text[free..]);
                 depth = depth_after(r.kind, depth);
-                w = w + WORDS;
+                w = w + RECORD_WORDS;
                 free = free_after(free, r);
                 p = q;
             }
@@ -319,7 +317,7 @@ fn deliver_counted(source: &[u8], spot: Spot, recs: &mut [u32], text: &mut [u8])
     let needed = count(source, spot);
     let items = needed.items;
     let bytes = needed.text;
-    if recs.len() / WORDS < items {
+    if recs.len() / RECORD_WORDS < items {
         return ReadAnswer::NoRoom(items, bytes);
     }
     if text.len() < bytes {
@@ -335,7 +333,7 @@ fn deliver(source: &[u8], spot: Spot, recs: &mut [u32], text: &mut [u8]) -> Read
     requires { ⌜ (length (now source) ≤ limit) × Few (now source) (allItems (now source) spot) × (firstBad (now source) ≡ Good) ⌝ }
     ensures { λ r. ⌜ call (answerOf r) (now (recs .exit)) (now (text .exit)) ≡ deliver (allItems (now (source .entry)) spot) (now (recs .entry)) (now (text .entry)) ⌝ }
 {
-    if recs.len() / WORDS < source.len() {
+    if recs.len() / RECORD_WORDS < source.len() {
         return deliver_counted(source, spot, recs, text);
     }
     if text.len() < source.len() {

@@ -5,7 +5,7 @@ use Rattle.chars.specs.declared.Utf8.{Utf8}
 use Rattle.chars.specs.declared.Utf8.the-variants.{Good, Bad}
 use Rattle.laws.specs.Choice.{if_then_else_}
 use Rattle.laws.specs.Lent.{written}
-use Rattle.laws.proofs.Choice.{by-bool}
+use Rattle.laws.proofs.Choice.{by-bool, impossible}
 use Rattle.items.specs.Items.{Item, recordWords, records, texts}
 use Rattle.items.specs.Whole.{Answer, served, refused, Call, call, limit, isMode, itemsIn, deliver, ifGood, readOf}
 use Rattle.items.proofs.Fit.{records-length}
@@ -143,7 +143,7 @@ module _ (s ends : List ℕ) (mode : ℕ) (skip : Bool) (rows recs text : List �
     pub gives : fieldsOf s ends mode skip rows recs text ≡ fieldsCall (served n t) (written (rowsFrom 0 0 fs) rows) (written (recordsIn fs) recs) (written (textsIn fs) text)
 
   not-served : {k a b : ℕ} → refused k a b ≡ served n t → ⊥
-  not-served e = let y : _≡_ {A = ℕ} 0 1 = cc in absurd (omega arith)
+  not-served e = impossible cc
 
   pub is-served : fieldsOf s ends mode skip rows recs text .answer ≡ served n t → Served
   unfolding fieldsOf deliverFields

@@ -24,9 +24,6 @@ ghost use Rattle.items.specs.Whole.{limit};
 ghost use Rattle.lexer_fields.specs.Fields.{fieldOf};
 ghost use Rattle.lexer_fields.specs.Answers.{partOf, spotAt, Known};
 
-// What starts a first line that is passed over begins with this.
-const HASH: u8 = b'#';
-
 // No error range was set yet.
 const UNSET: u32 = 0;
 
@@ -77,7 +74,7 @@ fn begins_hash(part: &[u8]) -> bool
         return false;
     }
     let b = part[0];
-    b == HASH
+    b == b'#'
 }
 
 // Where reading starts in a part, which is UTF-8: only after a # is its first line looked at.

@@ -8,8 +8,8 @@ use crate::rows::ROW;
 use crate::rows::put_row;
 use crate::single::count_part;
 use crate::single::write_part;
+use items::RECORD_WORDS;
 use items::modes::REPORT;
-use meaning::records::WORDS;
 use refusal::LIMIT;
 ghost use mathlib.Core.Path.{_≡_};
 ghost use Rattle.laws.specs.Lent.{written};
@@ -70,7 +70,7 @@ fn write(
         let p = write_part(part, known, mode, skip, &mut recs[w..], &mut text[free..]);
         put_row(&mut rows[i * ROW..], n as u32, free as u32, p.mark, p.place);
         n = n + p.items;
-        w = n * WORDS;
+        w = n * RECORD_WORDS;
         free = free + p.text;
         from = end;
         i += 1;
@@ -103,7 +103,7 @@ fn deliver_counted(
     if rows.len() / ROW < ends.len() {
         return FieldsAnswer::NoRoom(items, bytes);
     }
-    if recs.len() / WORDS < items {
+    if recs.len() / RECORD_WORDS < items {
         return FieldsAnswer::NoRoom(items, bytes);
     }
     if text.len() < bytes {
@@ -133,7 +133,7 @@ fn deliver(
     if rows.len() / ROW < ends.len() {
         return deliver_counted(source, ends, known, mode, skip, rows, recs, text);
     }
-    if recs.len() / WORDS < source.len() {
+    if recs.len() / RECORD_WORDS < source.len() {
         return deliver_counted(source, ends, known, mode, skip, rows, recs, text);
     }
     if text.len() < source.len() {

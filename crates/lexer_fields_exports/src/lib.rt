@@ -1,4 +1,5 @@
 // The call of the crate `lexer_fields` for programs in C and Rust: its answer as a number and two values.
+use exports_values::put_values;
 use lexer_fields::FieldsAnswer;
 use refusal::BAD_ENDS;
 use refusal::LIMIT_VALUE;
@@ -7,24 +8,9 @@ use refusal::SERVED;
 use refusal::TOO_FEW;
 use refusal::TOO_LONG;
 ghost use mathlib.Core.Path.{_≡_};
-ghost use mathlib.Core.List.{[], _∷_};
 ghost use Rattle.chars.specs.Encode.{lay};
 ghost use Rattle.lexer_fields.specs.Answers.{answerOf};
 ghost use Rattle.lexer_fields_exports.specs.Told.{numberIn, valuesIn, leftBehind, fieldsLeft};
-
-// How many values are written.
-const VALUES: usize = 2;
-
-// Two values at the front, if there is room for both.
-fn put_values(values: &mut [u64], first: u64, second: u64)
-    ensures { λ _. ⌜ now (values .exit) ≡ lay (first ∷ second ∷ []) (now (values .entry)) ⌝ }
-{
-    if values.len() < VALUES {
-        return;
-    }
-    values[0] = first;
-    values[1] = second;
-}
 
 // An answer told: its values go to the lent memory, and its number back.
 fn tell(a: FieldsAnswer, values: &mut [u64]) -> u32

@@ -11,6 +11,7 @@ use borrow.Author.Tests.{lt-ltb}
 use Rattle.laws.specs.Choice.{if_then_else_}
 use Rattle.laws.specs.Texts.{span, starts, begins, same}
 use Rattle.laws.specs.Quoted.{code, within}
+use Rattle.laws.proofs.Choice.{impossible}
 use Rattle.refusal.specs.Refusals.{noMode, badEnds, tooLong}
 use Rattle.chars.specs.Encode.{isScalar, utf8, width, encode, bytesOf, spelled}
 use Rattle.chars.specs.Blank.{isBlank}
@@ -28,7 +29,7 @@ use Rattle.items.specs.Readers.{readComma, readItem, readNest, readQuoted, word
 use Rattle.items.specs.Meaning.{lookup, words, wordKind, wordMeans, runMeans, escaped, stringText, linedText, hereText, charNames, isDelimiter, nameless, hexNamed, spelledOut, characterOf, unescape}
 use Rattle.items.specs.Items.{extentItems, itemsFrom, pastLine, afterPound, items, kept, records, texts}
 use Rattle.items.specs.Whole.{Answer, served, refused, limit, isMode}
-use Rattle.promises.specs.Shapes.{room, wordsFor, bare, texted, error}
+use Rattle.items_promises.specs.Shapes.{room, wordsFor, bare, texted, error}
 use Rattle.lexer_fields.specs.Fields.{parts, inOrder, fieldOf, fieldsOn, itemCount, recordsIn, textsIn, rowsFrom, rowWords, FieldsCall, fieldsCall, deliverFields, fieldsOf}
 use Rattle.lexer_fields.specs.Answers.{answerOf}
 use Rattle.lexer_fields.specs.declared.FieldsAnswer.{FieldsAnswer}
@@ -153,7 +154,7 @@ too-long source ends mode skip w r t m o h = rw (m, o, lt-ltb limit (length sour
 -- no program that refuses everything meets the promise, whatever it says and leaves
 never-refused : (n a b : ℕ) (w r t : List ℕ) → fieldsCall (refused n a b) w r t ≡ plainly (spelled "ab") (1 ∷ 2 ∷ []) 2 0 → ⊥
 never-refused n a b w r t h =
-    let e : refused n a b ≡ served 2 0 = ap (λ (c : FieldsCall). c .answer) (h ∙ rows .extents) in let z : _≡_ {A = ℕ} 0 1 = cc in omega arith
+    let e : refused n a b ≡ served 2 0 = ap (λ (c : FieldsCall). c .answer) (h ∙ rows .extents) in impossible cc
 
 -- nor does one that leaves the rows, or the records, as they were
 never-rowless : (a : Answer) (r t : List ℕ) → fieldsCall a (room 9) r t ≡ plainly (spelled "ab") (1 ∷ 2 ∷ []) 2 0 → ⊥
@@ -165,7 +166,7 @@ never-unwritten a w t h = let e : 7 ≡ kind.Identifier = ap (λ (c : FieldsCall
 -- nor one that stops at a part that is not UTF-8, and refuses the call with it
 never-stops : (n : ℕ) (w r t : List ℕ) → fieldsCall (refused 21 n 0) w r t ≡ plainly (code "a" ∷ code "b" ∷ 0xFF ∷ []) (1 ∷ 3 ∷ []) 2 0 → ⊥
 never-stops n w r t h =
-    let e : refused 21 n 0 ≡ served 1 0 = ap (λ (c : FieldsCall). c .answer) (h ∙ rows .bad-part) in let z : _≡_ {A = ℕ} 0 1 = cc in omega arith
+    let e : refused 21 n 0 ≡ served 1 0 = ap (λ (c : FieldsCall). c .answer) (h ∙ rows .bad-part) in impossible cc
 
 -- nor one that writes rows only for parts with records: these have none
 never-skips-rows : (a : Answer) (r t : List ℕ) → fieldsCall a (room 9) r t ≡ plainly (spelled "¿") (1 ∷ 2 ∷ []) 1 0 → ⊥

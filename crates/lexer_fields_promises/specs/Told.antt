@@ -7,7 +7,7 @@ use mathlib.Core.List.{List, [], _∷_, _++_}
 use lib.ListN.{getD}
 use native.Mathlib.Omega.{arith}
 use Rattle.chars.specs.Encode.{spelled, lay}
-use Rattle.promises.specs.Shapes.{room, wordsFor}
+use Rattle.items_promises.specs.Shapes.{room, wordsFor}
 use Rattle.lexer_fields.specs.Fields.{FieldsCall, fieldsCall, fieldsOf}
 use Rattle.lexer_fields_exports.specs.Told.{LeftBehind, leftBehind, leaving, fieldsLeft}
 use Rattle.lexer_fields_promises.specs.Fields.{row, name, rows}

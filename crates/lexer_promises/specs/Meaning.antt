@@ -9,7 +9,7 @@ use Rattle.laws.specs.Lent.{written}
 use Rattle.laws.specs.Texts.{same}
 use Rattle.chars.specs.Encode.{utf8, bytesOf, spelled}
 use Rattle.items.specs.Kinds as kind
-use Rattle.promises.specs.Shapes.{room}
+use Rattle.items_promises.specs.Shapes.{room}
 use Rattle.items.specs.Items.{range, unset, placeOf, recordWords, wordsOf, mostOpen, depthAfter}
 use Rattle.items.specs.Meaning.{lookup, words, wordKind, wordMeans, meaningOf}
 use Rattle.items.specs.declared.Outcome.the-variants.{Word}

@@ -8,6 +8,7 @@ use native.Mathlib.Omega.{arith}
 use borrow.Author.Tests.{lt-ltb}
 use Rattle.laws.specs.Texts.{span, starts, begins, same}
 use Rattle.laws.specs.Quoted.{code, within}
+use Rattle.laws.proofs.Choice.{impossible}
 use Rattle.chars.specs.Encode.{isScalar, utf8, width, encode, bytesOf, spelled}
 use Rattle.chars.specs.Blank.{isBlank}
 use Rattle.chars.specs.Utf8.{first, rest, front, sequences, chars}
@@ -16,7 +17,7 @@ use Rattle.numbers.specs.Reals.{exponentMarker, exponent, suffix, pointOf, dott
 use Rattle.numbers.specs.Grammar.{justOf, complexOf, polarOf, endsI, imaginary, aloneOf, pairOf, toSign, startsE, rectangular, complex}
 use Rattle.numbers.specs.Grammar.{zeroInt, zeroReal, zeroParts, judged, radixMark, prefix, parseNumber}
 use Rattle.items.specs.Kinds as kind
-use Rattle.promises.specs.Shapes.{room, bare, texted, deep}
+use Rattle.items_promises.specs.Shapes.{room, bare, texted, deep}
 use Rattle.items.specs.Classes.{startsRun, firstOf, inQuotes, afterBackslash, stopsHex, inHex, inTrim, breaksWord, inWord, staysRun, endsRun, inRun, afterHash, endsHash, inHash}
 use Rattle.items.specs.Readers.{readLine, linedOf, readWord, readRun, boolKind, quoteKind, formKind, hashKind, hashBracket, hashAt, hashComma, readHash, readItem, readQuoted, wordOn, hashOn}
 use Rattle.items.specs.Meaning.{lookup, words, wordKind, wordMeans, runMeans, escaped, stringText, linedText, charNames, isDelimiter, nameless, spelledOut, characterOf, unescape}
@@ -103,18 +104,18 @@ rows = record {
 never-refused : (n a b : ℕ) (text : List ℕ) → replied (refuses n a b) text ≡ nextOf (spelled "a [") (at 0) [] → ⊥
 never-refused n a b text h =
     let e : refuses n a b ≡ item (texted kind.Identifier 0 1 1 0 1) (at 1) = ap (λ (r : Replied). r .reply) (h ∙ rows .first-item) in
-    let z : _≡_ {A = ℕ} 0 1 = cc in omega arith
+    impossible cc
 
 never-finished : (text : List ℕ) → replied finished text ≡ nextOf (spelled "a [") (at 0) [] → ⊥
 never-finished text h =
     let e : finished ≡ item (texted kind.Identifier 0 1 1 0 1) (at 1) = ap (λ (r : Replied). r .reply) (h ∙ rows .first-item) in
-    let z : _≡_ {A = ℕ} 0 1 = cc in omega arith
+    impossible cc
 
 -- nor one that refuses an item whose text just fits
 never-refuses-full : (n a b : ℕ) (text : List ℕ) → replied (refuses n a b) text ≡ nextOf (spelled "\"\\n\"") (at 0) (room 1) → ⊥
 never-refuses-full n a b text h =
     let e : refuses n a b ≡ item (texted kind.StringLiteral 0 4 2 0 1) (at 4) = ap (λ (r : Replied). r .reply) (h ∙ rows .full) in
-    let z : _≡_ {A = ℕ} 0 1 = cc in omega arith
+    impossible cc
 
 -- nor one that writes a byte before 22
 never-writes-before-22 : (r : Reply) (text : List ℕ) → replied r text ≡ nextOf (spelled "\"\\n\\n\"") (at 0) (room 1) → text ≡ room 1

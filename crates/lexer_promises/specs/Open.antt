@@ -4,9 +4,9 @@ use mathlib.Core.Path.{_≡_, refl, _∙_}
 use mathlib.Core.Bool.{Bool, true, false}
 use mathlib.Core.List.{List, [], _∷_}
 use lib.ListN.{length}
-use native.Mathlib.Omega.{arith}
 use borrow.Author.Tests.{lt-ltb, le-ltb}
 use Rattle.laws.specs.Quoted.{code, within}
+use Rattle.laws.proofs.Choice.{impossible}
 use Rattle.chars.specs.Encode.{utf8, width, bytesOf, spelled}
 use Rattle.chars.specs.Utf8.{first, rest, front, firstBad, sequences, chars}
 use Rattle.chars.specs.declared.Utf8.the-variants.{Good}
@@ -45,7 +45,7 @@ rows = record {
 -- no program that refuses everything meets the promise
 never-refused : (n m : ℕ) → refused n m ≡ openOf (spelled "a") 0 true → ⊥
 never-refused n m h =
-    let e : refused n m ≡ opened (position 0 false true) = h ∙ rows .plain in let z : _≡_ {A = ℕ} 0 1 = cc in omega arith
+    let e : refused n m ≡ opened (position 0 false true) = h ∙ rows .plain in impossible cc
 
 -- a text of just the limit is opened; a byte more is 20, also where the bytes are no text: 20 before 21
 longest-opened : (source : List ℕ) (mode : ℕ) (skip : Bool) → mode < 2 → length source ≡ 4294967295 → firstBad source ≡ Good

@@ -1,6 +1,6 @@
-// Lists the items of standard input: document 01, "Program `lexlist`". Crate `listing` says what is printed.
+// Lists the items of standard input: document 01, "Program `lexlist`". Crate `lexlist_listing` says what is printed.
 use libc::STDIN_FILENO;
 
 fn main() {
-    listing::list(STDIN_FILENO);
+    lexlist_listing::list(STDIN_FILENO);
 }

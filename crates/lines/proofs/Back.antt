@@ -9,7 +9,7 @@ use lib.ListN.{length, getD, drop, take, length-drop, length-append}
 use lib.Dec.{ltb}
 use borrow.Author.Tests.{le-leb, lt-leb, lt-ltb, le-ltb}
 use Rattle.laws.specs.Choice.{if_then_else_}
-use Rattle.laws.proofs.Choice.{by-bool}
+use Rattle.laws.proofs.Choice.{by-bool, impossible}
 use Rattle.chars.specs.Utf8.{Front, char, bad, cut, none, front, sequences, chars}
 use Rattle.chars.specs.Encode.{utf8, width, bytesOf}
 use Rattle.chars.proofs.Sequences.{char-some, not-none, sequences-char, sequences-bad, sequences-cut}
@@ -68,17 +68,17 @@ past n b l p at m r ih h a q e = go (front (b ∷ l)) refl
         let some : 1 ≤ w = char-some (b ∷ l) c w f in
         let fits : w ≤ length (b ∷ l) = subst (Spells (b ∷ l)) f (spells (b ∷ l)) .2 in
         by-less p (at + w)
-        (λ k. let x : Inside ≡ Whole r = sym (shape ∙ rw (lt-ltb p (at + w) k)) ∙ e in let z : _≡_ {A = ℕ} 0 1 = cc in absurd (omega arith))
+        (λ k. let x : Inside ≡ Whole r = sym (shape ∙ rw (lt-ltb p (at + w) k)) ∙ e in impossible cc)
         (λ k.
         let x : column p (m + 1) (sequences 0 (at + w) (drop w (b ∷ l))) ≡ Whole r = sym (shape ∙ rw (le-ltb p (at + w) k)) ∙ e in
         one-more (b ∷ l) p at m r c w f
         (ih (drop w (b ∷ l)) p (at + w) (m + 1) r (omega (arith, length-drop w (b ∷ l))) k (omega (arith, length-drop w (b ∷ l))) x))
     go (bad k) f =
         let x : Inside ≡ Whole r = sym (rw (sequences-bad at (b ∷ l) k f, lt-leb p at a)) ∙ e in
-        let z : _≡_ {A = ℕ} 0 1 = cc in absurd (omega arith)
+        impossible cc
     go cut f =
         let x : Inside ≡ Whole r = sym (rw (sequences-cut at (b ∷ l) f, lt-leb p at a)) ∙ e in
-        let z : _≡_ {A = ℕ} 0 1 = cc in absurd (omega arith)
+        impossible cc
     go none f = absurd (not-none b l f)
 
 turn : (n : ℕ) → Passing n → Passing (suc n)
@@ -145,7 +145,7 @@ module _ (s : List ℕ) (p line col : ℕ) where
       let w : line - 1 ≡ k = omega arith in
       let u : col - 1 ≡ v .0 = omega (arith, v .1) in
       (omega (arith, v .1), rw (w, u) (v .2))
-  by-column k Inside a b c e q = let z : _≡_ {A = ℕ} 0 1 = cc in absurd (omega arith)
+  by-column k Inside a b c e q = impossible cc
 
 pub back : (s index : List ℕ) (p line col : ℕ) → locateOf s index p ≡ At line col
     → (1 ≤ col) × (p ≡ lineStart index line + length (bytesOf (take (col - 1) (chars (drop (lineStart index line) s)))))
@@ -153,10 +153,10 @@ unfolding locateOf placeOf
 back s index p line col =
     by-bool (isIndex s index)
     (λ i. let x = index-is s index i in rw i (rw (x .2) (by-less (length s) p
-    (λ h. rw (lt-ltb (length s) p h) (λ e. let z : _≡_ {A = ℕ} 0 1 = cc in absurd (omega arith)))
+    (λ h. rw (lt-ltb (length s) p h) (λ e. impossible cc))
     (λ h.
     let v = line-last s p in
     let d : v .0 + 1 - 1 ≡ v .0 = omega arith in
     rw (le-ltb (length s) p h, v .1, d, since-line s (v .0) (x .1) (v .2))
     (by-column s p line col (v .0) (column p 1 (sequences 0 (getD (starts s) (v .0) 0) (drop (getD (starts s) (v .0) 0) s))) (v .2) (v .3) h refl)))))
-    (λ i. rw i (λ e. let z : _≡_ {A = ℕ} 0 1 = cc in absurd (omega arith)))
+    (λ i. rw i (λ e. impossible cc))

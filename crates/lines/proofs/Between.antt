@@ -8,7 +8,7 @@ use native.Mathlib.Omega.{arith}
 use lib.ListN.{length, drop, take, length-drop}
 use lib.Dec.{leb, ltb}
 use borrow.Author.Tests.{le-leb, le-ltb}
-use Rattle.laws.proofs.Choice.{by-bool}
+use Rattle.laws.proofs.Choice.{by-bool, impossible}
 use Rattle.chars.specs.declared.Utf8.the-variants.{Good, Bad}
 use Rattle.chars.specs.Utf8.{Front, char, bad, cut, none, front, Sequence, read, sequences, verdict, firstBad, chars}
 use Rattle.chars.specs.Encode.{width, bytesOf}
@@ -64,10 +64,10 @@ clear-next n b l at p ih h g o = go (front (b ∷ l)) refl
         rw (sequences-char at (b ∷ l) c w f) (beside (v .0) (ih (drop w (b ∷ l)) (at + w) p (omega (arith, length-drop w (b ∷ l))) rest (v .1)))
     go (bad k) f =
         let z : Bad at ≡ Good = sym (ap verdict (sequences-bad at (b ∷ l) k f)) ∙ g in
-        let y : _≡_ {A = ℕ} 0 1 = cc in absurd (omega arith)
+        impossible cc
     go cut f =
         let z : Bad at ≡ Good = sym (ap verdict (sequences-cut at (b ∷ l) f)) ∙ g in
-        let y : _≡_ {A = ℕ} 0 1 = cc in absurd (omega arith)
+        impossible cc
     go none f = absurd (not-none b l f)
 
 turn : (n : ℕ) → Clearing n → Clearing (suc n)

@@ -15,7 +15,7 @@ use Rattle.chars.specs.declared.Step.{Step}
 use Rattle.chars.specs.declared.Step.the-variants as steps
 use Rattle.chars.specs.declared.Utf8.the-variants.{Good, Bad}
 use Rattle.laws.specs.Quoted.{within}
-use Rattle.laws.proofs.Choice.{if-all}
+use Rattle.laws.proofs.Choice.{if-all, impossible}
 use Rattle.chars.proofs.Run.{run-sequences, run-bad}
 use Rattle.lines.specs.Starts.{newline, startsFrom, starts}
 use Rattle.lines.specs.Place.{since}
@@ -76,7 +76,7 @@ turns (steps.Char c) b s f at i ih w l h e g =
     let v = ih start (at + 1) (at + 1) i (omega arith) (inl refl) g h e in
     let early : f < at + 1 + suc i = omega arith in
     (read c f (at + 1) ∷ v .0, ap (λ (x : List Sequence). read c f (at + 1) ∷ x) (v .1), with-early early (v .2))
-turns steps.Bad b s f at i ih w l h e g = let z : _≡_ {A = ℕ} 0 1 = cc in absurd (omega arith)
+turns steps.Bad b s f at i ih w l h e g = impossible cc
 
 passes : (o : Step) (s : List ℕ) (f at : ℕ) → f ≤ at → (o ≡ steps.Char newline) ⊎ (o ≡ steps.Bad)
     → verdict (told o (λ u. run u f (at + 1) s) (λ c. read c f (at + 1) ∷ run start (at + 1) (at + 1) s) (broken f (at + 1) ∷ [])) ≡ Good
@@ -84,7 +84,7 @@ passes : (o : Step) (s : List ℕ) (f at : ℕ) → f ≤ at → (o ≡ steps.Ch
 passes o s f at w (inl e) =
     let early : f < at + 1 = omega arith in
     rw e (λ g. (read newline f (at + 1) ∷ [], ap (λ (x : List Sequence). read newline f (at + 1) ∷ x) (run-sequences s (at + 1)), with-early early first-of))
-passes o s f at w (inr e) = rw e (λ g. let z : _≡_ {A = ℕ} 0 1 = cc in absurd (omega arith))
+passes o s f at w (inr e) = rw e (λ g. impossible cc)
 
 splitting : (s : List ℕ) → Splitting s
 unfolding run

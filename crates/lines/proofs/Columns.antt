@@ -2,12 +2,12 @@
 use mathlib.Core.Path.{_≡_, refl, sym, ap, _∙_}
 use mathlib.Core.List.{List}
 use Prim.Native.Nat.{ℕ, _+_, _≤_, _<_}
-use native.Mathlib.Omega.{arith}
 use lib.ListN.{length, getD, drop}
 use lib.Seq.{drop-drop}
 use lib.Dec.{ltb}
 use borrow.Author.Tests.{le-leb, lt-leb, lt-ltb, le-ltb}
 use Rattle.laws.specs.Choice.{if_then_else_}
+use Rattle.laws.proofs.Choice.{impossible}
 use Rattle.laws.proofs.Places.{here}
 use Rattle.chars.specs.declared.Decoded.{Decoded}
 use Rattle.chars.specs.declared.Decoded.the-variants as decoded
@@ -59,7 +59,7 @@ pub not-end : (s : List ℕ) (at : ℕ) → at < length s → decoded.End ≡ pl
 not-end s at h e = go (front (drop at s)) refl e
   where
     go : (F : Front) → front (drop at s) ≡ F → decoded.End ≡ placed at F → ⊥
-    go (char d k) f x = let z : _≡_ {A = ℕ} 0 1 = cc in omega arith
-    go (bad k) f x = let z : _≡_ {A = ℕ} 0 1 = cc in omega arith
-    go cut f x = let z : _≡_ {A = ℕ} 0 1 = cc in omega arith
+    go (char d k) f x = impossible cc
+    go (bad k) f x = impossible cc
+    go cut f x = impossible cc
     go none f x = not-none (getD s at 0) (drop (at + 1) s) (sym (ap front (here s at h)) ∙ f)

@@ -12,16 +12,16 @@ use Rattle.chars.specs.Machine.{step, start, told}
 use Rattle.chars.specs.declared.Begun as begun
 use Rattle.chars.specs.declared.Step.{Step}
 use Rattle.chars.specs.declared.Step.the-variants as steps
-use Rattle.items.specs.Whole.{limit}
+use Rattle.refusal.specs.Refusals.{limit}
 use Rattle.lines.specs.Starts.{newline}
 use Rattle.lines.specs.Pieces.{fed, movedOf, stoppedOf, stepOf, noted, fedOf, pieceOf, endOf}
-use Rattle.lines.specs.declared.State.{State}
+use Rattle.lines.specs.declared.LineState.{LineState}
 use Rattle.lines.specs.Starts.{Served, Refused}
 use Rattle.lines.proofs.Tests.{by-equal}
 use Rattle.laws.proofs.Choice.{if-all}
 use Rattle.refusal.specs.Refusals.{tooLong, notUtf8, linesNoRoom}
 
-module _ (t : State) (b : ℕ) where
+module _ (t : LineState) (b : ℕ) where
   pub step-stands : t .stop ≡ tooLong → stepOf t b ≡ t
   unfolding stepOf
   step-stands e = rw (eq-eqb (t .stop) tooLong e)
@@ -42,41 +42,41 @@ module _ (t : State) (b : ℕ) where
       step-did k e = rw (ne-eqb (t .stop) tooLong n, ne-eqb (t .at) limit m, ne-eqb (t .stop) notUtf8 k, e)
 
 -- a byte leaves no more newline bytes than bytes
-moved-low : (t : State) (b : ℕ) (u : begun.Begun) (f : ℕ) → t .lines ≤ t .at → movedOf t b u f .lines ≤ t .at + 1
+moved-low : (t : LineState) (b : ℕ) (u : begun.Begun) (f : ℕ) → t .lines ≤ t .at → movedOf t b u f .lines ≤ t .at + 1
 moved-low t b u f h = by-equal b newline (λ e. rw (eq-eqb b newline e) (omega arith)) (λ e. rw (ne-eqb b newline e) (omega arith))
 
-told-low : (t : State) (b : ℕ) (o : Step) → t .lines ≤ t .at
+told-low : (t : LineState) (b : ℕ) (o : Step) → t .lines ≤ t .at
     → let n = told o (λ u. movedOf t b u (t .from)) (λ c. movedOf t b start (t .at + 1)) (stoppedOf t (t .at + 1) notUtf8) in n .lines ≤ n .at
 told-low t b (steps.More u) h = moved-low t b u (t .from) h
 told-low t b (steps.Char c) h = moved-low t b start (t .at + 1) h
 told-low t b steps.Bad h = omega arith
 
-pub step-low : (t : State) (b : ℕ) → t .lines ≤ t .at → stepOf t b .lines ≤ stepOf t b .at
+pub step-low : (t : LineState) (b : ℕ) → t .lines ≤ t .at → stepOf t b .lines ≤ stepOf t b .at
 step-low t b h =
     by-equal (t .stop) tooLong (λ e. rw (step-stands t b e) h) (λ n.
     by-equal (t .at) limit (λ e. rw (step-full t b n e) (omega arith)) (λ m.
     by-equal (t .stop) notUtf8 (λ e. rw (step-counts t b n m e) (omega arith)) (λ k.
     rw (step-did t b n m k refl) (told-low t b (step (t .begun) b) h))))
 
-pub fed-at : (s : List ℕ) (t : State) (m : List ℕ) (i : ℕ) → i < length s
+pub fed-at : (s : List ℕ) (t : LineState) (m : List ℕ) (i : ℕ) → i < length s
     → fedOf t (drop i s) m ≡ fedOf (stepOf t (getD s i 0)) (drop (i + 1) s) (noted t (stepOf t (getD s i 0)) m)
 unfolding fedOf
 fed-at s t m i h = rw (drop-cons s i 0 h, add-one i)
 
-noted-length : (t next : State) (m : List ℕ) → length (noted t next m) ≡ length m
+noted-length : (t next : LineState) (m : List ℕ) → length (noted t next m) ≡ length m
 noted-length t next m = if-all (λ (l : List ℕ). length l ≡ length m) (ltb (t .lines) (next .lines)) (length-set m (next .lines) (next .at)) refl
 
-pub record Feeding (st : State) (s old : List ℕ) (t : State) (m : List ℕ) (i : ℕ) : Type 0 where
+pub record Feeding (st : LineState) (s old : List ℕ) (t : LineState) (m : List ℕ) (i : ℕ) : Type 0 where
   pub inside : i ≤ length s
   pub low : t .lines ≤ t .at
   pub size : length m ≡ length old
   pub rest : fedOf st s old ≡ fedOf t (drop i s) m
 
-pub feeding-start : (st : State) (s old : List ℕ) → st .lines ≤ st .at → Feeding st s old st old 0
+pub feeding-start : (st : LineState) (s old : List ℕ) → st .lines ≤ st .at → Feeding st s old st old 0
 feeding-start st s old h = record { inside = omega arith; low = h; size = refl; rest = refl }
 
-module _ (st : State) (s old : List ℕ) (t : State) (m : List ℕ) (i : ℕ) (g : Feeding st s old t m i) where
-  module _ {next : State} (h : i < length s) (e : next ≡ stepOf t (getD s i 0)) where
+module _ (st : LineState) (s old : List ℕ) (t : LineState) (m : List ℕ) (i : ℕ) (g : Feeding st s old t m i) where
+  module _ {next : LineState} (h : i < length s) (e : next ≡ stepOf t (getD s i 0)) where
     pub feeding-next : {now : List ℕ} → now ≡ noted t next m → Feeding st s old next now (i + 1)
     feeding-next w = record {
       inside = omega arith;
@@ -91,7 +91,7 @@ module _ (st : State) (s old : List ℕ) (t : State) (m : List ℕ) (i : ℕ) (g
 
 -- ---- the declared end
 
-module _ (t : State) (n : ℕ) {k : ℕ} (l : t .lines ≤ t .at) (a : t .stop ≡ tooLong → ⊥) (b : t .stop ≡ notUtf8 → ⊥) (d : t .begun .need ≡ 0) (e : k ≡ t .lines) where
+module _ (t : LineState) (n : ℕ) {k : ℕ} (l : t .lines ≤ t .at) (a : t .stop ≡ tooLong → ⊥) (b : t .stop ≡ notUtf8 → ⊥) (d : t .begun .need ≡ 0) (e : k ≡ t .lines) where
   pub end-short : n < k + 1 → Refused linesNoRoom (k + 1) ≡ endOf t n
   unfolding endOf
   end-short h = rw (le-ltb (t .at) (t .lines) l, ne-eqb (t .stop) tooLong a, ne-eqb (t .stop) notUtf8 b, eq-eqb (t .begun .need) 0 d, ← e, lt-ltb n (k + 1) h)
@@ -100,10 +100,10 @@ module _ (t : State) (n : ℕ) {k : ℕ} (l : t .lines ≤ t .at) (a : t .stop �
   unfolding endOf
   end-served h = rw (le-ltb (t .at) (t .lines) l, ne-eqb (t .stop) tooLong a, ne-eqb (t .stop) notUtf8 b, eq-eqb (t .begun .need) 0 d, ← e, le-ltb n (k + 1) h)
 
-pub piece-stays : (t : State) (s m : List ℕ) → t .at < t .lines → fed t m ≡ pieceOf t s m
+pub piece-stays : (t : LineState) (s m : List ℕ) → t .at < t .lines → fed t m ≡ pieceOf t s m
 unfolding pieceOf
 piece-stays t s m h = rw (lt-ltb (t .at) (t .lines) h)
 
-pub piece-feeds : (t : State) (s m : List ℕ) → t .lines ≤ t .at → fedOf t s m ≡ pieceOf t s m
+pub piece-feeds : (t : LineState) (s m : List ℕ) → t .lines ≤ t .at → fedOf t s m ≡ pieceOf t s m
 unfolding pieceOf
 piece-feeds t s m h = rw (le-ltb (t .at) (t .lines) h)

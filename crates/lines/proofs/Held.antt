@@ -16,13 +16,13 @@ use Rattle.chars.specs.declared.Step.{Step}
 use Rattle.chars.specs.declared.Step.the-variants as steps
 use Rattle.chars.proofs.Run.{run-sequences}
 use Rattle.laws.specs.Lent.{written}
-use Rattle.items.specs.Whole.{limit}
+use Rattle.refusal.specs.Refusals.{limit}
 use Rattle.lines.specs.Starts.{newline, startsFrom, starts, fit, ifGood, buildOf}
 use Rattle.lines.specs.Starts.{Served, Refused}
 use Rattle.lines.specs.Pieces.{Fed, fresh, movedOf, stoppedOf, noted, fedOf, shown, before, laid}
-use Rattle.lines.specs.declared.State.{State}
+use Rattle.lines.specs.declared.LineState.{LineState}
 use Rattle.lines.proofs.Tests.{by-less, by-equal}
-use Rattle.laws.proofs.Choice.{by-bool}
+use Rattle.laws.proofs.Choice.{by-bool, impossible}
 use Rattle.laws.proofs.Lent.{written-push}
 use Rattle.refusal.specs.Refusals.{tooLong, notUtf8, linesNoRoom}
 use Rattle.lines.proofs.Feeding.{step-full, step-counts, step-did}
@@ -51,7 +51,7 @@ laid-push l m v = by-less (length l) (length m)
     length-take-min (x ∷ l) (suc n) = omega (arith, length-take-min l n)
 
 -- no start is noted after 21 any more
-after-bad : (s : List ℕ) (t : State) (m : List ℕ) → t .stop ≡ notUtf8 → fedOf t s m .memory ≡ m
+after-bad : (s : List ℕ) (t : LineState) (m : List ℕ) → t .stop ≡ notUtf8 → fedOf t s m .memory ≡ m
 after-bad [] t m e = ap (λ (f : Fed). f .memory) (fed-nil t m)
 after-bad (b ∷ s) t m e =
     let z : t .stop ≡ tooLong → ⊥ = λ q. omega arith in
@@ -84,7 +84,7 @@ from-cons l at b s h k =
     rw (y, a, c)
 
 -- a byte that moves on, with the starts done so far
-moved-memory : (t : State) (b : ℕ) (u : begun.Begun) (f : ℕ) (done m rest : List ℕ) → length done ≡ t .lines + 1
+moved-memory : (t : LineState) (b : ℕ) (u : begun.Begun) (f : ℕ) (done m rest : List ℕ) → length done ≡ t .lines + 1
     → (l : List ℕ) × (noted t (movedOf t b u f) (laid done m) ≡ laid l m) × (length l ≡ movedOf t b u f .lines + 1) × (done ++ startsFrom (t .at) (b ∷ rest) ≡ l ++ startsFrom (t .at + 1) rest)
 unfolding startsFrom
 moved-memory t b u f done m rest h = by-equal b newline
@@ -101,10 +101,10 @@ moved-memory t b u f done m rest h = by-equal b newline
     rw (ne-eqb b newline e, le-ltb (t .lines) (t .lines) g) (done, refl, h, refl))
 
 abbrev Holds : List ℕ → Type 0
-Holds s = (t : State) (done m : List ℕ) → t .lines ≤ t .at → t .at ≤ limit → t .stop ≡ 0 → length done ≡ t .lines + 1
+Holds s = (t : LineState) (done m : List ℕ) → t .lines ≤ t .at → t .at ≤ limit → t .stop ≡ 0 → length done ≡ t .lines + 1
     → fedOf t s (laid done m) .memory ≡ laid (done ++ startsFrom (t .at) (from (run (t .begun) (t .from) (t .at) s) (t .at) s)) m
 
-moves : (t : State) (b : ℕ) (s : List ℕ) (u : begun.Begun) (f : ℕ) (done m : List ℕ) → Holds s → t .lines ≤ t .at → t .at ≤ limit → (t .at ≡ limit → ⊥) → length done ≡ t .lines + 1
+moves : (t : LineState) (b : ℕ) (s : List ℕ) (u : begun.Begun) (f : ℕ) (done m : List ℕ) → Holds s → t .lines ≤ t .at → t .at ≤ limit → (t .at ≡ limit → ⊥) → length done ≡ t .lines + 1
     → fedOf (movedOf t b u f) s (noted t (movedOf t b u f) (laid done m)) .memory ≡ laid (done ++ startsFrom (t .at) (from (run u f (t .at + 1) s) (t .at) (b ∷ s))) m
 moves t b s u f done m ih h a q k =
     let rest = from (run u f (t .at + 1) s) (t .at + 1) s in
@@ -114,7 +114,7 @@ moves t b s u f done m ih h a q k =
     ∙ ap (λ (x : List ℕ). laid x m) (sym (v .3) ∙ ap (λ (x : List ℕ). done ++ startsFrom (t .at) x)
     (sym (from-cons (run u f (t .at + 1) s) (t .at) b s (below (t .at) a q) (shown-past s u f (t .at + 1)))))
 
-held-step : (o : Step) (b : ℕ) (s : List ℕ) (t : State) (done m : List ℕ) → Holds s → t .lines ≤ t .at → t .at ≤ limit → t .stop ≡ 0 → length done ≡ t .lines + 1 → (t .at ≡ limit → ⊥)
+held-step : (o : Step) (b : ℕ) (s : List ℕ) (t : LineState) (done m : List ℕ) → Holds s → t .lines ≤ t .at → t .at ≤ limit → t .stop ≡ 0 → length done ≡ t .lines + 1 → (t .at ≡ limit → ⊥)
     → step (t .begun) b ≡ o
     → fedOf t (b ∷ s) (laid done m) .memory ≡ laid (done ++ startsFrom (t .at) (from (run (t .begun) (t .from) (t .at) (b ∷ s)) (t .at) (b ∷ s))) m
 unfolding run shown startsFrom
@@ -168,23 +168,23 @@ shown-good : (l : List Sequence) (n : ℕ) → verdict l ≡ Good → shown l n 
 unfolding shown
 shown-good [] n e = refl
 shown-good (read c f t ∷ l) n e = shown-good l n e
-shown-good (broken f t ∷ l) n e = let z : _≡_ {A = ℕ} 0 1 = cc in absurd (omega arith)
-shown-good (short f ∷ l) n e = let z : _≡_ {A = ℕ} 0 1 = cc in absurd (omega arith)
+shown-good (broken f t ∷ l) n e = impossible cc
+shown-good (short f ∷ l) n e = impossible cc
 
 fit-served : (l m : List ℕ) (k : ℕ) → fit l m .answer ≡ Served k → (length l ≤ length m) × (fit l m .memory ≡ written l m)
 fit-served l m k = by-less (length m) (length l)
-    (λ h. rw (lt-ltb (length m) (length l) h) (λ e. let f : Refused linesNoRoom (length l) ≡ Served k = e in let z : _≡_ {A = ℕ} 0 1 = cc in absurd (omega arith)))
+    (λ h. rw (lt-ltb (length m) (length l) h) (λ e. let f : Refused linesNoRoom (length l) ≡ Served k = e in impossible cc))
     (λ h. rw (le-ltb (length m) (length l) h) (λ e. (h, refl)))
 
 ifGood-served : (v : Utf8) (l m : List ℕ) (k : ℕ) → ifGood v l m .answer ≡ Served k → (v ≡ Good) × (length l ≤ length m) × (ifGood v l m .memory ≡ written l m)
 ifGood-served Good l m k = λ e. let f = fit-served l m k e in (refl, f .0, f .1)
-ifGood-served (Bad p) l m k = λ e. let f : Refused notUtf8 p ≡ Served k = e in let z : _≡_ {A = ℕ} 0 1 = cc in absurd (omega arith)
+ifGood-served (Bad p) l m k = λ e. let f : Refused notUtf8 p ≡ Served k = e in impossible cc
 
 build-served : (s m : List ℕ) (k : ℕ) → buildOf s m .answer ≡ Served k
     → (length s ≤ limit) × (firstBad s ≡ Good) × (length (starts s) ≤ length m) × (buildOf s m .memory ≡ written (starts s) m)
 unfolding buildOf
 build-served s m k = by-less limit (length s)
-    (λ h. rw (lt-ltb limit (length s) h) (λ e. let f : Refused tooLong limit ≡ Served k = e in let z : _≡_ {A = ℕ} 0 1 = cc in absurd (omega arith)))
+    (λ h. rw (lt-ltb limit (length s) h) (λ e. let f : Refused tooLong limit ≡ Served k = e in impossible cc))
     (λ h. rw (le-ltb limit (length s) h) (λ e. let f = ifGood-served (firstBad s) (starts s) m k e in (h, f .0, f .1, f .2)))
 
 pub same-index : (s m : List ℕ) (k : ℕ) → buildOf s m .answer ≡ Served k → fedOf fresh s (set m 0 0) .memory ≡ buildOf s m .memory

@@ -16,10 +16,10 @@ use Rattle.chars.specs.declared.Utf8.{Utf8}
 use Rattle.chars.specs.declared.Utf8.the-variants.{Good, Bad}
 use Rattle.chars.proofs.Run.{run-bad}
 use Rattle.laws.specs.Choice.{if_then_else_}
-use Rattle.items.specs.Whole.{limit}
+use Rattle.refusal.specs.Refusals.{limit}
 use Rattle.lines.specs.Starts.{newline, startsFrom, starts, ifGood, buildOf}
 use Rattle.lines.specs.Pieces.{Fed, fed, fresh, openOf, movedOf, stoppedOf, stepOf, noted, fedOf, endOf, pieces, joined}
-use Rattle.lines.specs.declared.State.{State}
+use Rattle.lines.specs.declared.LineState.{LineState}
 use Rattle.lines.specs.Starts.{Told, Served, Refused}
 use Rattle.lines.proofs.Tests.{by-less, by-equal}
 use Rattle.laws.proofs.Choice.{by-bool}
@@ -28,12 +28,12 @@ use Rattle.lines.proofs.Feeding.{step-stands, step-full, step-counts, s
 
 -- ---- any cutting
 
-fed-low : (s : List ℕ) (t : State) (m : List ℕ) → t .lines ≤ t .at → fedOf t s m .state .lines ≤ fedOf t s m .state .at
+fed-low : (s : List ℕ) (t : LineState) (m : List ℕ) → t .lines ≤ t .at → fedOf t s m .state .lines ≤ fedOf t s m .state .at
 unfolding fedOf
 fed-low [] t m h = h
 fed-low (b ∷ s) t m h = fed-low s (stepOf t b) (noted t (stepOf t b) m) (step-low t b h)
 
-fed-append : (p q : List ℕ) (t : State) (m : List ℕ) → fedOf t (p ++ q) m ≡ fedOf (fedOf t p m .state) q (fedOf t p m .memory)
+fed-append : (p q : List ℕ) (t : LineState) (m : List ℕ) → fedOf t (p ++ q) m ≡ fedOf (fedOf t p m .state) q (fedOf t p m .memory)
 unfolding fedOf
 fed-append [] q t m = refl
 fed-append (b ∷ p) q t m = fed-append p q (stepOf t b) (noted t (stepOf t b) m)
@@ -62,26 +62,26 @@ by Good k n = fits k n
 abbrev said : ℕ → Utf8 → ℕ → ℕ → Told
 said len v k n = if ltb limit len then Refused tooLong limit else by v k n
 
-no-grow : (t : State) (m : List ℕ) → noted t t m ≡ m
+no-grow : (t : LineState) (m : List ℕ) → noted t t m ≡ m
 no-grow t m = rw (le-ltb (t .lines) (t .lines) (let h : t .lines ≤ t .lines = omega arith in h))
 
-pub stands : (s : List ℕ) (t : State) (m : List ℕ) → t .stop ≡ tooLong → fedOf t s m ≡ fed t m
+pub stands : (s : List ℕ) (t : LineState) (m : List ℕ) → t .stop ≡ tooLong → fedOf t s m ≡ fed t m
 unfolding fedOf
 stands [] t m e = refl
 stands (b ∷ s) t m e = rw (step-stands t b e, no-grow t m) (stands s t m e)
 
-end-long : (t : State) (n : ℕ) → t .lines ≤ t .at → t .stop ≡ tooLong → endOf t n ≡ Refused tooLong limit
+end-long : (t : LineState) (n : ℕ) → t .lines ≤ t .at → t .stop ≡ tooLong → endOf t n ≡ Refused tooLong limit
 unfolding endOf
 end-long t n h e = rw (le-ltb (t .at) (t .lines) h, eq-eqb (t .stop) tooLong e)
 
-ends-full : (s : List ℕ) (t : State) (m : List ℕ) (n : ℕ) → t .lines ≤ limit → endOf (fedOf (stoppedOf t limit tooLong) s m .state) n ≡ Refused tooLong limit
+ends-full : (s : List ℕ) (t : LineState) (m : List ℕ) (n : ℕ) → t .lines ≤ limit → endOf (fedOf (stoppedOf t limit tooLong) s m .state) n ≡ Refused tooLong limit
 ends-full s t m n h = rw (stands s (stoppedOf t limit tooLong) m refl) (end-long (stoppedOf t limit tooLong) n h refl)
 
-pub fed-cons : (t : State) (b : ℕ) {u : State} (s m : List ℕ) → stepOf t b ≡ u → fedOf t (b ∷ s) m ≡ fedOf u s (noted t u m)
+pub fed-cons : (t : LineState) (b : ℕ) {u : LineState} (s m : List ℕ) → stepOf t b ≡ u → fedOf t (b ∷ s) m ≡ fedOf u s (noted t u m)
 unfolding fedOf
-fed-cons t b s m e = ap (λ (u : State). fedOf u s (noted t u m)) e
+fed-cons t b s m e = ap (λ (u : LineState). fedOf u s (noted t u m)) e
 
-pub fed-nil : (t : State) (m : List ℕ) → fedOf t [] m ≡ fed t m
+pub fed-nil : (t : LineState) (m : List ℕ) → fedOf t [] m ≡ fed t m
 unfolding fedOf
 fed-nil t m = refl
 
@@ -94,13 +94,13 @@ said-same n a b c = rw (a, b, c)
 said-as : (v : Utf8) {l l′ : ℕ} {k k′ : ℕ} (n : ℕ) → l ≡ l′ → k ≡ k′ → said l v k n ≡ said l′ v k′ n
 said-as v n a c = rw (a, c)
 
-end-bad : (t : State) (n : ℕ) → t .lines ≤ t .at → t .stop ≡ notUtf8 → endOf t n ≡ Refused notUtf8 (t .from)
+end-bad : (t : LineState) (n : ℕ) → t .lines ≤ t .at → t .stop ≡ notUtf8 → endOf t n ≡ Refused notUtf8 (t .from)
 unfolding endOf
 end-bad t n h e =
     let z : t .stop ≡ tooLong → ⊥ = λ q. omega arith in
     rw (le-ltb (t .at) (t .lines) h, ne-eqb (t .stop) tooLong z, eq-eqb (t .stop) notUtf8 e)
 
-end-0 : (t : State) (n : ℕ) → t .lines ≤ t .at → t .stop ≡ 0 → endOf t n ≡ by (verdict (run (t .begun) (t .from) (t .at) [])) (t .lines + 1) n
+end-0 : (t : LineState) (n : ℕ) → t .lines ≤ t .at → t .stop ≡ 0 → endOf t n ≡ by (verdict (run (t .begun) (t .from) (t .at) [])) (t .lines + 1) n
 unfolding endOf run
 end-0 t n h e =
     let z : t .stop ≡ tooLong → ⊥ = λ q. omega arith in
@@ -108,7 +108,7 @@ end-0 t n h e =
     rw (le-ltb (t .at) (t .lines) h, ne-eqb (t .stop) tooLong z, ne-eqb (t .stop) notUtf8 y)
     (by-bool (eqb (t .begun .need) 0) (λ a. rw a) (λ a. rw a))
 
-counts : (s : List ℕ) (t : State) (m : List ℕ) (n : ℕ) → t .lines ≤ t .at → t .at ≤ limit → t .stop ≡ notUtf8
+counts : (s : List ℕ) (t : LineState) (m : List ℕ) (n : ℕ) → t .lines ≤ t .at → t .at ≤ limit → t .stop ≡ notUtf8
     → endOf (fedOf t s m .state) n ≡ (if ltb limit (t .at + length s) then Refused tooLong limit else Refused notUtf8 (t .from))
 counts [] t m n h a e =
     let y : t .at + 0 ≤ limit = omega arith in
@@ -126,18 +126,18 @@ counts (b ∷ s) t m n h a e =
     ∙ rw y)
 
 -- a newline byte is a start more
-more-lines : (t : State) (b : ℕ) (s : List ℕ) (u : begun.Begun) (f : ℕ) → movedOf t b u f .lines + 1 + length (startsFrom (t .at + 1) s) ≡ t .lines + 1 + length (startsFrom (t .at) (b ∷ s))
+more-lines : (t : LineState) (b : ℕ) (s : List ℕ) (u : begun.Begun) (f : ℕ) → movedOf t b u f .lines + 1 + length (startsFrom (t .at + 1) s) ≡ t .lines + 1 + length (startsFrom (t .at) (b ∷ s))
 unfolding startsFrom
 more-lines t b s u f = by-equal b newline (λ e. rw (eq-eqb b newline e) (omega arith)) (λ e. rw (ne-eqb b newline e))
 
-pub moved-low : (t : State) (b : ℕ) (u : begun.Begun) (f : ℕ) → t .lines ≤ t .at → movedOf t b u f .lines ≤ t .at + 1
+pub moved-low : (t : LineState) (b : ℕ) (u : begun.Begun) (f : ℕ) → t .lines ≤ t .at → movedOf t b u f .lines ≤ t .at + 1
 moved-low t b u f h = by-equal b newline (λ e. rw (eq-eqb b newline e) (omega arith)) (λ e. rw (ne-eqb b newline e) (omega arith))
 
 abbrev Answers : List ℕ → Type 0
-Answers s = (t : State) (m : List ℕ) (n : ℕ) → t .lines ≤ t .at → t .at ≤ limit → t .stop ≡ 0
+Answers s = (t : LineState) (m : List ℕ) (n : ℕ) → t .lines ≤ t .at → t .at ≤ limit → t .stop ≡ 0
     → endOf (fedOf t s m .state) n ≡ said (t .at + length s) (verdict (run (t .begun) (t .from) (t .at) s)) (t .lines + 1 + length (startsFrom (t .at) s)) n
 
-by-step : (o : Step) (b : ℕ) (s : List ℕ) (t : State) (m : List ℕ) (n : ℕ) → Answers s → t .lines ≤ t .at → t .at ≤ limit → t .stop ≡ 0 → (t .at ≡ limit → ⊥) → step (t .begun) b ≡ o
+by-step : (o : Step) (b : ℕ) (s : List ℕ) (t : LineState) (m : List ℕ) (n : ℕ) → Answers s → t .lines ≤ t .at → t .at ≤ limit → t .stop ≡ 0 → (t .at ≡ limit → ⊥) → step (t .begun) b ≡ o
     → endOf (fedOf t (b ∷ s) m .state) n ≡ said (t .at + suc (length s)) (verdict (run (t .begun) (t .from) (t .at) (b ∷ s))) (t .lines + 1 + length (startsFrom (t .at) (b ∷ s))) n
 unfolding run
 by-step o b s t m n ih h a e q d =

@@ -3,7 +3,7 @@
 use Prim.Native.Nat.{ℕ}
 use mathlib.Core.Path.{_≡_, sym, ap, _∙_}
 use mathlib.Core.List.{List}
-use native.Mathlib.Omega.{arith}
+use Rattle.laws.proofs.Choice.{impossible}
 use Rattle.lines.specs.Starts.{toldOf, Outcome, outcome}
 use Rattle.lines.specs.Place.{whereOf, locateOf}
 use Rattle.lines.specs.Pieces.{Fed, fed, endOf}
@@ -11,30 +11,30 @@ use Rattle.lines.specs.declared.Answer.{Answer}
 use Rattle.lines.specs.declared.Answer.the-variants as answer
 use Rattle.lines.specs.declared.Located.{Located}
 use Rattle.lines.specs.declared.Located.the-variants as located
-use Rattle.lines.specs.declared.State.{State}
+use Rattle.lines.specs.declared.LineState.{LineState}
 
 same-told : (a b : Answer) → toldOf a ≡ toldOf b → a ≡ b
 same-told (answer.Served n) (answer.Served m) e = cc
 same-told (answer.Refused n v) (answer.Refused m w) e = cc
-same-told (answer.Served n) (answer.Refused m w) e = let z : _≡_ {A = ℕ} 0 1 = cc in absurd (omega arith)
-same-told (answer.Refused n v) (answer.Served m) e = let z : _≡_ {A = ℕ} 0 1 = cc in absurd (omega arith)
+same-told (answer.Served n) (answer.Refused m w) e = impossible cc
+same-told (answer.Refused n v) (answer.Served m) e = impossible cc
 
 same-where : (a b : Located) → whereOf a ≡ whereOf b → a ≡ b
 same-where (located.At l c) (located.At k d) e = cc
 same-where (located.Refused n v) (located.Refused m w) e = cc
-same-where (located.At l c) (located.Refused m w) e = let z : _≡_ {A = ℕ} 0 1 = cc in absurd (omega arith)
-same-where (located.Refused n v) (located.At k d) e = let z : _≡_ {A = ℕ} 0 1 = cc in absurd (omega arith)
+same-where (located.At l c) (located.Refused m w) e = impossible cc
+same-where (located.Refused n v) (located.At k d) e = impossible cc
 
 -- building, and the question for many places: the answer and every word of the memory
 pub one-outcome : (o : Outcome) (a b : Answer) (m n : List ℕ) → outcome (toldOf a) m ≡ o → outcome (toldOf b) n ≡ o → (a ≡ b) × (m ≡ n)
 one-outcome o a b m n p q = (same-told a b (ap (λ (x : Outcome). x .answer) (p ∙ sym q)), ap (λ (x : Outcome). x .memory) (p ∙ sym q))
 
 -- opening and pieces: the state and every word of the memory
-pub one-state : (f : Fed) (t u : State) (m n : List ℕ) → fed t m ≡ f → fed u n ≡ f → (t ≡ u) × (m ≡ n)
+pub one-state : (f : Fed) (t u : LineState) (m n : List ℕ) → fed t m ≡ f → fed u n ≡ f → (t ≡ u) × (m ≡ n)
 one-state f t u m n p q = (ap (λ (x : Fed). x .state) (p ∙ sym q), ap (λ (x : Fed). x .memory) (p ∙ sym q))
 
 -- the declared end
-pub one-end : (t : State) (n : ℕ) (a b : Answer) → toldOf a ≡ endOf t n → toldOf b ≡ endOf t n → a ≡ b
+pub one-end : (t : LineState) (n : ℕ) (a b : Answer) → toldOf a ≡ endOf t n → toldOf b ≡ endOf t n → a ≡ b
 one-end t n a b p q = same-told a b (p ∙ sym q)
 
 -- the question for one place

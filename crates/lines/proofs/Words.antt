@@ -17,10 +17,10 @@ use Rattle.chars.specs.Machine.{step, start, told}
 use Rattle.chars.specs.declared.Begun as begun
 use Rattle.chars.specs.declared.Step.{Step}
 use Rattle.chars.specs.declared.Step.the-variants as steps
-use Rattle.items.specs.Whole.{limit}
+use Rattle.refusal.specs.Refusals.{limit}
 use Rattle.lines.specs.Starts.{starts, buildOf}
 use Rattle.lines.specs.Pieces.{Fed, fresh, openOf, movedOf, stoppedOf, stepOf, noted, fedOf, pieceOf, endOf, pieces, joined, before, laid}
-use Rattle.lines.specs.declared.State.{State}
+use Rattle.lines.specs.declared.LineState.{LineState}
 use Rattle.lines.proofs.Joined.{cut, same-answer}
 use Rattle.lines.proofs.Held.{held}
 use Rattle.lines.specs.Words.{stateWords, listed, isState, Contents, contents, openLeft, pieceLeft, endFor, calls}
@@ -56,14 +56,14 @@ byte-slim u b h =
     (if-all After (eqb (u .need) 1) tt (omega (arith, h .0), omega arith, omega arith))
     tt)
 
-step-slim : (t : State) (b : ℕ) → Slim (t .begun) → Slim (stepOf t b .begun)
+step-slim : (t : LineState) (b : ℕ) → Slim (t .begun) → Slim (stepOf t b .begun)
 unfolding stepOf
 step-slim t b h =
     if-all P (eqb (t .stop) tooLong) h
     (if-all P (eqb (t .at) limit) h
     (if-all P (eqb (t .stop) notUtf8) h (go (step (t .begun) b) (byte-slim (t .begun) b h))))
   where
-    P : State → Type 0
+    P : LineState → Type 0
     P u = Slim (u .begun)
 
     go : (o : Step) → After o → Slim (told o (λ u. movedOf t b u (t .from)) (λ c. movedOf t b start (t .at + 1)) (stoppedOf t (t .at + 1) notUtf8) .begun)
@@ -71,23 +71,23 @@ step-slim t b h =
     go (steps.Char c) a = (omega arith, omega arith, omega arith)
     go steps.Bad a = h
 
-fed-slim : (s : List ℕ) (t : State) (m : List ℕ) → Slim (t .begun) → Slim (fedOf t s m .state .begun)
+fed-slim : (s : List ℕ) (t : LineState) (m : List ℕ) → Slim (t .begun) → Slim (fedOf t s m .state .begun)
 unfolding fedOf
 fed-slim [] t m h = h
 fed-slim (b ∷ s) t m h = fed-slim s (stepOf t b) (noted t (stepOf t b) m) (step-slim t b h)
 
-piece-slim : (t : State) (s m : List ℕ) → Slim (t .begun) → Slim (pieceOf t s m .state .begun)
+piece-slim : (t : LineState) (s m : List ℕ) → Slim (t .begun) → Slim (pieceOf t s m .state .begun)
 unfolding pieceOf
 piece-slim t s m h = if-all (λ (f : Fed). Slim (f .state .begun)) (ltb (t .at) (t .lines)) h (fed-slim s t m h)
 
-listed-state : (t : State) → Slim (t .begun) → isState (listed t) ≡ true
+listed-state : (t : LineState) → Slim (t .begun) → isState (listed t) ≡ true
 unfolding isState
 listed-state t h = rw (le-leb (t .begun .need) 255 (h .0), le-leb (t .begun .low) 255 (h .1), le-leb (t .begun .high) 255 (h .2))
 
 -- ---- call by call
 
 -- a state's words, written over as many, are all that is there
-over : (t : State) (w : List ℕ) → length w ≡ stateWords → written (listed t) w ≡ listed t
+over : (t : LineState) (w : List ℕ) → length w ≡ stateWords → written (listed t) w ≡ listed t
 over t w h =
     let all : length w ≤ stateWords = omega (arith, h) in
     rw (drop-of-length-le w all) (append-nil (listed t))

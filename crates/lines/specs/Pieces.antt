@@ -9,20 +9,20 @@ use Rattle.refusal.specs.Refusals.{tooLong, notUtf8, outOfBounds, linesNoRoom}
 use Rattle.chars.specs.Utf8.{Sequence, read, broken, short, sequences}
 use Rattle.chars.specs.Machine.{step, start, told}
 use Rattle.chars.specs.declared.Begun as begun
-use Rattle.items.specs.Whole.{limit}
+use Rattle.refusal.specs.Refusals.{limit}
 use Rattle.lines.specs.Starts.{newline, Told, Served, Refused}
-use Rattle.lines.specs.declared.State.{State}
+use Rattle.lines.specs.declared.LineState.{LineState}
 
 -- a state, and what the lent memory holds
 pub record Fed : Type 0 where
-  pub state : State
+  pub state : LineState
   pub memory : List ℕ
 
-abbrev pub fed : State → List ℕ → Fed
+abbrev pub fed : LineState → List ℕ → Fed
 fed t m = record { state = t; memory = m }
 
 -- at the start of a text, nothing shown
-abbrev pub fresh : State
+abbrev pub fresh : LineState
 fresh = record { begun = start; from = 0; at = 0; lines = 0; stop = 0 }
 
 -- The first start is 0. A store past the memory's end is none: as many starts as fit.
@@ -30,15 +30,15 @@ abbrev pub openOf : List ℕ → Fed
 openOf m = fed fresh (set m 0 0)
 
 -- after a byte of a text that can go on
-abbrev pub movedOf : State → ℕ → begun.Begun → ℕ → State
+abbrev pub movedOf : LineState → ℕ → begun.Begun → ℕ → LineState
 movedOf t b u f = record { begun = u; from = f; at = t .at + 1; lines = (if eqb b newline then t .lines + 1 else t .lines); stop = 0 }
 
 -- after a byte that showed a refusal, or one after it
-abbrev pub stoppedOf : State → ℕ → ℕ → State
+abbrev pub stoppedOf : LineState → ℕ → ℕ → LineState
 stoppedOf t at stop = record { begun = t .begun; from = t .from; at = at; lines = t .lines; stop = stop }
 
 -- One byte. The first one too many shows 20, which stands; after 21 bytes are only counted, since 20 goes first at the end.
-unfoldable pub stepOf : State → ℕ → State
+unfoldable pub stepOf : LineState → ℕ → LineState
 stepOf t b =
     if eqb (t .stop) tooLong then t
     else if eqb (t .at) limit then stoppedOf t limit tooLong
@@ -46,19 +46,19 @@ stepOf t b =
     else told (step (t .begun) b) (λ u. movedOf t b u (t .from)) (λ c. movedOf t b start (t .at + 1)) (stoppedOf t (t .at + 1) notUtf8)
 
 -- a newline byte more is a start more, noted where it fits
-abbrev pub noted : State → State → List ℕ → List ℕ
+abbrev pub noted : LineState → LineState → List ℕ → List ℕ
 noted t next m = if ltb (t .lines) (next .lines) then set m (next .lines) (next .at) else m
 
-unfoldable pub fedOf : State → List ℕ → List ℕ → Fed
+unfoldable pub fedOf : LineState → List ℕ → List ℕ → Fed
 fedOf t [] m = fed t m
 fedOf t (b ∷ s) m = fedOf (stepOf t b) s (noted t (stepOf t b) m)
 
 -- A state with more newline bytes than bytes is none that the opening call and later calls produce. It stays as it is; the end says so.
-unfoldable pub pieceOf : State → List ℕ → List ℕ → Fed
+unfoldable pub pieceOf : LineState → List ℕ → List ℕ → Fed
 pieceOf t s m = if ltb (t .at) (t .lines) then fed t m else fedOf t s m
 
 -- The declared end, where n is the memory's length: 27, then 20, 21 (a sequence that the end cuts too), 33 with the number needed.
-unfoldable pub endOf : State → ℕ → Told
+unfoldable pub endOf : LineState → ℕ → Told
 endOf t n =
     if ltb (t .at) (t .lines) then Refused outOfBounds 0
     else if eqb (t .stop) tooLong then Refused tooLong limit

@@ -10,7 +10,7 @@ use Rattle.refusal.specs.Refusals.{noPlace, alien}
 use Rattle.chars.specs.Utf8.{firstBad, Sequence, read, broken, short, sequences}
 use Rattle.chars.specs.declared.Utf8.{Utf8}
 use Rattle.chars.specs.declared.Utf8.the-variants.{Good, Bad}
-use Rattle.items.specs.Whole.{limit}
+use Rattle.refusal.specs.Refusals.{limit}
 use Rattle.lines.specs.Starts.{starts}
 use Rattle.lines.specs.declared.Column.{Column}
 use Rattle.lines.specs.declared.Column.the-variants.{Whole, Inside}

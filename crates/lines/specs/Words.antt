@@ -9,18 +9,18 @@ use Rattle.laws.specs.Lent.{written}
 use Rattle.refusal.specs.Refusals.{outOfBounds}
 use Rattle.lines.specs.Starts.{Told, Refused}
 use Rattle.lines.specs.Pieces.{Fed, fresh, pieceOf, endOf}
-use Rattle.lines.specs.declared.State.{State}
+use Rattle.lines.specs.declared.LineState.{LineState}
 
 -- how many words a state has
 abbrev pub stateWords : ℕ
 stateWords = 8
 
 -- the words of a state, in the order of its fields
-abbrev pub listed : State → List ℕ
+abbrev pub listed : LineState → List ℕ
 listed t = t .begun .need ∷ t .begun .low ∷ t .begun .high ∷ t .begun .code ∷ t .from ∷ t .at ∷ t .lines ∷ t .stop ∷ []
 
 -- the state that words stand for
-abbrev pub stateIn : List ℕ → State
+abbrev pub stateIn : List ℕ → LineState
 stateIn w = record {
   begun = record { need = getD w 0 0; low = getD w 1 0; high = getD w 2 0; code = getD w 3 0 };
   from = getD w 4 0;

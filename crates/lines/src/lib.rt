@@ -2,7 +2,7 @@
 // that answers a byte place. Lines and columns count from 1, columns in characters.
 //
 // Here are the types, what the calls answer (specs/) and the theorems about it (proofs/); the calls themselves are the crates
-// line_index, line_pieces and lines_lent.
+// lines_calls.
 use chars::Begun;
 
 // Served with a count, or refused with document 01's number and what comes with it.
@@ -28,7 +28,7 @@ pub enum Column {
 }
 
 // The index of a text that comes in pieces.
-pub struct State {
+pub struct LineState {
     // where the byte machine stands within a character
     pub begun: Begun,
     // where the character starts that it is in; a bad sequence, once one was shown

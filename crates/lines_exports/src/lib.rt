@@ -1,6 +1,7 @@
 // The calls about lines for C and Rust, over slices and numbers alone, which is all that C passes on. An answer is a number, 0 or the
 // refusal's, and two values in lent memory: the count, or line and column, or what the refusal comes with, and 0 where there is no second.
 // Where there is no room for two values, they are left as they were. What the calls answer is the crate lines.
+use exports_values::put_values;
 use lines::Answer;
 use lines::Located;
 use refusal::SERVED;
@@ -13,9 +14,6 @@ ghost use Rattle.lines.specs.Place.{whereOf, locateOf};
 ghost use Rattle.lines.specs.Many.{locateAllOf};
 ghost use Rattle.lines.specs.Numbers.{answerNumber, answerValue, locatedNumber, locatedFirst, locatedSecond};
 ghost use Rattle.lines.specs.Words.{contents, openLeft, pieceLeft, endFor};
-
-// How many values are written.
-const VALUES: usize = 2;
 
 // An answer's number.
 fn number(a: Answer) -> u32
@@ -65,17 +63,6 @@ fn located_second(r: Located) -> u64
     }
 }
 
-// Two values at the front, if there is room for both.
-fn put_values(values: &mut [u64], first: u64, second: u64)
-    ensures { λ _. ⌜ now (values .exit) ≡ lay (first ∷ second ∷ []) (now (values .entry)) ⌝ }
-{
-    if values.len() < VALUES {
-        return;
-    }
-    values[0] = first;
-    values[1] = second;
-}
-
 // An answer told: its value goes to the lent memory, and its number back.
 fn tell(a: Answer, values: &mut [u64]) -> u32
     ensures { λ r. ⌜ (r ≡ answerNumber (toldOf a)) × (now (values .exit) ≡ lay (answerValue (toldOf a) ∷ 0 ∷ []) (now (values .entry))) ⌝ }
@@ -92,7 +79,7 @@ pub extern "C" fn mihadrena_lines(text: &[u8], index: &mut [u32], values: &mut [
     ensures { λ _. ⌜ now (values .exit) ≡ lay (answerValue (buildOf (now (text .entry)) (now (index .entry)) .answer) ∷ 0 ∷ []) (now (values .entry)) ⌝ }
     ensures { λ _. ⌜ now (index .exit) ≡ buildOf (now (text .entry)) (now (index .entry)) .memory ⌝ }
 {
-    let a = line_index::build(text, index);
+    let a = lines_calls::build(text, index);
     tell(a, values)
 }
 
@@ -109,7 +96,7 @@ pub extern "C" fn mihadrena_locate(
     ensures { λ _. ⌜ now (values .exit)
         ≡ lay (locatedFirst (locateOf (now (text .entry)) (now (index .entry)) place) ∷ locatedSecond (locateOf (now (text .entry)) (now (index .entry)) place) ∷ []) (now (values .entry)) ⌝ }
 {
-    let r = line_index::locate(text, index, place);
+    let r = lines_calls::locate(text, index, place);
     put_values(values, located_first(r), located_second(r));
     located_number(r)
 }
@@ -129,7 +116,7 @@ pub extern "C" fn mihadrena_locate_all(
         ≡ lay (answerValue (locateAllOf (now (text .entry)) (now (index .entry)) (now (places .entry)) (now (found .entry)) .answer) ∷ 0 ∷ []) (now (values .entry)) ⌝ }
     ensures { λ _. ⌜ now (found .exit) ≡ locateAllOf (now (text .entry)) (now (index .entry)) (now (places .entry)) (now (found .entry)) .memory ⌝ }
 {
-    let a = line_index::locate_all(text, index, places, found);
+    let a = lines_calls::locate_all(text, index, places, found);
     tell(a, values)
 }
 
@@ -138,7 +125,7 @@ pub extern "C" fn mihadrena_locate_all(
 pub extern "C" fn mihadrena_lines_open(state: &mut [u32], index: &mut [u32])
     ensures { λ _. ⌜ contents (now (state .exit)) (now (index .exit)) ≡ openLeft (now (state .entry)) (now (index .entry)) ⌝ }
 {
-    lines_lent::open(state, index);
+    lines_calls::lent::open(state, index);
 }
 
 // A piece of the text. No piece is refused: every refusal comes with the declared end.
@@ -147,7 +134,7 @@ pub extern "C" fn mihadrena_lines_piece(state: &mut [u32], piece: &[u8], index: 
     ensures { λ _. ⌜ contents (now (state .exit)) (now (index .exit))
         ≡ pieceLeft (now (state .entry)) (now (piece .entry)) (now (index .entry)) ⌝ }
 {
-    lines_lent::piece(state, piece, index);
+    lines_calls::lent::piece(state, piece, index);
 }
 
 // The declared end: 0 with the count of line starts, or 27, 20, 21 or 33.
@@ -156,6 +143,6 @@ pub extern "C" fn mihadrena_lines_end(state: &[u32], index: &[u32], values: &mut
     ensures { λ r. ⌜ r ≡ answerNumber (endFor (now (state .entry)) (length (now (index .entry)))) ⌝ }
     ensures { λ _. ⌜ now (values .exit) ≡ lay (answerValue (endFor (now (state .entry)) (length (now (index .entry)))) ∷ 0 ∷ []) (now (values .entry)) ⌝ }
 {
-    let a = lines_lent::end(state, index);
+    let a = lines_calls::lent::end(state, index);
     tell(a, values)
 }

@@ -13,7 +13,7 @@ use Rattle.chars.specs.declared.Begun.{Begun}
 use Rattle.lines.specs.Starts.{newline, Served, Refused}
 use Rattle.lines.specs.Pieces.{Fed, fed, openOf, stepOf, fedOf, pieceOf, endOf, pieces}
 use Rattle.lines.specs.Words.{isState, contents, openLeft, pieceLeft, endFor, calls}
-use Rattle.lines.specs.declared.State.{State}
+use Rattle.lines.specs.declared.LineState.{LineState}
 
 abbrev room : List ℕ
 room = 9 ∷ 9 ∷ 9 ∷ 9 ∷ []
@@ -69,7 +69,7 @@ unfolding stepOf
 one-too-many = refl
 
 -- no program that notes nothing meets the promise, whatever state it gives
-never-unwritten : (t : State) → fed t room ≡ pieces (openOf room) parts → ⊥
+never-unwritten : (t : LineState) → fed t room ≡ pieces (openOf room) parts → ⊥
 never-unwritten t h = let e : getD room 0 0 ≡ 0 = ap (λ (f : Fed). getD (f .memory) 0 0) (h ∙ fed-all) in omega (arith, e)
 
 -- on words: the state is written where it lies

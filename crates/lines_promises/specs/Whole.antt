@@ -7,6 +7,7 @@ use lib.ListN.{getD}
 use native.Mathlib.Omega.{arith}
 use Rattle.laws.specs.Quoted.{within}
 use Rattle.laws.specs.Texts.{same}
+use Rattle.laws.proofs.Choice.{impossible}
 use Rattle.chars.specs.Utf8.{first, rest, front, sequences, firstBad}
 use Rattle.chars.specs.Encode.{utf8, bytesOf, spelled}
 use Rattle.lines.specs.Starts.{newline, startsFrom, Told, Served, Refused, Outcome, outcome, buildOf}
@@ -43,7 +44,7 @@ bad = refl
 -- no program that refuses everything meets the promise
 never-refused : (n v : ℕ) (m : List ℕ) → outcome (Refused n v) m ≡ buildOf text room → ⊥
 never-refused n v m h =
-    let e : Refused n v ≡ Served 3 = ap (λ (o : Outcome). o .answer) (h ∙ built) in let z : _≡_ {A = ℕ} 0 1 = cc in omega arith
+    let e : Refused n v ≡ Served 3 = ap (λ (o : Outcome). o .answer) (h ∙ built) in impossible cc
 
 -- nor does one that leaves the index as it was
 never-unwritten : (a : Told) → outcome a room ≡ buildOf text room → ⊥
@@ -69,7 +70,7 @@ unfolding within same first rest front sequences firstBad utf8 bytesOf startsFro
 not-its-own = refl
 
 never-34 : (n v : ℕ) → located.Refused n v ≡ locateOf text index 2 → ⊥
-never-34 n v h = let e : located.Refused n v ≡ located.At 2 1 = h ∙ at-start in let z : _≡_ {A = ℕ} 0 1 = cc in omega arith
+never-34 n v h = let e : located.Refused n v ≡ located.At 2 1 = h ∙ at-start in impossible cc
 
 -- the answers in the order of the places, 0 and the number for a refused one; the word past them stays
 many : locateAllOf text index (4 ∷ 3 ∷ 0 ∷ []) (9 ∷ 9 ∷ 9 ∷ 9 ∷ 9 ∷ 9 ∷ 9 ∷ []) ≡ outcome (Served 3) (2 ∷ 2 ∷ 0 ∷ 34 ∷ 1 ∷ 1 ∷ 9 ∷ [])

@@ -6,7 +6,7 @@ use items::Outcome;
 use numbers::Parsed;
 use numbers::is_plain;
 use numbers::parse_number;
-use words::word_kind;
+use spellings::words::word_kind;
 ghost use mathlib.Core.Path.{_≡_};
 ghost use mathlib.Core.Bool.{_&&_};
 ghost use Prim.Native.Nat.{_+_, _≤_, _<_, _^_};
@@ -22,8 +22,6 @@ pub mod places;
 mod quoted;
 pub mod records;
 
-use characters::character;
-use characters::failing::rest;
 use items::CharValue;
 use items::kinds::CHARACTER_LITERAL;
 use items::kinds::FIRST_ERROR;
@@ -35,10 +33,11 @@ use items::kinds::ZERO_DENOMINATOR;
 use quoted::here_text;
 use quoted::lined_text;
 use quoted::string_text;
+use spellings::characters::character;
+use spellings::failing::rest;
 
 const NO_DETAIL: u32 = 0;
 
-const PLUS: u8 = b'+';
 // How many bytes stand before a character's name: #\
 pub(crate) const CHARACTER_MARK: usize = 2;
 
@@ -109,7 +108,7 @@ pub(crate) fn splits(raw: &[u8]) -> bool
     if raw.len() <= 1 {
         return false;
     }
-    raw[0] == PLUS
+    raw[0] == b'+'
 }
 
 // What a word's extent holds.

@@ -2,12 +2,12 @@
 // mode its own range, or its extent if it sets none.
 use crate::CHARACTER_MARK;
 use crate::Range;
-use characters::character;
-use characters::failing::past_failing;
-use characters::failing::rest;
 use items::CharValue;
 use items::Outcome;
 use items::kinds::FIRST_ERROR;
+use spellings::characters::character;
+use spellings::failing::past_failing;
+use spellings::failing::rest;
 ghost use mathlib.Core.Path.{_≡_};
 ghost use Prim.Native.Nat.{_+_, _≤_, _<_, _^_};
 ghost use lib.ListN.{length};

@@ -1,10 +1,11 @@
 // Where the text of a string, a here-string or an identifier in vertical lines lies. Document 01: it "lies in the text memory for a
 // string with an escape, and for an identifier wholly in vertical lines with an escape and a non-empty decoded text; else in the source".
 use crate::Text;
-use characters::failing::rest;
 use escapes::decoded_length;
 use escapes::has_escape;
+use items::QUOTE_LENGTH;
 use items::Quotes;
+use spellings::failing::rest;
 use steps::delimiter_length;
 use steps::here_line;
 ghost use mathlib.Core.Path.{_≡_};
@@ -15,10 +16,8 @@ ghost use Rattle.items.specs.Meaning.{stringText, linedText, hereText};
 ghost use Rattle.meaning.specs.declared.Text.the-variants.{Source};
 ghost use Rattle.meaning.specs.Meant.{sizedText};
 
-// How many bytes a quote, a newline and the mark #<< are.
-const QUOTE: usize = 1;
-
-const NEWLINE: usize = 1;
+// How many bytes a newline and the mark #<< are.
+const NEWLINE_LENGTH: usize = 1;
 
 const HERE_MARK: usize = 3;
 
@@ -27,7 +26,7 @@ fn between(start: usize, end: usize) -> Text
     requires { ⌜ start < end ⌝ }
     ensures { λ r. ⌜ r ≡ Source (start + 1) (end - 1) ⌝ }
 {
-    Text::Source(start + QUOTE, end - QUOTE)
+    Text::Source(start + QUOTE_LENGTH, end - QUOTE_LENGTH)
 }
 
 // Where the text of a string lies, and how long it is.
@@ -36,7 +35,7 @@ pub fn string_text(start: usize, end: usize, raw: &[u8]) -> Text
     ensures { λ r. ⌜ r ≡ sizedText (stringText start end (now (raw .entry))) ⌝ }
 {
     if has_escape(raw) {
-        return Text::Decoded(decoded_length(raw, QUOTE, Quotes::Double));
+        return Text::Decoded(decoded_length(raw, QUOTE_LENGTH, Quotes::Double));
     }
     between(start, end)
 }
@@ -47,7 +46,7 @@ pub fn lined_text(start: usize, end: usize, raw: &[u8]) -> Text
     ensures { λ r. ⌜ r ≡ sizedText (linedText start end (now (raw .entry))) ⌝ }
 {
     if has_escape(raw) {
-        let length = decoded_length(raw, QUOTE, Quotes::Lines);
+        let length = decoded_length(raw, QUOTE_LENGTH, Quotes::Lines);
         if length == 0 {
             return between(start, end);
         }
@@ -61,7 +60,7 @@ fn body_length(raw: &[u8]) -> usize
     ensures { λ r. ⌜ r ≡ length (afterLine (hereInside (now (raw .entry)))) ⌝ }
 {
     let inside = rest(raw, HERE_MARK);
-    let body = rest(rest(inside, here_line(raw)), NEWLINE);
+    let body = rest(rest(inside, here_line(raw)), NEWLINE_LENGTH);
     body.len()
 }
 

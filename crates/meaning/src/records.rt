@@ -3,18 +3,19 @@ use crate::Means;
 use crate::Range;
 use crate::Text;
 use items::Nine;
+use items::RECORD_WORDS;
 use items::Record;
 use items::kinds;
 ghost use mathlib.Core.Path.{_≡_};
+ghost use mathlib.Core.Bool.{_&&_};
 ghost use mathlib.Core.List.{[], _∷_};
 ghost use Prim.Native.Nat.{_≤_};
+ghost use lib.Dec.{eqb};
 ghost use lib.ListN.{length};
 ghost use Rattle.laws.specs.Lent.{written};
+ghost use Rattle.items.specs.Kinds as kind;
 ghost use Rattle.items.specs.Items.{depthAfter, recordWords, wordsOf};
 ghost use Rattle.meaning.specs.Records.{nineWith, nineFor, TextFits};
-
-// How many words a record has.
-pub const WORDS: usize = 10;
 
 // How many open brackets a word can tell.
 const MOST_OPEN: u32 = 0xFFFF_FFFF;
@@ -101,4 +102,14 @@ pub fn depth_after(kind: u32, depth: u32) -> u32
         return 0;
     }
     depth - 1
+}
+
+// Whether an item is left out: a comment, where comments are skipped.
+pub fn skips(skip: bool, number: u32) -> bool
+    ensures { λ r. ⌜ r ≡ (skip && eqb number kind.Comment) ⌝ }
+{
+    if skip {
+        return number == kinds::COMMENT;
+    }
+    false
 }

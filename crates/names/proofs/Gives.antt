@@ -7,7 +7,7 @@ use mathlib.Core.Bool.{true, false}
 use mathlib.Core.List.{List}
 use lib.Dec.{eqb}
 use lib.ListN.{length, getD}
-use Rattle.laws.proofs.Choice.{by-bool, if-yes, if-no}
+use Rattle.laws.proofs.Choice.{by-bool, if-yes, if-no, impossible}
 use Rattle.refusal.specs.Refusals.{outOfBounds, noParty, noRoom}
 use Rattle.names.specs.Layout.{count, used, slot, bears, inBounds, halfNames, halfBytes, firstBound, indexSlots, halfWords, tableNames}
 use Rattle.names.specs.Call.{slotOf, tagOf, proposes, probe, probeOf, scan, scanned, lookupOf, orElse, findOf, laid, newWords}
@@ -41,13 +41,13 @@ or-in (At m) g F G e = F e
 or-in Nothing g F G e = G e
 
 pub or-none : (f g : Found) → orElse f g ≡ Nothing → (f ≡ Nothing) × (g ≡ Nothing)
-or-none (At m) g e = let y : _≡_ {A = ℕ} 0 1 = cc in absurd (omega arith)
+or-none (At m) g e = impossible cc
 or-none Nothing g e = (refl, e)
 
 module _ (w b : List ℕ) (name : List ℕ) where
   pub scan-in : (p m k : ℕ) {n : ℕ} → p < 2 → scan m w b p name k ≡ At n → Bearing w b name n
   unfolding scan
-  scan-in p zero k h e = let y : _≡_ {A = ℕ} 0 1 = cc in absurd (omega arith)
+  scan-in p zero k h e = impossible cc
   scan-in p (suc m) k {n} h e =
       by-bool (bears w b p name k)
       (λ t. let g : At (p * halfNames + k) ≡ At n = if-yes _ _ _ t refl ∙ e in
@@ -60,7 +60,7 @@ module _ (w b : List ℕ) (name : List ℕ) where
   scan-none p zero k e j h i = absurd (omega arith)
   scan-none p (suc m) k e j h i =
       by-bool (bears w b p name k)
-      (λ t. let g : At (p * halfNames + k) ≡ Nothing = if-yes _ _ _ t refl ∙ e in let y : _≡_ {A = ℕ} 0 1 = cc in absurd (omega arith))
+      (λ t. let g : At (p * halfNames + k) ≡ Nothing = if-yes _ _ _ t refl ∙ e in impossible cc)
       (λ t. by-bool (eqb k j)
       (λ q. rw (← eqb-true k j q) t)
       (λ q. let d = eqb-false k j q in scan-none p m (k + 1) (if-no _ _ _ t refl ∙ e) j (omega (arith, d)) (omega arith)))
@@ -72,7 +72,7 @@ module _ (w b : List ℕ) (name : List ℕ) where
       (λ k f. let g : At (p * halfNames + k) ≡ At n = sym (ap (λ (x : Proposal). numbered p x (scanned w b p name)) f) ∙ e in
       let x : n ≡ p * halfNames + k = cc in
       record { party = p; place = k; there = h; borne = probe-in w b p name looks (slotOf name) f; number = x })
-      (λ s f. let g : Nothing ≡ At n = sym (ap (λ (x : Proposal). numbered p x (scanned w b p name)) f) ∙ e in let y : _≡_ {A = ℕ} 0 1 = cc in absurd (omega arith))
+      (λ s f. let g : Nothing ≡ At n = sym (ap (λ (x : Proposal). numbered p x (scanned w b p name)) f) ∙ e in impossible cc)
       (λ f. scan-in p (count w p) 0 h (sym (ap (λ (x : Proposal). numbered p x (scanned w b p name)) f) ∙ e))
 
   pub find-in : (p : ℕ) {n : ℕ} → p < 2 → findOf w b p name ≡ At n → Bearing w b name n

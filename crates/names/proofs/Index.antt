@@ -6,7 +6,7 @@ use mathlib.Core.Path.{_≡_, refl, sym, _∙_}
 use mathlib.Core.Bool.{true, false}
 use mathlib.Core.List.{List}
 use lib.Dec.{eqb}
-use Rattle.laws.proofs.Choice.{by-bool}
+use Rattle.laws.proofs.Choice.{by-bool, impossible}
 use Rattle.names.specs.Layout.{slot, indexSlots}
 use Rattle.names.specs.Call.{proposes, probe}
 use Rattle.names.specs.declared.Proposal.{Proposal}
@@ -14,10 +14,10 @@ use Rattle.names.specs.declared.Proposal.the-variants.{Entry, Free, Full
 use Rattle.names.proofs.Laws.{next-small, probe-free, probe-hit, probe-miss, probe-end}
 
 pub entry-free : {k s : ℕ} → Entry k ≡ Free s → ⊥
-entry-free e = let z : _≡_ {A = ℕ} 0 1 = cc in omega arith
+entry-free e = impossible cc
 
 pub full-free : {s : ℕ} → Full ≡ Free s → ⊥
-full-free e = let z : _≡_ {A = ℕ} 0 1 = cc in omega arith
+full-free e = impossible cc
 
 pub free-free : {r s : ℕ} → Free r ≡ Free s → r ≡ s
 free-free e = cc
@@ -53,7 +53,7 @@ module _ (w b v c : List ℕ) (p : ℕ) (name : List ℕ)
       by-bool (proposes v c p name (slot v p s))
       (λ g. entry-free (probe-hit v c p name (suc n) s refl (omega arith) d g ∙ e))
       (λ g. by-bool (proposes w b p name (slot w p s))
-      (λ i. let x = proposing (slot w p s) i in let y : proposes v c p name (slot w p s) ≡ false = rw a at g in let z : _≡_ {A = ℕ} 0 1 = cc in absurd (omega arith))
+      (λ i. let x = proposing (slot w p s) i in let y : proposes v c p name (slot w p s) ≡ false = rw a at g in impossible cc)
       (λ i. more i r (step v c p name n s d g ∙ e)))
 
   pub stays-reached : (n s : ℕ) → s < indexSlots → Reached (probe n w b p name s) → Reached (probe n v c p name s)

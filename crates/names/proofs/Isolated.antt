@@ -10,7 +10,7 @@ use mathlib.Core.List.{List, [], _∷_, _++_}
 use lib.Dec.{eqb, ltb}
 use lib.ListN.{length}
 use Rattle.laws.specs.Texts.{same}
-use Rattle.laws.proofs.Choice.{by-bool, if-yes, if-no}
+use Rattle.laws.proofs.Choice.{by-bool, if-yes, if-no, impossible}
 use Rattle.laws.proofs.Compared.{same-is}
 use Rattle.refusal.specs.Refusals.{noRoom}
 use Rattle.names.specs.Layout.{halfNames, halfBytes, tableNames}
@@ -207,7 +207,7 @@ added-apart b a zero n e m h =
     (λ t. by-bool (same n m)
     (λ u. rw (← same-is n m u) (none-parts b n e .1))
     (λ u. let g = place-not m (b .planner) n (absent-is (b .planner) m t)
-    (λ q. let z : true ≡ false = sym (same-refl n) ∙ ap (λ (x : Name). same n x) q ∙ u in let y : _≡_ {A = ℕ} 0 1 = cc in omega arith) in
+    (λ q. let z : true ≡ false = sym (same-refl n) ∙ ap (λ (x : Name). same n x) q ∙ u in impossible cc) in
     absurd (omega arith)))
 added-apart b a (suc p) n e m h =
     place-not m (b .contractor) n (a m h)
@@ -250,7 +250,7 @@ module _ (p : ℕ) (two : p < 2) where
       by-bool (eqb (c .party) p)
       (λ t. let q = eqb-true (c .party) p t in
       by-bool (present (half x (1 - p)) (c .name))
-      (λ u. let z : false ≡ true = rw (t, u) at h in let s : _≡_ {A = ℕ} 0 1 = cc in absurd (omega arith))
+      (λ u. let z : false ≡ true = rw (t, u) at h in impossible cc)
       (λ u. let f = alike x y ax ay (c .name) e u (no-names (half y (1 - p)) (c .name) none) in
       let g : strangers p (ask x p (c .name) .after) cs ≡ true = rw (t, u, q) at h in
       let m = alone (ask x p (c .name) .after) (ask y p (c .name) .after) (ask-apart x ax p (c .name)) (ask-apart y ay p (c .name))

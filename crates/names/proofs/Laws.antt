@@ -13,11 +13,11 @@ use lib.Seq.{drop-cons, paste, take-length, set-at, length-take-le}
 use Rattle.laws.specs.Texts.{same}
 use Rattle.laws.specs.Lent.{written}
 use Rattle.laws.proofs.Places.{past, here}
-use Rattle.laws.proofs.Choice.{if-yes, if-no, by-bool}
+use Rattle.laws.proofs.Choice.{if-yes, if-no, by-bool, impossible}
 use Rattle.laws.specs.Choice.{if_then_else_}
 use Rattle.refusal.specs.Refusals.{outOfBounds, noName}
 use Rattle.names.specs.Layout.{count, bound, used, slot, nameAt, bears, halfBounds, inBounds, halfNames, halfBytes, firstBound}
-use Rattle.names.specs.Layout.{firstSlot, indexSlots, halfWords, tableNames, tableBytes, tableWords, nowhere, placed, cut, placeAt}
+use Rattle.names.specs.Layout.{firstSlot, indexSlots, halfWords, tableNames, tableBytes, tableWords, nowhere, placed, cut, placeAt, Readable}
 use Rattle.names.specs.Call.{factor, hashes, hashesASlot, turn, four, rest, mix, hashOf, slotOf, tagOf, entryIn, tagIn, proposes}
 use Rattle.names.specs.Call.{probe, scan, scanned, laid, newWords, markOf, nameOf, openOf, opening, placeOf}
 use Rattle.names.specs.declared.Place.{Place}
@@ -156,7 +156,7 @@ place-within w p k h =
 
 if-both : (t s : Bool) → (if t then s else false) ≡ true → (t ≡ true) × (s ≡ true)
 if-both true s e = (refl, e)
-if-both false s e = let y : _≡_ {A = ℕ} 0 1 = cc in absurd (omega arith)
+if-both false s e = impossible cc
 
 -- what an index or a reading finds is an entry that bears the name
 module _ (w b : List ℕ) (p : ℕ) (name : List ℕ) where
@@ -170,7 +170,7 @@ module _ (w b : List ℕ) (p : ℕ) (name : List ℕ) where
 
   pub bears-in : (k : ℕ) → bears w b p name k ≡ true → k < count w p
   bears-in k e = by-bool (ltb k (count w p)) (λ h. ltb-true _ _ h)
-      (λ h. let z : true ≡ false = sym e ∙ sym (bears-out k refl (ltb-false _ _ h)) in let y : _≡_ {A = ℕ} 0 1 = cc in omega arith)
+      (λ h. let z : true ≡ false = sym e ∙ sym (bears-out k refl (ltb-false _ _ h)) in impossible cc)
 
   pub probe-free : (n s : ℕ) {v : ℕ} → v ≡ slot w p s → 0 < n → v ≡ 0 → Free s ≡ probe n w b p name s
   unfolding probe
@@ -208,10 +208,10 @@ module _ (w b : List ℕ) (p : ℕ) (name : List ℕ) where
   probe-end (suc n) s e = absurd (omega arith)
 
   pub probe-in : (n s : ℕ) {k : ℕ} → probe n w b p name s ≡ Entry k → bears w b p name k ≡ true
-  probe-in zero s e = let f = probe-end 0 s refl ∙ e in let y : _≡_ {A = ℕ} 0 1 = cc in absurd (omega arith)
+  probe-in zero s e = let f = probe-end 0 s refl ∙ e in impossible cc
   probe-in (suc n) s {k} e =
       by-bool (eqb (slot w p s) 0)
-      (λ h. let f = probe-free (suc n) s refl (omega arith) (eqb-true _ _ h) ∙ e in let y : _≡_ {A = ℕ} 0 1 = cc in absurd (omega arith))
+      (λ h. let f = probe-free (suc n) s refl (omega arith) (eqb-true _ _ h) ∙ e in impossible cc)
       (λ h. by-bool (proposes w b p name (slot w p s))
       (λ g. let f = probe-hit (suc n) s refl (omega arith) (eqb-false _ _ h) g ∙ e in
       let x : entryIn (slot w p s) ≡ k = cc in rw (← x) (proposes-is (slot w p s) g .1))
@@ -244,9 +244,6 @@ halves P x y zero h = x
 halves P x y (suc zero) h = y
 halves P x y (suc (suc n)) h = absurd (omega arith)
 
-pub few-two : (w : List ℕ) (p : ℕ) → count w 0 ≤ halfNames → count w 1 ≤ halfNames → p < 2 → count w p ≤ halfNames
-few-two w p x y h = halves (λ q. count w q ≤ halfNames) x y p h
-
 half-facts : (w : List ℕ) (p : ℕ) → halfBounds w p ≡ true → (count w p ≤ halfNames) × (used w p ≤ halfBytes)
 unfolding halfBounds
 half-facts w p e = let f = if-both _ _ e in (leb-true _ _ (f .0), leb-true _ _ (f .1))
@@ -265,6 +262,9 @@ bounds w b e =
       few = halves (λ p. count w p ≤ halfNames) (x .0) (y .0);
       short = halves (λ p. used w p ≤ halfBytes) (x .1) (y .1);
     }
+
+pub readable : (w b : List ℕ) → Bounds w b → (p : ℕ) → p < 2 → Readable w b p
+readable w b t p h = record { words = t .words; bytes = t .bytes; party = h; few = t .few p h }
 
 -- the name of a number
 pub party-of : (n : ℕ) → n < tableNames → n / halfNames < 2

@@ -10,7 +10,7 @@ use lib.Dec.{eqb, ltb, leb}
 use lib.ListN.{length, getD, drop, length-append, length-drop, List·getD-append}
 use lib.Seq.{getD-at, length-take-le}
 use Rattle.laws.specs.Texts.{same}
-use Rattle.laws.proofs.Choice.{by-bool, if-yes, if-no}
+use Rattle.laws.proofs.Choice.{by-bool, if-yes, if-no, impossible}
 use Rattle.laws.proofs.Compared.{same-is}
 use Rattle.names.specs.Layout.{count, bound, used, nameAt, bears, halfNames, halfBytes, indexSlots, tableWords}
 use Rattle.names.specs.Call.{lookupOf, findOf, probeOf, slotOf, tagOf, freeOf, newWords, laid, Outcome, newOf, enterOf, looks}
@@ -22,7 +22,7 @@ use Rattle.names.proofs.Parts.{same-refl, new-count, other-count}
 use Rattle.names.proofs.Sound.{Sound, below-all, name-is, entry-old, entry-new, sound-after}
 
 at-nothing : {k : ℕ} → At k ≡ Nothing → ⊥
-at-nothing e = let z : _≡_ {A = ℕ} 0 1 = cc in omega arith
+at-nothing e = impossible cc
 
 -- the place of a name in a list
 pub place-here : (n : Name) (l : List Name) (k : ℕ) → k < length l → getD l k [] ≡ n → ((j : ℕ) → j < k → getD l j [] ≡ n → ⊥) → place n l ≡ k
@@ -111,7 +111,7 @@ module _ (w b : List ℕ) (t : Sound w b) where
     not-borne p k h e f =
         let g : same (nameAt w b p k) name ≡ true = rw f (same-refl name) in
         let z : true ≡ false = sym g ∙ bears-same w b p name k refl h ∙ e in
-        let y : _≡_ {A = ℕ} 0 1 = cc in omega arith
+        impossible cc
 
     place-borne : (p k : ℕ) → p < 2 → bears w b p name k ≡ true → place name (namesOf w b p) ≡ k
     place-borne p k h e =

@@ -8,7 +8,7 @@ use mathlib.Core.List.{List, [], _∷_, _++_}
 use lib.Dec.{ltb, leb}
 use lib.ListN.{length, length-append}
 use Rattle.laws.specs.Texts.{same}
-use Rattle.laws.proofs.Choice.{by-bool, if-yes, if-no}
+use Rattle.laws.proofs.Choice.{by-bool, if-yes, if-no, impossible}
 use Rattle.laws.proofs.Compared.{same-is}
 use Rattle.refusal.specs.Refusals.{noParty, noRoom}
 use Rattle.names.specs.Book.{Name, Book, half, place, size, numberIn, added, Reply, reply, newIn, ask, markIn, nameIn, Call, asks}
@@ -96,7 +96,7 @@ pub at-same : {j k : ℕ} → At j ≡ At k → j ≡ k
 at-same e = cc
 
 pub at-none : {k : ℕ} → At k ≡ Nothing → ⊥
-at-none e = let z : _≡_ {A = ℕ} 0 1 = cc in omega arith
+at-none e = impossible cc
 
 -- a number in the book stays when a name that is not there is added
 pub number-stays : (b : Book) (p : ℕ) (x n : Name) {k : ℕ} → numberIn b x ≡ Nothing → numberIn b n ≡ At k → numberIn (added b p x) n ≡ At k
@@ -186,7 +186,7 @@ number-same : {j k : ℕ} → Number j ≡ Number k → j ≡ k
 number-same e = cc
 
 refused-not : {j k : ℕ} → Refused j ≡ Number k → ⊥
-refused-not e = let z : _≡_ {A = ℕ} 0 1 = cc in omega arith
+refused-not e = impossible cc
 
 -- a name that is added is found at the number given
 added-number : (b : Book) (p : ℕ) (n : Name) → p < 2 → numberIn b n ≡ Nothing → numberIn (added b p n) n ≡ At (p * halfNames + length (half b p))

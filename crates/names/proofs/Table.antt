@@ -9,7 +9,7 @@ use mathlib.Core.List.{List, [], _∷_, _++_}
 use lib.Dec.{ltb, leb}
 use lib.ListN.{length, getD, take, drop, replicate, length-append, length-replicate, getD-replicate, List·getD-append}
 use lib.Seq.{getD-append-add, getD-take, getD-drop, length-take-le}
-use Rattle.laws.proofs.Choice.{by-bool}
+use Rattle.laws.proofs.Choice.{by-bool, impossible}
 use Rattle.refusal.specs.Refusals.{outOfBounds, noParty, noRoom, noName}
 use Rattle.names.specs.Layout.{count, bound, used, nameAt, inBounds, halfNames, halfBytes, firstBound, halfWords, tableNames, tableBytes, tableWords}
 use Rattle.names.specs.Call.{findOf, probeOf, slotOf, tagOf, freeOf, newWords, laid, Outcome, outcome, newOf, enterOf, openMark}
@@ -165,7 +165,7 @@ stable w b before p n later {k} o e =
 
 -- refused, the table stays as it was
 refused-other : {n k : ℕ} → Number n ≡ Refused k → ⊥
-refused-other e = let z : _≡_ {A = ℕ} 0 1 = cc in omega arith
+refused-other e = impossible cc
 
 laid-outside : (at : ℕ) (name b : List ℕ) (i : ℕ) → at + length name ≤ length b → (i < at) ⊎ (at + length name ≤ i) → getD (laid at name b) i 0 ≡ getD b i 0
 unfolding laid

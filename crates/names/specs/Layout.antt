@@ -2,7 +2,7 @@
 -- A half's words are the count of its names; the bounds of its names (the bytes of entry k lie from bound k to bound k + 1 of the half's
 -- bytes), one more than it can have names; the slots of an index (0 empty, else an entry and a tag of its name); and one slot behind them
 -- that is never asked.
-use Prim.Native.Nat.{ℕ, _+_, _-_, _*_}
+use Prim.Native.Nat.{ℕ, _+_, _-_, _*_, _≤_, _<_}
 use mathlib.Core.Path.{_≡_, refl}
 use mathlib.Core.Bool.{Bool, false}
 use mathlib.Core.List.{List}
@@ -103,3 +103,10 @@ inBounds w b =
     if leb tableWords (length w)
     then (if leb tableBytes (length b) then (if halfBounds w 0 then halfBounds w 1 else false) else false)
     else false
+
+-- a party's half that can be read: words and bytes enough for the table, one of the two parties, no more names than a half holds
+pub record Readable (w b : List ℕ) (p : ℕ) : Type 0 where
+  pub words : tableWords ≤ length w
+  pub bytes : tableBytes ≤ length b
+  pub party : p < 2
+  pub few : count w p ≤ halfNames

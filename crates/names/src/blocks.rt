@@ -48,7 +48,7 @@ fn equal_short(s: &[u8], t: &[u8]) -> bool
     ensures { λ r. ⌜ r ≡ same (now (s .entry)) (now (t .entry)) ⌝ }
 {
     if s.len() < FOUR {
-        return texts::equal(s, t);
+        return byte_runs::equal(s, t);
     }
     let last = s.len() - FOUR;
     if four(s, 0) != four(t, 0) {

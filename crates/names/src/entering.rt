@@ -21,7 +21,7 @@ ghost use mathlib.Core.Path.{_≡_};
 ghost use Prim.Native.Nat.{_+_, _≤_, _<_};
 ghost use lib.ListN.{length, replicate};
 ghost use Rattle.laws.specs.Lent.{written};
-ghost use Rattle.names.specs.Layout.{halfNames, halfBytes, indexSlots, tableWords, tableBytes, count, used};
+ghost use Rattle.names.specs.Layout.{halfNames, halfBytes, indexSlots, tableWords, count, used, Readable};
 ghost use Rattle.names.specs.Answers.{toldOf};
 ghost use Rattle.names.specs.Call.{hashesASlot, tagOf, probeOf, freeOf, newWords, laid, outcome, newOf, enterOf, opening, openOf};
 
@@ -69,10 +69,7 @@ fn add(
 ) -> Entered
     requires { ⌜ slot ≡ freeOf (probeOf (now words) (now bytes) party (now name)) ⌝ }
     requires { ⌜ tag ≡ tagOf (now name) ⌝ }
-    requires { ⌜ tableWords ≤ length (now words) ⌝ }
-    requires { ⌜ tableBytes ≤ length (now bytes) ⌝ }
-    requires { ⌜ party < 2 ⌝ }
-    requires { ⌜ count (now words) party ≤ halfNames ⌝ }
+    requires { ⌜ Readable (now words) (now bytes) party ⌝ }
     requires { ⌜ used (now words) party ≤ halfBytes ⌝ }
     ensures { λ r. ⌜ outcome (toldOf r) (now (words .exit)) (now (bytes .exit)) ≡ newOf (now (words .entry)) (now (bytes .entry)) party (now (name .entry)) ⌝ }
 {

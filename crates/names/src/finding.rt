@@ -12,9 +12,9 @@ use crate::layout::INDEX_SLOTS;
 use crate::layout::bears;
 use crate::layout::word;
 ghost use mathlib.Core.Path.{_≡_};
-ghost use Prim.Native.Nat.{_/_, _%_, _≤_, _<_};
+ghost use Prim.Native.Nat.{_-_, _/_, _%_, _≤_, _<_};
 ghost use lib.ListN.{length, drop};
-ghost use Rattle.names.specs.Layout.{halfNames, tableWords, tableBytes, count};
+ghost use Rattle.names.specs.Layout.{Readable};
 ghost use Rattle.names.specs.Call.{hashes, hashesASlot, turn, rest, hashOf, tagOf, proposes, probeOf, freeOf, scanned, lookupOf, findOf};
 
 // The hash of a name has 32 bits: the top ten are a slot, the others a tag.
@@ -83,10 +83,7 @@ pub fn tag_of(h: u64) -> usize
 fn proposes(words: &[u32], bytes: &[u8], party: usize, name: &[u8], tag: usize, v: usize) -> bool
     requires { ⌜ tag ≡ tagOf (now name) ⌝ }
     requires { ⌜ 0 < v ⌝ }
-    requires { ⌜ tableWords ≤ length (now words) ⌝ }
-    requires { ⌜ tableBytes ≤ length (now bytes) ⌝ }
-    requires { ⌜ party < 2 ⌝ }
-    requires { ⌜ count (now words) party ≤ halfNames ⌝ }
+    requires { ⌜ Readable (now words) (now bytes) party ⌝ }
     ensures { λ r. ⌜ r ≡ proposes (now (words .entry)) (now (bytes .entry)) party (now (name .entry)) v ⌝ }
 {
     if (v - 1) / HALF_NAMES != tag {
@@ -98,10 +95,7 @@ fn proposes(words: &[u32], bytes: &[u8], party: usize, name: &[u8], tag: usize, 
 // Asks a half's index for a name, whose hash is h.
 fn probe(words: &[u32], bytes: &[u8], party: usize, name: &[u8], h: u64) -> Proposal
     requires { ⌜ h ≡ hashOf (now name) ⌝ }
-    requires { ⌜ tableWords ≤ length (now words) ⌝ }
-    requires { ⌜ tableBytes ≤ length (now bytes) ⌝ }
-    requires { ⌜ party < 2 ⌝ }
-    requires { ⌜ count (now words) party ≤ halfNames ⌝ }
+    requires { ⌜ Readable (now words) (now bytes) party ⌝ }
     ensures { λ r. ⌜ r ≡ probeOf (now (words .entry)) (now (bytes .entry)) party (now (name .entry)) ⌝ }
 {
     let tag = tag_of(h);
@@ -124,10 +118,7 @@ fn probe(words: &[u32], bytes: &[u8], party: usize, name: &[u8], h: u64) -> Prop
 
 // The first entry of a half that bears the name.
 fn scan(words: &[u32], bytes: &[u8], party: usize, name: &[u8]) -> Found
-    requires { ⌜ tableWords ≤ length (now words) ⌝ }
-    requires { ⌜ tableBytes ≤ length (now bytes) ⌝ }
-    requires { ⌜ party < 2 ⌝ }
-    requires { ⌜ count (now words) party ≤ halfNames ⌝ }
+    requires { ⌜ Readable (now words) (now bytes) party ⌝ }
     ensures { λ r. ⌜ r ≡ scanned (now (words .entry)) (now (bytes .entry)) party (now (name .entry)) ⌝ }
 {
     let n = word(words, party * HALF_WORDS);
@@ -155,10 +146,7 @@ fn free_of(x: Proposal) -> usize
 // The number of a name that is in a half, by what its index says: the names are read where that is neither yes nor no.
 fn number_by(words: &[u32], bytes: &[u8], party: usize, name: &[u8], x: Proposal) -> Found
     requires { ⌜ x ≡ probeOf (now words) (now bytes) party (now name) ⌝ }
-    requires { ⌜ tableWords ≤ length (now words) ⌝ }
-    requires { ⌜ tableBytes ≤ length (now bytes) ⌝ }
-    requires { ⌜ party < 2 ⌝ }
-    requires { ⌜ count (now words) party ≤ halfNames ⌝ }
+    requires { ⌜ Readable (now words) (now bytes) party ⌝ }
     ensures { λ r. ⌜ r ≡ lookupOf (now (words .entry)) (now (bytes .entry)) party (now (name .entry)) ⌝ }
 {
     match x {
@@ -171,10 +159,7 @@ fn number_by(words: &[u32], bytes: &[u8], party: usize, name: &[u8], x: Proposal
 // Asks one half for a name, whose hash is h: its number there, and the slot that is free for it.
 fn lookup(words: &[u32], bytes: &[u8], party: usize, name: &[u8], h: u64) -> Sought
     requires { ⌜ h ≡ hashOf (now name) ⌝ }
-    requires { ⌜ tableWords ≤ length (now words) ⌝ }
-    requires { ⌜ tableBytes ≤ length (now bytes) ⌝ }
-    requires { ⌜ party < 2 ⌝ }
-    requires { ⌜ count (now words) party ≤ halfNames ⌝ }
+    requires { ⌜ Readable (now words) (now bytes) party ⌝ }
     ensures { λ r. ⌜ (r .number ≡ lookupOf (now (words .entry)) (now (bytes .entry)) party (now (name .entry))) × (r .free ≡ freeOf (probeOf (now (words .entry)) (now (bytes .entry)) party (now (name .entry)))) ⌝ }
 {
     let x = probe(words, bytes, party, name, h);
@@ -187,11 +172,8 @@ fn lookup(words: &[u32], bytes: &[u8], party: usize, name: &[u8], h: u64) -> Sou
 // so that `lookup` has one caller: the compiler then puts it in place, and passing the memory on costs nothing.
 pub fn find(words: &[u32], bytes: &[u8], party: usize, name: &[u8], h: u64) -> Sought
     requires { ⌜ h ≡ hashOf (now name) ⌝ }
-    requires { ⌜ tableWords ≤ length (now words) ⌝ }
-    requires { ⌜ tableBytes ≤ length (now bytes) ⌝ }
-    requires { ⌜ party < 2 ⌝ }
-    requires { ⌜ count (now words) 0 ≤ halfNames ⌝ }
-    requires { ⌜ count (now words) 1 ≤ halfNames ⌝ }
+    requires { ⌜ Readable (now words) (now bytes) party ⌝ }
+    requires { ⌜ Readable (now words) (now bytes) (1 - party) ⌝ }
     ensures { λ r. ⌜ (r .number ≡ findOf (now (words .entry)) (now (bytes .entry)) party (now (name .entry))) × (r .free ≡ freeOf (probeOf (now (words .entry)) (now (bytes .entry)) party (now (name .entry)))) ⌝ }
 {
     let mut half = party;

@@ -4,7 +4,7 @@ use crate::blocks::equal;
 ghost use mathlib.Core.Path.{_≡_};
 ghost use Prim.Native.Nat.{_≤_, _<_};
 ghost use lib.ListN.{length, getD};
-ghost use Rattle.names.specs.Layout.{halfNames, tableWords, tableBytes, count, nowhere, placeAt, nameAt, bears, halfBounds, inBounds};
+ghost use Rattle.names.specs.Layout.{halfNames, tableWords, Readable, nowhere, placeAt, nameAt, bears, halfBounds, inBounds};
 
 // A half's names, at most, and its bytes.
 pub const HALF_NAMES: usize = 512;
@@ -64,9 +64,7 @@ pub fn place_at(words: &[u32], party: usize, k: usize) -> Place
 
 // The name of entry k of a party's half.
 fn name_at<'a>(words: &[u32], bytes: &'a [u8], party: usize, k: usize) -> &'a [u8]
-    requires { ⌜ tableWords ≤ length (now words) ⌝ }
-    requires { ⌜ tableBytes ≤ length (now bytes) ⌝ }
-    requires { ⌜ party < 2 ⌝ }
+    requires { ⌜ Readable (now words) (now bytes) party ⌝ }
     requires { ⌜ k < halfNames ⌝ }
     ensures { λ r. ⌜ now r ≡ nameAt (now (words .entry)) (now (bytes .entry)) party k ⌝ }
 {
@@ -78,10 +76,7 @@ fn name_at<'a>(words: &[u32], bytes: &'a [u8], party: usize, k: usize) -> &'a [u
 
 // Whether entry k of a party's half is there and bears the name.
 pub fn bears(words: &[u32], bytes: &[u8], party: usize, name: &[u8], k: usize) -> bool
-    requires { ⌜ tableWords ≤ length (now words) ⌝ }
-    requires { ⌜ tableBytes ≤ length (now bytes) ⌝ }
-    requires { ⌜ party < 2 ⌝ }
-    requires { ⌜ count (now words) party ≤ halfNames ⌝ }
+    requires { ⌜ Readable (now words) (now bytes) party ⌝ }
     ensures { λ r. ⌜ r ≡ bears (now (words .entry)) (now (bytes .entry)) party (now (name .entry)) k ⌝ }
 {
     let n = word(words, party * HALF_WORDS);

@@ -6,6 +6,7 @@ use mathlib.Core.List.{List, [], _∷_, _++_}
 use lib.ListN.{replicate, getD}
 use Rattle.laws.specs.Quoted.{codes}
 use Rattle.laws.specs.Texts.{same}
+use Rattle.laws.proofs.Choice.{impossible}
 use Rattle.refusal.specs.Refusals.{outOfBounds, noParty, noRoom}
 use Rattle.names.specs.Layout.{halfNames, halfBytes, halfWords, firstSlot, tableWords, tableBytes, placeAt, nameAt, bears, halfBounds, inBounds}
 use Rattle.names.specs.Call.{rest, mix, slotOf, tagOf, slotWord, proposes, probe, scan, lookupOf, findOf, newWords, laid, newOf, Outcome, outcome, enterOf}
@@ -17,8 +18,8 @@ use Rattle.names.specs.declared.Entered.the-variants as case
 entered-once : (x y : Entered) → toldOf x ≡ toldOf y → x ≡ y
 entered-once (case.Number j) (case.Number k) e = cc
 entered-once (case.Refused j) (case.Refused k) e = cc
-entered-once (case.Number j) (case.Refused k) e = let z : _≡_ {A = ℕ} 0 1 = cc in absurd (omega arith)
-entered-once (case.Refused j) (case.Number k) e = let z : _≡_ {A = ℕ} 0 1 = cc in absurd (omega arith)
+entered-once (case.Number j) (case.Refused k) e = impossible cc
+entered-once (case.Refused j) (case.Number k) e = impossible cc
 
 -- so two permitted answers coincide, with the memory after them
 one-answer : (w b : List ℕ) (p : ℕ) (n : List ℕ) (x y : Entered) (v c v′ c′ : List ℕ) → outcome (toldOf x) v c ≡ enterOf w b p n
@@ -59,7 +60,7 @@ indexed = refl
 -- no program that refuses everything meets the promise, whatever it says and leaves
 never-refused : (k : ℕ) (w b : List ℕ) → outcome (Refused k) w b ≡ enterOf words bytes 0 (codes "a") → ⊥
 never-refused k w b h =
-    let e : Refused k ≡ Number 0 = ap (λ (o : Outcome). o .answer) h ∙ first-name in let z : _≡_ {A = ℕ} 0 1 = cc in omega arith
+    let e : Refused k ≡ Number 0 = ap (λ (o : Outcome). o .answer) h ∙ first-name in impossible cc
 
 -- nor does one that leaves the words as they were
 never-unwritten : (a : Told) (b : List ℕ) → outcome a words b ≡ enterOf words bytes 0 (codes "a") → ⊥

@@ -5,6 +5,7 @@ use mathlib.Core.Path.{_≡_, refl, sym, ap, _∙_}
 use mathlib.Core.Bool.{Bool, true, false, cond, not}
 use lib.Dec.{eqb, leb, ltb}
 use borrow.Author.Tests.{ne-eqb, le-leb, lt-leb, ltb-true, leb-true, leb-false, eqb-true, eqb-false, not-true}
+use Rattle.laws.proofs.Choice.{impossible}
 use Rattle.chars.specs.Encode.{isScalar}
 use Rattle.items.specs.Kinds as kind
 use Rattle.nested.specs.Items.{hasDetail, sortOf, classOf, boolean, number, character, string, symbol}
@@ -100,7 +101,7 @@ pub rare-said : (k d r : ℕ) → SimpleSaid k d r → IsSimple (classOf k d) (n
 rare-said k d r h z = (r, h (eqb-false r noSimple (not-true (eqb r noSimple) z)))
 
 pub none-said : (c : Class) → IsSimple c false
-none-said c z = let q : _≡_ {A = ℕ} 0 1 = cc in absurd (let x : ⊥ = omega arith in x)
+none-said c z = impossible cc
 
 -- ---- a close
 

@@ -4,8 +4,8 @@ use crate::Class;
 use crate::nodes;
 use crate::refusals::closer_of;
 use chars::is_scalar;
+use items::RECORD_WORDS;
 use items::kinds;
-use meaning::records::WORDS;
 ghost use mathlib.Core.Path.{_≡_};
 ghost use Prim.Native.Nat.{_<_};
 ghost use Rattle.items.specs.Kinds as kind;
@@ -224,7 +224,7 @@ pub fn class_at(records: &[u32], at: usize) -> Class
     requires { ⌜ at < countOf (now records) ⌝ }
     ensures { λ r. ⌜ r ≡ classAt (now (records .entry)) at ⌝ }
 {
-    let p = at * WORDS;
+    let p = at * RECORD_WORDS;
     class_of(records[p], records[p + 1])
 }
 
@@ -233,7 +233,7 @@ pub fn simple_at(records: &[u32], at: usize) -> u32
     requires { ⌜ at < countOf (now records) ⌝ }
     ensures { λ r. ⌜ SimpleAt (now (records .entry)) at r ⌝ }
 {
-    let p = at * WORDS;
+    let p = at * RECORD_WORDS;
     simple_kind(records[p], records[p + 1])
 }
 
@@ -242,7 +242,7 @@ pub fn is_simple_at(records: &[u32], at: usize) -> bool
     requires { ⌜ at < countOf (now records) ⌝ }
     ensures { λ r. ⌜ IsSimple (classAt (now (records .entry)) at) r ⌝ }
 {
-    let p = at * WORDS;
+    let p = at * RECORD_WORDS;
     is_simple(records[p], records[p + 1])
 }
 
@@ -252,7 +252,7 @@ pub fn closes_at(records: &[u32], count: usize, at: usize, s: u64) -> bool
     ensures { λ r. ⌜ ClosesSaid (now (records .entry)) at s r ⌝ }
 {
     if at < count {
-        let p = at * WORDS;
+        let p = at * RECORD_WORDS;
         if records[p] == kinds::CLOSE_PAREN {
             return records[p + 1] as u64 == closer_of(s);
         }

@@ -17,7 +17,7 @@ use frames::pointed_at;
 use frames::same;
 use frames::shape_kind;
 use frames::skipped;
-use meaning::records::WORDS;
+use items::RECORD_WORDS;
 use nodes::NODE_WORDS;
 use refusals::ending_at;
 use refusals::wrong_at;
@@ -268,7 +268,7 @@ fn sequence(
 fn plan(records: &[u32], nodes: &mut [u32]) -> Read
     ensures { λ r. ⌜ PlanSaid (now (records .entry)) (now (nodes .entry)) (now (nodes .exit)) r ⌝ }
 {
-    let count = records.len() / WORDS;
+    let count = records.len() / RECORD_WORDS;
     sequence(records, count, 0, 0, Frame::Plan, nodes, 0)
 }
 
@@ -283,7 +283,7 @@ pub fn build(records: &[u32], nodes: &mut [u32]) -> Nested
             if nodes.len() / NODE_WORDS < v {
                 return Nested::Refused(refusal::FEW_NODES, 0);
             }
-            if WORD < records.len() / WORDS {
+            if WORD < records.len() / RECORD_WORDS {
                 return Nested::Refused(refusal::FEW_NODES, 0);
             }
             plan(records, nodes);

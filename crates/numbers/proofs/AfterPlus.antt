@@ -10,7 +10,7 @@ use borrow.Author.Tests.{lt-ltb, le-ltb}
 use Rattle.laws.specs.Choice.{if_then_else_}
 use Rattle.laws.specs.Quoted.{code, codes}
 use Rattle.laws.specs.Texts.{span, before, starts, same}
-use Rattle.laws.proofs.Choice.{by-bool}
+use Rattle.laws.proofs.Choice.{by-bool, impossible}
 use Rattle.digits.specs.declared.Span.{Span}
 use Rattle.digits.specs.declared.MaybeInt.{MaybeInt}
 use Rattle.digits.specs.declared.MaybeInt.the-variants.{AnInt, NoInt}
@@ -25,7 +25,7 @@ use Rattle.numbers.specs.declared.MaybeParts.the-variants.{SomeParts, No
 use Rattle.numbers.specs.Reals.{exponentMarker, exponent, suffix, pointOf, dotted, undotted, decimal, infnan, integralOf, rationalOf, denominator, exact, orElse, ureal, real}
 use Rattle.numbers.specs.Grammar.{justOf, complexOf, polarOf, endsI, init, imaginary, aloneOf, pairOf, toSign, startsE, cut, rectangular, complex}
 use Rattle.numbers.specs.Grammar.{zeroParts, judged, prefix, parseNumber, numeric}
-use Rattle.numbers.proofs.Cuts.{init-is}
+use Rattle.numbers.proofs.Grammars.{init-is}
 use Rattle.numbers.specs.AfterPlus.{isReal, isParts}
 
 -- ---- whether there is one, wherever it stands
@@ -188,7 +188,7 @@ module _ (t : List ℕ) where
   alone-one e h = rw (ends-plus, ← e) (go t e h)
     where
       go : (l : List ℕ) → true ≡ endsI l → length l - 1 ≡ 0 → true ≡ isParts (complexOf (AReal ImpliedZero) (imaginary 10 0 (init (code "+" ∷ l))))
-      go [] e h = let z : _≡_ {A = ℕ} 0 1 = cc in absurd (omega arith)
+      go [] e h = impossible cc
       go (x ∷ []) e h = refl
       go (x ∷ y ∷ u) e h = absurd (omega arith)
 

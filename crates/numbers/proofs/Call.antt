@@ -4,6 +4,7 @@ use Rattle.numbers.specs.declared.Parsed.{Parsed}
 use Rattle.numbers.specs.Call.{answered, given, number, Answer, parts, noNumber, error, refused}
 use Rattle.numbers.specs.Grammar.{parseNumber}
 use Rattle.laws.specs.Choice.{if_then_else_}
+use Rattle.laws.proofs.Choice.{impossible}
 use Rattle.refusal.specs.Refusals.{tooLong, notUtf8, limit}
 use Rattle.chars.specs.Utf8.{firstBad}
 use Prim.Native.Nat.{ℕ, _≤_, _<_}
@@ -11,7 +12,6 @@ use mathlib.Core.Path.{_≡_, refl, sym, ap, _∙_}
 use mathlib.Core.List.{List}
 use lib.ListN.{length}
 use lib.Dec.{eqb}
-use native.Mathlib.Omega.{arith}
 use borrow.Author.Tests.{lt-ltb, le-ltb}
 use Rattle.chars.specs.declared.Utf8.the-variants as utf8
 use Rattle.numbers.specs.declared.Parsed.the-variants as parsed
@@ -33,9 +33,9 @@ module _ (t : List ℕ) where
     served e = simp (le-ltb limit (length t) h, e)
 
 pub given-unrefused : (p : Parsed) (n m : ℕ) → given p ≡ refused n m → ⊥
-given-unrefused (parsed.Is p) n m e = let z : _≡_ {A = ℕ} 0 1 = cc in omega arith
-given-unrefused parsed.NoNumber n m e = let z : _≡_ {A = ℕ} 0 1 = cc in omega arith
-given-unrefused parsed.ZeroDenominator n m e = let z : _≡_ {A = ℕ} 0 1 = cc in omega arith
+given-unrefused (parsed.Is p) n m e = impossible cc
+given-unrefused parsed.NoNumber n m e = impossible cc
+given-unrefused parsed.ZeroDenominator n m e = impossible cc
 
 -- two answers that the contract permits for one text coincide
 pub answered-one : (a b : NumberAnswer) → answered a ≡ answered b → a ≡ b

@@ -1,29 +1,27 @@
 -- A number's parts from a place on: one real, or two with a sign or @ between them.
 use Rattle.numbers.specs.declared.Real.{Real}
-use Rattle.numbers.specs.declared.Real.the-variants.{ImpliedZero, ImpliedOne}
 use Rattle.numbers.specs.declared.Parts.the-variants.{Just, Complex, Polar}
 use Rattle.numbers.specs.declared.MaybeReal.{MaybeReal}
 use Rattle.numbers.specs.declared.MaybeReal.the-variants.{AReal, NoReal}
 use Rattle.numbers.specs.declared.MaybeParts.{MaybeParts}
 use Rattle.numbers.specs.declared.MaybeParts.the-variants.{SomeParts, NoParts}
-use Rattle.numbers.specs.Grammar.{justOf, complexOf, polarOf, endsI, init, imaginary, aloneOf, pairOf, toSign, startsE, cut, rectangular, complex}
+use Rattle.numbers.specs.Grammar.{justOf, complexOf, polarOf, endsI, imaginary, aloneOf, pairOf, toSign, startsE, cut, rectangular, complex}
 use Rattle.numbers.specs.Reals.{exponentMarker, real}
-use Rattle.laws.specs.Quoted.{codes, code}
-use Rattle.laws.specs.Texts.{before, starts, same}
-use Rattle.laws.proofs.Choice.{by-bool}
+use Rattle.numbers.proofs.Grammars.{Grammar, last-is}
+use Rattle.laws.specs.Quoted.{code}
+use Rattle.laws.specs.Texts.{starts}
 use Rattle.laws.proofs.Compared.{starts-here}
-use Rattle.laws.proofs.Places.{past, here, cut-before, cut-at, cut-after, cut-in, cut-out}
-use Rattle.digits.specs.Digits.{sign}
+use Rattle.laws.proofs.Places.{past, here, cut-at, cut-after, cut-in, cut-out}
 use Prim.Native.Nat.{ℕ, _+_, _-_, _≤_, _<_}
-use mathlib.Core.Path.{_≡_, sym, ap, _∙_}
+use mathlib.Core.Path.{_≡_, refl, sym, ap, _∙_}
 use mathlib.Core.Bool.{Bool, true, false}
 use mathlib.Core.List.{List}
 use mathlib.Core.Logic.{_⊎_, inl, inr}
-use lib.ListN.{length, getD, take, drop, length-drop}
+use lib.ListN.{length, getD, drop}
 use lib.Seq.{drop-drop}
-use lib.Dec.{eqb, leb}
+use lib.Dec.{eqb}
 use native.Mathlib.Omega.{arith}
-use borrow.Author.Tests.{eq-eqb, ne-eqb, leb-true, leb-false}
+use borrow.Author.Tests.{ne-eqb}
 
 -- reals to parts
 module _ (a : MaybeReal) where
@@ -60,77 +58,24 @@ module _ (a b : MaybeReal) where
   unfolding polarOf
   polar-not e = rw e
 
+-- the bought reader's grammar, for the laws of both (Grammars)
+pub bought : Grammar endsI real imaginary aloneOf pairOf rectangular complex
+unfolding endsI imaginary aloneOf pairOf complex starts
+bought =
+    record {
+      empty-ends = refl;
+      imaginary-is = λ R p s. refl;
+      alone-is = λ R p s. refl;
+      two-are = λ R p k s. refl;
+      complex-is = λ R p s. refl;
+    }
+
 -- the last byte
-module _ (t : List ℕ) (p : ℕ) where
-  pub ends-past : length t ≤ p → false ≡ endsI (drop p t)
-  unfolding endsI starts
-  ends-past h = simp (past t p h)
-
-  -- the last place, counted from p
-  last : p < length t → length t - 1 ≡ p + (length (drop p t) - 1)
-  last h = omega (arith, length-drop p t)
-
-  pub ends-here : p < length t → eqb (getD t (length t - 1) 0) (code "i") ≡ endsI (drop p t)
-  unfolding endsI
-  ends-here h =
-      starts-here (code "i") t (length t - 1) (omega arith)
-      ∙ ap (starts (code "i")) (cut-at t p (length (drop p t) - 1) (length t - 1) (last h))
-
-  pub ends-in : true ≡ endsI (drop p t) → p < length t
-  ends-in h =
-      by-bool (leb (length t) p)
-      (λ e. let f = ends-past (leb-true _ _ e) in let z : _≡_ {A = ℕ} 0 1 = cc in absurd (omega arith))
-      (λ e. leb-false _ _ e)
-
-  -- all but the last
-  pub init-is : p < length t → drop p (take (length t - 1) t) ≡ init (drop p t)
-  init-is h = cut-before t p (length (drop p t) - 1) (length t - 1) (last h)
-
--- an imaginary part
-module _ (R p : ℕ) (s : List ℕ) where
-  pub imaginary-plus : true ≡ same s (codes "+") → AReal (ImpliedOne false) ≡ imaginary R p s
-  unfolding imaginary
-  imaginary-plus h = simp (← h)
-
-  module _ (a : false ≡ same s (codes "+")) where
-    pub imaginary-minus : true ≡ same s (codes "-") → AReal (ImpliedOne true) ≡ imaginary R p s
-    unfolding imaginary
-    imaginary-minus h = simp (← a, ← h)
-
-    pub imaginary-real : (r : MaybeReal) → false ≡ same s (codes "-") → r ≡ real R p s → r ≡ imaginary R p s
-    unfolding imaginary
-    imaginary-real r h z = simp (← a, ← h) z
-
--- one part
-module _ (R : ℕ) (t : List ℕ) (p : ℕ) where
-  pub alone-real : (r : MaybeParts) (x : MaybeReal) → false ≡ endsI (drop p t) → x ≡ real R p (drop p t) → r ≡ justOf x → r ≡ aloneOf R p (drop p t)
-  unfolding aloneOf
-  alone-real r x h e z = simp (← h, ← e) z
-
-  module _ (h : true ≡ endsI (drop p t)) (a : ℕ) (g : a ≡ p + sign (drop p t)) where
-    pub alone-none : a ≡ p → NoParts ≡ aloneOf R p (drop p t)
-    unfolding aloneOf
-    alone-none k = simp (← h, eq-eqb (sign (drop p t)) 0 (omega arith))
-
-    pub alone-imaginary : (r : MaybeParts) (x : MaybeReal) → (a ≡ p → ⊥) → x ≡ imaginary R p (drop p (take (length t - 1) t))
-        → r ≡ complexOf (AReal ImpliedZero) x → r ≡ aloneOf R p (drop p t)
-    unfolding aloneOf
-    alone-imaginary r x k e z = simp (← h, ne-eqb (sign (drop p t)) 0 (λ q. k (omega arith)), ← init-is t p (ends-in t p h), ← e) z
-
--- two parts, the second from k on
-module _ (R : ℕ) (t : List ℕ) (p k : ℕ) (l : p ≤ k) where
-  there : k ≡ p + (k - p)
-  there = omega arith
-
-  pub pair-no : false ≡ endsI (drop k t) → NoParts ≡ pairOf R p (k - p) (drop p t)
-  unfolding pairOf
-  pair-no h = simp (← cut-at t p (k - p) k there, ← h)
-
-  pub pair-is : (r : MaybeParts) (x y : MaybeReal) → true ≡ endsI (drop k t) → x ≡ real R p (drop p (take k t))
-      → y ≡ imaginary R k (drop k (take (length t - 1) t)) → r ≡ complexOf x y → r ≡ pairOf R p (k - p) (drop p t)
-  unfolding pairOf
-  pair-is r x y h e f z =
-      simp (← cut-before t p (k - p) k there, ← cut-at t p (k - p) k there, ← h, ← there, ← init-is t k (ends-in t k h), ← e, ← f) z
+pub ends-here : (t : List ℕ) (p : ℕ) → p < length t → eqb (getD t (length t - 1) 0) (code "i") ≡ endsI (drop p t)
+unfolding endsI
+ends-here t p h =
+    starts-here (code "i") t (length t - 1) (omega arith)
+    ∙ ap (starts (code "i")) (cut-at t p (length (drop p t) - 1) (length t - 1) (last-is t p h))
 
 -- the first sign
 module _ (t : List ℕ) (i : ℕ) where
@@ -191,16 +136,3 @@ module _ (R : ℕ) (t : List ℕ) (p : ℕ) where
             cut-out t p (cut (drop p t) + 1 + toSign false (drop (cut (drop p t) + 1) (drop p t))) n second o,
             ← w,
           ) z
-
--- the first @ at k
-module _ (R : ℕ) (t : List ℕ) (p k : ℕ) (e : k ≡ p + before (code "@") (drop p t)) (r : MaybeParts) where
-  pub complex-polar : (x y : MaybeReal) → k < length t → x ≡ real R p (drop p (take k t)) → y ≡ real R (k + 1) (drop (k + 1) t) → r ≡ polarOf x y
-      → r ≡ complex R p (drop p t)
-  unfolding complex
-  complex-polar x y h f g z =
-      simp (cut-in t p (before (code "@") (drop p t)) k e h)
-      (cc (cut-before t p (before (code "@") (drop p t)) k e, cut-after t p (before (code "@") (drop p t)) k e))
-
-  pub complex-rectangular : length t ≤ k → r ≡ rectangular R p (drop p t) → r ≡ complex R p (drop p t)
-  unfolding complex
-  complex-rectangular h z = simp (cut-out t p (before (code "@") (drop p t)) k e h) z

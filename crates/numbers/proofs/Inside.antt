@@ -19,7 +19,7 @@ use Rattle.numbers.proofs.Judged.{prefix-short}
 use Rattle.laws.specs.Choice.{if_then_else_}
 use Rattle.laws.specs.Quoted.{codes, code}
 use Rattle.laws.specs.Texts.{before, starts, same}
-use Rattle.laws.proofs.Choice.{by-bool, if-all, if-is}
+use Rattle.laws.proofs.Choice.{by-bool, if-all, if-is, impossible}
 use Rattle.laws.proofs.Compared.{starts-in}
 use Rattle.laws.proofs.Runs.{span-le}
 use Rattle.chars.specs.Machine.{start}
@@ -248,10 +248,10 @@ module _ (n : ℕ) where
 
   judged-in : (m : MaybeParts) (p : Parts) → InMaybe n m → judged m ≡ Is p → InParts n p
   unfolding judged
-  judged-in NoParts p h e = absurd (let z : _≡_ {A = ℕ} 0 1 = cc in omega arith)
+  judged-in NoParts p h e = impossible cc
   judged-in (SomeParts q) p h e =
       by-bool (zeroParts q)
-      (λ z. let f : judged (SomeParts q) ≡ ZeroDenominator = simp z in absurd (let y : _≡_ {A = ℕ} 0 1 = cc in omega arith))
+      (λ z. let f : judged (SomeParts q) ≡ ZeroDenominator = simp z in impossible cc)
       (λ z. let f : judged (SomeParts q) ≡ Is q = simp z in (let g : q ≡ p = cc in rw g at h))
 
 -- the places of a decimal lie in its part

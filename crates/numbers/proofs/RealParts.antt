@@ -1,14 +1,14 @@
 -- A real from a place on: <infnan>, an integer, a rational, or a decimal.
-use Rattle.numbers.specs.declared.Real.{Real}
 use Rattle.numbers.specs.declared.Real.the-variants.{Integer, Rational, PosInf, NegInf, PosNan, NegNan}
 use Rattle.numbers.specs.declared.MaybePoint.{MaybePoint}
 use Rattle.numbers.specs.declared.MaybeReal.{MaybeReal}
 use Rattle.numbers.specs.declared.MaybeReal.the-variants.{AReal, NoReal}
-use Rattle.numbers.specs.Reals.{decimal, pointIn, oneDecimal, infnan, integralOf, rationalOf, denominator, exact, orElse, ureal, real}
+use Rattle.numbers.specs.Reals.{decimal, pointIn, oneDecimal, infnan, integralOf, rationalOf, denominator, exact, ureal, real}
+use Rattle.numbers.proofs.Grammars.{Reals}
 use Rattle.laws.specs.Quoted.{codes, code}
 use Rattle.laws.specs.Texts.{span, before, starts, same}
 use Rattle.laws.proofs.Choice.{by-bool, if-all}
-use Rattle.laws.proofs.Places.{past, here, cut-before, cut-at, cut-after, cut-in, cut-out}
+use Rattle.laws.proofs.Places.{past, here}
 use Rattle.digits.specs.declared.Int.{Int}
 use Rattle.digits.specs.declared.MaybeInt.{MaybeInt}
 use Rattle.digits.specs.declared.MaybeInt.the-variants.{AnInt, NoInt}
@@ -22,7 +22,7 @@ use lib.Seq.{take-length}
 use lib.Dec.{eqb, ltb, leb}
 use native.Mathlib.Nat.{zero-add}
 use native.Mathlib.Omega.{arith}
-use borrow.Author.Tests.{eq-eqb, ne-eqb, lt-ltb, le-leb, lt-leb, eqb-true, ltb-true, ltb-false}
+use borrow.Author.Tests.{ne-eqb, lt-ltb, le-leb, lt-leb, eqb-true, ltb-true, ltb-false}
 
 module _ (s : List ℕ) where
   pub infnan-1 : true ≡ same s (codes "+inf.0") → AReal PosInf ≡ infnan s
@@ -104,44 +104,15 @@ module _ (R : ℕ) (t : List ℕ) (p : ℕ) where
       (λ b. simp (b, lt-leb R (digitOf (getD t p 0)) (ltb-true (digitOf (getD t p 0)) R b), ne-eqb (suc (digits R (drop (p + 1) t))) 0 (λ z. omega arith)))
       (λ b. simp (b, le-leb R (digitOf (getD t p 0)) (ltb-false (digitOf (getD t p 0)) R b))))
 
--- a rational or an integer, the first slash at k
-module _ (R : ℕ) (neg : Bool) (t : List ℕ) (p k : ℕ) (e : k ≡ p + before (code "/") (drop p t)) (r : MaybeReal) (n : MaybeInt) where
-  pub exact-ratio : (d : MaybeInt) → k < length t → n ≡ wholeOf R neg p (drop p (take k t)) → d ≡ denominator R (k + 1) (drop (k + 1) t)
-      → r ≡ rationalOf n d → r ≡ exact R neg p (drop p t)
-  unfolding exact
-  exact-ratio d h x y z =
-      simp (cut-in t p (before (code "/") (drop p t)) k e h)
-      (cc (cut-before t p (before (code "/") (drop p t)) k e, cut-after t p (before (code "/") (drop p t)) k e))
-
-  pub exact-integer : length t ≤ k → n ≡ wholeOf R neg p (drop p t) → r ≡ integralOf n → r ≡ exact R neg p (drop p t)
-  unfolding exact
-  exact-integer h x y = simp (cut-out t p (before (code "/") (drop p t)) k e h) (cc)
-
--- a real after its sign
-module _ (R : ℕ) (neg : Bool) (p : ℕ) (s : List ℕ) where
-  pub ureal-exact : (r : MaybeReal) → (R ≡ 10 → ⊥) → r ≡ exact R neg p s → r ≡ ureal R neg p s
-  unfolding ureal orElse
-  ureal-exact r k z = simp (ne-eqb R 10 k) z
-
-  module _ (x : MaybeReal) (k : R ≡ 10) (d : x ≡ decimal neg p s) where
-    pub ureal-decimal : (v : Real) → x ≡ AReal v → x ≡ ureal R neg p s
-    unfolding ureal orElse
-    ureal-decimal v f = simp (eq-eqb R 10 k, ← d, f)
-
-    pub ureal-other : (r : MaybeReal) → x ≡ NoReal → r ≡ exact R neg p s → r ≡ ureal R neg p s
-    unfolding ureal orElse
-    ureal-other r f z = simp (eq-eqb R 10 k, ← d, f) z
-
--- a real
-module _ (R : ℕ) (t : List ℕ) (p : ℕ) (x : MaybeReal) (i : x ≡ infnan (drop p t)) where
-  pub real-infnan : (v : Real) → x ≡ AReal v → x ≡ real R p (drop p t)
-  unfolding real orElse
-  real-infnan v e = simp (← i, e)
-
-  pub real-signed : (r : MaybeReal) (neg : Bool) (a : ℕ) → x ≡ NoReal → neg ≡ starts (code "-") (drop p t) → a ≡ p + sign (drop p t)
-      → r ≡ ureal R neg a (drop a t) → r ≡ real R p (drop p t)
-  unfolding real orElse
-  real-signed r neg a n g e z = simp (← i, n, ← g, ← e, ← cut-at t p (sign (drop p t)) a e) z
+-- the bought reader's reals, for the laws of both grammars (Grammars)
+pub bought : Reals infnan denominator exact ureal real
+unfolding exact ureal real
+bought =
+    record {
+      exact-is = λ R neg p s. refl;
+      ureal-is = λ R neg p s. refl;
+      real-is = λ R p s. refl;
+    }
 
 -- a text that is one decimal: its sign at place 0, the decimal from a on
 pub one-decimal-at : (t : List ℕ) (neg : Bool) (a : ℕ) (x : MaybeReal) (r : MaybePoint) → neg ≡ starts (code "-") (drop 0 t)

@@ -1,7 +1,7 @@
 -- "Zero denominator means all digits zero" (01): a denominator counts as zero exactly if each of its digits is `0`, however many they are.
 use Rattle.numbers.specs.Grammar.{zeroInt}
 use Rattle.numbers.specs.Reals.{denominator}
-use Rattle.laws.proofs.Choice.{by-bool}
+use Rattle.laws.proofs.Choice.{by-bool, impossible}
 use Rattle.digits.specs.declared.Int.{Int}
 use Rattle.digits.specs.declared.Int.the-variants.{Small, Big}
 use Rattle.digits.specs.declared.MaybeInt.the-variants.{AnInt, NoInt}
@@ -37,7 +37,7 @@ zero-whole R neg p s d r e =
     (λ l. let f : wholeOf R neg p s ≡ AnInt (Big neg (spanAt p (length s))) = simp (u, l) in
     let g : d ≡ Big neg (spanAt p (length s)) = cc in
     rw g (zero-large (ltb-false _ _ l))))
-    (λ u. let f : wholeOf R neg p s ≡ NoInt = simp u in absurd (let z : _≡_ {A = ℕ} 0 1 = cc in omega arith))
+    (λ u. let f : wholeOf R neg p s ≡ NoInt = simp u in impossible cc)
   where
     zero-large : top neg ≤ value R 0 s → zeroInt (Big neg (spanAt p (length s))) ≡ zeros s
     zero-large l = sym (ne-eqb (value R 0 s) 0 (λ z. omega (arith, top-pos neg))) ∙ zeros-is R s r

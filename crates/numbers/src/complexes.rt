@@ -62,10 +62,10 @@ pub(crate) fn imaginary_at(t: &[u8], from: usize, radix: u64) -> MaybeReal
     requires { ⌜ (1 ≤ radix) × (radix ≤ 16) ⌝ }
     ensures { λ r. ⌜ r ≡ imaginary radix from (drop from (now (t .entry))) ⌝ }
 {
-    if texts::equal_from(t, from, b"+") {
+    if byte_runs::equal_from(t, from, b"+") {
         return MaybeReal::AReal(Real::ImpliedOne(false));
     }
-    if texts::equal_from(t, from, b"-") {
+    if byte_runs::equal_from(t, from, b"-") {
         return MaybeReal::AReal(Real::ImpliedOne(true));
     }
     real_at(t, from, radix)
@@ -159,7 +159,7 @@ pub(crate) fn complex_at(t: &[u8], from: usize, radix: u64) -> MaybeParts
     requires { ⌜ (1 ≤ radix) × (radix ≤ 16) ⌝ }
     ensures { λ r. ⌜ r ≡ complex radix from (drop from (now (t .entry))) ⌝ }
 {
-    let k = texts::find(t, from, b'@');
+    let k = byte_runs::find(t, from, b'@');
     if k < t.len() {
         polar(real_at(&t[..k], from, radix), real_at(t, k + 1, radix))
     } else {

@@ -21,7 +21,7 @@ pub use plainest::is_brief;
 pub use plainest::plain_real;
 pub use plus::plus_number;
 
-// What the second reader (crate standard) has in common with this one. Internal.
+// What the second reader (crate numbers_standard) has in common with this one. Internal.
 pub use complexes::complex;
 pub use complexes::just;
 pub use complexes::polar;
@@ -241,7 +241,7 @@ pub fn parse_number(t: &[u8]) -> Parsed
 fn fraction_at(t: &[u8], from: usize) -> bool
     ensures { λ r. ⌜ r ≡ fraction (drop from (now (t .entry))) ⌝ }
 {
-    if texts::starts_at(t, from, b'.') {
+    if byte_runs::starts_at(t, from, b'.') {
         let start = from + 1;
         if t.len() <= start {
             return false;
@@ -255,7 +255,7 @@ fn fraction_at(t: &[u8], from: usize) -> bool
 fn ratio_at(t: &[u8], from: usize) -> bool
     ensures { λ r. ⌜ r ≡ ratio (drop from (now (t .entry))) ⌝ }
 {
-    if texts::starts_at(t, from, b'/') {
+    if byte_runs::starts_at(t, from, b'/') {
         let start = from + 1;
         if t.len() <= start {
             return false;

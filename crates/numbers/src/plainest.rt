@@ -39,7 +39,7 @@ pub fn plain_real(t: &[u8]) -> MaybeReal
     requires { ⌜ length (now t) ≤ short ⌝ }
     ensures { λ r. ⌜ r ≡ plainReal (now (t .entry)) ⌝ }
 {
-    let negative = texts::starts_at(t, 0, b'-');
+    let negative = byte_runs::starts_at(t, 0, b'-');
     let start = digits::sign_end(t, 0);
     let run = digits::decimal_run(t, start, 0);
     if run.end == t.len() {

@@ -30,10 +30,10 @@ fn is_real(r: MaybeReal) -> bool
 fn plus_real(t: &[u8]) -> bool
     ensures { λ r. ⌜ r ≡ isReal (real 10 0 (code "+" ∷ now (t .entry))) ⌝ }
 {
-    if texts::equal_from(t, 0, b"inf.0") {
+    if byte_runs::equal_from(t, 0, b"inf.0") {
         return true;
     }
-    if texts::equal_from(t, 0, b"nan.0") {
+    if byte_runs::equal_from(t, 0, b"nan.0") {
         return true;
     }
     is_real(ureal_at(t, 0, DECIMAL, false))
@@ -72,7 +72,7 @@ fn plus_alone(t: &[u8]) -> bool
 pub fn plus_number(t: &[u8]) -> bool
     ensures { λ r. ⌜ r ≡ numeric (parseNumber (code "+" ∷ now (t .entry))) ⌝ }
 {
-    let k = texts::find(t, 0, b'@');
+    let k = byte_runs::find(t, 0, b'@');
     if k < t.len() {
         if plus_real(&t[..k]) {
             return is_real(real_at(t, k + 1, DECIMAL));

@@ -28,7 +28,7 @@ pub fn is_marker(c: u8) -> bool
 fn exponent_at(t: &[u8], from: usize) -> Suffix
     ensures { λ r. ⌜ r ≡ exponent from (drop from (now (t .entry))) ⌝ }
 {
-    let negative = texts::starts_at(t, from, b'-');
+    let negative = byte_runs::starts_at(t, from, b'-');
     let start = digits::sign_end(t, from);
     if digits::unsigned(t, start, DECIMAL) {
         let end = t.len();
@@ -125,7 +125,7 @@ pub fn decimal_at(t: &[u8], from: usize, neg: bool) -> MaybeReal
     ensures { λ r. ⌜ r ≡ decimal neg from (drop from (now (t .entry))) ⌝ }
 {
     let end = digits::decimal_end(t, from);
-    if texts::starts_at(t, end, b'.') {
+    if byte_runs::starts_at(t, end, b'.') {
         dotted(t, end + 1, neg, from, end)
     } else {
         undotted(neg, from, end, suffix_at(t, end))
@@ -136,16 +136,16 @@ pub fn decimal_at(t: &[u8], from: usize, neg: bool) -> MaybeReal
 fn infnan_at(t: &[u8], from: usize) -> MaybeReal
     ensures { λ r. ⌜ r ≡ infnan (drop from (now (t .entry))) ⌝ }
 {
-    if texts::equal_from(t, from, b"+inf.0") {
+    if byte_runs::equal_from(t, from, b"+inf.0") {
         return MaybeReal::AReal(Real::PosInf);
     }
-    if texts::equal_from(t, from, b"-inf.0") {
+    if byte_runs::equal_from(t, from, b"-inf.0") {
         return MaybeReal::AReal(Real::NegInf);
     }
-    if texts::equal_from(t, from, b"+nan.0") {
+    if byte_runs::equal_from(t, from, b"+nan.0") {
         return MaybeReal::AReal(Real::PosNan);
     }
-    if texts::equal_from(t, from, b"-nan.0") {
+    if byte_runs::equal_from(t, from, b"-nan.0") {
         return MaybeReal::AReal(Real::NegNan);
     }
     MaybeReal::NoReal
@@ -200,7 +200,7 @@ pub(crate) fn exact_at(t: &[u8], from: usize, radix: u64, neg: bool) -> MaybeRea
     if no_digit_at(t, from, radix) {
         return MaybeReal::NoReal;
     }
-    let k = texts::find(t, from, b'/');
+    let k = byte_runs::find(t, from, b'/');
     if k < t.len() {
         rational(
             digits::whole(&t[..k], from, radix, neg),
@@ -236,7 +236,7 @@ pub(crate) fn real_at(t: &[u8], from: usize, radix: u64) -> MaybeReal
     match x {
         MaybeReal::AReal(_) => x,
         MaybeReal::NoReal => {
-            let neg = texts::starts_at(t, from, b'-');
+            let neg = byte_runs::starts_at(t, from, b'-');
             let a = digits::sign_end(t, from);
             ureal_at(t, a, radix, neg)
         }

@@ -5,6 +5,7 @@ use Rattle.items.specs.Items.{Place, rangeAfter, byteCount}
 use Rattle.items.specs.Readers.{SoFar}
 use Rattle.items.specs.Whole.{limit}
 use Rattle.items.proofs.Splits.{length-bytes}
+use Rattle.chars.proofs.Bytes.{bytes-snoc}
 use Rattle.chars.proofs.Width.{wide, width-le, width-utf8}
 use Rattle.pieces.specs.declared.Beyond.{Beyond}
 use Rattle.pieces.specs.declared.Part.{Part}
@@ -23,7 +24,7 @@ use lib.ListN.{length, take, drop, drop-of-length-le}
 use lib.Seq.{drop-append-le}
 use native.Mathlib.Omega.{arith}
 use Rattle.pieces.specs.Bounds.{Stops}
-use Rattle.pieces.proofs.Kept.{laid-held, laid-long, bytes-snoc, count-snoc, scalars-snoc, Held, Beyonds, Staged, Calm}
+use Rattle.pieces.proofs.Kept.{laid-held, laid-long, count-snoc, scalars-snoc, Held, Beyonds, Staged, Calm}
 use Rattle.pieces.proofs.Kept.{Within, range-within, Kept}
 
 pub none-begun : BytesTaken [] whole

@@ -2,7 +2,7 @@
 -- buffer holds the item's bytes, which lie right before the place, and every number is within its bounds. How a state becomes another
 -- stands in `Becomes`.
 use Rattle.refusal.specs.Refusals as refusal
-use Rattle.chars.specs.Encode.{isScalar, utf8, width, bytesOf}
+use Rattle.chars.specs.Encode.{isScalar, width, bytesOf}
 use Rattle.chars.proofs.Good.{Scalars}
 use Rattle.items.specs.declared.CharValue.{CharValue}
 use Rattle.items.specs.declared.CharValue.the-variants.{Scalar, Wrong, WrongAt}
@@ -33,8 +33,8 @@ use Rattle.pieces.proofs.Phases.{Ranges, Settled, Sized}
 use Prim.Native.Nat.{ℕ, _+_, _≤_, _<_}
 use mathlib.Core.Path.{_≡_, refl, sym, ap, _∙_}
 use mathlib.Core.Bool.{Bool, true, _&&_}
-use mathlib.Core.List.{List, [], _∷_, _++_, append-assoc, append-nil}
-use mathlib.Core.Logic.{_⊎_, ⊎-elim}
+use mathlib.Core.List.{List, [], _∷_, _++_, append-assoc}
+use mathlib.Core.Logic.{⊎-elim}
 use lib.ListN.{length, take, drop, length-append, length-take, length-drop}
 use native.Mathlib.Nat.{min-le-left}
 use lib.Seq.{take-at, length-take-le}
@@ -61,11 +61,6 @@ module _ (n : ℕ) (w buf : List ℕ) where
       )
 
 -- ---- characters, one more
-
-pub bytes-snoc : (q : List ℕ) (c : ℕ) → bytesOf (q ++ (c ∷ [])) ≡ bytesOf q ++ utf8 c
-unfolding bytesOf
-bytes-snoc [] c = append-nil (utf8 c)
-bytes-snoc (x ∷ q) c = ap (λ (l : List ℕ). utf8 x ++ l) (bytes-snoc q c) ∙ sym (append-assoc (utf8 x) (bytesOf q) (utf8 c))
 
 pub count-snoc : (q : List ℕ) (c : ℕ) → byteCount (q ++ (c ∷ [])) ≡ byteCount q + width c
 count-snoc [] c = omega arith

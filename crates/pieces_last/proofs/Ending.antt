@@ -1,4 +1,4 @@
--- What the end call of `lent` says of words that are known here: that all were given, or the item that ends with the text.
+-- What the end call of `pieces_lent` says of words that are known here: that all were given, or the item that ends with the text.
 use Prim.Native.Nat.{ℕ, _+_, _≤_, _<_}
 use mathlib.Core.Path.{_≡_, refl, sym, ap, _∙_}
 use mathlib.Core.Bool.{Bool, true, false, _&&_}
@@ -30,14 +30,14 @@ use Rattle.pieces.specs.Expected.{longest}
 use Rattle.pieces.specs.Bounds.{numberBounds, partBounds, stageBounds, inBounds}
 use Rattle.pieces.specs.Calls.{item, off, finished, Reply, reply, textAfter, whole, lastOf, itemSoFar, beyond, deeper, ends, declared, replied, unlessCut, endStage, endUnlessStopped, endOf}
 use Rattle.pieces.proofs.Kept.{both}
-use Rattle.giving.specs.Answers.{stateOf, whatOf}
-use Rattle.giving.specs.Copied.{givenBy}
-use Rattle.giving.proofs.Shown.{ends-one}
-use Rattle.turns.specs.Inner.{readsOn, Sound}
-use Rattle.lent.specs.declared.Words.{Words}
-use Rattle.lent.specs.Coding.{stageOf, coded, narrow, isCode, standing as standingFor}
-use Rattle.lent.specs.Calls.{Said, lent, lend, said, worded, endFor}
-use Rattle.lent.proofs.Back.{standing-coded, coded-is-code}
+use Rattle.pieces_giving.specs.Answers.{stateOf, whatOf}
+use Rattle.pieces_giving.specs.Copied.{givenBy}
+use Rattle.pieces_giving.proofs.Shown.{ends-one}
+use Rattle.pieces_turns.specs.Inner.{readsOn, Sound}
+use Rattle.pieces_lent.specs.declared.Words.{Words}
+use Rattle.pieces_lent.specs.Coding.{stageOf, coded, narrow, isCode, standing as standingFor}
+use Rattle.pieces_lent.specs.Calls.{Said, lent, lend, said, worded, endFor}
+use Rattle.pieces_lent.proofs.Back.{standing-coded, coded-is-code}
 use Rattle.pieces_spots.specs.Spots.{rowAt, marksAt}
 use Rattle.pieces_quick.specs.Words.{Ready, base, spotOf}
 use Rattle.pieces_quick.specs.declared.Gift.the-variants.{Of}

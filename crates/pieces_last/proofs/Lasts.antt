@@ -16,12 +16,12 @@ use Rattle.items.specs.Machine.{stepOf, finishOf}
 use Rattle.meaning.specs.Meant.{means}
 use Rattle.meaning.specs.declared.Means.{Means}
 use Rattle.meaning.specs.declared.Text.the-variants.{Nowhere}
-use Rattle.telling.specs.Tells.{Tells}
-use Rattle.telling.specs.declared.Quick.{Quick}
-use Rattle.telling.specs.declared.Quick.the-variants.{Item, Bracket, Other}
+use Rattle.items_telling.specs.Tells.{Tells}
+use Rattle.items_telling.specs.declared.Quick.{Quick}
+use Rattle.items_telling.specs.declared.Quick.the-variants.{Item, Bracket, Other}
 use Rattle.pieces.specs.declared.Stage.{Stage}
 use Rattle.pieces.specs.declared.Stage.the-variants.{Busy}
-use Rattle.lent.specs.Coding.{quotesOf, stageOf}
+use Rattle.pieces_lent.specs.Coding.{quotesOf, stageOf}
 use Rattle.pieces_spots.specs.Spots.{TellsAt, TellsSign, Ended}
 use Rattle.pieces_last.specs.Lasts.{Lasts, TellsLast}
 

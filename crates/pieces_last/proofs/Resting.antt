@@ -5,8 +5,8 @@ use lib.Dec.{eqb}
 use native.Mathlib.Omega.{arith}
 use borrow.Author.Tests.{eqb-true, eqb-false}
 use Rattle.laws.proofs.Choice.{by-bool}
-use Rattle.lent.specs.declared.Words.{Words}
-use Rattle.lent.specs.Coding.{stageOf}
+use Rattle.pieces_lent.specs.declared.Words.{Words}
+use Rattle.pieces_lent.specs.Coding.{stageOf}
 use Rattle.pieces_quick.specs.Words.{Unheld}
 use Rattle.pieces_quick.proofs.Knows.{idle-stands, line-stands, opening-stands}
 use Rattle.pieces_last.specs.Ends.{Stays}

@@ -8,10 +8,10 @@ use Rattle.pieces.specs.declared.Got.the-variants as got
 use Rattle.pieces.specs.declared.State.{State}
 use Rattle.pieces.specs.Expected.{longest}
 use Rattle.pieces.specs.Calls.{textAfter, finished, reply, unlessCut, endStage}
-use Rattle.lent.specs.declared.Words.{Words}
-use Rattle.lent.specs.declared.Told.{Told}
-use Rattle.lent.specs.Coding.{row, stageOf}
-use Rattle.lent.specs.Calls.{lent, said, endFor}
+use Rattle.pieces_lent.specs.declared.Words.{Words}
+use Rattle.pieces_lent.specs.declared.Told.{Told}
+use Rattle.pieces_lent.specs.Coding.{row, stageOf}
+use Rattle.pieces_lent.specs.Calls.{lent, said, endFor}
 use Rattle.pieces_quick.specs.Words.{Stands, Ready}
 use Rattle.pieces_last.specs.declared.Last.{Last}
 use Rattle.pieces_last.specs.declared.Last.the-variants.{Given, Finished, Not}
@@ -94,7 +94,7 @@ lastWords w depth =
 abbrev pub toldLast : Words → Got → Told
 toldLast w g = record { words = w; taken = 0; got = g }
 
--- what is told is what the end call of `lent` says of the words
+-- what is told is what the end call of `pieces_lent` says of the words
 abbrev pub Says : Words → List ℕ → List ℕ → List ℕ → Told → Type 0
 Says w buf text then t = (said t buf then ≡ endFor (lent w buf) (length text)) × (then ≡ textAfter (endFor (lent w buf) (length text) .what) text)
 

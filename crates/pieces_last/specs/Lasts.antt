@@ -13,10 +13,10 @@ use Rattle.items.specs.Items.{Place, rangeAfter}
 use Rattle.items.specs.Machine.{finishOf}
 use Rattle.meaning.specs.Meant.{sizedAll}
 use Rattle.meaning.specs.declared.Means.{Means}
-use Rattle.telling.specs.declared.Quick.{Quick}
-use Rattle.telling.specs.declared.Quick.the-variants.{Item, Bracket, Other}
+use Rattle.items_telling.specs.declared.Quick.{Quick}
+use Rattle.items_telling.specs.declared.Quick.the-variants.{Item, Bracket, Other}
 use Rattle.pieces.specs.declared.Stage.the-variants.{Busy}
-use Rattle.lent.specs.Coding.{row, stageOf}
+use Rattle.pieces_lent.specs.Coding.{row, stageOf}
 
 -- an item of the stage that starts at a place ends with the text, and has one meaning, which is no error
 pub record Lasts (stage which detail at : ℕ) (raw : List ℕ) (m : Means) : Type 0 where

@@ -1,11 +1,11 @@
 // Whether the words of a state are ones whose end is told here.
-use lent::Words;
-use lent::codes::IDLE;
-use lent::codes::NO;
-use lent::codes::OPENING;
-use lent::codes::POUND;
-use lent::codes::YES;
 use pieces::LONGEST;
+use pieces_lent::Words;
+use pieces_lent::codes::IDLE;
+use pieces_lent::codes::NO;
+use pieces_lent::codes::OPENING;
+use pieces_lent::codes::POUND;
+use pieces_lent::codes::YES;
 use pieces_quick::ready::is_item;
 use pieces_quick::ready::is_quiet;
 use pieces_quick::ready::is_unheld;

@@ -1,18 +1,18 @@
-// The end call of the crate `lent`, quick where most calls are made: where no item is held, and where a word, a number, a string, an
+// The end call of the crate `pieces_lent`, quick where most calls are made: where no item is held, and where a word, a number, a string, an
 // identifier in vertical lines, a boolean, a comment to the end of its line or a token ends with the text (`end_quickly`). Any other state
-// the crate `lent` answers. The crate `flat` puts the answers into the words that are lent.
+// the crate `pieces_lent` answers. The crate `exports` puts the answers into the words that are lent.
 use items::Record;
-use lent::Words;
-use lent::codes::IDLE;
+use items_telling::Quick;
 use meaning::Means;
 use meaning::records::depth_after;
+use pieces_lent::Words;
+use pieces_lent::codes::IDLE;
 use pieces_quick::Gift;
 use pieces_quick::finishing::copied;
 use pieces_quick::finishing::decoded_record;
 use pieces_quick::finishing::is_escaped;
 use pieces_quick::finishing::skips;
 use pieces_spots::PieceSpot;
-use telling::Quick;
 use tells::tell_last;
 ghost use mathlib.Core.Path.{_≡_};
 ghost use Prim.Native.Nat.{_≤_};

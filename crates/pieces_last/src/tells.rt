@@ -1,18 +1,18 @@
 // What an item is that ends with the text.
 use items::kinds;
-use lent::codes::CLOSED;
-use lent::codes::DONE_TOKEN;
-use lent::codes::IN_HASH;
-use lent::codes::IN_LINE;
-use lent::codes::IN_RUN;
-use lent::codes::IN_WORD;
+use items_telling::Quick;
+use items_telling::bare;
+use items_telling::tell_run;
+use items_telling::tell_word;
+use pieces_lent::codes::CLOSED;
+use pieces_lent::codes::DONE_TOKEN;
+use pieces_lent::codes::IN_HASH;
+use pieces_lent::codes::IN_LINE;
+use pieces_lent::codes::IN_RUN;
+use pieces_lent::codes::IN_WORD;
 use pieces_spots::KINDS;
 use pieces_spots::tell_boolean;
 use pieces_spots::tell_closed;
-use telling::Quick;
-use telling::bare;
-use telling::tell_run;
-use telling::tell_word;
 ghost use mathlib.Core.Path.{_≡_};
 ghost use Prim.Native.Nat.{_+_, _^_, _<_};
 ghost use lib.ListN.{length};

@@ -1,4 +1,4 @@
--- What is answered from a spot on: all bytes taken, an item, or what the crate `lent` answers on the words of the spot.
+-- What is answered from a spot on: all bytes taken, an item, or what the crate `pieces_lent` answers on the words of the spot.
 use Prim.Native.Nat.{ℕ, suc, _+_, _-_, _≤_, _<_, _^_}
 use mathlib.Core.Path.{_≡_, refl, sym, ap, _∙_, subst}
 use mathlib.Core.List.{List, [], _∷_}
@@ -11,13 +11,13 @@ use Rattle.pieces.specs.declared.State.{State}
 use Rattle.pieces.specs.declared.Got.the-variants as got
 use Rattle.pieces.specs.Expected.{longest}
 use Rattle.pieces.specs.Calls.{What, textAfter, feedOf}
-use Rattle.turns.specs.Inner.{Sound}
-use Rattle.lent.specs.declared.Words.{Words}
-use Rattle.lent.specs.declared.Told.{Told}
-use Rattle.lent.specs.Coding.{coded}
-use Rattle.lent.specs.Stood.{Stood}
-use Rattle.lent.proofs.Back.{standing-coded}
-use Rattle.lent.specs.Calls.{Said, lent, said, worded, pieceFor}
+use Rattle.pieces_turns.specs.Inner.{Sound}
+use Rattle.pieces_lent.specs.declared.Words.{Words}
+use Rattle.pieces_lent.specs.declared.Told.{Told}
+use Rattle.pieces_lent.specs.Coding.{coded}
+use Rattle.pieces_lent.specs.Stood.{Stood}
+use Rattle.pieces_lent.proofs.Back.{standing-coded}
+use Rattle.pieces_lent.specs.Calls.{Said, lent, said, worded, pieceFor}
 use Rattle.pieces_spots.specs.declared.PieceSpot.{PieceSpot}
 use Rattle.pieces_quick.specs.declared.Offer.the-variants.{Given}
 use Rattle.pieces_quick.specs.declared.Reached.{Reached}
@@ -35,7 +35,7 @@ module _ (w : Words) (left : ℕ) (R : Ready w left) (s : PieceSpot) (buf text p
   spot-words : (r : Words) → r ≡ stood w s (w .depth) → r ≡ coded (marksAt (base w) s)
   spot-words r e = e ∙ sym (stood-coded w left R s (w .depth) (fits .rows))
 
-  -- the call of `lent` on the words of the spot and the rest of the piece
+  -- the call of `pieces_lent` on the words of the spot and the rest of the piece
   pub goes-on : later (s .i) (pieceFor (lent (stood w s (w .depth)) buf) (drop (s .i) piece) (length text)) ≡ worded (feedOf S (drop (s .i) piece) (s .i))
   goes-on =
       let z : 0 + s .i ≡ s .i = omega arith in

@@ -28,17 +28,17 @@ use Rattle.pieces.specs.declared.Got.the-variants as got
 use Rattle.items.specs.declared.Record.{Record}
 use Rattle.pieces.specs.Expected.{longest}
 use Rattle.pieces.specs.Calls.{item, What, Reply, reply, textAfter, marks, withDepth, lastOf, itemSoFar, laidAt, begin, deeper, report, feedOf}
-use Rattle.giving.specs.Answers.{whatOf}
-use Rattle.giving.specs.Copied.{copiedBy, hasText, givenBy}
-use Rattle.giving.proofs.Gives.{no-text, given-with, given-without}
+use Rattle.pieces_giving.specs.Answers.{whatOf}
+use Rattle.pieces_giving.specs.Copied.{copiedBy, hasText, givenBy}
+use Rattle.pieces_giving.proofs.Gives.{no-text, given-with, given-without}
 use Rattle.meaning.specs.declared.Range.{Range}
 use Rattle.meaning.specs.Places.{rangeOf}
-use Rattle.giving.proofs.Laid.{laid-sets}
-use Rattle.lent.specs.declared.State.{State as Lent}
-use Rattle.lent.specs.declared.Words.{Words}
+use Rattle.pieces_giving.proofs.Laid.{laid-sets}
+use Rattle.pieces_lent.specs.declared.LentState.{LentState}
+use Rattle.pieces_lent.specs.declared.Words.{Words}
 use Rattle.pieces.specs.Given.{Given as Gave}
-use Rattle.lent.specs.Coding.{stageOf, stageRow, coded}
-use Rattle.lent.specs.Calls.{Said, lent, lend, said, worded}
+use Rattle.pieces_lent.specs.Coding.{stageOf, stageRow, coded}
+use Rattle.pieces_lent.specs.Calls.{Said, lent, lend, said, worded}
 use Rattle.pieces_spots.specs.declared.PieceSpot.{PieceSpot}
 use Rattle.pieces_spots.specs.Spots.{stateAt, Solid, Ended}
 use Rattle.pieces_quick.specs.Words.{Ready, base, stood}
@@ -106,7 +106,7 @@ place-free : (depth : ℕ) (r : Bool) (m : Means) (a b : Place) (s e : ℕ) (raw
     → givenBy depth r m a s e raw ≡ givenBy depth r m b s e raw
 place-free depth r m a b s e raw fine = rw (lt-leb kind.firstError (m .kind) fine)
 
-pub said-are : {a b : ℕ} {x y : What} {p q : Lent} → a ≡ b → x ≡ y → p ≡ q
+pub said-are : {a b : ℕ} {x y : What} {p q : LentState} → a ≡ b → x ≡ y → p ≡ q
     → _≡_ {A = Said} (record { taken = a; what = x; state = p }) (record { taken = b; what = y; state = q })
 said-are e f g = cc
 

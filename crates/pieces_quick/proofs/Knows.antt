@@ -5,8 +5,8 @@ use lib.Dec.{eqb}
 use native.Mathlib.Omega.{arith}
 use borrow.Author.Tests.{eq-eqb, le-leb, eqb-true, eqb-false}
 use Rattle.laws.proofs.Choice.{by-bool}
-use Rattle.lent.specs.Coding.{quotesOf, quotesCode, stageOf}
-use Rattle.lent.specs.declared.Words.{Words}
+use Rattle.pieces_lent.specs.Coding.{quotesOf, quotesCode, stageOf}
+use Rattle.pieces_lent.specs.declared.Words.{Words}
 use Rattle.pieces_quick.specs.Words.{Known, Plain, Unheld, Stands}
 
 -- no item is held between items, at the start of the text and in a first line

@@ -18,13 +18,13 @@ use Rattle.pieces.specs.Calls.{Turn, on, off, Reply, reply, withDepth, turnOf, 
 use Rattle.pieces.proofs.Kept.{both}
 use Rattle.laws.specs.Choice.{if_then_else_}
 use Rattle.laws.proofs.Choice.{no-yes, if-all}
-use Rattle.giving.specs.Answers.{stateOf}
-use Rattle.turns.specs.Inner.{readsOn, Sound}
-use Rattle.lent.specs.declared.Words.{Words}
-use Rattle.lent.specs.declared.State.{State as Lent}
-use Rattle.lent.specs.Coding.{stageOf, stageRow, coded, bit, narrow, isCode, standing}
-use Rattle.lent.specs.Calls.{Said, lent, worded, pieceFor}
-use Rattle.lent.proofs.Back.{standing-coded, coded-is-code}
+use Rattle.pieces_giving.specs.Answers.{stateOf}
+use Rattle.pieces_turns.specs.Inner.{readsOn, Sound}
+use Rattle.pieces_lent.specs.declared.Words.{Words}
+use Rattle.pieces_lent.specs.declared.LentState.{LentState}
+use Rattle.pieces_lent.specs.Coding.{stageOf, stageRow, coded, bit, narrow, isCode, standing}
+use Rattle.pieces_lent.specs.Calls.{Said, lent, worded, pieceFor}
+use Rattle.pieces_lent.proofs.Back.{standing-coded, coded-is-code}
 use Rattle.pieces_spots.specs.declared.PieceSpot.{PieceSpot}
 use Rattle.pieces_spots.specs.Spots.{rowAt, marksAt, Fits}
 use Rattle.pieces_quick.specs.Words.{Ready, base, spotOf, stood}
@@ -175,7 +175,7 @@ call-most s bs room =
     (omega arith)
 
 -- nor by a call
-pub piece-most : (s : Lent) (bs : List ℕ) (room : ℕ) → pieceFor s bs room .taken ≤ length bs
+pub piece-most : (s : LentState) (bs : List ℕ) (room : ℕ) → pieceFor s bs room .taken ≤ length bs
 unfolding pieceFor
 piece-most s bs room =
     if-all (λ (x : Said). x .taken ≤ length bs) (isCode (s .words))

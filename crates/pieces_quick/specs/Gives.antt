@@ -19,13 +19,13 @@ use Rattle.pieces.specs.declared.Got.{Got}
 use Rattle.pieces.specs.declared.Got.the-variants.{Item, More}
 use Rattle.pieces.specs.Expected.{longest}
 use Rattle.pieces.specs.Calls.{item, begin, deeper, lastOf, feedOf, textAfter}
-use Rattle.giving.specs.Answers.{whatOf}
-use Rattle.giving.specs.Copied.{givenBy}
-use Rattle.turns.specs.Inner.{Sound}
-use Rattle.lent.specs.declared.Words.{Words}
-use Rattle.lent.specs.declared.Told.{Told}
-use Rattle.lent.specs.Stood.{Stood}
-use Rattle.lent.specs.Calls.{Said, lent, lend, said, worded, pieceFor}
+use Rattle.pieces_giving.specs.Answers.{whatOf}
+use Rattle.pieces_giving.specs.Copied.{givenBy}
+use Rattle.pieces_turns.specs.Inner.{Sound}
+use Rattle.pieces_lent.specs.declared.Words.{Words}
+use Rattle.pieces_lent.specs.declared.Told.{Told}
+use Rattle.pieces_lent.specs.Stood.{Stood}
+use Rattle.pieces_lent.specs.Calls.{Said, lent, lend, said, worded, pieceFor}
 use Rattle.pieces_spots.specs.declared.PieceSpot.{PieceSpot}
 use Rattle.pieces_quick.specs.declared.Gift.{Gift}
 use Rattle.pieces_quick.specs.declared.Gift.the-variants.{Of, Not}
@@ -121,7 +121,7 @@ Comes w s piece buf now text then (reached.More p) = Feeds w s piece buf now tex
 Comes w s piece buf now text then (reached.Item p d r) = Feeds w s piece buf now text then (toldAt w p d (Item r))
 Comes w s piece buf now text then (reached.Before p) = (p ≡ s) × (now ≡ buf) × (then ≡ text)
 
--- what is told is what the call of `lent` says of the words
+-- what is told is what the call of `pieces_lent` says of the words
 abbrev pub Says : Words → List ℕ → List ℕ → List ℕ → List ℕ → List ℕ → Told → Type 0
 Says w piece buf now text then t =
     (said t now then ≡ pieceFor (lent w buf) piece (length text)) × (then ≡ textAfter (pieceFor (lent w buf) piece (length text) .what) text)
@@ -130,13 +130,13 @@ Says w piece buf now text then t =
 abbrev pub later : ℕ → Said → Said
 later n s = record { taken = s .taken + n; what = s .what; state = s .state }
 
--- what is told is what the call of `lent` says from a place of the piece on
+-- what is told is what the call of `pieces_lent` says from a place of the piece on
 abbrev pub Continues : Words → ℕ → List ℕ → List ℕ → List ℕ → List ℕ → List ℕ → Told → Type 0
 Continues w from piece buf now text then t =
     (said t now then ≡ later from (pieceFor (lent w buf) (drop from piece) (length text)))
     × (then ≡ textAfter (pieceFor (lent w buf) (drop from piece) (length text) .what) text)
 
--- a spot from which the answer is still to come: the call of `lent` says it on the words of the spot, which are those of a state that reads
+-- a spot from which the answer is still to come: the call of `pieces_lent` says it on the words of the spot, which are those of a state that reads
 -- on, and the rest of the piece
 pub record Awaits (w : Words) (piece buf now text then : List ℕ) (s : PieceSpot) : Type 0 where
   pub inside : s .i ≤ length piece

@@ -9,9 +9,9 @@ use Rattle.pieces.specs.declared.Marks.{Marks}
 use Rattle.pieces.specs.Expected.{longest}
 use Rattle.pieces.specs.Bounds.{stageBounds}
 use Rattle.pieces.specs.Calls.{whole}
-use Rattle.turns.specs.Inner.{readsOn}
-use Rattle.lent.specs.declared.Words.{Words}
-use Rattle.lent.specs.Coding.{row, stageOf, stageRow}
+use Rattle.pieces_turns.specs.Inner.{readsOn}
+use Rattle.pieces_lent.specs.declared.Words.{Words}
+use Rattle.pieces_lent.specs.Coding.{row, stageOf, stageRow}
 use Rattle.pieces_spots.specs.declared.PieceSpot.{PieceSpot}
 
 -- a row whose stage reads on, within its bounds at a place, with so many bytes held

@@ -3,26 +3,27 @@ use crate::Gift;
 use crate::Offer;
 use escapes::decode;
 use escapes::has_escape;
-use giving::give::copy_all;
 use items::Nine;
+use items::QUOTE_LENGTH;
 use items::Quotes;
 use items::Record;
 use items::kinds;
-use lent::Words;
-use lent::codes::CLOSED;
-use lent::codes::DOUBLE;
-use lent::codes::IDLE;
+use items_telling::Quick;
 use meaning::Means;
 use meaning::Text;
 use meaning::records::IN_MEMORY;
 use meaning::records::depth_after;
+use pieces_giving::give::copy_all;
+use pieces_lent::Words;
+use pieces_lent::codes::CLOSED;
+use pieces_lent::codes::DOUBLE;
+use pieces_lent::codes::IDLE;
 use pieces_spots::DETAIL;
 use pieces_spots::KIND;
 use pieces_spots::KINDS;
 use pieces_spots::PieceSpot;
 use pieces_spots::first;
 use pieces_spots::tell;
-use telling::Quick;
 ghost use mathlib.Core.Path.{_≡_};
 ghost use mathlib.Core.Bool.{true, _&&_};
 ghost use lib.Dec.{eqb};
@@ -39,9 +40,6 @@ ghost use Rattle.pieces_quick.specs.Gives.{recorded, decodedMeans, Copyi
 
 // No text.
 const NOWHERE: u32 = 0;
-
-// A quote is one byte.
-const QUOTE: usize = 1;
 
 // The spot past a byte before which an item ended: a blank is passed, any other byte begins an item.
 fn after(s: PieceSpot, b: u8, f: u64, buf: &mut [u8]) -> PieceSpot
@@ -223,7 +221,7 @@ pub fn decoded_record(s: PieceSpot, depth: u32, raw: &[u8], text: &mut [u8]) -> 
     requires { ⌜ Copying s (decodedMeans (now raw)) (now raw) (now text) ⌝ }
     ensures { λ r. ⌜ Copied s (decodedMeans (now (raw .entry))) depth (now (raw .entry)) (now (text .entry)) (now (text .exit)) (Gift.Of r) ⌝ }
 {
-    let n = decode(raw, QUOTE, Quotes::Double, text);
+    let n = decode(raw, QUOTE_LENGTH, Quotes::Double, text);
     let m = Means {
         kind: kinds::STRING_LITERAL,
         detail: kinds::NO_DETAIL,

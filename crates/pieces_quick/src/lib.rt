@@ -1,19 +1,19 @@
-// The piece call of the crate `lent`, quick where most calls are made: between two characters, between items, in a word, a number run, a
+// The piece call of the crate `pieces_lent`, quick where most calls are made: between two characters, between items, in a word, a number run, a
 // string, an identifier in vertical lines or a comment to the end of its line, past a number sign or past a token. It goes from spot to spot
 // (crate `pieces_spots`) to an item or to the end of the piece (`quickly`). Where it stops short, and for words that it does not know, the
-// crate `lent` goes on (`plainly`). The crate `flat` puts the answers into the words that are lent.
+// crate `pieces_lent` goes on (`plainly`). The crate `exports` puts the answers into the words that are lent.
 use finishing::give_comment;
 use finishing::give_item;
 use items::Record;
-use lent::Told;
-use lent::Words;
-use lent::calls::piece_stood;
-use lent::calls::piece_words;
-use lent::codes::DONE_TOKEN;
-use lent::codes::IN_LINE;
-use lent::codes::IN_RUN;
-use lent::codes::IN_WORD;
 use pieces::LONGEST;
+use pieces_lent::Told;
+use pieces_lent::Words;
+use pieces_lent::calls::piece_stood;
+use pieces_lent::calls::piece_words;
+use pieces_lent::codes::DONE_TOKEN;
+use pieces_lent::codes::IN_LINE;
+use pieces_lent::codes::IN_RUN;
+use pieces_lent::codes::IN_WORD;
 use pieces_spots::PieceSpot;
 use pieces_spots::begin;
 use pieces_spots::close;
@@ -26,7 +26,7 @@ ghost use mathlib.Core.Bool.{true};
 ghost use Prim.Native.Nat.{_≤_};
 ghost use lib.ListN.{length};
 ghost use Rattle.pieces.specs.Expected.{longest};
-ghost use Rattle.lent.specs.Stood.{Stood};
+ghost use Rattle.pieces_lent.specs.Stood.{Stood};
 ghost use Rattle.pieces_spots.specs.Spots.{Fits, Onward};
 ghost use Rattle.pieces_spots.specs.Lines.{Commented};
 ghost use Rattle.pieces_quick.specs.Words.{Ready};
@@ -48,7 +48,7 @@ pub enum Offer {
 }
 
 // Where the moves lead: to the end of the piece; past an item, with the brackets open there and the item's record; or to a spot before a
-// byte from which the crate `lent` has to go on.
+// byte from which the crate `pieces_lent` has to go on.
 pub enum Reached {
     More(PieceSpot),
     Item(PieceSpot, u64, Record),
@@ -142,7 +142,7 @@ pub fn quickly(words: Words, buf: &mut [u8], piece: &[u8], text: &mut [u8]) -> R
     from_spot(words, last, buf, piece, text)
 }
 
-// The piece call of the crate `lent`. Words that are known to be those of a state that reads on are not held to their bounds again.
+// The piece call of the crate `pieces_lent`. Words that are known to be those of a state that reads on are not held to their bounds again.
 fn called(words: Words, known: bool, buf: &mut [u8], piece: &[u8], text: &mut [u8]) -> Told
     requires { ⌜ (known ≡ true → Stood words (now buf) (now text)) ⌝ }
     ensures { λ r. ⌜ Says words (now (piece .entry)) (now (buf .entry)) (now (buf .exit)) (now (text .entry)) (now (text .exit)) r ⌝ }
@@ -153,7 +153,7 @@ fn called(words: Words, known: bool, buf: &mut [u8], piece: &[u8], text: &mut [u
     piece_words(words, buf, piece, text)
 }
 
-// Reads on in a piece from a place on as the crate `lent` does.
+// Reads on in a piece from a place on as the crate `pieces_lent` does.
 pub fn plainly(
     words: Words,
     buf: &mut [u8],

@@ -1,16 +1,16 @@
 // Whether the words of a state are ones that moves know.
-use lent::Words;
-use lent::codes::AFTER_HASH;
-use lent::codes::CLOSED;
-use lent::codes::DONE_TOKEN;
-use lent::codes::IDLE;
-use lent::codes::IN_HASH;
-use lent::codes::IN_LINE;
-use lent::codes::IN_RUN;
-use lent::codes::IN_WORD;
-use lent::codes::LINES;
-use lent::codes::QUOTED;
 use pieces::LONGEST;
+use pieces_lent::Words;
+use pieces_lent::codes::AFTER_HASH;
+use pieces_lent::codes::CLOSED;
+use pieces_lent::codes::DONE_TOKEN;
+use pieces_lent::codes::IDLE;
+use pieces_lent::codes::IN_HASH;
+use pieces_lent::codes::IN_LINE;
+use pieces_lent::codes::IN_RUN;
+use pieces_lent::codes::IN_WORD;
+use pieces_lent::codes::LINES;
+use pieces_lent::codes::QUOTED;
 use pieces_spots::KINDS;
 use refusal::LIMIT;
 ghost use mathlib.Core.Path.{_≡_};
@@ -20,12 +20,12 @@ ghost use Rattle.items.specs.Whole.{limit};
 ghost use Rattle.pieces_quick.specs.Words.{Known, Plain, Quiet, Unheld, Stands, Ready};
 
 // The longest item and the longest text, as words.
-const MOST: u64 = LONGEST as u64;
+const LONGEST_VALUE: u64 = LONGEST as u64;
 
-const LAST: u64 = LIMIT as u64;
+const LAST_VALUE: u64 = LIMIT as u64;
 
 // How many bytes the quotes of an item are.
-const QUOTES: u64 = 2;
+const QUOTES_LENGTH: u64 = 2;
 
 // Whether the words of a token that is whole are a kind and a detail.
 fn is_token(which: u64, detail: u64) -> bool
@@ -34,7 +34,7 @@ fn is_token(which: u64, detail: u64) -> bool
     if KINDS <= which {
         return false;
     }
-    detail <= LAST
+    detail <= LAST_VALUE
 }
 
 // Whether a stage is one of those that need neither of the words that others use.
@@ -80,7 +80,7 @@ fn is_phase(stage: u64, which: u64, detail: u64, len: u64) -> bool
     if stage != CLOSED {
         return false;
     }
-    QUOTES <= len
+    QUOTES_LENGTH <= len
 }
 
 // Whether the end was not declared, no character was begun, and the words that no stage known here uses are 0.
@@ -127,16 +127,16 @@ pub fn is_quiet(
 pub fn is_within(from: u64, to: u64, at: u64, left: usize) -> bool
     ensures { λ r. ⌜ (r ≡ true → (from ≤ limit) × (to ≤ limit) × (at + left ≤ limit)) ⌝ }
 {
-    if LAST < from {
+    if LAST_VALUE < from {
         return false;
     }
-    if LAST < to {
+    if LAST_VALUE < to {
         return false;
     }
-    if LAST < at {
+    if LAST_VALUE < at {
         return false;
     }
-    left as u64 <= LAST - at
+    left as u64 <= LAST_VALUE - at
 }
 
 // Whether no item is held, at a place behind as many brackets.
@@ -165,7 +165,7 @@ pub fn is_item(w: Words) -> bool
     if w.len == 0 {
         return false;
     }
-    if MOST < w.len {
+    if LONGEST_VALUE < w.len {
         return false;
     }
     if w.at < w.len {

@@ -9,8 +9,8 @@ use Rattle.items.specs.Classes.{startsRun, firstOf}
 use Rattle.steps.proofs.Characters.{upto}
 use Rattle.items.specs.declared.Phase.{Phase}
 use Rattle.pieces.specs.declared.Stage.the-variants.{Busy}
-use Rattle.lent.specs.Coding.{stageOf, stageRow}
-use Rattle.telling.proofs.Firsts.{all-begin, words-from, letters, capitals, digit-solid, digit-first}
+use Rattle.pieces_lent.specs.Coding.{stageOf, stageRow}
+use Rattle.items_telling.proofs.Firsts.{all-begin, words-from, letters, capitals, digit-solid, digit-first}
 use Rattle.pieces_spots.specs.Spots.{Solid, Firsts}
 
 pub none-told : (c : ℕ) → Firsts c 0

@@ -20,10 +20,10 @@ use Rattle.items.specs.Readers.{hashKind, boolKind, linedOf}
 use Rattle.items.specs.Meaning.{escaped, linedText}
 use Rattle.items.specs.declared.HashKind.the-variants.{Decided}
 use Rattle.meaning.specs.declared.Text.the-variants.{Nowhere, Source}
-use Rattle.lent.specs.Coding.{quotesOf, stageOf}
-use Rattle.telling.specs.Tells.{Tells}
-use Rattle.telling.specs.declared.Quick.{Quick}
-use Rattle.telling.specs.declared.Quick.the-variants.{Item, Bracket, Other}
+use Rattle.pieces_lent.specs.Coding.{quotesOf, stageOf}
+use Rattle.items_telling.specs.Tells.{Tells}
+use Rattle.items_telling.specs.declared.Quick.{Quick}
+use Rattle.items_telling.specs.declared.Quick.the-variants.{Item, Bracket, Other}
 use Rattle.pieces_spots.specs.Spots.{StopsWord, Stops, TellsSign, TellsAt}
 
 pub close-round : Stops (code ")")

@@ -10,7 +10,7 @@ use lib.ListN.{length, take, drop, length-take, take-append-drop, drop-of-length
 use lib.Seq.{length-take-le, take-append-le, take-take, drop-append-add, drop-drop, take-add}
 use borrow.Author.Tests.{eq-eqb, ne-eqb, eqb-true, eqb-false}
 use Rattle.laws.proofs.Choice.{by-bool}
-use Rattle.texts.proofs.Marks.{marks-plain}
+use Rattle.byte_runs.proofs.Marks.{marks-plain}
 use Rattle.laws.specs.Quoted.{code}
 use borrow.Rule.Slice.PartMut.{putMid}
 use Rattle.laws.specs.Lent.{written}

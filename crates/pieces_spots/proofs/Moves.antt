@@ -7,7 +7,7 @@ use lib.Seq.{drop-cons, length-take-le, length-sets}
 use native.Mathlib.Omega.{arith}
 use native.Mathlib.Numerals.{add-one}
 use Rattle.laws.specs.Texts.{span}
-use Rattle.texts.specs.Runs.{blank}
+use Rattle.byte_runs.specs.Runs.{blank}
 use Rattle.items.specs.Items.{range}
 use Rattle.items.specs.Classes.{firstOf}
 use Rattle.items.specs.Machine.{onFirst}
@@ -16,13 +16,13 @@ use Rattle.pieces.specs.declared.Stage.the-variants.{Idle, Busy}
 use Rattle.pieces.specs.declared.Marks.{Marks}
 use Rattle.pieces.specs.Expected.{longest}
 use Rattle.pieces.specs.Calls.{Turn, on, marks, laidAt, turnOf, after, feedOf}
-use Rattle.giving.specs.Answers.{stateOf}
-use Rattle.giving.proofs.Laid.{laid-sets}
-use Rattle.turns.specs.Inner.{Sound}
-use Rattle.turns.specs.Passed.{kept, passed}
-use Rattle.turns.proofs.Passes.{passed-none, passed-some, run-part, run-within, passes}
-use Rattle.turns.proofs.Sounds.{turn-sound}
-use Rattle.lent.specs.Coding.{stageOf, stageRow}
+use Rattle.pieces_giving.specs.Answers.{stateOf}
+use Rattle.pieces_giving.proofs.Laid.{laid-sets}
+use Rattle.pieces_turns.specs.Inner.{Sound}
+use Rattle.pieces_turns.specs.Passed.{kept, passed}
+use Rattle.pieces_turns.proofs.Passes.{passed-none, passed-some, run-part, run-within, passes}
+use Rattle.pieces_turns.proofs.Sounds.{turn-sound}
+use Rattle.pieces_lent.specs.Coding.{stageOf, stageRow}
 use Rattle.pieces_spots.specs.declared.PieceSpot.{PieceSpot}
 use Rattle.pieces_spots.specs.Spots.{rowAt, marksAt, stateAt, Fits, Goes, Onward, Solid, Keeps, Closes}
 use Rattle.pieces_spots.proofs.Turning.{turned-begun, turned-eaten}

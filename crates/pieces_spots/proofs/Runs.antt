@@ -22,7 +22,7 @@ use Rattle.items.specs.declared.Phase.{Phase}
 use Rattle.items.specs.declared.Phase.the-variants as ph
 use Rattle.steps.specs.Runs.{keeps}
 use Rattle.pieces.specs.declared.Stage.the-variants.{Busy}
-use Rattle.lent.specs.Coding.{row, quotesOf, stageOf}
+use Rattle.pieces_lent.specs.Coding.{row, quotesOf, stageOf}
 use Rattle.pieces_spots.specs.Spots.{Keeps, Closes}
 
 module _ (stage which n : ℕ) (bytes : List ℕ) where

@@ -28,8 +28,8 @@ use Rattle.pieces.specs.declared.Stage.the-variants.{Idle, Busy}
 use Rattle.pieces.specs.declared.State.{State}
 use Rattle.pieces.specs.Expected.{longest}
 use Rattle.pieces.specs.Calls.{Turn, on, off, item, reply, becomes, lastOf, itemSoFar, laidAt, begin, deeper, report, ends, onStage, turnOf, after, feedOf}
-use Rattle.giving.specs.Copied.{givenBy}
-use Rattle.giving.proofs.Shown.{ends-one}
+use Rattle.pieces_giving.specs.Copied.{givenBy}
+use Rattle.pieces_giving.proofs.Shown.{ends-one}
 
 pub width-ascii : (c : ℕ) → c < 0x80 → width c ≡ 1
 unfolding width

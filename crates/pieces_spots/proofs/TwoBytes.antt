@@ -32,12 +32,12 @@ use Rattle.pieces.specs.declared.Marks.{Marks}
 use Rattle.pieces.specs.declared.State.{State}
 use Rattle.pieces.specs.Expected.{longest}
 use Rattle.pieces.specs.Calls.{Turn, on, marks, becomes, lastOf, itemSoFar, report, laidAt, partly, onStage, turnOf, after, feedOf}
-use Rattle.giving.specs.Answers.{stateOf}
-use Rattle.giving.proofs.Laid.{laid-sets, laid-two}
-use Rattle.turns.specs.Inner.{Sound}
-use Rattle.turns.proofs.Sounds.{turn-sound}
-use Rattle.lent.specs.Coding.{row, quotesOf, stageOf}
-use Rattle.telling.proofs.Firsts.{past-other, past-all, past-first}
+use Rattle.pieces_giving.specs.Answers.{stateOf}
+use Rattle.pieces_giving.proofs.Laid.{laid-sets, laid-two}
+use Rattle.pieces_turns.specs.Inner.{Sound}
+use Rattle.pieces_turns.proofs.Sounds.{turn-sound}
+use Rattle.pieces_lent.specs.Coding.{row, quotesOf, stageOf}
+use Rattle.items_telling.proofs.Firsts.{past-other, past-all, past-first}
 use Rattle.pieces_spots.specs.declared.PieceSpot.{PieceSpot}
 use Rattle.pieces_spots.specs.Spots.{rowAt, marksAt, stateAt, Fits, Goes, Onward, Letter, Carries, Escapes, pastPair, withPair}
 use Rattle.pieces_spots.proofs.Turning.{Between, turned-eaten}

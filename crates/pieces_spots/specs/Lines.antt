@@ -7,7 +7,7 @@ use lib.ListN.{length, getD, take, drop}
 use Rattle.laws.specs.Quoted.{code}
 use Rattle.laws.specs.Lent.{written}
 use Rattle.laws.specs.Texts.{span}
-use Rattle.texts.specs.Runs.{plain}
+use Rattle.byte_runs.specs.Runs.{plain}
 use Rattle.items.specs.Kinds as kind
 use Rattle.pieces_spots.specs.declared.PieceSpot.{PieceSpot}
 

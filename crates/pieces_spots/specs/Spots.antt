@@ -20,8 +20,8 @@ use Rattle.items.specs.Meaning.{meaningOf}
 use Rattle.meaning.specs.Meant.{means, sizedAll}
 use Rattle.meaning.specs.declared.Text.the-variants.{Nowhere}
 use Rattle.meaning.specs.declared.Means.{Means}
-use Rattle.telling.specs.declared.Quick.{Quick}
-use Rattle.telling.specs.declared.Quick.the-variants.{Item, Bracket, Other}
+use Rattle.items_telling.specs.declared.Quick.{Quick}
+use Rattle.items_telling.specs.declared.Quick.the-variants.{Item, Bracket, Other}
 use Rattle.chars.specs.Blank.{isBlank}
 use Rattle.items.specs.Classes.{firstOf, inHash, stopsHash}
 use Rattle.items.specs.Items.{Place, range, rangeAfter}
@@ -32,10 +32,10 @@ use Rattle.pieces.specs.declared.Marks.{Marks}
 use Rattle.pieces.specs.declared.State.{State}
 use Rattle.pieces.specs.Expected.{longest}
 use Rattle.pieces.specs.Calls.{marks, feedOf}
-use Rattle.giving.specs.Answers.{stateOf}
-use Rattle.turns.specs.Inner.{Sound}
-use Rattle.lent.specs.declared.Row.{Row}
-use Rattle.lent.specs.Coding.{row, stageOf, stageRow}
+use Rattle.pieces_giving.specs.Answers.{stateOf}
+use Rattle.pieces_turns.specs.Inner.{Sound}
+use Rattle.pieces_lent.specs.declared.Row.{Row}
+use Rattle.pieces_lent.specs.Coding.{row, stageOf, stageRow}
 use Rattle.pieces_spots.specs.declared.PieceSpot.{PieceSpot}
 
 abbrev pub rowAt : PieceSpot → Row

@@ -1,15 +1,14 @@
 // A comment to the end of its line, as most are: its bytes are looked at and held a block at a time, and its newline ends it.
 use crate::PieceSpot;
 use crate::lines::BLOCK;
-use crate::lines::NEWLINE;
 use crate::lines::line_block;
 use crate::lines::line_rest;
 use crate::moving::fewer;
-use giving::give::copy_all;
 use items::kinds;
-use lent::codes::DONE_TOKEN;
-use lent::codes::IN_LINE;
 use pieces::LONGEST;
+use pieces_giving::give::copy_all;
+use pieces_lent::codes::DONE_TOKEN;
+use pieces_lent::codes::IN_LINE;
 ghost use mathlib.Core.Path.{_≡_};
 ghost use mathlib.Core.Bool.{true};
 ghost use Prim.Native.Nat.{_+_, _^_, _≤_, _<_};
@@ -69,7 +68,7 @@ fn has_newline(piece: &[u8], at: usize, end: usize) -> bool
     if end <= at + 1 {
         return false;
     }
-    piece[at] == NEWLINE
+    piece[at] == b'\n'
 }
 
 // Past n bytes of a comment that are held, and the newline that ends it.
@@ -78,7 +77,7 @@ fn end_line(s: PieceSpot, n: usize, buf: &mut [u8]) -> PieceSpot
     ensures { λ r. ⌜ (r ≡ lineDone s n) × (now (buf .exit) ≡ set (now (buf .entry)) (s .len + n) (code "\n")) ⌝ }
 {
     let len = s.len + n;
-    buf[len] = NEWLINE;
+    buf[len] = b'\n';
     PieceSpot {
         stage: DONE_TOKEN,
         start: s.start,

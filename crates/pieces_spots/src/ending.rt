@@ -1,19 +1,20 @@
 // What an item is that ends before a byte.
 use crate::first_byte::KINDS;
 use escapes::has_escape;
+use items::QUOTE_LENGTH;
 use items::kinds;
-use lent::codes::CLOSED;
-use lent::codes::DONE_TOKEN;
-use lent::codes::DOUBLE;
-use lent::codes::IN_HASH;
-use lent::codes::IN_RUN;
-use lent::codes::IN_WORD;
-use telling::Quick;
-use telling::bare;
-use telling::named;
-use telling::tell_run;
-use telling::tell_string;
-use telling::tell_word;
+use items_telling::Quick;
+use items_telling::bare;
+use items_telling::named;
+use items_telling::tell_run;
+use items_telling::tell_string;
+use items_telling::tell_word;
+use pieces_lent::codes::CLOSED;
+use pieces_lent::codes::DONE_TOKEN;
+use pieces_lent::codes::DOUBLE;
+use pieces_lent::codes::IN_HASH;
+use pieces_lent::codes::IN_RUN;
+use pieces_lent::codes::IN_WORD;
 ghost use mathlib.Core.Path.{_≡_};
 ghost use mathlib.Core.Bool.{true};
 ghost use Prim.Native.Nat.{ℕ, _+_, _^_, _<_};
@@ -21,13 +22,11 @@ ghost use lib.ListN.{length};
 ghost use Rattle.items.specs.Readers.{linedOf};
 ghost use Rattle.items.specs.declared.Outcome.the-variants.{Lined};
 ghost use Rattle.items.specs.declared.Quotes.the-variants.{Lines};
-ghost use Rattle.lent.specs.Coding.{quotesOf};
+ghost use Rattle.pieces_lent.specs.Coding.{quotesOf};
 ghost use Rattle.pieces_spots.specs.Spots.{StopsWord, Stops, TellsSign, TellsAt};
 
-// How many bytes a boolean of one letter is, and a quote.
+// How many bytes a boolean of one letter is.
 const BOOLEAN: usize = 2;
-
-const QUOTE: usize = 1;
 
 // What an identifier stands between.
 const VERTICAL: u8 = b'|';
@@ -82,7 +81,7 @@ fn is_lined(raw: &[u8]) -> bool
     ensures { λ r. ⌜ (r ≡ true → (0 < length (now (raw .entry))) × (linedOf (now (raw .entry)) ≡ Lined)) ⌝ }
 {
     let n = raw.len();
-    if n <= QUOTE {
+    if n <= QUOTE_LENGTH {
         return false;
     }
     if raw[0] != VERTICAL {
@@ -102,7 +101,13 @@ fn tell_lined(at: usize, end: usize, raw: &[u8]) -> Quick
     if has_escape(raw) {
         return Quick::Other;
     }
-    named(kinds::IDENTIFIER, at, end, at + QUOTE, end - QUOTE)
+    named(
+        kinds::IDENTIFIER,
+        at,
+        end,
+        at + QUOTE_LENGTH,
+        end - QUOTE_LENGTH,
+    )
 }
 
 // What quotes that are closed tell.

@@ -1,15 +1,15 @@
 // What a byte makes of an item, as one number: the stage after it, and of a token that is whole KIND times its kind and DETAIL times its detail.
 use items::kinds;
-use lent::codes::AFTER_COMMA;
-use lent::codes::AFTER_HASH;
-use lent::codes::CLOSED;
-use lent::codes::DONE_TOKEN;
-use lent::codes::IDLE;
-use lent::codes::IN_LINE;
-use lent::codes::IN_RUN;
-use lent::codes::IN_WORD;
-use lent::codes::LINES;
-use lent::codes::QUOTED;
+use pieces_lent::codes::AFTER_COMMA;
+use pieces_lent::codes::AFTER_HASH;
+use pieces_lent::codes::CLOSED;
+use pieces_lent::codes::DONE_TOKEN;
+use pieces_lent::codes::IDLE;
+use pieces_lent::codes::IN_LINE;
+use pieces_lent::codes::IN_RUN;
+use pieces_lent::codes::IN_WORD;
+use pieces_lent::codes::LINES;
+use pieces_lent::codes::QUOTED;
 ghost use Rattle.pieces_spots.specs.Spots.{Firsts};
 
 // What the kind is multiplied by, how many kinds fit, and what the detail is multiplied by.
@@ -59,7 +59,7 @@ pub const VECTOR_DONE: u64 = DONE_TOKEN
 // a byte that is not told here
 pub const NOT_TOLD: u64 = 0;
 
-// What a byte begins between items: IDLE for a blank, else as above; NOT_TOLD where the crate `lent` has to say it.
+// What a byte begins between items: IDLE for a blank, else as above; NOT_TOLD where the crate `pieces_lent` has to say it.
 pub fn first(b: u8) -> u64
     ensures { λ r. ⌜ Firsts b r ⌝ }
 {

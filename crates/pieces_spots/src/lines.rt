@@ -17,8 +17,6 @@ const QUARTER: usize = HALF / 2;
 // Below it a byte is a character of ASCII.
 const ASCII_END: u8 = 0x80;
 
-pub(crate) const NEWLINE: u8 = b'\n';
-
 // Whether both hold.
 fn both(x: bool, y: bool) -> bool
     ensures { λ r. ⌜ r ≡ (x && y) ⌝ }
@@ -33,7 +31,7 @@ fn both(x: bool, y: bool) -> bool
 fn is_of_line(c: u8) -> bool
     ensures { λ r. ⌜ r ≡ ofLine c ⌝ }
 {
-    both(c < ASCII_END, c != NEWLINE)
+    both(c < ASCII_END, c != b'\n')
 }
 
 // A truth as a number, so that the truths of a block are put together at once.
@@ -52,7 +50,7 @@ fn all_of_line(t: &[u8], at: usize, n: usize) -> bool
     let mut j: usize = 0;
     while j < n {
         let c = t[at + j];
-        ends = ends | mark(ASCII_END <= c) | mark(c == NEWLINE);
+        ends = ends | mark(ASCII_END <= c) | mark(c == b'\n');
         j += 1;
     }
     ends == 0

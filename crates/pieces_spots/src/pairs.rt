@@ -2,11 +2,11 @@
 // in quotes and in a comment to the end of its line; and an escape that is a backslash and one more byte, in quotes.
 use crate::PieceSpot;
 use crate::moving::run;
-use lent::codes::IN_LINE;
-use lent::codes::IN_RUN;
-use lent::codes::IN_WORD;
-use lent::codes::QUOTED;
 use pieces::LONGEST;
+use pieces_lent::codes::IN_LINE;
+use pieces_lent::codes::IN_RUN;
+use pieces_lent::codes::IN_WORD;
+use pieces_lent::codes::QUOTED;
 ghost use mathlib.Core.Path.{_≡_};
 ghost use mathlib.Core.Bool.{true};
 ghost use Prim.Native.Nat.{ℕ, _+_, _≤_, _<_};

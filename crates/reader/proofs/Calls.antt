@@ -10,7 +10,7 @@ use borrow.Author.Tests.{ltb-false, le-ltb}
 use denote.Ref.{RefT, now}
 use Rattle.refusal.specs.Refusals as refusal
 use Rattle.laws.specs.Lent.{written}
-use Rattle.laws.proofs.Choice.{by-bool}
+use Rattle.laws.proofs.Choice.{by-bool, impossible}
 use Rattle.chars.specs.Utf8.{chars, sequences, firstBad}
 use Rattle.chars.specs.declared.Utf8.{Utf8}
 use Rattle.chars.specs.declared.Utf8.the-variants.{Good, Bad}
@@ -130,9 +130,9 @@ opened-has : (s : List ℕ) (mode : ℕ) (skip : Bool) (p : Position) → openOf
 unfolding openOf
 opened-has s mode skip p e = by-bool (isMode mode)
     (λ m. by-bool (ltb limit (length s))
-    (λ l. let z : refused refusal.tooLong limit ≡ opened p = rw (m, l) at e in let y : _≡_ {A = ℕ} 0 1 = cc in absurd (omega arith))
+    (λ l. let z : refused refusal.tooLong limit ≡ opened p = rw (m, l) at e in impossible cc)
     (λ l. good l (firstBad s) (rw (m, l) at e)))
-    (λ m. let z : refused refusal.noMode mode ≡ opened p = rw m at e in let y : _≡_ {A = ℕ} 0 1 = cc in absurd (omega arith))
+    (λ m. let z : refused refusal.noMode mode ≡ opened p = rw m at e in impossible cc)
   where
     good : ltb limit (length s) ≡ false → (u : Utf8) → ifUtf8 u (opening s (inReport mode) skip) ≡ opened p → Fresh s mode skip p
     good l Good h =
@@ -141,7 +141,7 @@ opened-has s mode skip p e = by-bool (isMode mode)
           outside = ap (λ (x : Position). x .depth) q;
           whole = ap (λ (x : Position). allItems s (x .spot)) q ∙ reads-all s (inReport mode) skip;
         }
-    good l (Bad at) h = let y : _≡_ {A = ℕ} 0 1 = cc in absurd (omega arith)
+    good l (Bad at) h = impossible cc
 
 nothing-there : allItems [] (nowhere .spot) ≡ []
 unfolding allItems allFrom nextAt nextFrom turn turnFrom chars sequences

@@ -1,10 +1,12 @@
 // The reader of the crate `lexer` for C and Rust: one item a call, over slices and numbers alone. A position is what a caller keeps as
 // READER_WORDS words (docs/STATE.md); a call's answer is a number, an item's record goes to lent words, and so does what a refusal comes
 // with. What the calls leave is defined in specs/Reader.
+use exports_values::VALUES;
+use exports_values::put_values;
+use items::RECORD_WORDS;
 use lexer::NextAnswer;
 use lexer::OpenAnswer;
 use lexer::next_at;
-use meaning::records::WORDS;
 use meaning::records::put;
 ghost use mathlib.Core.Path.{_≡_};
 ghost use mathlib.Core.List.{List};
@@ -14,7 +16,7 @@ ghost use Rattle.items.specs.Items.{recordWords};
 ghost use Rattle.lexer.specs.Opening.{openingOf};
 ghost use Rattle.lexer.specs.Answers.{replyOf};
 ghost use Rattle.reader_exports.specs.Words.{readerWords};
-ghost use Rattle.reader_exports.specs.Reader.{told, started, opens, openLeft, memory, left, gives, isRoom, nextLeft};
+ghost use Rattle.reader_exports.specs.Reader.{started, opens, openLeft, memory, left, gives, isRoom, nextLeft};
 
 mod position;
 
@@ -32,28 +34,14 @@ use refusal::SERVED;
 use refusal::TOO_FEW;
 use refusal::TOO_LONG;
 
-// How many values are written.
-const VALUES: usize = 2;
-
 // What a call needs of records: refusal 22 comes with it.
 const ONE_RECORD: u64 = 1;
-
-// Writes two values at the front of `values`, where there is room for both.
-fn put_values(values: &mut [u64], first: u64, second: u64)
-    ensures { λ _. ⌜ now (values .exit) ≡ told first second (now (values .entry)) ⌝ }
-{
-    if values.len() < VALUES {
-        return;
-    }
-    values[0] = first;
-    values[1] = second;
-}
 
 // Whether there is room for a record and for two values.
 fn is_room(item: usize, values: usize) -> bool
     ensures { λ r. ⌜ r ≡ isRoom item values ⌝ }
 {
-    if item < WORDS {
+    if item < RECORD_WORDS {
         return false;
     }
     VALUES <= values

@@ -7,7 +7,7 @@ use lib.ListN.{length, getD}
 use native.Mathlib.Omega.{arith}
 use borrow.Author.Tests.{lt-ltb}
 use denote.Ref.{RefT, now}
-use Rattle.promises.specs.Shapes.{room, bare, texted, deep}
+use Rattle.items_promises.specs.Shapes.{room, bare, texted, deep}
 use Rattle.laws.specs.Texts.{span, starts, begins, same}
 use Rattle.laws.specs.Quoted.{code, within}
 use Rattle.chars.specs.Encode.{isScalar, utf8, width, encode, bytesOf, spelled}

@@ -1,16 +1,16 @@
 // What the list tells of a text, against what the piece calls give under a cutting.
 use crate::frame::Frame;
 use crate::frame::spell_out;
-use cuttings::Cutting;
-use cuttings::Reading;
-use cuttings::part;
-use cuttings::record_at;
 use items::Nine;
+use items::RECORD_WORDS;
 use items::Record;
 use items::kinds::NUMBER;
 use meaning::records::IN_MEMORY;
 use meaning::records::IN_SOURCE;
-use meaning::records::WORDS;
+use pieces_cuttings::Cutting;
+use pieces_cuttings::Reading;
+use pieces_cuttings::part;
+use pieces_cuttings::record_at;
 use refusal::SERVED;
 
 // The words or bytes of each memory.
@@ -72,12 +72,12 @@ fn same_item(a: Nine, b: Nine) -> bool {
 // Whether a text is that of an item that is told. A number's is its extent.
 fn same_text(told: Nine, text: &[u8], source: &[u8], memory: &[u8]) -> bool {
     if told.kind == NUMBER {
-        return texts::equal(text, part(source, told.start as usize, told.end as usize));
+        return byte_runs::equal(text, part(source, told.start as usize, told.end as usize));
     }
     if told.source == IN_SOURCE {
-        return texts::equal(text, part(source, told.first as usize, told.past as usize));
+        return byte_runs::equal(text, part(source, told.first as usize, told.past as usize));
     }
-    texts::equal(text, part(memory, told.first as usize, told.past as usize))
+    byte_runs::equal(text, part(memory, told.first as usize, told.past as usize))
 }
 
 // Whether an item is the one told: its words, its text, and the byte that it came with.
@@ -160,7 +160,7 @@ pub(crate) fn frame(
     let mut counts = [0usize; ROOM];
     let mut texts = [0u8; ROOM];
     let n = spell_out(words, &mut told);
-    let r = cuttings::read(
+    let r = pieces_cuttings::read(
         source,
         cutting,
         f.mode,
@@ -170,6 +170,6 @@ pub(crate) fn frame(
         &mut texts,
     );
     ended(f, r)
-        && n / WORDS == r.items
+        && n / RECORD_WORDS == r.items
         && all_met(&told, source, memory, r.items, &records, &counts, &texts)
 }

@@ -2,8 +2,8 @@
 use crate::cut;
 use crate::frame::Frame;
 use crate::frame::same_words;
-use cuttings::Cutting;
 use lexer::ReadAnswer;
+use pieces_cuttings::Cutting;
 use refusal::LIMIT_VALUE;
 use refusal::NO_MODE;
 use refusal::NOT_UTF8;
@@ -56,7 +56,7 @@ fn whole(
     if f.answer != SERVED {
         return true;
     }
-    same_words(words, records) && texts::equal(memory, text)
+    same_words(words, records) && byte_runs::equal(memory, text)
 }
 
 // A byte at a time.

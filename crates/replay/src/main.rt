@@ -15,7 +15,7 @@ mod judge;
 const ROOM: usize = 8192;
 
 // More frames than any list has: the program ends, whatever it reads.
-const MOST: u64 = 1_000_000;
+const MOST_FRAMES: u64 = 1_000_000;
 
 // How many answers were met, whole and in pieces, and whether the list is at its end or has one that differs.
 struct Done {
@@ -151,7 +151,7 @@ fn replay(fd: i32, list: &[u8]) {
         pieces: 0,
         over: false,
     };
-    let mut frames = MOST;
+    let mut frames = MOST_FRAMES;
     while frames > 0 {
         done = one(fd, list, done);
         if done.over {

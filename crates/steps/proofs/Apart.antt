@@ -14,7 +14,7 @@ use Rattle.laws.specs.Texts.{span}
 use Rattle.laws.proofs.Choice.{by-bool, yes-no}
 use Rattle.laws.proofs.Runs.{span-le, span-hit, span-stop}
 use Rattle.laws.proofs.Blocks.{block-on}
-use Rattle.texts.specs.Runs.{apart, plain}
+use Rattle.byte_runs.specs.Runs.{apart, plain}
 use Rattle.chars.specs.declared.Utf8.the-variants.{Good}
 use Rattle.chars.specs.Utf8.{char, front, firstBad, chars}
 use Rattle.chars.specs.Encode.{utf8, width, bytesOf}

@@ -9,7 +9,7 @@ use native.Mathlib.Omega.{arith}
 use borrow.Author.Tests.{eqb-false, leb-true, leb-false, ne-eqb}
 use Rattle.laws.specs.Choice.{if_then_else_}
 use Rattle.laws.specs.Quoted.{oneOf}
-use Rattle.laws.proofs.Choice.{by-bool}
+use Rattle.laws.proofs.Choice.{by-bool, impossible}
 use Rattle.laws.proofs.Places.{past}
 use Rattle.chars.specs.Encode.{utf8, width}
 use Rattle.chars.proofs.Width.{width-utf8}
@@ -50,7 +50,7 @@ module _ (k : Quotes) (closer c : ℕ) (e : eqb c closer ≡ false) where
   pub hex-goes : (if stopsHex c then true else eqb c (delimOf k)) ≡ false → inHex k closer c ≡ digit
   unfolding inHex
   hex-goes h = by-bool (stopsHex c)
-      (λ f. let g = rw f at h in let z : _≡_ {A = ℕ} 0 1 = cc in absurd (omega arith))
+      (λ f. let g = rw f at h in impossible cc)
       (λ f. rw (e, f) (rw (rw f at h)))
 
 -- an item with one character more

@@ -9,7 +9,7 @@ use native.Mathlib.Omega.{arith}
 use borrow.Author.Tests.{lt-ltb, ne-eqb}
 use Rattle.laws.specs.Quoted.{code}
 use Rattle.laws.specs.Texts.{span}
-use Rattle.laws.proofs.Choice.{by-bool}
+use Rattle.laws.proofs.Choice.{by-bool, impossible}
 use Rattle.chars.specs.Blank.{isBlank}
 use Rattle.chars.proofs.Chars.{char-at}
 use Rattle.items.specs.declared.Outcome.{Outcome}
@@ -87,7 +87,7 @@ word-stops : (report : Bool) (c : ℕ) → c < 0x80 → (c ≡ code "\\" → ⊥
 unfolding inWord
 word-stops report c h n e i = by-bool (breaksWord c)
     (λ b. rw b)
-    (λ b. let z : true ≡ false = sym (rw (lt-ltb c 0x80 h, b, ne-eqb c (code "\\") n)) ∙ e in let y : _≡_ {A = ℕ} 0 1 = cc in absurd (omega arith))
+    (λ b. let z : true ≡ false = sym (rw (lt-ltb c 0x80 h, b, ne-eqb c (code "\\") n)) ∙ e in impossible cc)
 
 run-stops : (report : Bool) (c : ℕ) → c < 0x80 → endsRun report c ≡ true → ofRun c ≡ false → (i : SoFar) → stepOf report ph.InRun i c ≡ Stop Run
 unfolding inRun

@@ -19,7 +19,7 @@ use Rattle.chars.specs.Blank.{isBlank}
 use Rattle.chars.specs.Utf8.{front, placed}
 use Rattle.chars.specs.declared.Decoded.the-variants as decoded
 use Rattle.chars.proofs.Chars.{char-at}
-use Rattle.texts.specs.Runs.{plain, blank}
+use Rattle.byte_runs.specs.Runs.{plain, blank}
 use Rattle.items.specs.declared.Outcome.{Outcome}
 use Rattle.items.specs.declared.Phase.{Phase}
 use Rattle.items.specs.declared.Phase.the-variants as ph

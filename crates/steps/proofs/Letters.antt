@@ -12,7 +12,7 @@ use Rattle.laws.specs.Texts.{span}
 use Rattle.chars.specs.Blank.{isBlank}
 use Rattle.chars.specs.Wide.{PastAscii, Wides, empty, longer}
 use Rattle.chars.proofs.Chars.{char-at}
-use Rattle.texts.specs.Runs.{plain}
+use Rattle.byte_runs.specs.Runs.{plain}
 use Rattle.items.specs.declared.Phase.{Phase}
 use Rattle.items.specs.declared.Phase.the-variants as ph
 use Rattle.items.specs.declared.Quotes.{Quotes}

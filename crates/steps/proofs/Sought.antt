@@ -13,7 +13,7 @@ use Rattle.laws.specs.Quoted.{code}
 use Rattle.laws.specs.Texts.{begins}
 use Rattle.laws.proofs.Choice.{by-bool, and-true, no-yes}
 use Rattle.laws.proofs.Lent.{part-rest}
-use Rattle.texts.specs.Search.{Lone}
+use Rattle.byte_runs.specs.Search.{Lone}
 use Rattle.items.specs.Readers.{unreturned}
 use Rattle.steps.specs.Sought.{Waits, Kept, Begun}
 use Rattle.steps.proofs.Delimiter.{unreturned-skip, unreturned-keep, unreturned-end}

@@ -6,6 +6,7 @@ use mathlib.Core.List.{List, [], _∷_, _++_}
 use lib.ListN.{length, take, drop}
 use lib.Seq.{drop-drop, take-nil}
 use native.Mathlib.Omega.{arith}
+use Rattle.laws.proofs.Choice.{impossible}
 use Rattle.laws.proofs.Places.{past, take-short}
 use Rattle.chars.specs.declared.Decoded.the-variants as decoded
 use Rattle.chars.specs.Encode.{utf8}
@@ -66,10 +67,10 @@ module _ (s : List ℕ) (report : Bool) (a : ℕ) where
 -- where no character stands
 module _ (s : List ℕ) (at : ℕ) where
   pub none-bad : decoded.Bad ≡ placed at (front (drop at s)) → chars (drop at s) ≡ []
-  none-bad e = nothing-at s at decoded.Bad e (λ c n h. let z : _≡_ {A = ℕ} 0 1 = cc in absurd (omega arith))
+  none-bad e = nothing-at s at decoded.Bad e (λ c n h. impossible cc)
 
   pub none-cut : decoded.Cut ≡ placed at (front (drop at s)) → chars (drop at s) ≡ []
-  none-cut e = nothing-at s at decoded.Cut e (λ c n h. let z : _≡_ {A = ℕ} 0 1 = cc in absurd (omega arith))
+  none-cut e = nothing-at s at decoded.Cut e (λ c n h. impossible cc)
 
   pub none-end : decoded.End ≡ placed at (front (drop at s)) → chars (drop at s) ≡ []
-  none-end e = nothing-at s at decoded.End e (λ c n h. let z : _≡_ {A = ℕ} 0 1 = cc in absurd (omega arith))
+  none-end e = nothing-at s at decoded.End e (λ c n h. impossible cc)

@@ -4,7 +4,7 @@ use mathlib.Core.Path.{_≡_}
 use mathlib.Core.Bool.{Bool}
 use mathlib.Core.List.{List}
 use Rattle.laws.specs.Texts.{span}
-use Rattle.texts.specs.Runs.{plain}
+use Rattle.byte_runs.specs.Runs.{plain}
 use Rattle.items.specs.declared.Phase.{Phase}
 use Rattle.items.specs.declared.Next.the-variants.{Eat}
 use Rattle.items.specs.Readers.{SoFar}

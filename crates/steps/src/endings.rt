@@ -6,7 +6,7 @@ use crate::runs::number_end;
 use crate::runs::past_word;
 use crate::runs::word_end;
 use crate::words::ends_run;
-use texts::apart_end;
+use byte_runs::apart_end;
 ghost use mathlib.Core.Path.{_≡_};
 ghost use mathlib.Core.Bool.{Bool};
 ghost use Prim.Native.Nat.{_≤_};

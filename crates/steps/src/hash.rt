@@ -1,14 +1,14 @@
 // Words that start with `#`: `read_hash_value`.
 use crate::signs::*;
 use crate::words::enter_word;
+use byte_runs::begins_with;
+use byte_runs::equal;
 use chars::is_blank;
 use items::HashKind;
 use items::Next;
 use items::Outcome;
 use items::Phase;
 use items::kinds;
-use texts::begins_with;
-use texts::equal;
 ghost use mathlib.Core.Path.{_≡_};
 ghost use lib.Dec.{eqb};
 ghost use Rattle.laws.specs.Choice.{if_then_else_};

@@ -1,8 +1,5 @@
 // Strings and identifiers in vertical lines: `read_string`, `read_string_escape`, and `read_word` where a vertical line opens the word.
 use crate::signs::*;
-use characters::failing::past_failing;
-use characters::failing::rest;
-use characters::scalar_of;
 use chars::char_width;
 use digits::hex_value;
 use items::CharValue;
@@ -11,6 +8,9 @@ use items::Outcome;
 use items::Phase;
 use items::Quotes;
 use items::kinds;
+use spellings::characters::scalar_of;
+use spellings::failing::past_failing;
+use spellings::failing::rest;
 ghost use mathlib.Core.Path.{_≡_};
 ghost use mathlib.Core.Bool.{true};
 ghost use mathlib.Core.List.{List};

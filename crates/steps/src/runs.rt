@@ -3,12 +3,12 @@
 use crate::here::past_body;
 use crate::words::breaks_word;
 use crate::words::stays_run;
+use byte_runs::plain_end;
 use chars::between;
 use chars::letter_at;
 use chars::wide_end;
 use items::Phase;
 use items::Quotes;
-use texts::plain_end;
 ghost use mathlib.Core.Path.{_≡_};
 ghost use mathlib.Core.Bool.{false};
 ghost use Prim.Native.Nat.{_+_, _≤_, _<_};

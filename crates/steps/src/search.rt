@@ -1,8 +1,8 @@
 // The search for a here-string's delimiter. Only places are looked at where its first byte stands, and its last one as far behind as they
 // stand apart. Of the delimiter, whose line may have carriage returns, as many bytes are known as were found in the text: against those a
 // place is compared, blocks of text with blocks of text, once three single bytes have not told that the delimiter does not stand there.
-use texts::agreeing;
-use texts::find_pair;
+use byte_runs::agreeing;
+use byte_runs::find_pair;
 ghost use mathlib.Core.Path.{_≡_};
 ghost use mathlib.Core.Bool.{true, false};
 ghost use Prim.Native.Nat.{_+_, _-_, _≤_, _<_};

@@ -7,7 +7,7 @@ use borrow.Author.Needs.{needs}
 use Rattle.items.specs.Items.{wordsOf}
 use Rattle.items.specs.declared.Record.{Record}
 use Rattle.lexer.specs.Reading.{sizeOf}
-use Rattle.lexer.proofs.Going.{size-le}
+use Rattle.lexer.proofs.ReadingOn.{size-le}
 use Rattle.findings_rows.specs.Laid.{laidAt}
 use Rattle.findings_rows.proofs.Lays.{Laying, laying, laying-moved, laying-on, laying-end, lent-length}
 use Rattle.findings_rows.proofs.lay_from.Statement.{statement}
@@ -47,25 +47,25 @@ depth-after-requires c κs = search needs
 
 add-w : tie.Need-add-w Inv-loop μ-loop
 add-w c =
-    let entry = c .before .before .before .before .before .before .before .before .before .before .before .before .before in
     let g = c .before .before .before .before .before .before .before .before .before .before .loop .inv in
+    let entry = c .before .before .before .before .before .before .before .before .before .before .before .before .before in
     omega (arith, g .count, g .few, size-le (now (entry .args .source)) (entry .args .spot), entry .pre)
 
 loop-less : tie.Need-loop-less Inv-loop μ-loop
 loop-less c =
     let told = c .before .before .before .before .before .before .before in
-    let round = c .before .before .before .before .before .before .before .before .before .before in
-    let entry = c .before .before .before .before .before .before .before .before .before .before .before .before .before in
+    let round = told .before .before .before in
+    let entry = round .before .before .before in
     laying-moved (now (entry .args .source)) (entry .args .spot) (now (entry .args .words)) (round .loop .inv)
-    (told .r .given .0 .0) (told .r .given .0 .1 .0) (sym (told .r .given .1) ∙ c .before .before .before .before .before .before .before .before .before .next-row .ensures) .smaller
+    (told .r .given .0 .0) (told .r .given .0 .1 .0) (sym (told .r .given .1) ∙ told .before .before .next-row .ensures) .smaller
 
 loop-again : tie.Need-loop-again Inv-loop μ-loop
 loop-again c =
     let told = c .before .before .before .before .before .before .before in
-    let round = c .before .before .before .before .before .before .before .before .before .before in
-    let entry = c .before .before .before .before .before .before .before .before .before .before .before .before .before in
+    let round = told .before .before .before in
+    let entry = round .before .before .before in
     laying-on (now (entry .args .source)) (entry .args .spot) (now (entry .args .words)) (round .loop .inv)
-    (told .r .given .0 .0) (told .r .given .0 .1 .0) (sym (told .r .given .1) ∙ c .before .before .before .before .before .before .before .before .before .next-row .ensures)
+    (told .r .given .0 .0) (told .r .given .0 .1 .0) (sym (told .r .given .1) ∙ told .before .before .next-row .ensures)
     (c .depth-after .result) (c .depth-after .ensures)
     (c .before .before .before .lay .ensures ∙ ap (λ (x : Record). laidAt (round .loop .w) (wordsOf x) (round .loop .words)) (c .before .before .before .before .row-of .ensures))
 

@@ -26,7 +26,7 @@ is-slip-requires c κs = search needs
 mend-requires : tie.Need-mend-requires
 mend-requires c κs =
     let told = c .before .before .before .before in
-    let entry = c .before .before .before .before .before .before .before .before in (
+    let entry = told .before .before .before .before in (
       entry .pre,
       next-in (now (entry .args .source)) (entry .args .spot) (told .r .given .0 .0) (told .r .given .0 .1 .0)
           (sym (told .r .given .1) ∙ c .before .before .before .before .before .before .next-item .ensures) .0,
@@ -35,7 +35,7 @@ mend-requires c κs =
 returns : tie.Need-returns
 returns c =
     let told = c .before .before .before .before .before in
-    let entry = c .before .before .before .before .before .before .before .before .before in
+    let entry = told .before .before .before .before in
     c .mend .ensures ∙ slip-is (now (entry .args .source)) (entry .args .spot) (told .r .given .0 .0) (told .r .given .0 .1 .0)
     (sym (told .r .given .1) ∙ c .before .before .before .before .before .before .before .next-item .ensures) (sym (c .before .before .is-slip .ensures) ∙ c .before .if1 .taken)
 
@@ -45,7 +45,7 @@ enum-told c = search needs
 returns-2 : tie.Need-returns-2
 returns-2 c =
     let told = c .before .before .before .before in
-    let entry = c .before .before .before .before .before .before .before .before in
+    let entry = told .before .before .before .before in
     fine-is (now (entry .args .source)) (entry .args .spot) (told .r .given .0 .0) (told .r .given .0 .1 .0)
     (sym (told .r .given .1) ∙ c .before .before .before .before .before .before .next-item .ensures) (sym (c .before .is-slip .ensures) ∙ c .if1 .left)
 

@@ -48,17 +48,18 @@ piece-length-requires c κs =
 
 add-n : tie.Need-add-n Inv-loop μ-loop
 add-n c =
+    let there = c .before .before .before .before .before .before .before .before in
     omega (
       arith,
       turn-fits (c .before .before .before .turn-at .ensures) (c .before .before .words-at .ensures) (c .before .body-of .ensures) refusal.limit (omega (
         arith,
         ap (λ (u : WriteWords). u .past) (c .before .before .words-at .ensures),
-        c .before .before .before .before .before .before .before .before .shared-slice-known .given (c .before .before .before .turn-at .result .last * 10 + 8),
+        there .shared-slice-known .given (c .before .before .before .turn-at .result .last * 10 + 8),
       ))
           (omega (
             arith,
             ap (λ (u : WriteWords). u .«end») (c .before .before .words-at .ensures),
-            c .before .before .before .before .before .before .before .before .shared-slice-known .given (c .before .before .before .turn-at .result .last * 10 + 3),
+            there .shared-slice-known .given (c .before .before .before .turn-at .result .last * 10 + 3),
           ))
           (c .piece-length .ensures),
     )

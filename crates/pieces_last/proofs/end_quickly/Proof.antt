@@ -6,7 +6,7 @@ use Prim.Native.Nat.{ℕ, _+_, _^_, _<_}
 use mathlib.Core.Path.{_≡_, sym, ap, subst}
 use lib.ListN.{length, take}
 use lib.Seq.{length-take-le}
-use Rattle.telling.specs.declared.Quick.{Quick}
+use Rattle.items_telling.specs.declared.Quick.{Quick}
 use Rattle.pieces_spots.specs.declared.PieceSpot.{PieceSpot}
 use Rattle.pieces_last.specs.Lasts.{Lasts, TellsLast}
 use Rattle.pieces_last.proofs.Ending.{all-given}

@@ -1,4 +1,4 @@
--- Either call of `lent` says it.
+-- Either call of `pieces_lent` says it.
 use borrow.Author.Needs.{needs}
 use Rattle.pieces_quick.proofs.called.Statement.{statement}
 use Rattle.pieces_quick.proofs.called.Tie as tie

@@ -73,8 +73,8 @@ give-requires-2 c κs = search needs
 returns-3 : tie.Need-returns-3 Inv-loop μ-loop
 returns-3 c =
     let stopped = c .before .before .before .before in
-    let l = c .before .before .before .before .before .before .before .before .loop in
-    let a = c .before .before .before .before .before .before .before .before .before .before .args in
+    let l = stopped .before .before .before .before .loop in
+    let a = stopped .before .before .before .before .before .before .args in
     rw (c .give2 .ensures) (same-text (a .k) (a .raw .now) (l .inv .1 .1) (le-refl _) (hex-stops (a .k) (a .raw .now) (a .closer) (a .from)
     (l .i) (l .inv .0) (stopped .before .before .before .loop-test .taken) (is-quote _ _ _ (stopped .before .if1 .left)
     (sym (stopped .stops-hex .ensures) ∙ c .before .before .before .if2 .left) (c .before .if3 .taken ∙ c .before .before .delimiter .ensures))))

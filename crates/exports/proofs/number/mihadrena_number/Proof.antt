@@ -1,6 +1,6 @@
 -- The answer that the number call gives is told.
 use borrow.Author.Needs.{needs}
-use Rattle.number_words.proofs.Words.{told-of}
+use Rattle.numbers_words.proofs.Words.{told-of}
 use Rattle.exports.proofs.number.mihadrena_number.Statement.{statement}
 use Rattle.exports.proofs.number.mihadrena_number.Tie as tie
 

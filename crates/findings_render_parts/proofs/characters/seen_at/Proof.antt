@@ -1,7 +1,7 @@
 -- By what stands there.
-use mathlib.Core.Path.{_≡_, sym, _∙_}
-use Prim.Native.Nat.{ℕ}
+use mathlib.Core.Path.{sym, _∙_}
 use native.Mathlib.Omega.{arith}
+use Rattle.laws.proofs.Choice.{impossible}
 use Rattle.chars.proofs.Sequences.{further}
 use Rattle.findings_render_parts.proofs.Walks.{seen-good, seen-bad}
 use borrow.Author.Needs.{needs}
@@ -61,21 +61,21 @@ returns-2 c =
     let after-decode-at = c .before .before .before .before in
     let entry = after-decode-at .before .before in
     seen-bad (entry .args .t .now) (entry .args .at) (after-decode-at .decode-at .ensures) (entry .pre)
-    (λ d n e. let told = c .before .before .enum-told .given .1 in let z : _≡_ {A = ℕ} 0 1 = cc in omega arith) _ (c .seen-byte .ensures)
+    (λ d n e. let told = c .before .before .enum-told .given .1 in impossible cc) _ (c .seen-byte .ensures)
 
 returns-3 : tie.Need-returns-3
 returns-3 c =
     let after-decode-at = c .before .before .before .before in
     let entry = after-decode-at .before .before in
     seen-bad (entry .args .t .now) (entry .args .at) (after-decode-at .decode-at .ensures) (entry .pre)
-    (λ d n e. let told = c .before .before .enum-told2 .given .1 in let z : _≡_ {A = ℕ} 0 1 = cc in omega arith) _ (c .seen-byte2 .ensures)
+    (λ d n e. let told = c .before .before .enum-told2 .given .1 in impossible cc) _ (c .seen-byte2 .ensures)
 
 returns-4 : tie.Need-returns-4
 returns-4 c =
     let after-decode-at = c .before .before .before .before in
     let entry = after-decode-at .before .before in
     seen-bad (entry .args .t .now) (entry .args .at) (after-decode-at .decode-at .ensures) (entry .pre)
-    (λ d n e. let told = c .before .before .enum-told3 .given .1 in let z : _≡_ {A = ℕ} 0 1 = cc in omega arith) _ (c .seen-byte3 .ensures)
+    (λ d n e. let told = c .before .before .enum-told3 .given .1 in impossible cc) _ (c .seen-byte3 .ensures)
 
 pub seen-at-spec : {M : Type 1} → statement M
 seen-at-spec =

@@ -5,7 +5,7 @@ use Rattle.findings_rows.proofs.slips.character_at.Statement.{statement
 use Rattle.findings_rows.proofs.slips.character_at.Tie as tie
 use Rattle.findings_rows.proofs.slips.character_at.Reads as reads
 use Rattle.findings_rows.proofs.slips.character_at.Lts as lts
-use Rattle.texts.proofs.starts_at.Reads as starts-at-reads
+use Rattle.byte_runs.proofs.starts_at.Reads as starts-at-reads
 
 starts-at-requires : tie.Need-starts-at-requires
 starts-at-requires c κs = search needs

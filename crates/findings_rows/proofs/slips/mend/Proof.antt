@@ -31,8 +31,8 @@ enum-known-e c = search needs
 
 cast-ended : tie.Need-cast-ended
 cast-ended c =
-    let entry = c .before .before .before .before .before .before .before .before in
     let told = c .before in
+    let entry = c .before .before .before .before .before .before .before .before in
     omega (
       arith,
       entry .pre,
@@ -61,8 +61,8 @@ spot-at-requires-2 c κs = search needs
 
 returns : tie.Need-returns
 returns c =
-    let entry = c .before .before .before .before .before .before .before .before .before .before in
     let told = c .before .before .before in
+    let entry = told .before .before .before .before .before .before .before in
     mend-behind (now (entry .args .source)) (entry .args .r) (entry .args .after) (c .before .before .before .before .before .before .before .quote-of .result) (c .before .before .before .before .before .before .rest-from .result)
     (c .before .before .before .before .before .past-quote .result) (c .before .before .before .before .before .before .before .quote-of .ensures) (c .before .before .before .before .before .before .rest-from .ensures) (c .before .before .before .before .before .past-quote .ensures)
     (told .e .given .0 .0) (told .e .given .1) (c .before .ended .result) (c .spot-at .result) (c .before .ended .ensures) (c .spot-at .ensures)

@@ -5,7 +5,7 @@ use Rattle.findings_rows.proofs.slips.quote_of.Statement.{statement}
 use Rattle.findings_rows.proofs.slips.quote_of.Tie as tie
 use Rattle.findings_rows.proofs.slips.quote_of.Reads as reads
 use Rattle.findings_rows.proofs.slips.quote_of.Lts as lts
-use Rattle.texts.proofs.starts_at.Reads as starts-at-reads
+use Rattle.byte_runs.proofs.starts_at.Reads as starts-at-reads
 
 starts-at-requires : tie.Need-starts-at-requires
 starts-at-requires c κs = search needs

@@ -122,8 +122,9 @@ mul-t33 c =
 
 add-t34 : tie.Need-add-t34
 add-t34 c =
-    let entry = c .before .before .before .before .before .before .before .before .before .before .before in
-    omega (arith, (c .before .before .before .before .before .before .before .before .before .before .shared-slice-known .given (entry .args .at) .fits), (c .before .before .before .before .before .before .before .before .before .before .shared-slice-known .given (entry .args .at + 1) .fits), (c .before .before .before .before .before .before .before .before .before .before .shared-slice-known .given (entry .args .at + 2) .fits))
+    let there = c .before .before .before .before .before .before .before .before .before .before in
+    let entry = there .before in
+    omega (arith, (there .shared-slice-known .given (entry .args .at) .fits), (there .shared-slice-known .given (entry .args .at + 1) .fits), (there .shared-slice-known .given (entry .args .at + 2) .fits))
 
 cast-t35 : tie.Need-cast-t35
 cast-t35 c = search needs
@@ -133,16 +134,18 @@ mul-t36 c = search needs
 
 add-t37 : tie.Need-add-t37
 add-t37 c =
-    let entry = c .before .before .before .before .before .before .before .before .before .before .before in
-    omega (arith, (c .before .before .before .before .before .before .before .before .before .before .shared-slice-known .given (entry .args .at) .fits), (c .before .before .before .before .before .before .before .before .before .before .shared-slice-known .given (entry .args .at + 1) .fits), (c .before .before .before .before .before .before .before .before .before .before .shared-slice-known .given (entry .args .at + 2) .fits))
+    let there = c .before .before .before .before .before .before .before .before .before .before in
+    let entry = there .before in
+    omega (arith, (there .shared-slice-known .given (entry .args .at) .fits), (there .shared-slice-known .given (entry .args .at + 1) .fits), (there .shared-slice-known .given (entry .args .at + 2) .fits))
 
 add-t38 : tie.Need-add-t38
 add-t38 c = search needs
 
 returns-7 : tie.Need-returns-7
 returns-7 c =
-    let entry = c .before .before .before .before .before .before .before .before .before .before .before in
-    brief-four (entry .args .file .now) (entry .args .at) (entry .pre) (c .before .before .before .before .before .before .before .before .before .if1 .left) (c .before .before .before .before .before .before .before .before .before .before .shared-slice-known .given (entry .args .at) .fits) (c .before .before .before .before .before .before .if3 .left) (c .before .before .before .before .before .before .before .before .before .before .shared-slice-known .given (entry .args .at + 1) .fits) (c .before .before .before .if5 .left) (c .before .before .before .before .before .before .before .before .before .before .shared-slice-known .given (entry .args .at + 2) .fits) (c .if7 .taken) (c .before .if6 .left)
+    let there = c .before .before .before .before .before .before .before .before .before .before in
+    let entry = there .before in
+    brief-four (entry .args .file .now) (entry .args .at) (entry .pre) (c .before .before .before .before .before .before .before .before .before .if1 .left) (there .shared-slice-known .given (entry .args .at) .fits) (c .before .before .before .before .before .before .if3 .left) (there .shared-slice-known .given (entry .args .at + 1) .fits) (c .before .before .before .if5 .left) (there .shared-slice-known .given (entry .args .at + 2) .fits) (c .if7 .taken) (c .before .if6 .left)
 
 returns-8 : tie.Need-returns-8
 returns-8 c = search needs

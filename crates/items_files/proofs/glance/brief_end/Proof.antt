@@ -65,8 +65,9 @@ add-result-4 c = search needs
 
 returns-7 : tie.Need-returns-7
 returns-7 c =
-    let entry = c .before .before .before .before .before .before .before .before .before .before .before in
-    λ h. record { value = _; number = brief-four (entry .args .file .now) (entry .args .at) (entry .pre) (c .before .before .before .before .before .before .before .before .before .if1 .left) (c .before .before .before .before .before .before .before .before .before .before .shared-slice-known .given (entry .args .at) .fits) (c .before .before .before .before .before .before .if3 .left) (c .before .before .before .before .before .before .before .before .before .before .shared-slice-known .given (entry .args .at + 1) .fits) (c .before .before .before .if5 .left) (c .before .before .before .before .before .before .before .before .before .before .shared-slice-known .given (entry .args .at + 2) .fits) (c .if7 .taken) (c .before .if6 .left) }
+    let there = c .before .before .before .before .before .before .before .before .before .before in
+    let entry = there .before in
+    λ h. record { value = _; number = brief-four (entry .args .file .now) (entry .args .at) (entry .pre) (c .before .before .before .before .before .before .before .before .before .if1 .left) (there .shared-slice-known .given (entry .args .at) .fits) (c .before .before .before .before .before .before .if3 .left) (there .shared-slice-known .given (entry .args .at + 1) .fits) (c .before .before .before .if5 .left) (there .shared-slice-known .given (entry .args .at + 2) .fits) (c .if7 .taken) (c .before .if6 .left) }
 
 returns-8 : tie.Need-returns-8
 returns-8 c = λ h. absurd (omega arith)

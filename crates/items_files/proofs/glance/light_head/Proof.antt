@@ -48,8 +48,9 @@ shared-slice-read-result-4 c = search needs
 
 returns-5 : tie.Need-returns-5
 returns-5 c =
-    let s = c .before .before .before .before .before .before .before .before .before .before .args .file .now in
-    let at = c .before .before .before .before .before .before .before .before .before .before .args .at in
+    let entry = c .before .before .before .before .before .before .before .before .before .before in
+    let s = entry .args .file .now in
+    let at = entry .args .at in
     λ e.
     let four = or-below (bitOr (bitOr (getD s at 0) (getD s (at + 1) 0)) (getD s (at + 2) 0)) (getD s (at + 3) 0) (ltb-true (bitOr (bitOr (bitOr (getD s at 0) (getD s (at + 1) 0)) (getD s (at + 2) 0)) (getD s (at + 3) 0)) 128 e) in
     let three = or-below (bitOr (getD s at 0) (getD s (at + 1) 0)) (getD s (at + 2) 0) (four .0) in

@@ -64,7 +64,7 @@ after-item-requires c κs = search needs
 add-n : tie.Need-add-n Inv-loop μ-loop
 add-n c =
     let turn = c .before .before .before .before .before .before .before in
-    let entry = c .before .before .before .before .before .before .before .before .before .before in
+    let entry = turn .before .before .before in
     let light = c .before .before .before .before .before .item-end .ensures (c .before .before .before .before .if1 .taken) in
     omega (arith, light .item .ahead, light .item .inside, turn .loop .inv .few)
 
@@ -76,7 +76,7 @@ loop-less c =
 loop-again : tie.Need-loop-again Inv-loop μ-loop
 loop-again c =
     let turn = c .before .before .before .before .before .before .before in
-    let entry = c .before .before .before .before .before .before .before .before .before .before in
+    let entry = turn .before .before .before in
     let light = c .before .before .before .before .before .item-end .ensures (c .before .before .before .before .if1 .taken) in
     scanning-item (entry .args .file .now) (turn .loop .b) (turn .loop .n) (turn .loop .i) (turn .loop .inv) (light .item) (c .after-item .ensures ∙ rw (← (light .start), ← (light .depth)))
 
@@ -101,7 +101,7 @@ add-word c = search needs
 returns : tie.Need-returns Inv-loop μ-loop
 returns c =
     let turn = c .before .before .before .before .before .before .before .before .before in
-    let entry = c .before .before .before .before .before .before .before .before .before .before .before .before in
+    let entry = turn .before .before .before in
     scanning-over (entry .args .file .now) (turn .loop .b) (turn .loop .n) (turn .loop .i) (turn .loop .inv) (c .before .before .before .before .before .before .before .before .loop-test .taken) (sym (c .before .before .before .number .given .1) ∙ c .before .before .before .before .before .number-at .ensures) (c .before .base-of .ensures) (c .if2 .taken)
 
 cast-after-word : tie.Need-cast-after-word Inv-loop μ-loop
@@ -117,13 +117,13 @@ add-n-2 c =
 loop-less-2 : tie.Need-loop-less-2 Inv-loop μ-loop
 loop-less-2 c =
     let turn = c .before .before .before .before .before .before .before .before .before .before in
-    let entry = c .before .before .before .before .before .before .before .before .before .before .before .before .before in
+    let entry = turn .before .before .before in
     omega (arith, next-place (entry .args .file .now) (turn .loop .i) _ _ (turn .loop .inv .inside) (sym (c .before .before .before .before .number .given .1) ∙ c .before .before .before .before .before .before .number-at .ensures) .0)
 
 loop-again-2 : tie.Need-loop-again-2 Inv-loop μ-loop
 loop-again-2 c =
     let turn = c .before .before .before .before .before .before .before .before .before .before in
-    let entry = c .before .before .before .before .before .before .before .before .before .before .before .before .before in
+    let entry = turn .before .before .before in
     scanning-word (entry .args .file .now) (turn .loop .b) (turn .loop .n) (turn .loop .i) (turn .loop .inv) (c .before .before .before .before .before .before .before .before .before .loop-test .taken) (sym (c .before .before .before .before .number .given .1) ∙ c .before .before .before .before .before .before .number-at .ensures) (c .before .before .base-of .ensures) (c .before .if2 .left) (c .after-word .ensures)
 
 enum-told : tie.Need-enum-told Inv-loop μ-loop
@@ -132,7 +132,7 @@ enum-told c = search needs
 returns-2 : tie.Need-returns-2 Inv-loop μ-loop
 returns-2 c =
     let turn = c .before .before .before .before .before .before in
-    let entry = c .before .before .before .before .before .before .before .before .before in
+    let entry = turn .before .before .before in
     scanning-wrong (entry .args .file .now) (turn .loop .b) (turn .loop .n) (turn .loop .i) (turn .loop .inv) (c .before .before .before .before .before .loop-test .taken) (sym (c .enum-told .given .1) ∙ c .before .before .number-at .ensures)
 
 enum-told-2 : tie.Need-enum-told-2 Inv-loop μ-loop
@@ -141,7 +141,7 @@ enum-told-2 c = search needs
 returns-3 : tie.Need-returns-3 Inv-loop μ-loop
 returns-3 c =
     let turn = c .before .before .before .before .before .before in
-    let entry = c .before .before .before .before .before .before .before .before .before in
+    let entry = turn .before .before .before in
     scanning-cut (entry .args .file .now) (turn .loop .b) (turn .loop .n) (turn .loop .i) (turn .loop .inv) (c .before .before .before .before .before .loop-test .taken) (sym (c .enum-told2 .given .1) ∙ c .before .before .number-at .ensures)
 
 returns-4 : tie.Need-returns-4 Inv-loop μ-loop

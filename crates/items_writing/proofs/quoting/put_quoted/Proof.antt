@@ -68,14 +68,15 @@ put-lone-requires-2 c κs =
 
 add-result : tie.Need-add-result
 add-result c =
-    let entry = c .before .before .before .before .before .before .before .before .before .before .before .before .before .before in
+    let there = c .before .before .before .before .before .before .before .before .before .before in
+    let entry = there .before .before .before .before in
     omega (
       arith,
       c .before .before .put-lone2 .ensures .0,
       second-room (entry .args .mark ∷ []) (escapedBy (entry .args .mark) (entry .args .t .now))
           (entry .args .mark ∷ []) (entry .args .out .now) (entry .pre)
-          (c .before .before .before .before .before .before .before .before .before .before .put-lone .ensures .1)
-          (c .before .before .before .before .before .before .before .before .before .before .put-lone .ensures .0)
+          (there .put-lone .ensures .1)
+          (there .put-lone .ensures .0)
           (c .before .before .before .before .before .before .put-escaped .ensures .1) (c .before .before .before .before .before .before .put-escaped .ensures .0),
     )
 
@@ -84,16 +85,17 @@ same-length c = search needs
 
 returns : tie.Need-returns
 returns c =
-    let entry = c .before .before .before .before .before .before .before .before .before .before .before .before .before .before in (
+    let there = c .before .before .before .before .before .before .before .before .before .before in
+    let entry = there .before .before .before .before in (
       third-size (entry .args .mark ∷ []) (escapedBy (entry .args .mark) (entry .args .t .now)) (entry .args .mark ∷ []) (entry .args .out .now) (entry .pre)
-          (c .before .before .before .before .before .before .before .before .before .before .put-lone .ensures .1)
-          (c .before .before .before .before .before .before .before .before .before .before .put-lone .ensures .0)
+          (there .put-lone .ensures .1)
+          (there .put-lone .ensures .0)
           (c .before .before .before .before .before .before .put-escaped .ensures .1) (c .before .before .before .before .before .before .put-escaped .ensures .0)
           (c .before .before .put-lone2 .ensures .1) (c .before .before .put-lone2 .ensures .0),
       third-is (entry .args .mark ∷ [])
           (escapedBy (entry .args .mark) (entry .args .t .now)) (entry .args .mark ∷ []) (entry .args .out .now) (entry .pre)
-          (c .before .before .before .before .before .before .before .before .before .before .put-lone .ensures .1)
-          (c .before .before .before .before .before .before .before .before .before .before .put-lone .ensures .0)
+          (there .put-lone .ensures .1)
+          (there .put-lone .ensures .0)
           (c .before .before .before .before .before .before .put-escaped .ensures .1) (c .before .before .before .before .before .before .put-escaped .ensures .0)
           (c .before .before .put-lone2 .ensures .1) (c .before .before .put-lone2 .ensures .0),
     )

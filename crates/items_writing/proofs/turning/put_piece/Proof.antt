@@ -99,40 +99,43 @@ put-shown-requires c κs =
 add-result : tie.Need-add-result
 unfolding piece
 add-result c =
-    let entry = c .before .before .before .before .before .before .before .before .before .before .before .before .before .before in
+    let there = c .before .before .before .before .before .before .before .before .before .before in
+    let entry = there .before .before .before .before in
     omega (
       arith,
       c .before .before .put-shown .ensures .0,
       second-room (lone (not (entry .args .first)) (code " ")) (lone (entry .args .turn .pair) (code "+"))
           (shown (entry .args .turn .form) (entry .args .t .now)) (entry .args .out .now) (entry .pre)
-          (c .before .before .before .before .before .before .before .before .before .before .put-lone .ensures .1)
-          (c .before .before .before .before .before .before .before .before .before .before .put-lone .ensures .0)
+          (there .put-lone .ensures .1)
+          (there .put-lone .ensures .0)
           (c .before .before .before .before .before .before .put-lone2 .ensures .1) (c .before .before .before .before .before .before .put-lone2 .ensures .0),
     )
 
 same-length : tie.Need-same-length
 unfolding piece
 same-length c =
-    let entry = c .before .before .before .before .before .before .before .before .before .before .before .before .before .before in
+    let there = c .before .before .before .before .before .before .before .before .before .before in
+    let entry = there .before .before .before .before in
     third-length (lone (not (entry .args .first)) (code " ")) (lone (entry .args .turn .pair) (code "+")) (shown (entry .args .turn .form) (entry .args .t .now))
-    (entry .args .out .now) (entry .pre) (c .before .before .before .before .before .before .before .before .before .before .put-lone .ensures .1)
-    (c .before .before .before .before .before .before .before .before .before .before .put-lone .ensures .0)
+    (entry .args .out .now) (entry .pre) (there .put-lone .ensures .1)
+    (there .put-lone .ensures .0)
     (c .before .before .before .before .before .before .put-lone2 .ensures .1) (c .before .before .before .before .before .before .put-lone2 .ensures .0)
     (c .before .before .put-shown .ensures .1) (c .before .before .put-shown .ensures .0)
 
 returns : tie.Need-returns
 unfolding piece
 returns c =
-    let entry = c .before .before .before .before .before .before .before .before .before .before .before .before .before .before in (
+    let there = c .before .before .before .before .before .before .before .before .before .before in
+    let entry = there .before .before .before .before in (
       third-size (lone (not (entry .args .first)) (code " ")) (lone (entry .args .turn .pair) (code "+")) (shown (entry .args .turn .form) (entry .args .t .now))
-          (entry .args .out .now) (entry .pre) (c .before .before .before .before .before .before .before .before .before .before .put-lone .ensures .1)
-          (c .before .before .before .before .before .before .before .before .before .before .put-lone .ensures .0)
+          (entry .args .out .now) (entry .pre) (there .put-lone .ensures .1)
+          (there .put-lone .ensures .0)
           (c .before .before .before .before .before .before .put-lone2 .ensures .1) (c .before .before .before .before .before .before .put-lone2 .ensures .0)
           (c .before .before .put-shown .ensures .1) (c .before .before .put-shown .ensures .0),
       third-is (lone (not (entry .args .first)) (code " "))
           (lone (entry .args .turn .pair) (code "+")) (shown (entry .args .turn .form) (entry .args .t .now)) (entry .args .out .now) (entry .pre)
-          (c .before .before .before .before .before .before .before .before .before .before .put-lone .ensures .1)
-          (c .before .before .before .before .before .before .before .before .before .before .put-lone .ensures .0)
+          (there .put-lone .ensures .1)
+          (there .put-lone .ensures .0)
           (c .before .before .before .before .before .before .put-lone2 .ensures .1) (c .before .before .before .before .before .before .put-lone2 .ensures .0)
           (c .before .before .put-shown .ensures .1) (c .before .before .put-shown .ensures .0),
     )

@@ -35,11 +35,12 @@ opens-line-requires c κs = search needs
 
 returns-2 : tie.Need-returns-2
 returns-2 c =
-    let t = now (c .before .before .before .before .before .before .before .before .before .args .t) in
-    let first = c .before .before .before .before .before .before .before .before .before .args .first in
-    let last = c .before .before .before .before .before .before .before .before .before .args .last in
-    let good = c .before .before .before .before .before .before .before .before .before .pre in
     let read = c .before .before .before .before .before in
+    let entry = read .before .before .before .before in
+    let t = now (entry .args .t) in
+    let first = entry .args .first in
+    let last = entry .args .last in
+    let good = entry .pre in
     let code = read .code .given .0 .0 in
     let next = read .code .given .0 .1 .0 in
     let k = char-at t 0 code next (sym (read .code .given .1) ∙ read .before .before .decode-at .ensures) (omega arith) in
@@ -50,11 +51,12 @@ first-phase-requires c κs = search needs
 
 stand-on-requires : tie.Need-stand-on-requires
 stand-on-requires c κs =
-    let t = now (c .before .before .before .before .before .before .before .before .before .before .args .t) in
-    let first = c .before .before .before .before .before .before .before .before .before .before .args .first in
-    let last = c .before .before .before .before .before .before .before .before .before .before .args .last in
-    let good = c .before .before .before .before .before .before .before .before .before .before .pre in
     let read = c .before .before .before .before .before .before in
+    let entry = read .before .before .before .before in
+    let t = now (entry .args .t) in
+    let first = entry .args .first in
+    let last = entry .args .last in
+    let good = entry .pre in
     let code = read .code .given .0 .0 in
     let next = read .code .given .0 .1 .0 in
     let k = char-at t 0 code next (sym (read .code .given .1) ∙ read .before .before .decode-at .ensures) (omega arith) in
@@ -80,11 +82,12 @@ enum-told-4 c = search needs
 
 returns-3 : tie.Need-returns-3
 returns-3 c =
-    let t = now (c .before .before .before .before .before .before .before .before .before .before .before .before .before .before .before .args .t) in
-    let first = c .before .before .before .before .before .before .before .before .before .before .before .before .before .before .before .args .first in
-    let last = c .before .before .before .before .before .before .before .before .before .before .before .before .before .before .before .args .last in
-    let good = c .before .before .before .before .before .before .before .before .before .before .before .before .before .before .before .pre in
     let read = c .before .before .before .before .before .before .before .before .before .before .before in
+    let entry = read .before .before .before .before in
+    let t = now (entry .args .t) in
+    let first = entry .args .first in
+    let last = entry .args .last in
+    let good = entry .pre in
     let code = read .code .given .0 .0 in
     let next = read .code .given .0 .1 .0 in
     let k = char-at t 0 code next (sym (read .code .given .1) ∙ read .before .before .decode-at .ensures) (omega arith) in
@@ -95,11 +98,12 @@ returns-3 c =
 
 returns-4 : tie.Need-returns-4
 returns-4 c =
-    let t = now (c .before .before .before .before .before .before .before .before .before .before .before .before .before .args .t) in
-    let first = c .before .before .before .before .before .before .before .before .before .before .before .before .before .args .first in
-    let last = c .before .before .before .before .before .before .before .before .before .before .before .before .before .args .last in
-    let good = c .before .before .before .before .before .before .before .before .before .before .before .before .before .pre in
     let read = c .before .before .before .before .before .before .before .before .before in
+    let entry = read .before .before .before .before in
+    let t = now (entry .args .t) in
+    let first = entry .args .first in
+    let last = entry .args .last in
+    let good = entry .pre in
     let code = read .code .given .0 .0 in
     let next = read .code .given .0 .1 .0 in
     let k = char-at t 0 code next (sym (read .code .given .1) ∙ read .before .before .decode-at .ensures) (omega arith) in

@@ -34,21 +34,21 @@ enum-known-code c = search needs
 
 slice-aggregate-step : tie.Need-slice-aggregate-step Inv-loop μ-loop
 slice-aggregate-step c =
-    let entry = c .before .before .before .before .before .before .before .before .before in
-    let turn = c .before .before .before .before .before .before .before .loop in
     let run = c .before .before .before .before .before .ascii-run in
+    let turn = c .before .before .before .before .before .before .before .loop in
+    let entry = c .before .before .before .before .before .before .before .before .before in
     let t = now (entry .args .t) in
     let on = go-run t (entry .args .last) (turn .phase) (turn .at) (run .result) (turn .inv .0) (run .ensures) in
     sym (front-length t (entry .args .last) (run .result) (on .1))
 
 step-requires : tie.Need-step-requires Inv-loop μ-loop
 step-requires c κs =
-    let entry = c .before .before .before .before .before .before .before .before .before in
-    let turn = c .before .before .before .before .before .before .before .loop in
-    let run = c .before .before .before .before .before .ascii-run in
+    let read = c .before .before in
+    let run = read .before .before .before .ascii-run in
+    let turn = read .before .before .before .before .before .loop in
+    let entry = read .before .before .before .before .before .before .before in
     let t = now (entry .args .t) in
     let on = go-run t (entry .args .last) (turn .phase) (turn .at) (run .result) (turn .inv .0) (run .ensures) in
-    let read = c .before .before in
     let code = read .code .given .0 .0 in
     let next = read .code .given .0 .1 .0 in
     let k = char-at t (run .result) code next (sym (read .code .given .1) ∙ read .before .before .decode-at .ensures) (on .1) in
@@ -59,12 +59,12 @@ enum-known-then c = search needs
 
 loop-less : tie.Need-loop-less Inv-loop μ-loop
 loop-less c =
-    let entry = c .before .before .before .before .before .before .before .before .before .before .before .before .before in
-    let turn = c .before .before .before .before .before .before .before .before .before .before .before .loop in
-    let run = c .before .before .before .before .before .before .before .before .before .ascii-run in
+    let read = c .before .before .before .before .before .before in
+    let run = read .before .before .before .ascii-run in
+    let turn = read .before .before .before .before .before .loop in
+    let entry = read .before .before .before .before .before .before .before in
     let t = now (entry .args .t) in
     let on = go-run t (entry .args .last) (turn .phase) (turn .at) (run .result) (turn .inv .0) (run .ensures) in
-    let read = c .before .before .before .before .before .before in
     let code = read .code .given .0 .0 in
     let next = read .code .given .0 .1 .0 in
     let k = char-at t (run .result) code next (sym (read .code .given .1) ∙ read .before .before .decode-at .ensures) (on .1) in
@@ -72,12 +72,12 @@ loop-less c =
 
 loop-again : tie.Need-loop-again Inv-loop μ-loop
 loop-again c =
-    let entry = c .before .before .before .before .before .before .before .before .before .before .before .before .before in
-    let turn = c .before .before .before .before .before .before .before .before .before .before .before .loop in
-    let run = c .before .before .before .before .before .before .before .before .before .ascii-run in
+    let read = c .before .before .before .before .before .before in
+    let run = read .before .before .before .ascii-run in
+    let turn = read .before .before .before .before .before .loop in
+    let entry = read .before .before .before .before .before .before .before in
     let t = now (entry .args .t) in
     let on = go-run t (entry .args .last) (turn .phase) (turn .at) (run .result) (turn .inv .0) (run .ensures) in
-    let read = c .before .before .before .before .before .before in
     let code = read .code .given .0 .0 in
     let next = read .code .given .0 .1 .0 in
     let k = char-at t (run .result) code next (sym (read .code .given .1) ∙ read .before .before .decode-at .ensures) (on .1) in
@@ -92,12 +92,12 @@ enum-known-what c = search needs
 
 returns : tie.Need-returns Inv-loop μ-loop
 returns c =
-    let entry = c .before .before .before .before .before .before .before .before .before .before .before .before .before in
-    let turn = c .before .before .before .before .before .before .before .before .before .before .before .loop in
-    let run = c .before .before .before .before .before .before .before .before .before .ascii-run in
+    let read = c .before .before .before .before .before .before in
+    let run = read .before .before .before .ascii-run in
+    let turn = read .before .before .before .before .before .loop in
+    let entry = read .before .before .before .before .before .before .before in
     let t = now (entry .args .t) in
     let on = go-run t (entry .args .last) (turn .phase) (turn .at) (run .result) (turn .inv .0) (run .ensures) in
-    let read = c .before .before .before .before .before .before in
     let code = read .code .given .0 .0 in
     let next = read .code .given .0 .1 .0 in
     let k = char-at t (run .result) code next (sym (read .code .given .1) ∙ read .before .before .decode-at .ensures) (on .1) in
@@ -109,27 +109,27 @@ enum-told c = search needs
 
 slice-aggregate-close : tie.Need-slice-aggregate-close Inv-loop μ-loop
 slice-aggregate-close c =
-    let entry = c .before .before .before .before .before .before .before .before in
-    let turn = c .before .before .before .before .before .before .loop in
     let run = c .before .before .before .before .ascii-run in
+    let turn = c .before .before .before .before .before .before .loop in
+    let entry = c .before .before .before .before .before .before .before .before in
     let t = now (entry .args .t) in
     let on = go-run t (entry .args .last) (turn .phase) (turn .at) (run .result) (turn .inv .0) (run .ensures) in
     sym (front-length t (entry .args .last) (run .result) (on .1))
 
 close-requires : tie.Need-close-requires Inv-loop μ-loop
 close-requires c κs =
-    let entry = c .before .before .before .before .before .before .before .before in
-    let turn = c .before .before .before .before .before .before .loop in
     let run = c .before .before .before .before .ascii-run in
+    let turn = c .before .before .before .before .before .before .loop in
+    let entry = c .before .before .before .before .before .before .before .before in
     let t = now (entry .args .t) in
     let on = go-run t (entry .args .last) (turn .phase) (turn .at) (run .result) (turn .inv .0) (run .ensures) in
     omega (arith, turn .inv .1, on .0, front-length t (entry .args .last) (run .result) (on .1))
 
 returns-2 : tie.Need-returns-2 Inv-loop μ-loop
 returns-2 c =
-    let entry = c .before .before .before .before .before .before .before .before .before in
-    let turn = c .before .before .before .before .before .before .before .loop in
     let run = c .before .before .before .before .before .ascii-run in
+    let turn = c .before .before .before .before .before .before .before .loop in
+    let entry = c .before .before .before .before .before .before .before .before .before in
     let t = now (entry .args .t) in
     let on = go-run t (entry .args .last) (turn .phase) (turn .at) (run .result) (turn .inv .0) (run .ensures) in
     let none = none-bad t (run .result) (sym (c .before .before .enum-told .given .1) ∙ c .before .before .before .before .decode-at .ensures) in
@@ -140,27 +140,27 @@ enum-told-2 c = search needs
 
 slice-aggregate-close-2 : tie.Need-slice-aggregate-close-2 Inv-loop μ-loop
 slice-aggregate-close-2 c =
-    let entry = c .before .before .before .before .before .before .before .before in
-    let turn = c .before .before .before .before .before .before .loop in
     let run = c .before .before .before .before .ascii-run in
+    let turn = c .before .before .before .before .before .before .loop in
+    let entry = c .before .before .before .before .before .before .before .before in
     let t = now (entry .args .t) in
     let on = go-run t (entry .args .last) (turn .phase) (turn .at) (run .result) (turn .inv .0) (run .ensures) in
     sym (front-length t (entry .args .last) (run .result) (on .1))
 
 close-requires-2 : tie.Need-close-requires-2 Inv-loop μ-loop
 close-requires-2 c κs =
-    let entry = c .before .before .before .before .before .before .before .before in
-    let turn = c .before .before .before .before .before .before .loop in
     let run = c .before .before .before .before .ascii-run in
+    let turn = c .before .before .before .before .before .before .loop in
+    let entry = c .before .before .before .before .before .before .before .before in
     let t = now (entry .args .t) in
     let on = go-run t (entry .args .last) (turn .phase) (turn .at) (run .result) (turn .inv .0) (run .ensures) in
     omega (arith, turn .inv .1, on .0, front-length t (entry .args .last) (run .result) (on .1))
 
 returns-3 : tie.Need-returns-3 Inv-loop μ-loop
 returns-3 c =
-    let entry = c .before .before .before .before .before .before .before .before .before in
-    let turn = c .before .before .before .before .before .before .before .loop in
     let run = c .before .before .before .before .before .ascii-run in
+    let turn = c .before .before .before .before .before .before .before .loop in
+    let entry = c .before .before .before .before .before .before .before .before .before in
     let t = now (entry .args .t) in
     let on = go-run t (entry .args .last) (turn .phase) (turn .at) (run .result) (turn .inv .0) (run .ensures) in
     let none = none-cut t (run .result) (sym (c .before .before .enum-told2 .given .1) ∙ c .before .before .before .before .decode-at .ensures) in
@@ -171,27 +171,27 @@ enum-told-3 c = search needs
 
 slice-aggregate-close-3 : tie.Need-slice-aggregate-close-3 Inv-loop μ-loop
 slice-aggregate-close-3 c =
-    let entry = c .before .before .before .before .before .before .before .before in
-    let turn = c .before .before .before .before .before .before .loop in
     let run = c .before .before .before .before .ascii-run in
+    let turn = c .before .before .before .before .before .before .loop in
+    let entry = c .before .before .before .before .before .before .before .before in
     let t = now (entry .args .t) in
     let on = go-run t (entry .args .last) (turn .phase) (turn .at) (run .result) (turn .inv .0) (run .ensures) in
     sym (front-length t (entry .args .last) (run .result) (on .1))
 
 close-requires-3 : tie.Need-close-requires-3 Inv-loop μ-loop
 close-requires-3 c κs =
-    let entry = c .before .before .before .before .before .before .before .before in
-    let turn = c .before .before .before .before .before .before .loop in
     let run = c .before .before .before .before .ascii-run in
+    let turn = c .before .before .before .before .before .before .loop in
+    let entry = c .before .before .before .before .before .before .before .before in
     let t = now (entry .args .t) in
     let on = go-run t (entry .args .last) (turn .phase) (turn .at) (run .result) (turn .inv .0) (run .ensures) in
     omega (arith, turn .inv .1, on .0, front-length t (entry .args .last) (run .result) (on .1))
 
 returns-4 : tie.Need-returns-4 Inv-loop μ-loop
 returns-4 c =
-    let entry = c .before .before .before .before .before .before .before .before .before in
-    let turn = c .before .before .before .before .before .before .before .loop in
     let run = c .before .before .before .before .before .ascii-run in
+    let turn = c .before .before .before .before .before .before .before .loop in
+    let entry = c .before .before .before .before .before .before .before .before .before in
     let t = now (entry .args .t) in
     let on = go-run t (entry .args .last) (turn .phase) (turn .at) (run .result) (turn .inv .0) (run .ensures) in
     let none = none-end t (run .result) (sym (c .before .before .enum-told3 .given .1) ∙ c .before .before .before .before .decode-at .ensures) in

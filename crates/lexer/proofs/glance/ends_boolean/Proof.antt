@@ -2,6 +2,7 @@
 use native.Mathlib.Omega.{arith}
 use mathlib.Core.Path.{_≡_, refl, sym, subst}
 use Prim.Native.Nat.{ℕ, _<_}
+use Rattle.laws.proofs.Choice.{impossible}
 use Rattle.chars.specs.Blank.{isBlank}
 use Rattle.items.specs.Classes.{endsHash, inHash, stopsHash}
 use Rattle.lexer.proofs.glance.ends_boolean.Statement.{statement}
@@ -27,7 +28,7 @@ unfolding inHash endsHash isBlank
 returns-4 c e = subst Ends (sym (c .match .keys4)) (omega arith, refl)
 
 returns-5 : tie.Need-returns-5
-returns-5 c e = let z : _≡_ {A = ℕ} 0 1 = cc in absurd (omega arith)
+returns-5 c e = impossible cc
 
 pub ends-boolean-spec : {M : Type 1} → statement M
 ends-boolean-spec = tie.close (tie.spec returns returns-2 returns-3 returns-4 returns-5)

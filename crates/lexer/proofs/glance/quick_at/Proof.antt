@@ -13,9 +13,9 @@ use Rattle.items.specs.Classes.{startsRun, firstOf}
 use Rattle.items.specs.declared.Quotes.the-variants.{Double}
 use Rattle.items.specs.declared.Phase.the-variants as ph
 use Rattle.lexer.specs.Glance.{GlanceAt}
-use Rattle.telling.specs.declared.Quick.{Quick}
+use Rattle.items_telling.specs.declared.Quick.{Quick}
 use Rattle.lexer.proofs.Glances.{begins}
-use Rattle.telling.proofs.Firsts.{letter-solid, letter-first, digit-solid, digit-first}
+use Rattle.items_telling.proofs.Firsts.{letter-solid, letter-first, digit-solid, digit-first}
 use Rattle.lexer.proofs.Tells.{single-told}
 use Rattle.lexer.proofs.glance.quick_at.Statement.{statement}
 use Rattle.lexer.proofs.glance.quick_at.Tie as tie

@@ -6,7 +6,7 @@ use Prim.Native.Nat.{_+_}
 use lib.ListN.{getD}
 use denote.Ref.{now}
 use Rattle.lexer.specs.Glance.{GlanceAt}
-use Rattle.telling.specs.declared.Quick.{Quick}
+use Rattle.items_telling.specs.declared.Quick.{Quick}
 use Rattle.lexer.proofs.Sharps.{boolean-told}
 use Rattle.lexer.proofs.glance.quick_boolean.Statement.{statement}
 use Rattle.lexer.proofs.glance.quick_boolean.Tie as tie

@@ -4,7 +4,7 @@ use native.Mathlib.Omega.{arith}
 use mathlib.Core.Path.{sym, subst}
 use denote.Ref.{now}
 use Rattle.lexer.specs.Glance.{GlanceAt}
-use Rattle.telling.specs.declared.Quick.{Quick}
+use Rattle.items_telling.specs.declared.Quick.{Quick}
 use Rattle.lexer.proofs.Sharps.{spells-true, spells-false, vector-told}
 use Rattle.lexer.proofs.glance.quick_hash.Statement.{statement}
 use Rattle.lexer.proofs.glance.quick_hash.Tie as tie

@@ -9,7 +9,7 @@ use Rattle.items.specs.declared.Phase.the-variants as ph
 use Rattle.steps.specs.Ended.{EndsAs}
 use Rattle.steps.specs.declared.Ending.{Ending}
 use Rattle.lexer.specs.Glance.{GlanceAt}
-use Rattle.telling.specs.declared.Quick.{Quick}
+use Rattle.items_telling.specs.declared.Quick.{Quick}
 use Rattle.lexer.proofs.Tells.{begins-inside, ends-here, line-told}
 use Rattle.lexer.proofs.glance.quick_line.Statement.{statement}
 use Rattle.lexer.proofs.glance.quick_line.Tie as tie

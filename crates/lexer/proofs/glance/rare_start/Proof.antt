@@ -9,7 +9,7 @@ use lib.ListN.{length, getD, drop, length-drop}
 use Rattle.chars.specs.Wide.{Wide}
 use Rattle.chars.proofs.Wide.{is-past, past-fits}
 use Rattle.items.specs.declared.Phase.the-variants as ph
-use Rattle.telling.proofs.Firsts.{capital-begins}
+use Rattle.items_telling.proofs.Firsts.{capital-begins}
 use Rattle.lexer.proofs.Glances.{begins, begins-past}
 use Rattle.lexer.proofs.glance.rare_start.Statement.{statement}
 use Rattle.lexer.proofs.glance.rare_start.Tie as tie

@@ -16,7 +16,7 @@ use Rattle.meaning.specs.Meant.{means}
 use Rattle.meaning.specs.declared.Text.the-variants.{Nowhere}
 use Rattle.lexer.specs.Glance.{Begins}
 use Rattle.lexer.proofs.Glances.{begins}
-use Rattle.telling.proofs.Firsts.{letter-solid, letter-first, digit-solid, digit-first}
+use Rattle.items_telling.proofs.Firsts.{letter-solid, letter-first, digit-solid, digit-first}
 use Rattle.lexer.proofs.Tells.{single-told}
 use Rattle.lexer.proofs.Skims.{word-skims, run-skims, worded-skims}
 use Rattle.lexer.proofs.glance.skim_at.Statement.{statement}

@@ -1,9 +1,8 @@
 -- The character after the first # decides.
-use Prim.Native.Nat.{ℕ}
-use mathlib.Core.Path.{_≡_, sym, _∙_}
-use native.Mathlib.Omega.{arith}
+use mathlib.Core.Path.{sym, _∙_}
 use borrow.Author.Tests.{ne-eqb}
 use denote.Ref.{now}
+use Rattle.laws.proofs.Choice.{impossible}
 use Rattle.chars.specs.declared.Decoded.the-variants as decoded
 use Rattle.lexer.proofs.Opens.{bang, no-bang, hash-none}
 use borrow.Author.Needs.{needs}
@@ -46,19 +45,19 @@ returns-3 : tie.Need-returns-3
 returns-3 c =
     let entry = c .before .before .before .before in
     hash-none (now (entry .args .source)) (entry .args .at) decoded.Bad
-    (sym (c .enum-told .given .1) ∙ c .before .before .decode-at .ensures) (λ d n z. let y : _≡_ {A = ℕ} 0 1 = cc in omega arith)
+    (sym (c .enum-told .given .1) ∙ c .before .before .decode-at .ensures) (λ d n z. impossible cc)
 
 returns-4 : tie.Need-returns-4
 returns-4 c =
     let entry = c .before .before .before .before in
     hash-none (now (entry .args .source)) (entry .args .at) decoded.Cut
-    (sym (c .enum-told2 .given .1) ∙ c .before .before .decode-at .ensures) (λ d n z. let y : _≡_ {A = ℕ} 0 1 = cc in omega arith)
+    (sym (c .enum-told2 .given .1) ∙ c .before .before .decode-at .ensures) (λ d n z. impossible cc)
 
 returns-5 : tie.Need-returns-5
 returns-5 c =
     let entry = c .before .before .before .before in
     hash-none (now (entry .args .source)) (entry .args .at) decoded.End
-    (sym (c .enum-told3 .given .1) ∙ c .before .before .decode-at .ensures) (λ d n z. let y : _≡_ {A = ℕ} 0 1 = cc in omega arith)
+    (sym (c .enum-told3 .given .1) ∙ c .before .before .decode-at .ensures) (λ d n z. impossible cc)
 
 pub after-hash-spec : {M : Type 1} → statement M
 after-hash-spec =

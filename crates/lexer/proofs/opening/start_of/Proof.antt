@@ -1,9 +1,8 @@
 -- The first character decides, and after a # the second.
-use Prim.Native.Nat.{ℕ}
-use mathlib.Core.Path.{_≡_, sym, _∙_}
-use native.Mathlib.Omega.{arith}
+use mathlib.Core.Path.{sym, _∙_}
 use borrow.Author.Tests.{ne-eqb}
 use denote.Ref.{now}
+use Rattle.laws.proofs.Choice.{impossible}
 use Rattle.chars.specs.declared.Decoded.the-variants as decoded
 use Rattle.lexer.proofs.Opens.{hash-at, no-hash, no-start}
 use borrow.Author.Needs.{needs}
@@ -45,15 +44,15 @@ returns-2 c =
 
 returns-3 : tie.Need-returns-3
 returns-3 c = no-start (now (c .before .before .before .before .args .source)) decoded.Bad
-    (sym (c .enum-told .given .1) ∙ c .before .before .decode-at .ensures) (λ d n z. let y : _≡_ {A = ℕ} 0 1 = cc in omega arith)
+    (sym (c .enum-told .given .1) ∙ c .before .before .decode-at .ensures) (λ d n z. impossible cc)
 
 returns-4 : tie.Need-returns-4
 returns-4 c = no-start (now (c .before .before .before .before .args .source)) decoded.Cut
-    (sym (c .enum-told2 .given .1) ∙ c .before .before .decode-at .ensures) (λ d n z. let y : _≡_ {A = ℕ} 0 1 = cc in omega arith)
+    (sym (c .enum-told2 .given .1) ∙ c .before .before .decode-at .ensures) (λ d n z. impossible cc)
 
 returns-5 : tie.Need-returns-5
 returns-5 c = no-start (now (c .before .before .before .before .args .source)) decoded.End
-    (sym (c .enum-told3 .given .1) ∙ c .before .before .decode-at .ensures) (λ d n z. let y : _≡_ {A = ℕ} 0 1 = cc in omega arith)
+    (sym (c .enum-told3 .given .1) ∙ c .before .before .decode-at .ensures) (λ d n z. impossible cc)
 
 pub start-of-spec : {M : Type 1} → statement M
 start-of-spec =

@@ -8,7 +8,7 @@ use lib.ListN.{drop, length-drop}
 use denote.Ref.{now}
 use Rattle.laws.specs.Texts.{span}
 use Rattle.laws.proofs.Runs.{span-le}
-use Rattle.texts.specs.Runs.{blank}
+use Rattle.byte_runs.specs.Runs.{blank}
 use Rattle.lexer.proofs.Starts.{blanks}
 use Rattle.lexer.proofs.reading.past_blanks.Statement.{statement}
 use Rattle.lexer.proofs.reading.past_blanks.Tie as tie

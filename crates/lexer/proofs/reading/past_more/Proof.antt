@@ -9,7 +9,7 @@ use denote.Ref.{now}
 use Rattle.laws.specs.Texts.{span}
 use Rattle.laws.proofs.Runs.{span-le}
 use Rattle.chars.specs.Utf8.{chars}
-use Rattle.texts.specs.Runs.{blank}
+use Rattle.byte_runs.specs.Runs.{blank}
 use Rattle.lexer.specs.Reading.{startFrom}
 use Rattle.lexer.proofs.Starts.{blanks, start-run}
 use Rattle.lexer.proofs.reading.past_more.Statement.{statement}

@@ -6,8 +6,8 @@ use Prim.Native.Nat.{_+_}
 use denote.Ref.{now}
 use Rattle.items.specs.declared.Quotes.the-variants.{Double}
 use Rattle.items.specs.declared.Phase.the-variants as ph
-use Rattle.telling.specs.Strings.{StrungAs}
-use Rattle.telling.specs.declared.Strung.{Strung}
+use Rattle.items_telling.specs.Strings.{StrungAs}
+use Rattle.items_telling.specs.declared.Strung.{Strung}
 use Rattle.lexer.proofs.Tells.{begins-inside}
 use Rattle.lexer.proofs.Strung.{whole-stands, on-stands}
 use Rattle.lexer.proofs.strings.begin_string.Statement.{statement}

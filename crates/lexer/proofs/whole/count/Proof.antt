@@ -10,7 +10,7 @@ use Rattle.lexer.specs.Reading.{nextAt, foundOf, sizeOf}
 use Rattle.lexer.specs.declared.Spot.{Spot}
 use Rattle.lexer.specs.declared.Found.the-variants.{One}
 use Rattle.lexer.specs.Writing.{Going, Counting, toldTo}
-use Rattle.lexer.proofs.Going.{going, going-on, counted, it, it-moved, size-le}
+use Rattle.lexer.proofs.ReadingOn.{going, going-on, counted, it, it-moved, size-le}
 use Rattle.lexer.proofs.Writing.{past-end}
 use borrow.Author.Needs.{needs}
 use Rattle.lexer.proofs.whole.count.Statement.{statement}

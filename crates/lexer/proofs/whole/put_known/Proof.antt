@@ -1,4 +1,4 @@
--- What one look told is written, then what another told, and so on: any writing that stood at the spot goes on past all of it (Quickly). Each
+-- What one look told is written, then what another told, and so on: any writing that stood at the spot goes on past all of it (ToldTurns). Each
 -- turn but the last writes a word at least, and the records have an end.
 use mathlib.Core.Path.{refl}
 use Prim.Native.Nat.{_-_}
@@ -6,7 +6,7 @@ use native.Mathlib.Omega.{arith}
 use lib.ListN.{length}
 use denote.Ref.{now}
 use Rattle.lexer.specs.Writing.{ToldOn}
-use Rattle.lexer.proofs.Quickly.{none-told, told-length, words-on, told-amid, told-more}
+use Rattle.lexer.proofs.ToldTurns.{none-told, told-length, words-on, told-amid, told-more}
 use borrow.Author.Needs.{needs}
 use Rattle.lexer.proofs.whole.put_known.Statement.{statement}
 use Rattle.lexer.proofs.whole.put_known.Tie as tie
@@ -17,8 +17,12 @@ Inv-loop source p recs₀ free from deep got₀ recs got = ToldOn source p recs�
 abbrev μ-loop : tie.MeasureT-loop
 μ-loop source p recs₀ free from deep got₀ recs got = length recs₀ - got .words
 
+-- where the call began
+abbrev entry-of : tie.After-put-told Inv-loop μ-loop → tie.Start Inv-loop μ-loop
+entry-of k = k .before .before .before .before .before .before
+
 -- with what `put_told` wrote
-told : (k : tie.After-put-told Inv-loop μ-loop) → ToldOn (now (k .before .before .before .before .before .before .args .source)) (k .before .before .before .before .before .before .args .p) (now (k .before .before .before .before .before .before .args .recs)) (k .before .before .before .before .before .before .args .free) (k .before .before .before .before .before .before .args .deep) (k .before .before .before .before .before .before .args .from)
+told : (k : tie.After-put-told Inv-loop μ-loop) → ToldOn (now (entry-of k .args .source)) (entry-of k .args .p) (now (entry-of k .args .recs)) (entry-of k .args .free) (entry-of k .args .deep) (entry-of k .args .from)
     (k .put-told .result .at) (k .put-told .last .1 .1 .0) (k .put-told .result .depth) (k .put-told .result .words)
 told k =
     let turn = k .before .before .before in
@@ -27,7 +31,7 @@ told k =
     (k .before .before .spot-past .result) (k .before .before .spot-past .ensures) (k .put-told .result .at) (k .put-told .ensures)
 
 -- and with what `put_rare` wrote after it
-rare : (k : tie.After-put-rare Inv-loop μ-loop) → ToldOn (now (k .before .before .before .before .before .before .before .before .before .before .before .args .source)) (k .before .before .before .before .before .before .before .before .before .before .before .args .p) (now (k .before .before .before .before .before .before .before .before .before .before .before .args .recs)) (k .before .before .before .before .before .before .before .before .before .before .before .args .free) (k .before .before .before .before .before .before .before .before .before .before .before .args .deep) (k .before .before .before .before .before .before .before .before .before .before .before .args .from)
+rare : (k : tie.After-put-rare Inv-loop μ-loop) → ToldOn (now (entry-of (k .before .before .before .before .before) .args .source)) (entry-of (k .before .before .before .before .before) .args .p) (now (entry-of (k .before .before .before .before .before) .args .recs)) (entry-of (k .before .before .before .before .before) .args .free) (entry-of (k .before .before .before .before .before) .args .deep) (entry-of (k .before .before .before .before .before) .args .from)
     (k .put-rare .result .at) (k .put-rare .last .1 .1 .0) (k .put-rare .result .depth) (k .put-rare .result .words)
 rare k =
     let t = k .before .before .before .before .before in
@@ -70,7 +74,7 @@ put-rare-requires c κs =
 same-length : tie.Need-same-length Inv-loop μ-loop
 same-length c =
     let k = c .before .before .before .before .before in
-    let entry = k .before .before .before .before .before .before .before .before .before .before .before in
+    let entry = entry-of (k .before .before .before .before .before) in
     let a = entry .args in
     told-length (now (a .source)) (a .p) (now (a .recs)) (a .free) (a .deep) (a .from) (entry .pre .1) (k .put-rare .result .at) (rare k .1)
 
@@ -80,7 +84,7 @@ returns c = rare (c .before .before .before .before .before)
 loop-less : tie.Need-loop-less Inv-loop μ-loop
 loop-less c =
     let k = c .before .before .before .before .before in
-    let entry = k .before .before .before .before .before .before .before .before .before .before .before in
+    let entry = entry-of (k .before .before .before .before .before) in
     let a = entry .args in
     omega (
       arith,

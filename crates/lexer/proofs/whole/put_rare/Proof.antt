@@ -1,5 +1,5 @@
 -- As in `put_told`: each turn writes the record of the word that one look told, and any writing that stood at the spot goes on past it
--- (Quickly). A word leaves the depth as it is.
+-- (ToldTurns). A word leaves the depth as it is.
 use mathlib.Core.Path.{_≡_, refl, sym, ap, _∙_, subst}
 use Prim.Native.Nat.{ℕ, _+_, _-_, _≤_}
 use native.Mathlib.Omega.{arith}
@@ -12,9 +12,9 @@ use Rattle.items.specs.declared.Record.{Record}
 use Rattle.lexer.specs.Writing.{Amid, ToldOn}
 use Rattle.lexer.specs.Glance.{GlanceAt}
 use Rattle.lexer.specs.declared.Spot.{Spot}
-use Rattle.telling.specs.declared.Quick.{Quick}
-use Rattle.telling.specs.declared.Quick.the-variants.{Item}
-use Rattle.lexer.proofs.Quickly.{none-told, told-length, told-fits, told-forward, told-room, told-on}
+use Rattle.items_telling.specs.declared.Quick.{Quick}
+use Rattle.items_telling.specs.declared.Quick.the-variants.{Item}
+use Rattle.lexer.proofs.ToldTurns.{none-told, told-length, told-fits, told-forward, told-room, told-on}
 use borrow.Author.Needs.{needs}
 use Rattle.lexer.proofs.whole.put_rare.Statement.{statement}
 use Rattle.lexer.proofs.whole.put_rare.Tie as tie
@@ -25,26 +25,34 @@ Inv-loop source recs₀ free from deep w₀ at₀ recs w at = (p : Spot) → p .
 abbrev μ-loop : tie.MeasureT-loop
 μ-loop source recs₀ free from deep w₀ at₀ recs w at = length source - at
 
-item-told : (c : tie.After-known-told Inv-loop μ-loop) (p : Spot) → GlanceAt (now (c .before .before .before .before .before .before .before .before .args .source)) (p .report) (p .skip) (c .before .before .before .before .before .loop .at) (Item (c .before .m .given .0 .0) (c .before .m .given .0 .1 .0) (c .before .m .given .0 .1 .1 .0))
+-- where the call began, from where a turn of its loop did
+abbrev entry-of : tie.At-loop Inv-loop μ-loop → tie.Start Inv-loop μ-loop
+entry-of l = l .before .before .before
+
+item-told : (c : tie.After-known-told Inv-loop μ-loop) (p : Spot) → GlanceAt (now (entry-of (c .before .before .before .before .before) .args .source)) (p .report) (p .skip) (c .before .before .before .before .before .loop .at) (Item (c .before .m .given .0 .0) (c .before .m .given .0 .1 .0) (c .before .m .given .0 .1 .1 .0))
 item-told c p =
-    subst (λ (q : Quick). GlanceAt (now (c .before .before .before .before .before .before .before .before .args .source)) (p .report) (p .skip) (c .before .before .before .before .before .loop .at) q) (c .before .m .given .1) (c .before .before .before .quick-rare .ensures (p .report) (p .skip))
+    subst (λ (q : Quick). GlanceAt (now (entry-of (c .before .before .before .before .before) .args .source)) (p .report) (p .skip) (c .before .before .before .before .before .loop .at) q) (c .before .m .given .1) (c .before .before .before .quick-rare .ensures (p .report) (p .skip))
 
 -- what was told up to here, from the spot of the call on
-so-far : (c : tie.After-known-told Inv-loop μ-loop) → ToldOn (now (c .before .before .before .before .before .before .before .before .args .source)) (c .before .before .before .before .before .before .before .before .args .p) (now (c .before .before .before .before .before .before .before .before .args .recs)) (c .before .before .before .before .before .before .before .before .args .free) (c .before .before .before .before .before .before .before .before .args .deep) (c .before .before .before .before .before .before .before .before .args .from)
-    (c .before .before .before .before .before .loop .at) (c .before .before .before .before .before .loop .recs) (c .before .before .before .before .before .before .before .before .args .deep) (c .before .before .before .before .before .loop .w)
-so-far c = c .before .before .before .before .before .loop .inv (c .before .before .before .before .before .before .before .before .args .p) refl (c .before .before .before .before .before .before .before .before .pre .1)
+so-far : (c : tie.After-known-told Inv-loop μ-loop) → ToldOn (now (entry-of (c .before .before .before .before .before) .args .source)) (entry-of (c .before .before .before .before .before) .args .p) (now (entry-of (c .before .before .before .before .before) .args .recs)) (entry-of (c .before .before .before .before .before) .args .free) (entry-of (c .before .before .before .before .before) .args .deep) (entry-of (c .before .before .before .before .before) .args .from)
+    (c .before .before .before .before .before .loop .at) (c .before .before .before .before .before .loop .recs) (entry-of (c .before .before .before .before .before) .args .deep) (c .before .before .before .before .before .loop .w)
+so-far c =
+    let entry = entry-of (c .before .before .before .before .before) in
+    c .before .before .before .before .before .loop .inv (entry .args .p) refl (entry .pre .1)
 
 item-room : (c : tie.After-known-told Inv-loop μ-loop) → c .before .before .before .before .before .loop .w + recordWords ≤ length (c .before .before .before .before .before .loop .recs)
 item-room c =
-    let a = c .before .before .before .before .before .before .before .before .args in
+    let entry = entry-of (c .before .before .before .before .before) in
+    let a = entry .args in
     let t = item-told c (a .p) in
-    told-room (now (a .source)) (a .p) (now (a .recs)) (a .free) (a .deep) (a .from) (c .before .before .before .before .before .before .before .before .pre .1)
+    told-room (now (a .source)) (a .p) (now (a .recs)) (a .free) (a .deep) (a .from) (entry .pre .1)
     (c .before .before .before .before .before .loop .at) (so-far c .1) (c .before .m .given .0 .1 .0) (c .before .m .given .0 .1 .1 .0) (c .before .m .given .0 .0) (t .0, t .1, t .2)
 
-item-same : (c : tie.After-known-told Inv-loop μ-loop) → length (c .before .before .before .before .before .loop .recs) ≡ length (now (c .before .before .before .before .before .before .before .before .args .recs))
+item-same : (c : tie.After-known-told Inv-loop μ-loop) → length (c .before .before .before .before .before .loop .recs) ≡ length (now (entry-of (c .before .before .before .before .before) .args .recs))
 item-same c =
-    let a = c .before .before .before .before .before .before .before .before .args in
-    told-length (now (a .source)) (a .p) (now (a .recs)) (a .free) (a .deep) (a .from) (c .before .before .before .before .before .before .before .before .pre .1) (c .before .before .before .before .before .loop .at) (so-far c .1)
+    let entry = entry-of (c .before .before .before .before .before) in
+    let a = entry .args in
+    told-length (now (a .source)) (a .p) (now (a .recs)) (a .free) (a .deep) (a .from) (entry .pre .1) (c .before .before .before .before .before .loop .at) (so-far c .1)
 
 loop-holds : tie.Need-loop-holds Inv-loop μ-loop
 loop-holds c p is amid =
@@ -85,7 +93,7 @@ put-requires c κs = let l = c .before .before .before .before .before .before .
 add-w : tie.Need-add-w Inv-loop μ-loop
 add-w c =
     let earlier = c .before .before .before .before .before in
-    let good = c .before .before .before .before .before .before .before .before .before .before .before .before .before .good in
+    let good = entry-of (earlier .before .before .before .before .before) .good in
     omega (arith, item-room earlier, item-same earlier)
 
 past-blanks-requires : tie.Need-past-blanks-requires Inv-loop μ-loop

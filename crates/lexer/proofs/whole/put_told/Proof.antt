@@ -1,5 +1,5 @@
 -- Each turn writes the record of the item that one look told, so that any writing that stood at the spot goes on past it and past the blanks
--- after it (Quickly). An item that is no bracket leaves the depth as it is.
+-- after it (ToldTurns). An item that is no bracket leaves the depth as it is.
 use mathlib.Core.Path.{_≡_, sym, ap, _∙_, subst}
 use Prim.Native.Nat.{_+_, _-_, _≤_}
 use native.Mathlib.Omega.{arith}
@@ -12,9 +12,9 @@ use Rattle.items.specs.declared.Record.{Record}
 use Rattle.lexer.specs.Reading.{sizeOf}
 use Rattle.lexer.specs.Writing.{toldTo, ToldOn}
 use Rattle.lexer.specs.Glance.{GlanceAt}
-use Rattle.telling.specs.declared.Quick.{Quick}
-use Rattle.telling.specs.declared.Quick.the-variants.{Item, Bracket}
-use Rattle.lexer.proofs.Quickly.{none-told, told-length, told-fits, told-room, told-smaller, told-on}
+use Rattle.items_telling.specs.declared.Quick.{Quick}
+use Rattle.items_telling.specs.declared.Quick.the-variants.{Item, Bracket}
+use Rattle.lexer.proofs.ToldTurns.{none-told, told-length, told-fits, told-room, told-smaller, told-on}
 use borrow.Author.Needs.{needs}
 use Rattle.lexer.proofs.whole.put_told.Statement.{statement}
 use Rattle.lexer.proofs.whole.put_told.Tie as tie
@@ -25,10 +25,14 @@ Inv-loop source p recs₀ free from deep depth₀ w₀ at₀ recs depth w at = T
 abbrev μ-loop : tie.MeasureT-loop
 μ-loop source p recs₀ free from deep depth₀ w₀ at₀ recs depth w at = sizeOf source (toldTo p at from w)
 
-item-told : (c : tie.After-known-told Inv-loop μ-loop) → GlanceAt (now (c .before .before .before .before .before .before .before .before .before .args .source)) (c .before .before .before .before .before .before .before .before .before .args .p .report) (c .before .before .before .before .before .before .before .before .before .args .p .skip)
+-- where the call began, from where a turn of its loop did
+abbrev entry-of : tie.At-loop Inv-loop μ-loop → tie.Start Inv-loop μ-loop
+entry-of l = l .before .before .before .before
+
+item-told : (c : tie.After-known-told Inv-loop μ-loop) → GlanceAt (now (entry-of (c .before .before .before .before .before) .args .source)) (entry-of (c .before .before .before .before .before) .args .p .report) (entry-of (c .before .before .before .before .before) .args .p .skip)
     (c .before .before .before .before .before .loop .at) (Item (c .before .m .given .0 .0) (c .before .m .given .0 .1 .0) (c .before .m .given .0 .1 .1 .0))
 item-told c =
-    let entry = c .before .before .before .before .before .before .before .before .before in
+    let entry = entry-of (c .before .before .before .before .before) in
     subst (λ (q : Quick). GlanceAt (now (entry .args .source)) (entry .args .p .report) (entry .args .p .skip) (c .before .before .before .before .before .loop .at) q) (c .before .m .given .1) (c .before .before .before .quick-at .ensures)
 
 item-room : (c : tie.After-known-told Inv-loop μ-loop) → c .before .before .before .before .before .loop .w + recordWords ≤ length (c .before .before .before .before .before .loop .recs)
@@ -39,17 +43,17 @@ item-room c =
     told-room (now (entry .args .source)) (entry .args .p) (now (entry .args .recs)) (entry .args .free) (entry .args .deep) (entry .args .from) (entry .pre .1)
     (turn .loop .at) (turn .loop .inv .1) (c .before .m .given .0 .1 .0) (c .before .m .given .0 .1 .1 .0) (c .before .m .given .0 .0) (t .0, t .1, t .2)
 
-item-same : (c : tie.After-known-told Inv-loop μ-loop) → length (c .before .before .before .before .before .loop .recs) ≡ length (now (c .before .before .before .before .before .before .before .before .before .args .recs))
+item-same : (c : tie.After-known-told Inv-loop μ-loop) → length (c .before .before .before .before .before .loop .recs) ≡ length (now (entry-of (c .before .before .before .before .before) .args .recs))
 item-same c =
     let turn = c .before .before .before .before .before in
     let entry = turn .before .before .before .before in
     told-length (now (entry .args .source)) (entry .args .p) (now (entry .args .recs)) (entry .args .free) (entry .args .deep) (entry .args .from) (entry .pre .1)
     (turn .loop .at) (turn .loop .inv .1)
 
-bracket-told : (c : tie.After-known-told2 Inv-loop μ-loop) → GlanceAt (now (c .before .before .before .before .before .before .before .before .before .args .source)) (c .before .before .before .before .before .before .before .before .before .args .p .report) (c .before .before .before .before .before .before .before .before .before .args .p .skip)
+bracket-told : (c : tie.After-known-told2 Inv-loop μ-loop) → GlanceAt (now (entry-of (c .before .before .before .before .before) .args .source)) (entry-of (c .before .before .before .before .before) .args .p .report) (entry-of (c .before .before .before .before .before) .args .p .skip)
     (c .before .before .before .before .before .loop .at) (Bracket (c .before .m2 .given .0 .0) (c .before .m2 .given .0 .1 .0) (c .before .m2 .given .0 .1 .1 .0))
 bracket-told c =
-    let entry = c .before .before .before .before .before .before .before .before .before in
+    let entry = entry-of (c .before .before .before .before .before) in
     subst (λ (q : Quick). GlanceAt (now (entry .args .source)) (entry .args .p .report) (entry .args .p .skip) (c .before .before .before .before .before .loop .at) q) (c .before .m2 .given .1) (c .before .before .before .quick-at .ensures)
 
 bracket-room : (c : tie.After-known-told2 Inv-loop μ-loop) → c .before .before .before .before .before .loop .w + recordWords ≤ length (c .before .before .before .before .before .loop .recs)
@@ -60,7 +64,7 @@ bracket-room c =
     told-room (now (entry .args .source)) (entry .args .p) (now (entry .args .recs)) (entry .args .free) (entry .args .deep) (entry .args .from) (entry .pre .1)
     (turn .loop .at) (turn .loop .inv .1) (c .before .m2 .given .0 .1 .0) (c .before .m2 .given .0 .1 .1 .0) (c .before .m2 .given .0 .0) (t .0, t .1, t .2)
 
-bracket-same : (c : tie.After-known-told2 Inv-loop μ-loop) → length (c .before .before .before .before .before .loop .recs) ≡ length (now (c .before .before .before .before .before .before .before .before .before .args .recs))
+bracket-same : (c : tie.After-known-told2 Inv-loop μ-loop) → length (c .before .before .before .before .before .loop .recs) ≡ length (now (entry-of (c .before .before .before .before .before) .args .recs))
 bracket-same c =
     let turn = c .before .before .before .before .before in
     let entry = turn .before .before .before .before in
@@ -111,7 +115,7 @@ put-requires c κs = let l = c .before .before .before .before .before .before .
 add-w : tie.Need-add-w Inv-loop μ-loop
 add-w c =
     let earlier = c .before .before .before .before .before in
-    let good = c .before .before .before .before .before .before .before .before .before .before .before .before .before .before .good in
+    let good = entry-of (earlier .before .before .before .before .before) .good in
     omega (arith, item-room earlier, item-same earlier)
 
 past-blanks-requires-2 : tie.Need-past-blanks-requires-2 Inv-loop μ-loop
@@ -175,7 +179,7 @@ depth-after-requires c κs = search needs
 add-w-2 : tie.Need-add-w-2 Inv-loop μ-loop
 add-w-2 c =
     let earlier = c .before .before .before .before .before .before in
-    let good = c .before .before .before .before .before .before .before .before .before .before .before .before .before .before .before .good in
+    let good = entry-of (earlier .before .before .before .before .before) .good in
     omega (arith, bracket-room earlier, bracket-same earlier)
 
 past-blanks-requires-3 : tie.Need-past-blanks-requires-3 Inv-loop μ-loop

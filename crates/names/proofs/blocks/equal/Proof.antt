@@ -52,7 +52,7 @@ loop-less c = search needs
 loop-again : tie.Need-loop-again Inv-loop μ-loop
 loop-again c =
     let turn = c .before .before .before .before in
-    let a = c .before .before .before .before .before .before .before .before .before .args in
+    let a = turn .before .before .before .before .before .args in
     let i = c .before .before .before .before .loop .i in
     agree-eight (now (a .s)) (now (a .t)) (λ j. omega (arith, turn .before .before .before .before .shared-slice-known .given j))
     (λ j. omega (arith, turn .before .before .before .shared-slice-known2 .given j)) i i (omega arith)

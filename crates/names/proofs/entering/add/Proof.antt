@@ -43,7 +43,7 @@ sub-if2 c =
       arith,
       used-of (now (entry .args .words))
           (now (entry .args .bytes)) (entry .args .party) (now (entry .args .name)) (c .before .before .before .word .ensures) (c .word2 .ensures),
-      entry .pre .1 .1 .1 .1 .1 .1,
+      entry .pre .1 .1 .1,
     )
 
 same-length-2 : tie.Need-same-length-2
@@ -51,24 +51,24 @@ same-length-2 c = search needs
 
 returns-2 : tie.Need-returns-2
 returns-2 c = new-long _ _ _ _ (c .before .before .before .before .word .ensures) (c .before .before .before .if1 .left)
-    (c .before .word2 .ensures) (c .before .before .before .before .before .before .before .before .before .pre .1 .1 .1 .1 .1 .1) (c .if2 .taken)
+    (c .before .word2 .ensures) (c .before .before .before .before .before .before .before .before .before .pre .1 .1 .1) (c .if2 .taken)
 
 put-requires : tie.Need-put-requires
 put-requires c κs =
     let at-word = c .before .before .before .before .before in
     let entry = at-word .before .before .before .before .before in
-    let q = c .before .before .before .before .before .before .before .before .before .before .pre in
+    let q = entry .pre in
     let u = used-of (now (entry .args .words))
     (now (entry .args .bytes)) (entry .args .party) (now (entry .args .name)) (at-word .word .ensures) (c .before .before .word2 .ensures) in (
-      q .1 .1 .0,
+      q .1 .1 .0 .words,
       (
-        q .1 .1 .1 .1 .0,
+        q .1 .1 .0 .party,
         (
           rw (q .0) (free-small (now (entry .args .words))
               (now (entry .args .bytes)) (now (entry .args .name)) (entry .args .party) looks (slotOf (now (entry .args .name))) (slot-small _)),
           (
             rw (q .1 .0) (mod-lt _ (omega arith)),
-            (at-word .word .ensures, (u, (c .before .before .before .before .if1 .left, omega (arith, u, q .1 .1 .1 .1 .1 .1, c .before .if2 .left)))),
+            (at-word .word .ensures, (u, (c .before .before .before .before .if1 .left, omega (arith, u, q .1 .1 .1, c .before .if2 .left)))),
           ),
         ),
       ),
@@ -85,21 +85,21 @@ add-copy c =
       used-of (now (entry .args .words)) (now (entry .args .bytes)) (entry .args .party) (now (entry .args .name))
           (c .before .before .before .before .before .before .before .before .before .word .ensures)
           (c .before .before .before .before .before .before .word2 .ensures),
-      entry .pre .1 .1 .1 .1 .1 .1,
+      entry .pre .1 .1 .1,
     )
 
 copy-requires : tie.Need-copy-requires
 copy-requires c κs =
     let branch = c .before .before .before .before .before in
     let entry = branch .before .before .before .before .before .before .before .before .before in
-    let q = c .before .before .before .before .before .before .before .before .before .before .before .before .before .before .pre in
+    let q = entry .pre in
     omega (
       arith,
       used-of (now (entry .args .words)) (now (entry .args .bytes))
           (entry .args .party) (now (entry .args .name)) (branch .before .before .before .before .word .ensures) (branch .before .word2 .ensures),
-      q .1 .1 .1 .1 .1 .1,
-      q .1 .1 .1 .0,
-      q .1 .1 .1 .1 .0,
+      q .1 .1 .1,
+      q .1 .1 .0 .bytes,
+      q .1 .1 .0 .party,
       branch .if2 .left,
     )
 
@@ -122,10 +122,10 @@ returns-3 : tie.Need-returns-3
 returns-3 c =
     let written = c .before .before .before .before .before .before in
     let entry = written .before .before .before .before .before .before .before .before .before .before .before in
-    let q = c .before .before .before .before .before .before .before .before .before .before .before .before .before .before .before .before .before .pre in
+    let q = entry .pre in
     new-put _ _ _ _
     (written .before .before .before .before .before .before .word .ensures) (written .before .before .before .before .before .if1 .left)
-    (written .before .before .before .word2 .ensures) (q .1 .1 .1 .1 .1 .1) (written .before .before .if2 .left) (q .0)
+    (written .before .before .before .word2 .ensures) (q .1 .1 .1) (written .before .before .if2 .left) (q .0)
     (written .put .ensures
     ∙ ap (λ (t : ℕ). newWords (now (entry .args .words)) (entry .args .party) (entry .args .slot) t (length (now (entry .args .name)))) (q .1 .0))
     (c .before .before .copy .ensures)

@@ -4,7 +4,7 @@ use mathlib.Core.Path.{sym, _∙_}
 use borrow.Author.Needs.{needs}
 use borrow.Author.Tests.{not-false, not-true}
 use Rattle.names.proofs.Gives.{enter-new, enter-outside, enter-party, enter-there, find-in, number-small}
-use Rattle.names.proofs.Laws.{bounds}
+use Rattle.names.proofs.Laws.{bounds, readable}
 use Rattle.names.proofs.entering.enter.Statement.{statement}
 use Rattle.names.proofs.entering.enter.Tie as tie
 
@@ -35,7 +35,7 @@ hash-requires c κs = search needs
 find-requires : tie.Need-find-requires
 find-requires c κs =
     let B = bounds _ _ (sym (c .before .before .before .before .before .in-bounds .ensures) ∙ not-false _ (c .before .before .before .before .if1 .left)) in
-    (c .before .before .hash .ensures, (B .words, (B .bytes, (c .before .before .before .if2 .left, (B .few 0 (omega arith), B .few 1 (omega arith))))))
+    (c .before .before .hash .ensures, (readable _ _ B _ (c .before .before .before .if2 .left), readable _ _ B _ (omega arith)))
 
 enum-known-number : tie.Need-enum-known-number
 enum-known-number c = search needs
@@ -60,9 +60,9 @@ add-requires c κs =
     let found = c .before .before .before .before .before in
     let B = bounds _ _ (sym (found .before .before .before .before .before .before .in-bounds .ensures)
     ∙ not-false _ (found .before .before .before .before .before .if1 .left)) in
-    let two = c .before .before .before .before .before .before .before .before .before .if2 .left in (
+    let two = found .before .before .before .before .if2 .left in (
       found .find .ensures .1,
-      (c .tag-of .ensures ∙ rw (found .before .before .before .hash .ensures), (B .words, (B .bytes, (two, (B .few _ two, B .short _ two))))),
+      (c .tag-of .ensures ∙ rw (found .before .before .before .hash .ensures), (readable _ _ B _ two, B .short _ two)),
     )
 
 same-length-5 : tie.Need-same-length-5

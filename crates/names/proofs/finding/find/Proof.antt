@@ -9,7 +9,7 @@ use borrow.Author.Needs.{needs}
 use Rattle.names.specs.Call.{probeOf, freeOf, lookupOf}
 use Rattle.names.specs.declared.Found.the-variants.{Nothing}
 use Rattle.names.proofs.Gives.{find-other, find-own}
-use Rattle.names.proofs.Laws.{few-two, halves}
+use Rattle.names.proofs.Laws.{halves}
 use Rattle.names.proofs.finding.find.Statement.{statement}
 use Rattle.names.proofs.finding.find.Tie as tie
 
@@ -33,8 +33,7 @@ loop-holds c = inl refl
 lookup-requires : tie.Need-lookup-requires Inv-loop μ-loop
 lookup-requires c κs =
     let p = c .before .before .before .before .pre in
-    let two : c .loop .half < 2 = ⊎-elim (λ e. omega (arith, p .1 .1 .1 .0)) (λ e. omega (arith, e .0)) (c .loop .inv) in
-    (p .0, (p .1 .0, (p .1 .1 .0, (two, few-two (now (c .before .before .before .before .args .words)) (c .loop .half) (p .1 .1 .1 .1 .0) (p .1 .1 .1 .1 .1) two))))
+    (p .0, ⊎-elim (λ e. rw e (p .1 .0)) (λ e. rw (e .0) (p .1 .1)) (c .loop .inv))
 
 returns : tie.Need-returns Inv-loop μ-loop
 returns c =
@@ -68,7 +67,7 @@ sub-half : tie.Need-sub-half Inv-loop μ-loop
 sub-half c = search needs
 
 loop-less : tie.Need-loop-less Inv-loop μ-loop
-loop-less c = rw (c .before .before .if1 .left) (left-less _ (c .before .before .before .before .before .before .before .before .pre .1 .1 .1 .0))
+loop-less c = rw (c .before .before .if1 .left) (left-less _ (c .before .before .before .before .before .before .before .before .pre .1 .0 .party))
 
 loop-again : tie.Need-loop-again Inv-loop μ-loop
 loop-again c =

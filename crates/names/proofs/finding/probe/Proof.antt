@@ -50,7 +50,7 @@ proposes-requires : tie.Need-proposes-requires Inv-loop μ-loop
 proposes-requires c κs =
     let entry = c .before .before .before .before .before .before .before .before .before in (
       c .before .before .before .loop .inv .1,
-      (omega (arith, c .if1 .left), (entry .pre .1 .0, (entry .pre .1 .1 .0, (entry .pre .1 .1 .1 .0, entry .pre .1 .1 .1 .1)))),
+      (omega (arith, c .if1 .left), entry .pre .1),
     )
 
 sub-t15 : tie.Need-sub-t15 Inv-loop μ-loop

@@ -18,7 +18,7 @@ returns c = bears-out _ _ _ _ _ (c .before .word .ensures) (c .if1 .taken)
 name-at-requires : tie.Need-name-at-requires
 name-at-requires c κs =
     let entry = c .before .before .before .before .before in
-    (entry .pre .0, (entry .pre .1 .0, (entry .pre .1 .1 .0, omega (arith, c .before .word .ensures))))
+    (entry .pre, omega (arith, c .before .word .ensures))
 
 equal-requires : tie.Need-equal-requires
 equal-requires c κs = search needs

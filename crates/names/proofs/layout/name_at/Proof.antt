@@ -15,20 +15,20 @@ place-at-requires c κs = search needs
 sub-result : tie.Need-sub-result
 sub-result c =
     let entry = c .before .before .before in
-    rw (c .place-at .ensures) (let q = place-within (now (entry .args .words)) (entry .args .party) (entry .args .k) (entry .pre .1 .1 .0) in
-    let f = q .forth in let s = q .short in omega (arith, entry .pre .1 .0))
+    rw (c .place-at .ensures) (let q = place-within (now (entry .args .words)) (entry .args .party) (entry .args .k) (entry .pre .0 .party) in
+    let f = q .forth in let s = q .short in omega (arith, entry .pre .0 .bytes))
 
 part-result-start : tie.Need-part-result-start
 part-result-start c =
     let entry = c .before .before .before in
-    rw (c .place-at .ensures) (let q = place-within (now (entry .args .words)) (entry .args .party) (entry .args .k) (entry .pre .1 .1 .0) in
-    let f = q .forth in let s = q .short in omega (arith, entry .pre .1 .0))
+    rw (c .place-at .ensures) (let q = place-within (now (entry .args .words)) (entry .args .party) (entry .args .k) (entry .pre .0 .party) in
+    let f = q .forth in let s = q .short in omega (arith, entry .pre .0 .bytes))
 
 part-result-end : tie.Need-part-result-end
 part-result-end c =
     let entry = c .before .before .before in
-    rw (c .place-at .ensures) (let q = place-within (now (entry .args .words)) (entry .args .party) (entry .args .k) (entry .pre .1 .1 .0) in
-    let f = q .forth in let s = q .short in omega (arith, entry .pre .1 .0))
+    rw (c .place-at .ensures) (let q = place-within (now (entry .args .words)) (entry .args .party) (entry .args .k) (entry .pre .0 .party) in
+    let f = q .forth in let s = q .short in omega (arith, entry .pre .0 .bytes))
 
 returns : tie.Need-returns
 unfolding nameAt

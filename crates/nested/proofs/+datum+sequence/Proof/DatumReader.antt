@@ -90,7 +90,7 @@ sequence-requires-2 t c κs = let b = c .before .before .before .before .before 
 pub took-requires : (t : ℕ) → datum-lts.Need-took-requires (datum-claims t) (datum-at t) datum.Post
 took-requires t c κs =
     let at-sequence = c .before .before .before in
-    let b = c .before .before .before .before .before .before .before .before .before .before .before .before in
+    let b = at-sequence .before .before .before .before .before .before .before .before .before in
     let s = b .args .records .now in let at = b .args .at in let depth = b .args .depth in let w = b .args .w in let f = b .args .f in
     let old = b .args .nodes .now in let in-text : at < countOf s = omega (arith, b .pre .1 .0, b .pre .1 .1) in above s at (depth + 1) Quoting w old
     (at-sequence .sequence2 .last .1 .1 .1 .1 .1 .0) (at-sequence .sequence2 .result) (opened-sequence s at (depth + 1) Quoting w old
@@ -252,7 +252,7 @@ pub returns-6 : (t : ℕ) → datum-lts.Need-returns-6 (datum-claims t) (datum-a
 returns-6 t c =
     let at-sequence = c .before .before in
     let told = at-sequence .before .before in
-    let b = c .before .before .before .before .before .before .before .before .before .before .before in let s = b .args .records .now in
+    let b = told .before .before .before .before .before .before .before in let s = b .args .records .now in
     let at = b .args .at in let depth = b .args .depth in let w = b .args .w in let f = b .args .f in let old = b .args .nodes .now in
     let in-text : at < countOf s = omega (arith, b .pre .1 .0, b .pre .1 .1) in let to = c .before .before .sequence .last .1 .1 .1 .1 .1 .0 in
     rw (c .skipped .ensures) (skipped-said s at depth w old in-text (b .pre .1 .2) f (replicate 1 0) to
@@ -268,7 +268,7 @@ returns-7 t c =
     let at-took = c .before .before in
     let at-sequence = at-took .before .before .before .before in
     let told = at-sequence .before .before in
-    let b = c .before .before .before .before .before .before .before .before .before .before .before .before .before .before .before in
+    let b = told .before .before .before .before .before .before .before in
     let s = b .args .records .now in let at = b .args .at in let depth = b .args .depth in let w = b .args .w in let f = b .args .f in
     let old = b .args .nodes .now in let in-text : at < countOf s = omega (arith, b .pre .1 .0, b .pre .1 .1) in
     took-level s at depth w old (at-sequence .sequence2 .last .1 .1 .1 .1 .1 .0)
@@ -284,7 +284,7 @@ same-length-3 t c = c .before .before .before .put .kept .0
 pub returns-8 : (t : ℕ) → datum-lts.Need-returns-8 (datum-claims t) (datum-at t) datum.Post
 returns-8 t c =
     let told = c .before .before .before .before .before .before in
-    let b = c .before .before .before .before .before .before .before .before .before .before .before .before .before in
+    let b = told .before .before .before .before .before .before .before in
     let s = b .args .records .now in let at = b .args .at in let depth = b .args .depth in let w = b .args .w in
     let f = b .args .f in let old = b .args .nodes .now in let in-text : at < countOf s = omega (arith, b .pre .1 .0, b .pre .1 .1) in
     let m = c .before .before .before .before .before .before .k .given .0 .0 in let new = c .before .before .before .put .last .0 in

@@ -1,5 +1,6 @@
 -- With a last `i` there is an imaginary part, which needs a sign; else a real.
-use Rattle.numbers.proofs.Cuts.{ends-in, alone-real, alone-none, alone-imaginary}
+use Rattle.numbers.proofs.Grammars.{ends-in, alone-real, alone-none, alone-imaginary}
+use Rattle.numbers.proofs.Cuts.{bought}
 use mathlib.Core.Path.{sym, _∙_}
 use lib.Seq.{length-take-le}
 use native.Mathlib.Omega.{arith}
@@ -16,7 +17,7 @@ sign-end-requires c κs = search needs
 sub-last : tie.Need-sub-last
 sub-last c =
     let entry = c .before .before .before .before .before in
-    let h = ends-in (entry .args .t .now) (entry .args .from)
+    let h = ends-in bought (entry .args .t .now) (entry .args .from)
     (sym (c .before .before .if1 .taken) ∙ c .before .before .before .ends-i .ensures) in
     omega arith
 
@@ -37,20 +38,20 @@ just-requires c κs = search needs
 
 returns : tie.Need-returns
 returns c =
-    alone-none _ _ _ (sym (c .before .before .if1 .taken) ∙ c .before .before .before .ends-i .ensures) _ (c .before .sign-end .ensures)
+    alone-none bought _ _ _ (sym (c .before .before .if1 .taken) ∙ c .before .before .before .ends-i .ensures) _ (c .before .sign-end .ensures)
     (c .if2 .taken)
 
 returns-2 : tie.Need-returns-2
 returns-2 c =
     let signed = c .before .before .before .before in
-    alone-imaginary _ _ _
+    alone-imaginary bought _ _ _
     (sym (signed .before .if1 .taken) ∙ signed .before .before .ends-i .ensures) _
     (signed .sign-end .ensures) _ _ (c .before .before .before .if2 .left) (c .before .imaginary-at .ensures)
     (c .complex .ensures)
 
 returns-3 : tie.Need-returns-3
 returns-3 c =
-    alone-real _ _ _ _ _ (sym (c .before .before .if1 .left) ∙ c .before .before .before .ends-i .ensures) (c .before .real-at .ensures)
+    alone-real bought _ _ _ _ _ (sym (c .before .before .if1 .left) ∙ c .before .before .before .ends-i .ensures) (c .before .real-at .ensures)
     (c .just .ensures)
 
 pub alone-spec : {M : Type 1} → statement M

@@ -1,5 +1,6 @@
 -- The first @ cuts the part in two; without one it is rectangular.
-use Rattle.numbers.proofs.Cuts.{complex-polar, complex-rectangular}
+use Rattle.numbers.proofs.Grammars.{complex-polar, complex-rectangular}
+use Rattle.numbers.proofs.Cuts.{bought}
 use mathlib.Core.Path.{sym}
 use lib.Seq.{length-take-le}
 use native.Mathlib.Omega.{arith}
@@ -30,11 +31,11 @@ rectangular-at-requires c κs = search needs
 
 returns : tie.Need-returns
 returns c =
-    complex-polar _ _ _ _ (c .before .before .before .before .before .find .ensures) _ _ _ (c .before .before .before .before .if1 .taken)
+    complex-polar bought _ _ _ _ (c .before .before .before .before .before .find .ensures) _ _ _ (c .before .before .before .before .if1 .taken)
     (c .before .before .real-at .ensures) (c .before .real-at2 .ensures) (c .polar .ensures)
 
 returns-2 : tie.Need-returns-2
-returns-2 c = complex-rectangular _ _ _ _ (c .before .before .find .ensures) _ (c .before .if1 .left) (c .rectangular-at .ensures)
+returns-2 c = complex-rectangular bought _ _ _ _ (c .before .before .find .ensures) _ (c .before .if1 .left) (c .rectangular-at .ensures)
 
 pub complex-at-spec : {M : Type 1} → statement M
 complex-at-spec =

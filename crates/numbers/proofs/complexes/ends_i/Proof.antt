@@ -1,11 +1,12 @@
 -- An empty part ends with nothing; else the text's last byte is the part's.
-use Rattle.numbers.proofs.Cuts.{ends-past, ends-here}
+use Rattle.numbers.proofs.Grammars.{ends-past}
+use Rattle.numbers.proofs.Cuts.{bought, ends-here}
 use borrow.Author.Needs.{needs}
 use Rattle.numbers.proofs.complexes.ends_i.Statement.{statement}
 use Rattle.numbers.proofs.complexes.ends_i.Tie as tie
 
 returns : tie.Need-returns
-returns c = ends-past _ _ (c .if1 .taken)
+returns c = ends-past bought _ _ (c .if1 .taken)
 
 sub-last : tie.Need-sub-last
 sub-last c = search needs

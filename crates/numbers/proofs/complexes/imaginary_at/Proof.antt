@@ -1,5 +1,6 @@
 -- A sign alone implies 1 or -1; all else is a real.
-use Rattle.numbers.proofs.Cuts.{imaginary-plus, imaginary-minus, imaginary-real}
+use Rattle.numbers.proofs.Grammars.{imaginary-plus, imaginary-minus, imaginary-real}
+use Rattle.numbers.proofs.Cuts.{bought}
 use mathlib.Core.Path.{sym, _∙_}
 use borrow.Author.Needs.{needs}
 use Rattle.numbers.proofs.complexes.imaginary_at.Statement.{statement}
@@ -12,7 +13,7 @@ equal-from-requires : tie.Need-equal-from-requires
 equal-from-requires c κs = search needs
 
 returns : tie.Need-returns
-returns c = imaginary-plus _ _ _ (sym (c .if1 .taken) ∙ c .before .equal-from .ensures)
+returns c = imaginary-plus bought _ _ _ (sym (c .if1 .taken) ∙ c .before .equal-from .ensures)
 
 slice-aggregate-equal-from-2 : tie.Need-slice-aggregate-equal-from-2
 slice-aggregate-equal-from-2 c = search needs
@@ -22,7 +23,7 @@ equal-from-requires-2 c κs = search needs
 
 returns-2 : tie.Need-returns-2
 returns-2 c =
-    imaginary-minus _ _ _ (sym (c .before .before .before .if1 .left) ∙ c .before .before .before .before .equal-from .ensures)
+    imaginary-minus bought _ _ _ (sym (c .before .before .before .if1 .left) ∙ c .before .before .before .before .equal-from .ensures)
     (sym (c .if2 .taken) ∙ c .before .equal-from2 .ensures)
 
 real-at-requires : tie.Need-real-at-requires
@@ -30,7 +31,7 @@ real-at-requires c κs = search needs
 
 returns-3 : tie.Need-returns-3
 returns-3 c =
-    imaginary-real _ _ _ (sym (c .before .before .before .before .if1 .left) ∙ c .before .before .before .before .before .equal-from .ensures) _
+    imaginary-real bought _ _ _ (sym (c .before .before .before .before .if1 .left) ∙ c .before .before .before .before .before .equal-from .ensures) _
     (sym (c .before .if2 .left) ∙ c .before .before .equal-from2 .ensures) (c .real-at .ensures)
 
 pub imaginary-at-spec : {M : Type 1} → statement M

@@ -1,5 +1,6 @@
 -- The second part needs a last `i`; the first is a real.
-use Rattle.numbers.proofs.Cuts.{ends-in, pair-no, pair-is}
+use Rattle.numbers.proofs.Grammars.{ends-in, pair-no, pair-is}
+use Rattle.numbers.proofs.Cuts.{bought}
 use mathlib.Core.Path.{sym, _∙_}
 use lib.Seq.{length-take-le}
 use native.Mathlib.Omega.{arith}
@@ -12,7 +13,7 @@ ends-i-requires c κs = search needs
 
 sub-last : tie.Need-sub-last
 sub-last c =
-    let h = ends-in (c .before .before .before .args .t .now) (c .before .before .before .args .k) (sym (c .if1 .taken) ∙ c .before .ends-i .ensures)
+    let h = ends-in bought (c .before .before .before .args .t .now) (c .before .before .before .args .k) (sym (c .if1 .taken) ∙ c .before .ends-i .ensures)
     in
     omega arith
 
@@ -34,12 +35,12 @@ complex-requires c κs = search needs
 returns : tie.Need-returns
 returns c =
     let branch = c .before .before .before .before .before in
-    pair-is _ _ _ _ (branch .before .before .before .pre .2) _ _ _
+    pair-is bought _ _ _ _ (branch .before .before .before .pre .2) _ _ _
     (sym (branch .if1 .taken) ∙ branch .before .ends-i .ensures)
     (c .before .before .before .real-at .ensures) (c .before .imaginary-at .ensures) (c .complex .ensures)
 
 returns-2 : tie.Need-returns-2
-returns-2 c = pair-no _ _ _ _ (c .before .before .before .pre .2) (sym (c .if1 .left) ∙ c .before .ends-i .ensures)
+returns-2 c = pair-no bought _ _ _ _ (c .before .before .before .pre .2) (sym (c .if1 .left) ∙ c .before .ends-i .ensures)
 
 pub pair-spec : {M : Type 1} → statement M
 pair-spec =

@@ -2,7 +2,8 @@
 use native.Mathlib.Omega.{arith}
 use lib.Seq.{length-take-le}
 use mathlib.Core.Path.{refl, sym, _∙_}
-use Rattle.numbers.proofs.Cuts.{ends-in}
+use Rattle.numbers.proofs.Grammars.{ends-in}
+use Rattle.numbers.proofs.Cuts.{bought}
 use Rattle.numbers.proofs.AfterPlus.{alone-one, alone-more, alone-plain}
 use borrow.Author.Needs.{needs}
 use Rattle.numbers.proofs.plus.plus_alone.Statement.{statement}
@@ -12,7 +13,7 @@ ends-i-requires : tie.Need-ends-i-requires
 ends-i-requires c κs = search needs
 
 sub-last : tie.Need-sub-last
-sub-last c = let h = ends-in (c .before .before .before .args .t .now) 0 (sym (c .if1 .taken) ∙ c .before .ends-i .ensures) in omega arith
+sub-last c = let h = ends-in bought (c .before .before .before .args .t .now) 0 (sym (c .if1 .taken) ∙ c .before .ends-i .ensures) in omega arith
 
 returns : tie.Need-returns
 returns c = alone-one _ (sym (c .before .if1 .taken) ∙ c .before .before .ends-i .ensures) (c .if2 .taken)

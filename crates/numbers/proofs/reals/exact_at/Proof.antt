@@ -1,5 +1,6 @@
 -- What begins with no digit is none. The first slash cuts a rational in two; without one there is an integer.
-use Rattle.numbers.proofs.RealParts.{exact-none, exact-ratio, exact-integer}
+use Rattle.numbers.proofs.Grammars.{exact-ratio, exact-integer}
+use Rattle.numbers.proofs.RealParts.{bought, exact-none}
 use mathlib.Core.Path.{sym, _∙_}
 use lib.Seq.{length-take-le}
 use native.Mathlib.Omega.{arith}
@@ -39,12 +40,12 @@ integral-requires c κs = search needs
 
 returns-2 : tie.Need-returns-2
 returns-2 c =
-    exact-ratio _ _ _ _ _ (c .before .before .before .before .before .find .ensures) _ _ _ (c .before .before .before .before .if2 .taken)
+    exact-ratio bought _ _ _ _ _ (c .before .before .before .before .before .find .ensures) _ _ _ (c .before .before .before .before .if2 .taken)
     (c .before .before .whole .ensures) (c .before .denominator-at .ensures) (c .rational .ensures)
 
 returns-3 : tie.Need-returns-3
 returns-3 c =
-    exact-integer _ _ _ _ _ (c .before .before .before .find .ensures) _ _ (c .before .before .if2 .left) (c .before .whole2 .ensures)
+    exact-integer bought _ _ _ _ _ (c .before .before .before .find .ensures) _ _ (c .before .before .if2 .left) (c .before .whole2 .ensures)
     (c .integral .ensures)
 
 pub exact-at-spec : {M : Type 1} → statement M

@@ -1,5 +1,6 @@
 -- An infinity or no number goes first, then a sign and what follows it.
-use Rattle.numbers.proofs.RealParts.{real-infnan, real-signed}
+use Rattle.numbers.proofs.Grammars.{real-infnan, real-signed}
+use Rattle.numbers.proofs.RealParts.{bought}
 use borrow.Author.Needs.{needs}
 use Rattle.numbers.proofs.reals.real_at.Statement.{statement}
 use Rattle.numbers.proofs.reals.real_at.Tie as tie
@@ -23,11 +24,11 @@ ureal-at-requires : tie.Need-ureal-at-requires
 ureal-at-requires c κs = search needs
 
 returns : tie.Need-returns
-returns c = real-infnan _ _ _ _ (c .before .before .infnan-at .ensures) _ (c .enum-told .given .1)
+returns c = real-infnan bought _ _ _ _ (c .before .before .infnan-at .ensures) _ (c .enum-told .given .1)
 
 returns-2 : tie.Need-returns-2
 returns-2 c =
-    real-signed _ _ _ _ (c .before .before .before .before .before .infnan-at .ensures) _ _ _ (c .before .before .before .enum-told2 .given .1)
+    real-signed bought _ _ _ _ (c .before .before .before .before .before .infnan-at .ensures) _ _ _ (c .before .before .before .enum-told2 .given .1)
     (c .before .before .starts-at .ensures) (c .before .sign-end .ensures) (c .ureal-at .ensures)
 
 pub real-at-spec : {M : Type 1} → statement M

@@ -1,5 +1,6 @@
 -- In radix 10 a decimal goes first; what is none, and every other radix, is an integer or a rational.
-use Rattle.numbers.proofs.RealParts.{ureal-exact, ureal-decimal, ureal-other}
+use Rattle.numbers.proofs.Grammars.{ureal-exact, ureal-decimal, ureal-other}
+use Rattle.numbers.proofs.RealParts.{bought}
 use borrow.Author.Needs.{needs}
 use Rattle.numbers.proofs.reals.ureal_at.Statement.{statement}
 use Rattle.numbers.proofs.reals.ureal_at.Tie as tie
@@ -20,15 +21,15 @@ exact-at-requires-2 : tie.Need-exact-at-requires-2
 exact-at-requires-2 c κs = search needs
 
 returns : tie.Need-returns
-returns c = ureal-decimal _ _ _ _ _ (c .before .before .before .if1 .taken) (c .before .before .decimal-at .ensures) _ (c .enum-told .given .1)
+returns c = ureal-decimal bought _ _ _ _ _ (c .before .before .before .if1 .taken) (c .before .before .decimal-at .ensures) _ (c .enum-told .given .1)
 
 returns-2 : tie.Need-returns-2
 returns-2 c =
-    ureal-other _ _ _ _ _ (c .before .before .before .before .if1 .taken) (c .before .before .before .decimal-at .ensures) _
+    ureal-other bought _ _ _ _ _ (c .before .before .before .before .if1 .taken) (c .before .before .before .decimal-at .ensures) _
     (c .before .enum-told2 .given .1) (c .exact-at .ensures)
 
 returns-3 : tie.Need-returns-3
-returns-3 c = ureal-exact _ _ _ _ _ (c .before .if1 .left) (c .exact-at2 .ensures)
+returns-3 c = ureal-exact bought _ _ _ _ _ (c .before .if1 .left) (c .exact-at2 .ensures)
 
 pub ureal-at-spec : {M : Type 1} → statement M
 ureal-at-spec =

@@ -5,7 +5,7 @@ use denote.Ref.{now}
 use mathlib.Core.Path.{sym, subst}
 use lib.ListN.{take}
 use lib.Seq.{length-take-le}
-use Rattle.telling.specs.declared.Quick.{Quick}
+use Rattle.items_telling.specs.declared.Quick.{Quick}
 use Rattle.pieces_spots.specs.Spots.{TellsAt}
 use Rattle.pieces_quick.proofs.finishing.finish.Statement.{statement}
 use Rattle.pieces_quick.proofs.finishing.finish.Tie as tie

@@ -79,20 +79,21 @@ same-length-4 c = search needs
 
 returns-3 : tie.Need-returns-3
 returns-3 c =
-    let a = c .before .before .before .before .before .before .before .before .before .before .before .before .before .before .before .before .before in
+    let next = c .before .before .after in
+    let there = c .before .before .before .before .before .before .before .before .before .before .before in
+    let a = there .before .before .before .before .before .before in
     let w = a .args .w in
     let s = a .args .s in
     let raw = take (s .len) (now (a .args .buf)) in
-    let string = c .before .before .before .before .before .before .before .before .before .before .before .before .before .is-escaped .ensures (not-false _ (c .before .before .before .before .before .before .before .before .before .before .before .before .if1 .left)) in
+    let string = there .before .before .is-escaped .ensures (not-false _ (there .before .if1 .left)) in
     let k = a .pre .held (omega (arith, string .0)) in
     let gave = c .before .before .before .before .before .before .decoded-record .ensures (inReport (w .mode)) (range (w .from) (w .to)) in
-    let next = c .before .before .after in
-    gives-item w s (now (a .args .buf)) (now (a .args .text)) (a .pre) (a .args .b) (c .before .before .before .before .before .before .before .before .before .before .before .first .result) (decodedMeans raw)
+    gives-item w s (now (a .args .buf)) (now (a .args .text)) (a .pre) (a .args .b) (there .first .result) (decodedMeans raw)
     (record {
       held = k .0;
       some = k .1;
       ended = decoded-ends (s .stage) (s .which) (s .detail) (a .args .b) (s .start) raw (string .0) (string .1) (string .2);
-      firsts = c .before .before .before .before .before .before .before .before .before .before .before .first .ensures;
+      firsts = there .first .ensures;
       told = omega (arith, c .before .before .before .before .before .before .before .before .before .before .if2 .left);
     })
     (by-bool (eqb (w .skip) 1) (λ e. rw e) (λ e. rw e))

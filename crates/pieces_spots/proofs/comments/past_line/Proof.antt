@@ -4,7 +4,7 @@ use native.Mathlib.Omega.{arith}
 use denote.Ref.{now}
 use Prim.Native.Nat.{ℕ, _+_, _-_}
 use lib.ListN.{take, drop}
-use Rattle.giving.proofs.Laid.{part-laid}
+use Rattle.pieces_giving.proofs.Laid.{part-laid}
 use Rattle.pieces_spots.proofs.CommentLines.{few, line-fits-on, done-fits-on}
 use Rattle.pieces_spots.proofs.comments.past_line.Statement.{statement}
 use Rattle.pieces_spots.proofs.comments.past_line.Tie as tie

@@ -4,7 +4,7 @@ use native.Mathlib.Omega.{arith}
 use mathlib.Core.Path.{refl, sym, _∙_, subst}
 use denote.Ref.{now}
 use borrow.Author.Tests.{not-false}
-use Rattle.telling.specs.declared.Quick.{Quick}
+use Rattle.items_telling.specs.declared.Quick.{Quick}
 use Rattle.pieces_spots.specs.Spots.{TellsAt}
 use Rattle.pieces_spots.proofs.Ends as ends
 use Rattle.pieces_spots.proofs.ending.tell_lined.Statement.{statement}

@@ -4,9 +4,9 @@ use native.Mathlib.Omega.{arith}
 use denote.Ref.{now}
 use Prim.Native.Nat.{_+_, _-_}
 use lib.ListN.{take, drop}
-use Rattle.texts.specs.Runs.{blank}
+use Rattle.byte_runs.specs.Runs.{blank}
 use Rattle.laws.proofs.Runs.{span-le}
-use Rattle.turns.proofs.Passes.{run-part}
+use Rattle.pieces_turns.proofs.Passes.{run-part}
 use Rattle.pieces_spots.proofs.Runs.{looked}
 use Rattle.pieces_spots.proofs.Moves.{past-fits, past-on}
 use Rattle.pieces_spots.proofs.moving.past.Statement.{statement}

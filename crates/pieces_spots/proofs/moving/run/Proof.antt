@@ -6,7 +6,7 @@ use Prim.Native.Nat.{ℕ, _+_, _-_}
 use mathlib.Core.Path.{_≡_, ap, _∙_}
 use lib.ListN.{length, take, drop, length-take, length-drop}
 use Rattle.pieces.specs.Calls.{laidAt}
-use Rattle.giving.proofs.Laid.{part-laid}
+use Rattle.pieces_giving.proofs.Laid.{part-laid}
 use Rattle.pieces_spots.proofs.Runs.{looked}
 use Rattle.pieces_spots.proofs.Moves.{ran-fits, ran-on}
 use Rattle.pieces_spots.proofs.moving.run.Statement.{statement}
@@ -70,8 +70,8 @@ part-copy-all-end-2 c = search needs
 
 copy-all-requires : tie.Need-copy-all-requires
 copy-all-requires c κs =
-    let a = c .before .before .before .before .before .before .before .before in
     let n = c .before .before .before .kept-count .result in
+    let a = c .before .before .before .before .before .before .before .before in
     let f = looked (a .args .s .i) (c .before .before .before .before .before .fewer .result) n (now (a .args .piece)) (a .pre .inside) (c .before .before .before .kept-count .ensures .0) in
     omega (
       arith,
@@ -85,34 +85,36 @@ copy-all-requires c κs =
 
 add-t25 : tie.Need-add-t25
 add-t25 c =
-    let a = c .before .before .before .before .before .before .before .before .before .before .before .before in
     let n = c .before .before .before .before .before .before .before .kept-count .result in
+    let a = c .before .before .before .before .before .before .before .before .before .before .before .before in
     let f = looked (a .args .s .i) (c .before .before .before .before .before .before .before .before .before .fewer .result) n (now (a .args .piece)) (a .pre .inside) (c .before .before .before .before .before .before .before .kept-count .ensures .0) in
     omega (arith, f .1, a .pre .far)
 
 add-t9 : tie.Need-add-t9
 add-t9 c =
-    let a = c .before .before .before .before .before .before .before .before .before .before .before .before in
     let n = c .before .before .before .before .before .before .before .kept-count .result in
-    let f = looked (a .args .s .i) (c .before .before .before .before .before .before .before .before .before .fewer .result) n (now (a .args .piece)) (a .pre .inside) (c .before .before .before .before .before .before .before .kept-count .ensures .0) in
-    omega (arith, f .0, a .pre .small, c .before .before .before .before .before .before .before .before .before .fewer .ensures)
+    let there = c .before .before .before .before .before .before .before .before .before in
+    let a = there .before .before .before in
+    let f = looked (a .args .s .i) (there .fewer .result) n (now (a .args .piece)) (a .pre .inside) (c .before .before .before .before .before .before .before .kept-count .ensures .0) in
+    omega (arith, f .0, a .pre .small, there .fewer .ensures)
 
 same-length : tie.Need-same-length
 same-length c = search needs
 
 returns-2 : tie.Need-returns-2
 returns-2 c =
-    let a = c .before .before .before .before .before .before .before .before .before .before .before .before in
     let n = c .before .before .before .before .before .before .before .kept-count .result in
-    let f = looked (a .args .s .i) (c .before .before .before .before .before .before .before .before .before .fewer .result) n (now (a .args .piece)) (a .pre .inside) (c .before .before .before .before .before .before .before .kept-count .ensures .0) in
+    let there = c .before .before .before .before .before .before .before .before .before in
+    let a = there .before .before .before in
+    let f = looked (a .args .s .i) (there .fewer .result) n (now (a .args .piece)) (a .pre .inside) (c .before .before .before .before .before .before .before .kept-count .ensures .0) in
     let i = a .args .s .i in
-    let k : ℕ = c .before .before .before .before .before .before .before .before .before .fewer .result in
+    let k : ℕ = there .fewer .result in
     let told = c .before .before .before .before .before .before .before .kept-count .ensures .1 (omega arith) in
     let j : i + n - i ≡ n = omega arith in
     let laid = part-laid (a .args .s .len) (take (i + n - i) (drop i (now (a .args .piece)))) (now (a .args .buf)) (c .before .before .before .copy-all .ensures)
     ∙ ap (λ (x : ℕ). laidAt (a .args .s .len) (take x (drop i (now (a .args .piece)))) (now (a .args .buf))) j in (
-      ran-fits (a .args .s) (now (a .args .buf)) (now (a .args .piece)) (a .pre) n (i + k - i) (omega arith) (omega (arith, a .pre .small, c .before .before .before .before .before .before .before .before .before .fewer .ensures)) told _ laid,
-      ran-on (a .args .s) (now (a .args .buf)) (now (a .args .piece)) (a .pre) n (i + k - i) (omega arith) (omega (arith, a .pre .small, c .before .before .before .before .before .before .before .before .before .fewer .ensures)) told _ laid,
+      ran-fits (a .args .s) (now (a .args .buf)) (now (a .args .piece)) (a .pre) n (i + k - i) (omega arith) (omega (arith, a .pre .small, there .fewer .ensures)) told _ laid,
+      ran-on (a .args .s) (now (a .args .buf)) (now (a .args .piece)) (a .pre) n (i + k - i) (omega arith) (omega (arith, a .pre .small, there .fewer .ensures)) told _ laid,
       omega arith,
     )
 

@@ -5,7 +5,7 @@ use mathlib.Core.Path.{_≡_}
 use denote.Ref.{now}
 use lib.ListN.{getD}
 use Rattle.laws.specs.Quoted.{code}
-use Rattle.texts.specs.Runs.{apart}
+use Rattle.byte_runs.specs.Runs.{apart}
 use Rattle.items.specs.declared.Phase.the-variants as ph
 use Rattle.steps.specs.Scan.{Passes}
 use Rattle.steps.proofs.Letters.{line-holds}

@@ -45,12 +45,12 @@ part-step-end c = omega (arith, c .before .before .before .before .run-end .ensu
 
 step-requires : tie.Need-step-requires Inv-loop μ-loop
 step-requires c κs =
-    let entry = c .before .before .before .before .before .before .before .before .before in
-    let turn = c .before .before .before .before .before .before .before in
-    let run = c .before .before .before .before .before .run-end in
+    let read = c .before .before in
+    let run = read .before .before .before .run-end in
+    let turn = read .before .before .before .before .before in
+    let entry = turn .before .before in
     let s = now (entry .args .s) in
     let at = run .result in
-    let read = c .before .before in
     let code = read .code .given .0 .0 in
     let next = read .code .given .0 .1 .0 in
     let k = char-at s at code next (sym (read .code .given .1) ∙ read .before .before .decode-at .ensures) (run .ensures .1) in
@@ -61,12 +61,12 @@ enum-known-then c = search needs
 
 loop-less : tie.Need-loop-less Inv-loop μ-loop
 loop-less c =
-    let entry = c .before .before .before .before .before .before .before .before .before .before .before .before .before in
-    let turn = c .before .before .before .before .before .before .before .before .before .before .before in
-    let run = c .before .before .before .before .before .before .before .before .before .run-end in
+    let read = c .before .before .before .before .before .before in
+    let run = read .before .before .before .run-end in
+    let turn = read .before .before .before .before .before in
+    let entry = turn .before .before in
     let s = now (entry .args .s) in
     let at = run .result in
-    let read = c .before .before .before .before .before .before in
     let code = read .code .given .0 .0 in
     let next = read .code .given .0 .1 .0 in
     let k = char-at s at code next (sym (read .code .given .1) ∙ read .before .before .decode-at .ensures) (run .ensures .1) in
@@ -74,12 +74,12 @@ loop-less c =
 
 loop-again : tie.Need-loop-again Inv-loop μ-loop
 loop-again c =
-    let entry = c .before .before .before .before .before .before .before .before .before .before .before .before .before in
-    let turn = c .before .before .before .before .before .before .before .before .before .before .before in
-    let run = c .before .before .before .before .before .before .before .before .before .run-end in
+    let read = c .before .before .before .before .before .before in
+    let run = read .before .before .before .run-end in
+    let turn = read .before .before .before .before .before in
+    let entry = turn .before .before in
     let s = now (entry .args .s) in
     let at = run .result in
-    let read = c .before .before .before .before .before .before in
     let code = read .code .given .0 .0 in
     let next = read .code .given .0 .1 .0 in
     let k = char-at s at code next (sym (read .code .given .1) ∙ read .before .before .decode-at .ensures) (run .ensures .1) in
@@ -96,12 +96,12 @@ enum-known-what c = search needs
 
 returns : tie.Need-returns Inv-loop μ-loop
 returns c =
-    let entry = c .before .before .before .before .before .before .before .before .before .before .before .before .before in
-    let turn = c .before .before .before .before .before .before .before .before .before .before .before in
-    let run = c .before .before .before .before .before .before .before .before .before .run-end in
+    let read = c .before .before .before .before .before .before in
+    let run = read .before .before .before .run-end in
+    let turn = read .before .before .before .before .before in
+    let entry = turn .before .before in
     let s = now (entry .args .s) in
     let at = run .result in
-    let read = c .before .before .before .before .before .before in
     let code = read .code .given .0 .0 in
     let next = read .code .given .0 .1 .0 in
     let k = char-at s at code next (sym (read .code .given .1) ∙ read .before .before .decode-at .ensures) (run .ensures .1) in
@@ -117,9 +117,9 @@ scan-end-requires c κs = let run = c .before .before .before .run-end in (omega
 
 returns-2 : tie.Need-returns-2 Inv-loop μ-loop
 returns-2 c =
-    let entry = c .before .before .before .before .before .before .before .before in
-    let turn = c .before .before .before .before .before .before in
     let run = c .before .before .before .before .run-end in
+    let turn = c .before .before .before .before .before .before in
+    let entry = turn .before .before in
     let s = now (entry .args .s) in
     let at = run .result in
     let none = none-bad s at (sym (c .before .enum-told .given .1) ∙ c .before .before .before .decode-at .ensures) in
@@ -134,9 +134,9 @@ scan-end-requires-2 c κs = let run = c .before .before .before .run-end in (ome
 
 returns-3 : tie.Need-returns-3 Inv-loop μ-loop
 returns-3 c =
-    let entry = c .before .before .before .before .before .before .before .before in
-    let turn = c .before .before .before .before .before .before in
     let run = c .before .before .before .before .run-end in
+    let turn = c .before .before .before .before .before .before in
+    let entry = turn .before .before in
     let s = now (entry .args .s) in
     let at = run .result in
     let none = none-cut s at (sym (c .before .enum-told2 .given .1) ∙ c .before .before .before .decode-at .ensures) in
@@ -151,9 +151,9 @@ scan-end-requires-3 c κs = let run = c .before .before .before .run-end in (ome
 
 returns-4 : tie.Need-returns-4 Inv-loop μ-loop
 returns-4 c =
-    let entry = c .before .before .before .before .before .before .before .before in
-    let turn = c .before .before .before .before .before .before in
     let run = c .before .before .before .before .run-end in
+    let turn = c .before .before .before .before .before .before in
+    let entry = turn .before .before in
     let s = now (entry .args .s) in
     let at = run .result in
     let none = none-end s at (sym (c .before .enum-told3 .given .1) ∙ c .before .before .before .decode-at .ensures) in

@@ -5,7 +5,7 @@ use Prim.Native.Nat.{_-_, _≤_}
 use denote.Ref.{now}
 use lib.ListN.{length, drop, length-drop}
 use Rattle.laws.proofs.Runs.{span-le}
-use Rattle.texts.specs.Runs.{plain}
+use Rattle.byte_runs.specs.Runs.{plain}
 use Rattle.items.specs.declared.Phase.{Phase}
 use Rattle.items.specs.declared.Phase.the-variants as ph
 use Rattle.steps.specs.Scan.{Passes}

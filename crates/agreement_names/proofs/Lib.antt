@@ -1,4 +1,0 @@
-pub mod Names
-pub mod Lines
-pub mod Tame
-pub mod Identifiers

@@ -1,2 +1,0 @@
-pub mod Elements
-pub mod Tokens

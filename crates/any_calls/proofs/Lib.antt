@@ -1,3 +1,0 @@
-pub mod Closing
-pub mod After
-pub mod Lend

@@ -1,4 +1,0 @@
-pub mod Table
-pub mod Case
-pub mod Forms
-pub mod Past

@@ -1,3 +1,0 @@
-pub mod Counts
-pub mod Calls
-pub mod Pieces

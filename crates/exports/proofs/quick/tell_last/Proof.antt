@@ -1,0 +1,43 @@
+-- The words are those past the last item, and the record stands in its place; no place comes with it (Ended).
+use borrow.Author.Needs.{needs}
+use denote.Ref.{now}
+use mathlib.Core.Path.{refl}
+use Rattle.pieces.specs.declared.Got.the-variants.{Item}
+use Rattle.exports.proofs.Ended.{ends-so}
+use Rattle.exports.proofs.quick.tell_last.Statement.{statement}
+use Rattle.exports.proofs.quick.tell_last.Tie as tie
+
+put-last-requires : tie.Need-put-last-requires
+put-last-requires c κs = search needs
+
+put-requires : tie.Need-put-requires
+put-requires c κs = search needs
+
+put-values-requires : tie.Need-put-values-requires
+put-values-requires c κs = search needs
+
+same-length : tie.Need-same-length
+same-length c = search needs
+
+same-length-2 : tie.Need-same-length-2
+same-length-2 c = search needs
+
+same-length-3 : tie.Need-same-length-3
+same-length-3 c = search needs
+
+returns : tie.Need-returns
+returns c =
+    let a = c .before .before .before .before .before .before .before .before .before .before .before .before .before .before .before in
+    ends-so _ (Item (a .args .given)) (now (a .args .words)) _ (now (a .args .item)) _ (now (a .args .values)) _ _ (c .before .before .before .before .before .before .before .before .before .before .put-last .ensures) (λ text. (c .before .before .before .before .before .before .put .ensures, c .before .before .put-values .ensures, refl))
+
+pub tell-last-spec : {M : Type 1} → statement M
+tell-last-spec =
+    tie.close
+    (tie.spec
+    put-last-requires
+    put-requires
+    put-values-requires
+    same-length
+    same-length-2
+    same-length-3
+    returns)

@@ -1,4 +1,0 @@
-pub mod Left
-pub mod Held
-pub mod Spotted
-pub mod Ended

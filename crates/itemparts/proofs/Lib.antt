@@ -1,5 +1,0 @@
-pub mod Spelled
-pub mod Comes
-pub mod Stands
-pub mod Numbers
-pub mod Calls

@@ -1,0 +1,3 @@
+-- Theorems that stand in the docs
+-- `one-place`
+pub mod One

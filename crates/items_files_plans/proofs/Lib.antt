@@ -1,5 +1,0 @@
-pub mod Chain
-pub mod Items
-pub mod Whole
-pub mod Pieces
-pub mod Reader

@@ -1,4 +1,0 @@
-pub mod Left
-pub mod Stored
-pub mod Compared
-pub mod Answers

@@ -1,0 +1,5 @@
+pub mod Left
+pub mod Stored
+pub mod Compared
+pub mod Answers
+pub mod Words

@@ -1,0 +1,130 @@
+-- The plainest numbers are read as by the bought reader: they have no letter, so that case does not matter, and no sign but the first.
+use Rattle.numbers.specs.declared.Real.{Real}
+use Rattle.numbers.specs.declared.Parts.the-variants.{Just}
+use Rattle.numbers.specs.declared.MaybeReal.{MaybeReal}
+use Rattle.numbers.specs.declared.MaybeReal.the-variants.{AReal}
+use Rattle.numbers.specs.Call.{parts, given}
+use Rattle.numbers.specs.Grammar.{justOf, startsE, judged, prefix}
+use Rattle.numbers.specs.Plain.{ratio, unsignedPlain, plain, plainReal}
+use Rattle.numbers.specs.Reals as bought
+use Rattle.numbers.proofs.Plain.{All, Numeral, all-map, by-shape, uinteger-avoids, before-all, sign-all, avoids-start, decimal-good, before-slash, plain-first, plain-some}
+use Rattle.numbers.proofs.PlainReals.{first-good, plain-good, plain-told}
+use Rattle.numbers_standard.specs.Reals.{infnan, ureal, real}
+use Rattle.numbers_standard.specs.Reals as standard
+use Rattle.numbers_standard.specs.Grammar.{endsI, aloneOf, joint, rectangular, complex, numberParts, parseStandard}
+use Rattle.numbers_standard.specs.Call.{byStandard}
+use Rattle.numbers_standard.proofs.Call.{served}
+use Rattle.numbers_standard.proofs.Letters.{lower-below}
+use Rattle.refusal.specs.Refusals.{limit}
+use Rattle.laws.specs.Letters.{lower}
+use Rattle.laws.specs.Quoted.{code}
+use Rattle.laws.specs.Texts.{starts}
+use Rattle.laws.proofs.Choice.{and-true, no-yes}
+use Rattle.laws.proofs.Compared.{starts-in}
+use Rattle.digits.specs.Digits.{digits, sign, negative, uinteger, wholeOf, integer}
+use Prim.Native.Nat.{ℕ, zero, suc, _+_, _-_, _≤_, _<_}
+use mathlib.Core.Path.{_≡_, refl, sym, ap, _∙_}
+use mathlib.Core.Bool.{Bool, true, false, _&&_}
+use mathlib.Core.List.{List, [], _∷_, map}
+use lib.ListN.{length, getD, drop}
+use lib.Seq.{drop-drop}
+use lib.Dec.{ltb}
+use native.Mathlib.Omega.{arith}
+use native.Mathlib.Nat.{add-zero}
+use borrow.Author.Tests.{ne-eqb, lt-ltb, le-ltb, ltb-true}
+
+-- ---- no letters
+
+abbrev Low : ℕ → Type 0
+Low c = c < code "A"
+
+low-same : (s : List ℕ) → All Low s → map lower s ≡ s
+low-same [] h = refl
+low-same (c ∷ s) h = rw (sym (lower-below c (h .0)), low-same s (h .1))
+
+low-starts : (b k : ℕ) (s : List ℕ) → All Low s → starts b (map lower (drop k s)) ≡ starts b (drop k s)
+unfolding starts
+low-starts b zero [] h = refl
+low-starts b (suc k) [] h = refl
+low-starts b zero (c ∷ s) h = rw (sym (lower-below c (h .0)))
+low-starts b (suc k) (c ∷ s) h = low-starts b k s (h .1)
+
+-- ---- a first character, which may be a sign, and numerals are one real
+
+module _ (c : ℕ) (s : List ℕ) (l : code "+" ≤ c) (u : c ≤ code "9") (h : All Numeral s) where
+  avoid : (b : ℕ) → ((d : ℕ) → Numeral d → d ≡ b → ⊥) → All (λ d. d ≡ b → ⊥) s
+  avoid b f = all-map Numeral (λ d. d ≡ b → ⊥) f s h
+
+  low : All Low (c ∷ s)
+  low = (omega arith, all-map Numeral Low (λ d n. let k = n .1 in omega arith) s h)
+
+  one-part : complex 10 0 (c ∷ s) ≡ rectangular 10 0 (c ∷ s)
+  unfolding complex
+  one-part =
+      simp (before-all (code "@") (c ∷ s) ((λ e. omega arith), avoid (code "@") (λ d n e. omega arith)), le-ltb (length (c ∷ s)) (length (c ∷ s)) (omega arith))
+
+  uncut : rectangular 10 0 (c ∷ s) ≡ aloneOf 10 0 (c ∷ s)
+  unfolding rectangular joint
+  uncut =
+      simp (sign-all (startsE (c ∷ s)) s (avoid (code "+") (λ d n e. omega arith)) (avoid (code "-") (λ d n e. omega arith)), le-ltb (1 + length s) (length (c ∷ s)) (omega arith))
+
+  alone : aloneOf 10 0 (c ∷ s) ≡ justOf (real 10 0 (c ∷ s))
+  unfolding aloneOf endsI
+  alone =
+      simp (low-starts (code "i") (length (c ∷ s) - 1) (c ∷ s) low, avoids-start (code "i") (length (c ∷ s) - 1) (c ∷ s) ((λ e. omega arith), avoid (code "i") (λ d n e. omega arith)))
+
+  one-real : parseStandard (c ∷ s) ≡ judged (justOf (real 10 0 (c ∷ s)))
+  unfolding parseStandard numberParts prefix
+  one-real = simp (ne-eqb c (code "#") (λ e. omega arith)) (ap judged (one-part ∙ uncut ∙ alone))
+
+-- ---- the same real
+
+-- a denominator that begins with a digit has no sign
+unsigned-denominator : (q : ℕ) (s : List ℕ) → code "0" < getD s 0 0 → wholeOf 10 false q s ≡ bought.denominator 10 q s
+unfolding bought.denominator integer sign starts
+unsigned-denominator q [] h = absurd (omega arith)
+unsigned-denominator q (c ∷ s) h = simp (ne-eqb c (code "+") (λ e. omega arith), ne-eqb c (code "-") (λ e. omega arith), add-zero)
+
+module _ (neg : Bool) (p : ℕ) (s : List ℕ) where
+  whole-same : uinteger 10 s ≡ true → standard.ratio 10 neg p s ≡ bought.exact 10 neg p s
+  unfolding standard.ratio bought.exact
+  whole-same h = simp (before-all (code "/") s (uinteger-avoids s h), le-ltb (length s) (length s) (omega arith))
+
+  ratio-same : ratio (drop (digits 10 s) s) ≡ true → standard.ratio 10 neg p s ≡ bought.exact 10 neg p s
+  unfolding standard.ratio bought.exact
+  ratio-same h =
+      let n : ℕ = digits 10 s in
+      let a = and-true (starts (code "/") (drop n s)) (ltb (code "0") (getD (drop n s) 1 0) && uinteger 10 (drop 1 (drop n s))) h in
+      let b = and-true (ltb (code "0") (getD (drop n s) 1 0)) (uinteger 10 (drop 1 (drop n s))) (a .1) in
+      simp (before-slash s (a .0), lt-ltb n (length s) (starts-in (code "/") s n (sym (a .0))), unsigned-denominator (p + n + 1) (drop (n + 1) s) (positive n (ltb-true (code "0") (getD (drop n s) 1 0) (b .0))))
+    where
+      next : (r : List ℕ) → getD r 1 0 ≡ getD (drop 1 r) 0 0
+      next [] = refl
+      next (c ∷ r) = refl
+
+      positive : (n : ℕ) → code "0" < getD (drop n s) 1 0 → code "0" < getD (drop (n + 1) s) 0 0
+      positive n h = rw (sym (drop-drop 1 n s)) (rw (next (drop n s)) at h)
+
+  ureal-same : unsignedPlain s ≡ true → ureal 10 neg p s ≡ bought.ureal 10 neg p s
+  unfolding ureal bought.ureal
+  ureal-same h =
+      by-shape s h
+      (λ e. rw (whole-same e))
+      (λ e. first-good (bought.decimal neg p s) (standard.ratio 10 neg p s) (decimal-good neg p s e)
+      ∙ sym (first-good (bought.decimal neg p s) (bought.exact 10 neg p s) (decimal-good neg p s e)))
+      (λ _ e. rw (ratio-same e))
+
+real-same : (c : ℕ) (s : List ℕ) → plain (c ∷ s) ≡ true → real 10 0 (c ∷ s) ≡ bought.real 10 0 (c ∷ s)
+unfolding real bought.real infnan plain
+real-same c s h =
+    let n = plain-first c s h in
+    rw (low-same (c ∷ s) (low c s (n .0) (n .1) (n .2)), ureal-same (negative (c ∷ s)) (0 + sign (c ∷ s)) (drop (sign (c ∷ s)) (c ∷ s)) h)
+
+plain-one : (s : List ℕ) → plain s ≡ true → parseStandard s ≡ judged (justOf (bought.real 10 0 s))
+plain-one [] h = no-yes (sym plain-some ∙ h)
+plain-one (c ∷ s) h =
+    let n = plain-first c s h in one-real c s (n .0) (n .1) (n .2) ∙ ap (λ (x : MaybeReal). judged (justOf x)) (real-same c s h)
+
+pub plain-answer : (t : List ℕ) → length t ≤ limit → (x : Real) → AReal x ≡ plainReal t → parts (Just x) ≡ byStandard t
+plain-answer t l x e =
+    let h = plain-told t x e in sym (served t l (plain-good t (h .0)) ∙ ap given (plain-one t (h .0) ∙ h .1))

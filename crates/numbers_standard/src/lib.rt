@@ -1,0 +1,87 @@
+// The second number reader, by the standard: R7RS 7.1.1's <number> without <exactness> (specs/Reals, specs/Grammar), and the number call
+// with a choice of reader (specs/Call). What the two readers share is crate numbers'. Crate numbers_difference proves that this reader is the
+// standard's grammar, and on which texts the two differ. A part of the text is a slice that starts where the text starts, so that an
+// index is a place of the text, and the place where the part starts.
+use chars::Utf8;
+use numbers::MaybeReal;
+use numbers::NumberAnswer;
+use numbers::Parsed;
+use numbers::Parts;
+use refusal::LIMIT;
+ghost use mathlib.Core.Path.{_≡_};
+ghost use Rattle.numbers.specs.Call.{answered};
+ghost use Rattle.numbers_standard.specs.Grammar.{parseStandard};
+ghost use Rattle.numbers_standard.specs.Call.{answeredBy, byStandard, numberBy};
+
+mod complexes;
+mod reals;
+
+// What the number call with a choice answers: specs/Call gives the numbers for each case.
+pub enum NumberByAnswer {
+    // what the chosen reader's call answers
+    Answered(NumberAnswer),
+    // choice 2
+    UnknownChoice,
+}
+
+// The choices: the bought reader, and the standard's.
+const BOUGHT: u32 = 0;
+
+const STANDARD: u32 = 1;
+
+// The radix of a text without a prefix, and the one in which `e` is a digit.
+const DECIMAL: u64 = 10;
+
+const HEXADECIMAL: u64 = 16;
+
+// The length of a prefix.
+const PREFIX: usize = 2;
+
+// What stands for the radix where none is named.
+const NO_RADIX: u64 = 0;
+
+// What a text is as a number by the standard. Internal: for a text that is known to be UTF-8 and short enough.
+pub fn parse_standard(t: &[u8]) -> Parsed
+    ensures { λ r. ⌜ r ≡ parseStandard (now (t .entry)) ⌝ }
+{
+    let radix = numbers::prefix(t);
+    if radix == NO_RADIX {
+        numbers::judge(complexes::complex_at(t, 0, DECIMAL))
+    } else {
+        numbers::judge(complexes::complex_at(t, PREFIX, radix))
+    }
+}
+
+// The number call with the standard's reader on any bytes. Both readers answer the plainest numbers alike.
+fn by_standard(t: &[u8]) -> NumberAnswer
+    ensures { λ r. ⌜ answered r ≡ byStandard (now (t .entry)) ⌝ }
+{
+    if LIMIT < t.len() {
+        return NumberAnswer::TooLong;
+    }
+    if numbers::is_brief(t) {
+        match numbers::plain_real(t) {
+            MaybeReal::AReal(x) => {
+                return NumberAnswer::Is(Parts::Just(x));
+            }
+            MaybeReal::NoReal => {}
+        }
+    }
+    match chars::first_bad(t) {
+        Utf8::Bad(at) => NumberAnswer::NotUtf8(at),
+        Utf8::Good => numbers::serve(parse_standard(t)),
+    }
+}
+
+// The number call with a choice of reader on any bytes.
+pub fn number_by(choice: u32, t: &[u8]) -> NumberByAnswer
+    ensures { λ r. ⌜ answeredBy r ≡ numberBy choice (now (t .entry)) ⌝ }
+{
+    if choice == BOUGHT {
+        return NumberByAnswer::Answered(numbers::number(t));
+    }
+    if choice == STANDARD {
+        return NumberByAnswer::Answered(by_standard(t));
+    }
+    NumberByAnswer::UnknownChoice
+}

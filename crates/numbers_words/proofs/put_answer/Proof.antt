@@ -1,0 +1,38 @@
+-- The first word is stored, and each real is put into the part of the words that is still free.
+use lib.ListN.{length-set}
+use native.Mathlib.Omega.{arith}
+use borrow.Author.Needs.{needs}
+use denote.Ref.{now}
+use Rattle.laws.proofs.Lent.{length-part}
+use Rattle.numbers_words.specs.Words.{joined, answer}
+use Rattle.numbers_words.proofs.Words.{second-in, second-room, third-put, length-third}
+use Rattle.numbers_words.proofs.put_answer.Statement.{statement}
+use Rattle.numbers_words.proofs.put_answer.Tie as tie
+
+returns : tie.Need-returns
+unfolding joined answer
+returns c =
+    let entry = c .before .before .before .before .before .before .before .before .before in
+    third-put (now (entry .args .words)) (entry .args .w .first) (entry .pre) _ _
+    (c .before .before .before .before .before .before .put-real .ensures) _ _ (c .before .before .put-real2 .ensures)
+
+pub put-answer-spec : {M : Type 1} → statement M
+put-answer-spec =
+    tie.close
+    (tie.spec
+    (λ c. search needs)
+    (λ c. simp length-set (omega arith))
+    (λ c. simp length-set (omega arith))
+    (λ c. search needs)
+    (λ c κs. rw (length-part _ 1) (simp length-set (omega arith)))
+    (λ c. let entry = c .before .before .before .before .before in
+    second-in (now (entry .args .words)) (entry .args .w .first) (entry .pre) _ _ (c .before .before .put-real .ensures))
+    (λ c. let entry = c .before .before .before .before .before in
+    second-in (now (entry .args .words)) (entry .args .w .first) (entry .pre) _ _ (c .before .before .put-real .ensures))
+    (λ c. search needs)
+    (λ c κs. let entry = c .before .before .before .before .before .before in
+    second-room (now (entry .args .words)) (entry .args .w .first) (entry .pre) _ _ (c .before .before .before .put-real .ensures))
+    (λ c. let entry = c .before .before .before .before .before .before .before .before .before in
+    length-third (now (entry .args .words)) (entry .args .w .first)
+    (entry .pre) _ _ (c .before .before .before .before .before .before .put-real .ensures) _ _ (c .before .before .put-real2 .ensures))
+    returns)

@@ -1,0 +1,21 @@
+-- The tests of `doneBounds` in its order.
+use borrow.Author.Tests.{le-leb, lt-leb}
+use Rattle.pieces_bounds.proofs.range_bounds.Statement.{statement}
+use Rattle.pieces_bounds.proofs.range_bounds.Tie as tie
+
+returns : tie.Need-returns
+returns c = simp (lt-leb _ _ (c .if1 .taken))
+
+returns-2 : tie.Need-returns-2
+returns-2 c = simp (le-leb _ _ (c .before .if1 .left), lt-leb _ _ (c .if2 .taken))
+
+returns-3 : tie.Need-returns-3
+returns-3 c = simp (le-leb _ _ (c .before .if1 .left), le-leb _ _ (c .if2 .left))
+
+pub range-bounds-spec : {M : Type 1} → statement M
+range-bounds-spec =
+    tie.close
+    (tie.spec
+    returns
+    returns-2
+    returns-3)

@@ -1,0 +1,36 @@
+-- Opened, handed over and ended, as the definition has it.
+use borrow.Author.Needs.{needs}
+use denote.Ref.{now}
+use Rattle.pieces_cuttings.proofs.Handed.{whole-read}
+use Rattle.pieces_cuttings.proofs.read.Statement.{statement}
+use Rattle.pieces_cuttings.proofs.read.Tie as tie
+
+open-requires : tie.Need-open-requires
+open-requires c κs = search needs
+
+unread-requires : tie.Need-unread-requires
+unread-requires c κs = search needs
+
+hand-all-requires : tie.Need-hand-all-requires
+hand-all-requires c κs = search needs
+
+hand-end-requires : tie.Need-hand-end-requires
+hand-end-requires c κs = search needs
+
+same-length : tie.Need-same-length
+same-length c = search needs
+
+same-length-2 : tie.Need-same-length-2
+same-length-2 c = search needs
+
+same-length-3 : tie.Need-same-length-3
+same-length-3 c = search needs
+
+returns : tie.Need-returns
+returns c =
+    let a = c .before .before .before .before .before .before .before .before .before .before .before .before .before .before .before .before .before .before .before .before .before .before .before .before .before .before .before .before .args in
+    whole-read (now (a .source)) (a .cutting) (a .mode) (a .skip) (now (a .records)) (now (a .counts)) (now (a .texts)) (c .before .before .before .before .before .before .before .before .before .before .before .before .before .before .before .before .before .before .before .before .before .before .before .open .result) (c .before .before .before .before .before .before .before .before .before .before .before .before .before .before .before .before .before .before .before .before .before .before .before .open .ensures)
+    (c .before .before .before .before .before .before .before .before .before .before .before .before .before .before .before .before .before .before .before .before .before .unread .ensures) (c .before .before .before .before .before .before .before .before .before .before .before .before .before .before .before .before .before .hand-all .ensures) (c .before .before .before .before .before .before .before .hand-end .ensures)
+
+pub read-spec : {M : Type 1} → statement M
+read-spec = tie.close (tie.spec open-requires unread-requires hand-all-requires hand-end-requires same-length same-length-2 same-length-3 returns)

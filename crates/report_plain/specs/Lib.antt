@@ -1,3 +1,0 @@
-pub mod AsPlain
-pub mod Together
-pub mod Records

@@ -1,0 +1,5 @@
+pub mod Rows
+pub mod Table
+pub mod Case
+pub mod Forms
+pub mod Past
