@@ -1,4 +1,4 @@
--- Programs that meet no promise of crate `flat`, nor of `mihadrena_open`, `mihadrena_piece` and `mihadrena_end`, which promise the same: each has one
+-- Programs that meet no promise of module `flat` of crate `exports`, nor of `mihadrena_open`, `mihadrena_piece` and `mihadrena_end`, which promise the same: each has one
 -- bad habit, and a row of specs/Flat contradicts it.
 use Prim.Native.Nat.{ℕ, _≤_}
 use mathlib.Core.Path.{_≡_, ap, _∙_}

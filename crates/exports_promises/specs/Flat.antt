@@ -1,6 +1,6 @@
--- The piece calls over slices and numbers. `flat::open` ensures `opened r buf′ words′ ≡ openLeft mode skip buf words`, `flat::piece` that its answer and
--- all memory are `pieceLeft memory piece`, and `flat::end` the same with `endLeft`; `mihadrena_open`, `mihadrena_piece` and `mihadrena_end` ensure the
--- same. `flat::put_values` ensures `values′ ≡ lay (first ∷ second ∷ []) values`.
+-- The piece calls over slices and numbers. `exports::flat::open` ensures `opened r buf′ words′ ≡ openLeft mode skip buf words`, `exports::flat::piece` that its answer and
+-- all memory are `pieceLeft memory piece`, and `exports::flat::end` the same with `endLeft`; `mihadrena_open`, `mihadrena_piece` and `mihadrena_end` ensure the
+-- same. `exports_values::put_values` ensures `values′ ≡ lay (first ∷ second ∷ []) values`.
 use Prim.Native.Nat.{ℕ, _+_, _-_}
 use mathlib.Core.Path.{_≡_, refl}
 use mathlib.Core.Bool.{true, false}

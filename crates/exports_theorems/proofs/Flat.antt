@@ -1,5 +1,5 @@
 -- A caller over slices and numbers hears what a caller over a state by value hears: what a call gives can be told by numbers (proofs/Told), each
--- call is made on the state that the memory holds (crate `flat`), and a lent call does what the call by value does (crate `pieces_lent`). So demand 3
+-- call is made on the state that the memory holds (crate `exports`), and a lent call does what the call by value does (crate `pieces_lent`). So demand 3
 -- holds of the memories.
 use Prim.Native.Nat.{ℕ, zero, suc, _+_, _*_, _-_, _≤_, _<_}
 use mathlib.Core.Path.{_≡_, refl, sym, ap, subst, _∙_}
