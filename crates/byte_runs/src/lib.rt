@@ -11,8 +11,14 @@ mod search;
 
 pub use apart::apart_end;
 pub use pairs::pairs_at;
+pub use runs::BLOCK;
+pub use runs::HALF;
+pub use runs::QUARTER;
+pub use runs::all_plain;
 pub use runs::blank_end;
 pub use runs::find;
+pub use runs::has_block;
+pub use runs::plain_bytes;
 pub use runs::plain_end;
 pub use search::agreeing;
 pub use search::find_pair;

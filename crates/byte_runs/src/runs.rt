@@ -8,11 +8,11 @@ ghost use Rattle.laws.specs.Texts.{before, span};
 ghost use Rattle.byte_runs.specs.Runs.{other, plain, blank, block, half, quarter, PlainBefore, PlainTo};
 
 // How many bytes are tested at once.
-pub(crate) const BLOCK: usize = 16;
+pub const BLOCK: usize = 16;
 
-const HALF: usize = BLOCK / 2;
+pub const HALF: usize = BLOCK / 2;
 
-const QUARTER: usize = HALF / 2;
+pub const QUARTER: usize = HALF / 2;
 
 // Below it a byte is a character of ASCII.
 const ASCII_END: u8 = 0x80;
@@ -32,7 +32,7 @@ pub(crate) fn both(x: bool, y: bool) -> bool
 }
 
 // Whether a text has a block at a place.
-pub(crate) fn has_block(t: &[u8], at: usize) -> bool
+pub fn has_block(t: &[u8], at: usize) -> bool
     ensures { λ r. ⌜ r ≡ leb (at + block) (length (now (t .entry))) ⌝ }
 {
     if t.len() < BLOCK {
@@ -89,7 +89,7 @@ fn mark(x: bool) -> u8
 }
 
 // Whether n bytes at a place are plain.
-fn all_plain(t: &[u8], at: usize, n: usize, a: u8, b: u8) -> bool
+pub fn all_plain(t: &[u8], at: usize, n: usize, a: u8, b: u8) -> bool
     requires { ⌜ at + n ≤ length (now t) ⌝ }
     ensures { λ r. ⌜ r ≡ leb n (span (plain a b) (drop at (now (t .entry)))) ⌝ }
 {
@@ -104,7 +104,7 @@ fn all_plain(t: &[u8], at: usize, n: usize, a: u8, b: u8) -> bool
 }
 
 // The place past the run of plain bytes from a place on, byte by byte.
-fn plain_bytes(t: &[u8], from: usize, a: u8, b: u8) -> usize
+pub fn plain_bytes(t: &[u8], from: usize, a: u8, b: u8) -> usize
     ensures { λ r. ⌜ r ≡ from + span (plain a b) (drop from (now (t .entry))) ⌝ }
 {
     let mut i = from;

@@ -4,5 +4,5 @@ pub mod Runs
 pub mod Ends
 pub mod Moves
 pub mod TwoBytes
-pub mod LineTests
+pub mod CopiedLines
 pub mod CommentLines

@@ -7,7 +7,7 @@ use lib.ListN.{length, getD, take, drop}
 use Rattle.laws.specs.Quoted.{code}
 use Rattle.laws.specs.Lent.{written}
 use Rattle.laws.specs.Texts.{span}
-use Rattle.byte_runs.specs.Runs.{plain}
+use Rattle.byte_runs.specs.Runs.{plain, block, PlainTo}
 use Rattle.items.specs.Kinds as kind
 use Rattle.pieces_spots.specs.declared.PieceSpot.{PieceSpot}
 
@@ -15,13 +15,9 @@ use Rattle.pieces_spots.specs.declared.PieceSpot.{PieceSpot}
 abbrev pub ofLine : ℕ → Bool
 ofLine c = plain (code "\n") (code "\n") c
 
--- how many are tested and copied at once
-abbrev pub block : ℕ
-block = 16
-
 -- r is at most n bytes past a place, and the run from the place on goes to r and on
 abbrev pub LineTo : List ℕ → ℕ → ℕ → ℕ → Type 0
-LineTo t at n r = (at ≤ r) × (r ≤ at + n) × (r + span ofLine (drop r t) ≡ at + span ofLine (drop at t))
+LineTo t = PlainTo t (code "\n") (code "\n")
 
 -- so many bytes of a line, in whole blocks, are copied to the front of a memory
 pub record CopiedBlocks (raw old now : List ℕ) (i : ℕ) : Type 0 where

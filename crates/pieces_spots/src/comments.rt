@@ -1,9 +1,9 @@
 // A comment to the end of its line, as most are: its bytes are looked at and held a block at a time, and its newline ends it.
 use crate::PieceSpot;
-use crate::lines::BLOCK;
 use crate::lines::line_block;
 use crate::lines::line_rest;
 use crate::moving::fewer;
+use byte_runs::BLOCK;
 use items::kinds;
 use pieces::LONGEST;
 use pieces_giving::give::copy_all;
@@ -17,7 +17,8 @@ ghost use Rattle.laws.specs.Lent.{written};
 ghost use Rattle.laws.specs.Texts.{span};
 ghost use Rattle.laws.specs.Quoted.{code};
 ghost use Rattle.items.specs.Whole.{limit};
-ghost use Rattle.pieces_spots.specs.Lines.{ofLine, block, CopiedBlocks, lineDone, Commented};
+ghost use Rattle.byte_runs.specs.Runs.{block};
+ghost use Rattle.pieces_spots.specs.Lines.{ofLine, CopiedBlocks, lineDone, Commented};
 ghost use Rattle.pieces_spots.specs.Spots.{Fits, Onward};
 
 // Copies the first block of `raw` to the front of `text`. All of it is read before any is written: so it is one load and one store.

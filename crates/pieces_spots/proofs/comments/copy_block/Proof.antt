@@ -1,4 +1,4 @@
--- The block holds the bytes of `raw`, and is copied whole (LineTests: through-block).
+-- The block holds the bytes of `raw`, and is copied whole (CopiedLines: through-block).
 use borrow.Author.Needs.{needs}
 use native.Mathlib.Omega.{arith}
 use denote.Ref.{now}
@@ -6,10 +6,10 @@ use mathlib.Core.Path.{refl, sym, ap, _∙_}
 use mathlib.Core.List.{List}
 use Prim.Native.Nat.{ℕ}
 use Rattle.laws.specs.Lent.{written}
-use Rattle.pieces_spots.proofs.LineTests.{through-block}
+use Rattle.pieces_spots.proofs.CopiedLines.{through-block}
 use lib.ListN.{length-take}
 use lib.Seq.{length-take-le}
-use Rattle.pieces_spots.specs.Lines.{block}
+use Rattle.byte_runs.specs.Runs.{block}
 use Rattle.pieces_spots.proofs.comments.copy_block.Statement.{statement}
 use Rattle.pieces_spots.proofs.comments.copy_block.Tie as tie
 

@@ -1,4 +1,4 @@
--- The loop keeps: the blocks so far are copied, and the run goes on past them (CopiedBlocks; LineTests: block-over).
+-- The loop keeps: the blocks so far are copied, and the run goes on past them (CopiedBlocks; CopiedLines: block-over).
 use borrow.Author.Needs.{needs}
 use native.Mathlib.Omega.{arith}
 use denote.Ref.{now}
@@ -8,8 +8,9 @@ use mathlib.Core.Path.{_≡_, refl, sym, ap, _∙_}
 use lib.ListN.{length, take, length-take}
 use Rattle.laws.proofs.Blocks.{block-room, block-on}
 use Rattle.laws.proofs.Lent.{length-part, length-written}
-use Rattle.pieces_spots.specs.Lines.{ofLine, block, CopiedBlocks}
-use Rattle.pieces_spots.proofs.LineTests.{block-over}
+use Rattle.byte_runs.specs.Runs.{block}
+use Rattle.pieces_spots.specs.Lines.{ofLine, CopiedBlocks}
+use Rattle.pieces_spots.proofs.CopiedLines.{block-over}
 use Rattle.pieces_spots.proofs.comments.copy_blocks.Statement.{statement}
 use Rattle.pieces_spots.proofs.comments.copy_blocks.Tie as tie
 

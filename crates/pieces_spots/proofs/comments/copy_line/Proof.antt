@@ -1,4 +1,4 @@
--- The blocks and what is left of the line are copied (LineTests: line-short, line-long).
+-- The blocks and what is left of the line are copied (CopiedLines: line-short, line-long).
 use borrow.Author.Needs.{needs}
 use native.Mathlib.Omega.{arith}
 use denote.Ref.{now}
@@ -6,8 +6,8 @@ use Prim.Native.Nat.{ℕ, _-_}
 use mathlib.Core.Path.{sym}
 use lib.Seq.{length-take-le}
 use Rattle.laws.proofs.Lent.{length-part}
-use Rattle.pieces_spots.specs.Lines.{block}
-use Rattle.pieces_spots.proofs.LineTests.{line-count, line-inside, line-now, line-fits, line-short, line-long}
+use Rattle.byte_runs.specs.Runs.{block}
+use Rattle.pieces_spots.proofs.CopiedLines.{line-count, line-inside, line-now, line-fits, line-short, line-long}
 use Rattle.pieces_spots.proofs.comments.copy_line.Statement.{statement}
 use Rattle.pieces_spots.proofs.comments.copy_line.Tie as tie
 

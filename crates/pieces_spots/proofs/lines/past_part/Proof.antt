@@ -7,8 +7,8 @@ use Rattle.pieces_spots.specs.Lines.{ofLine}
 use Rattle.pieces_spots.proofs.lines.past_part.Statement.{statement}
 use Rattle.pieces_spots.proofs.lines.past_part.Tie as tie
 
-all-of-line-requires : tie.Need-all-of-line-requires
-all-of-line-requires c κs = search needs
+all-plain-requires : tie.Need-all-plain-requires
+all-plain-requires c κs = search needs
 
 add-result : tie.Need-add-result
 add-result c = search needs
@@ -16,10 +16,10 @@ add-result c = search needs
 returns : tie.Need-returns
 returns c =
     let a = c .before .before .before .args in
-    (omega arith, omega arith, block-on ofLine (now (a .t)) (a .at) (a .n) (c .before .all-of-line .ensures) (c .if1 .taken))
+    (omega arith, omega arith, block-on ofLine (now (a .t)) (a .at) (a .n) (c .before .all-plain .ensures) (c .if1 .taken))
 
 returns-2 : tie.Need-returns-2
 returns-2 c = search needs
 
 pub past-part-spec : {M : Type 1} → statement M
-past-part-spec = tie.close (tie.spec all-of-line-requires add-result returns returns-2)
+past-part-spec = tie.close (tie.spec all-plain-requires add-result returns returns-2)

@@ -1,40 +1,20 @@
--- The tests of a line's bytes put together, and its blocks copied one after the other.
+-- The blocks of a line copied one after the other.
 use Prim.Native.Nat.{ℕ, _+_, _-_, _≤_, _<_}
 use native.Mathlib.Omega.{arith}
-use mathlib.Core.Path.{_≡_, refl, sym, ap, _∙_}
-use mathlib.Core.Bool.{Bool, true, false, not, _&&_}
-use mathlib.Core.List.{List, [], _++_, append-nil}
-use lib.Bits.{bitOr, or-add-and, and-le-l, and-le-r}
-use lib.Dec.{eqb, leb, ltb}
+use mathlib.Core.Path.{_≡_, sym, ap, _∙_}
+use mathlib.Core.List.{List, _++_, append-nil}
+use lib.Dec.{eqb}
 use lib.ListN.{length, take, drop, length-take, take-append-drop, drop-of-length-le}
 use lib.Seq.{length-take-le, take-append-le, take-take, drop-append-add, drop-drop, take-add}
-use borrow.Author.Tests.{eq-eqb, ne-eqb, eqb-true, eqb-false}
+use borrow.Author.Tests.{eqb-true, eqb-false}
 use Rattle.laws.proofs.Choice.{by-bool}
-use Rattle.byte_runs.proofs.Marks.{marks-plain}
-use Rattle.laws.specs.Quoted.{code}
 use borrow.Rule.Slice.PartMut.{putMid}
 use Rattle.laws.specs.Lent.{written}
 use Rattle.laws.proofs.Lent.{length-written, part-rest, part-written}
 use Rattle.laws.specs.Texts.{span}
 use Rattle.laws.proofs.Runs.{span-le}
-use Rattle.pieces_spots.specs.Lines.{ofLine, block, CopiedBlocks}
-
--- a mark twice is as once
-or-twice : (x p : ℕ) → eqb (bitOr (bitOr x p) p) 0 ≡ eqb (bitOr x p) 0
-or-twice x p =
-    by-bool (eqb (bitOr x p) 0)
-    (λ e. rw e (eq-eqb (bitOr (bitOr x p) p) 0 (omega (arith, eqb-true (bitOr x p) 0 e, or-add-and x p, and-le-l x p, or-add-and (bitOr x p) p))))
-    (λ e. rw e (ne-eqb (bitOr (bitOr x p) p) 0 (omega (arith, eqb-false (bitOr x p) 0 e, or-add-and (bitOr x p) p, and-le-r (bitOr x p) p))))
-
--- the marks of a byte beside those before it
-pub marks-line : (c x h p : ℕ) → eqb h 0 ≡ not (leb 0x80 c) → eqb p 0 ≡ not (eqb c (code "\n")) → eqb (bitOr (bitOr x h) p) 0 ≡ (eqb x 0 && ofLine c)
-marks-line c x h p e f = sym (or-twice (bitOr x h) p) ∙ marks-plain (code "\n") (code "\n") c x h p p e f f
-
--- a test twice is as once
-pub and-twice : (x y : Bool) → (x && y) ≡ (x && (y && y))
-and-twice true true = refl
-and-twice true false = refl
-and-twice false y = refl
+use Rattle.byte_runs.specs.Runs.{block}
+use Rattle.pieces_spots.specs.Lines.{ofLine, CopiedBlocks}
 
 -- the block at k is copied, where i bytes were, some of them perhaps of the block too
 module _ (raw old : List ℕ) (i k : ℕ) {now : List ℕ} (fit : length raw ≤ length old) (inside : k + block ≤ length raw) (h : k ≤ i) (l : i ≤ k + block)
