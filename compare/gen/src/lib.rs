@@ -1,5 +1,6 @@
 //! Texts to compare readers on. A family makes its texts in an order fixed by its seed, so that a text can be made again.
 mod damage;
+mod delimiter;
 mod frame;
 mod long;
 mod nest;
@@ -78,6 +79,11 @@ pub const FAMILIES: &[Family] = &[
     lists("long", "every kind of item, 4,090 to 4,102 bytes long", long::texts),
     draws("reals", "numbers by their grammar, some damaged", real::texts),
     draws("nests", "brackets of every shape, up to some hundred deep, and closes too many", nest::texts),
+    draws(
+        "delimiters",
+        "here-strings whose delimiters repeat themselves, up to some thousand bytes, with bodies of their beginnings",
+        delimiter::texts,
+    ),
     draws("plans", "felling plans by their grammar", plan::texts),
     draws("damaged", "plans with some characters lost, added or changed", damage::characters),
     draws("bad", "plans with some bytes lost, added or changed: mostly no UTF-8", damage::bytes),

@@ -14,7 +14,7 @@ use std::str;
 
 const FAMILIES: &[&str] = &[
     "short", "escapes", "hashes", "digits", "characters", "here", "comments", "brackets", "numbers", "bars", "long",
-    "reals", "nests", "plans", "damaged", "bad",
+    "delimiters", "reals", "nests", "plans", "damaged", "bad",
 ];
 
 /// How many texts of a family are read at most. Of the numbers those of up to 5 characters: the number call itself is compared on all

@@ -15,8 +15,8 @@ use item::Record;
 pub use lent::Lent;
 
 const FAMILIES: &[&str] = &[
-    "short", "escapes", "hashes", "digits", "characters", "here", "comments", "brackets", "bars", "long", "reals",
-    "nests", "plans", "damaged", "bad",
+    "short", "escapes", "hashes", "digits", "characters", "here", "comments", "brackets", "bars", "long",
+    "delimiters", "reals", "nests", "plans", "damaged", "bad",
 ];
 
 /// So many texts of a random family at most: byte by byte they take their time.
