@@ -23,12 +23,14 @@ const BARE_READ: &[&str] = &["bare_read"];
 
 /// The readers of a text, whole or in pieces.
 pub const READERS: &[Reader] = &[
-    Reader { name: "ample", title: "ample", inside: READ, ready: ample },
-    Reader { name: "counted", title: "counted", inside: READ, ready: counted },
-    Reader { name: "pieces-4096", title: "pieces of 4,096", inside: PIECES, ready: |text| pieces(text, 4096) },
-    Reader { name: "pieces-512", title: "of 512", inside: PIECES, ready: |text| pieces(text, 512) },
-    Reader { name: "pieces-64", title: "of 64", inside: PIECES, ready: |text| pieces(text, 64) },
-    Reader { name: "pieces-1", title: "of 1", inside: PIECES, ready: |text| pieces(text, 1) },
+    Reader { name: "ample", title: "ample", inside: READ, ready: |text| ample(text, PLAIN) },
+    Reader { name: "counted", title: "counted", inside: READ, ready: |text| counted(text, PLAIN) },
+    Reader { name: "report-ample", title: "report: ample", inside: READ, ready: |text| ample(text, REPORT) },
+    Reader { name: "report-counted", title: "counted", inside: READ, ready: |text| counted(text, REPORT) },
+    Reader { name: "pieces-4096", title: "pieces of 4,096", inside: PIECES, ready: |text| pieces(text, PLAIN, 4096) },
+    Reader { name: "report-4096", title: "in report mode", inside: PIECES, ready: |text| pieces(text, REPORT, 4096) },
+    Reader { name: "pieces-64", title: "of 64", inside: PIECES, ready: |text| pieces(text, PLAIN, 64) },
+    Reader { name: "pieces-1", title: "of 1", inside: PIECES, ready: |text| pieces(text, PLAIN, 1) },
     Reader {
         name: "rust",
         title: "the Rust as published",
@@ -45,7 +47,7 @@ pub const READERS: &[Reader] = &[
 
 /// The piece calls, each lent all that is left of the text.
 pub const ONE_PIECE: Reader =
-    Reader { name: "one-piece", title: "one piece", inside: PIECES, ready: |text| pieces(text, text.len()) };
+    Reader { name: "one-piece", title: "one piece", inside: PIECES, ready: |text| pieces(text, PLAIN, text.len()) };
 
 /// The checks for UTF-8; none has items.
 pub const CHECKS: &[Reader] = &[
@@ -69,6 +71,12 @@ pub const LINES: &[Reader] = &[
         inside: &["mihadrena_lines"],
         ready: lines_counted,
     },
+    Reader {
+        name: "lines-pieces",
+        title: "in pieces of 4,096",
+        inside: &["mihadrena_lines_piece", "mihadrena_lines_end"],
+        ready: lines_pieces,
+    },
     Reader { name: "rust-count", title: "Rust's count of newline bytes", inside: &["rust_count"], ready: rust_counts },
     Reader {
         name: "rust-lines",
@@ -82,27 +90,29 @@ pub fn named(name: &str) -> Option<&'static Reader> {
     [READERS, CHECKS, NUMBERS, LINES, &[ONE_PIECE]].into_iter().flatten().find(|reader| reader.name == name)
 }
 
+/// The modes. The Rust has the first alone.
 const PLAIN: u32 = 0;
+const REPORT: u32 = 1;
 
 /// A whole-text call into so many records and bytes of text memory.
-fn whole(text: &str, items: usize, bytes: usize) -> Run<'_> {
+fn whole(text: &str, mode: u32, items: usize, bytes: usize) -> Run<'_> {
     let mut records = vec![0; items * RECORD_WORDS];
     let mut memory = vec![0; bytes];
     let mut values = [0; 2];
     Box::new(move || {
-        let answer = proved::read(text.as_bytes(), PLAIN, false, &mut records, &mut memory, &mut values);
+        let answer = proved::read(text.as_bytes(), mode, false, &mut records, &mut memory, &mut values);
         (answer == proved::SERVED).then_some(values[0])
     })
 }
 
 /// A record and a byte of text memory for each byte of the text: items never outnumber bytes, so that the call need not count first.
-fn ample(text: &str) -> Run<'_> {
-    whole(text, text.len(), text.len())
+fn ample(text: &str, mode: u32) -> Run<'_> {
+    whole(text, mode, text.len(), text.len())
 }
 
 /// A byte less than ample: enough, but the call must count to know it.
-fn counted(text: &str) -> Run<'_> {
-    whole(text, text.len(), text.len() - 1)
+fn counted(text: &str, mode: u32) -> Run<'_> {
+    whole(text, mode, text.len(), text.len() - 1)
 }
 
 /// What a piece call is lent beside a state: the least text memory, a record and its values.
@@ -115,7 +125,7 @@ struct Lent {
 }
 
 /// A text in pieces of so many bytes.
-fn pieces(text: &str, length: usize) -> Run<'_> {
+fn pieces(text: &str, mode: u32, length: usize) -> Run<'_> {
     let mut lent = Box::new(Lent {
         bytes: [0; proved::STATE_BYTES],
         words: [0; proved::STATE_WORDS],
@@ -125,7 +135,7 @@ fn pieces(text: &str, length: usize) -> Run<'_> {
     });
     Box::new(move || {
         let Lent { bytes, words, text: memory, record, values } = &mut *lent;
-        assert_eq!(proved::open(PLAIN, false, bytes, words), proved::SERVED);
+        assert_eq!(proved::open(mode, false, bytes, words), proved::SERVED);
         let mut items = 0;
         for piece in text.as_bytes().chunks(length) {
             let mut rest = piece;
@@ -235,6 +245,17 @@ fn lines_into(text: &str, words: usize) -> Run<'_> {
     let mut index = vec![0; words];
     Box::new(move || {
         let (answer, [count, _]) = proved::lines::build(text.as_bytes(), &mut index);
+        (answer == proved::lines::SERVED).then_some(count)
+    })
+}
+
+fn lines_pieces(text: &str) -> Run<'_> {
+    let mut index = vec![0; text.len() + 1];
+    let mut state = [0; proved::lines::STATE_WORDS];
+    Box::new(move || {
+        proved::lines::open(&mut state, &mut index);
+        text.as_bytes().chunks(4096).for_each(|piece| proved::lines::piece(&mut state, piece, &mut index));
+        let (answer, [count, _]) = proved::lines::end(&state, &index);
         (answer == proved::lines::SERVED).then_some(count)
     })
 }
