@@ -1,8 +1,9 @@
 //! How fast the proved calls are, and the Rust beside them on the same texts in the same run.
 //!
 //! `bench [--bytes N] [--growth M,..] [TEXT..]` prints tables in the form of docs/SPEED.md: instructions a byte, MB/s and ns an item of
-//! each text (of all, with 1,048,576 bytes), the number call, and how cost grows: the plan's, and that of texts lent as one piece (1, 4,
-//! 16 and 64 MB; `--growth 0` leaves both out). Every figure comes from a process of its own, so that no reading finds names that another one interned.
+//! each text (of all, with 1,048,576 bytes), instructions an item of texts of one sort of item, the number call, the line index, and how cost
+//! grows: the plan's, and that of texts lent as one piece (4 and 16 MB; `--growth 0` leaves both out). Every figure comes from a process of
+//! its own, so that no reading finds names that another one interned.
 //!
 //! `bench once READER FILE` and `bench time READER FILE` are those processes: one reading, or the first time and the best of several.
 mod measure;
@@ -37,7 +38,8 @@ fn main() -> ExitCode {
                 ExitCode::SUCCESS
             }
             None => {
-                eprintln!("usage: bench [--bytes N] [--growth MEGABYTES,..] [{}]", texts::names().join("|"));
+                let names: Vec<&str> = texts::all().map(|text| text.name).collect();
+                eprintln!("usage: bench [--bytes N] [--growth MEGABYTES,..] [{}]", names.join("|"));
                 ExitCode::FAILURE
             }
         },
@@ -46,7 +48,7 @@ fn main() -> ExitCode {
 
 /// The words as a wish; none if one of them is unknown.
 fn wanted(words: &[&str]) -> Option<Wanted> {
-    let mut wanted = Wanted { bytes: texts::MEGABYTE, growth: vec![1, 4, 16, 64], texts: Vec::new() };
+    let mut wanted = Wanted { bytes: texts::MEGABYTE, growth: vec![4, 16], texts: Vec::new() };
     let mut words = words.iter();
     while let Some(&word) = words.next() {
         match word {
@@ -59,7 +61,7 @@ fn wanted(words: &[&str]) -> Option<Wanted> {
         }
     }
     if wanted.texts.is_empty() {
-        wanted.texts = texts::TEXTS.iter().collect();
+        wanted.texts = texts::all().collect();
     }
     Some(wanted)
 }

@@ -1,7 +1,7 @@
 //! The tables, in the form of docs/SPEED.md. A row is printed as soon as it is measured.
 use crate::measure::{instructions, times, Times};
 use crate::readers::{self, Reader, CHECKS, LINES, NUMBERS, ONE_PIECE, READERS};
-use crate::texts::{in_one_piece, Text, MEGABYTE, TEXTS};
+use crate::texts::{in_one_piece, Text, ITEMS, MEGABYTE, TEXTS};
 use crate::Wanted;
 use std::fs;
 use std::path::PathBuf;
@@ -9,20 +9,25 @@ use std::path::PathBuf;
 pub fn print(wanted: &Wanted) {
     println!("Memory is cleared before the first reading and not between two; no call clears any.\n");
     let texts: Vec<Written> = wanted.texts.iter().map(|text| Written::of(text, text.name, wanted.bytes)).collect();
-    let readers: Vec<&Reader> = READERS.iter().chain(CHECKS).collect();
+    let (sorts, mixed): (Vec<&Written>, Vec<&Written>) =
+        texts.iter().partition(|text| ITEMS.iter().any(|sort| sort.name == text.name));
     println!("## Instructions a byte\n");
-    head(&["text", "bytes", "items"], &readers);
-    texts.iter().for_each(|text| counts(text, &readers));
+    let readers: Vec<&Reader> = READERS.iter().chain(CHECKS).collect();
+    head(&["text", "items"], &readers);
+    mixed.iter().for_each(|text| counts(text, &readers, text.bytes()));
     println!("\n## MB/s (ns an item), best of nine readings\n");
-    head(&["text"], &readers);
-    texts.iter().for_each(|text| speeds(text, &readers));
+    head(&["text"], &main_readers());
+    mixed.iter().for_each(|text| speeds(text, &main_readers()));
+    println!("\n## Instructions an item\n");
+    head(&["text", "items"], &main_readers());
+    sorts.iter().for_each(|text| counts(text, &main_readers(), text.items()));
     println!("\n## The number call: instructions a byte of the numbers, ns a number\n");
     head(&["text", "numbers", "bytes of each"], &NUMBERS.iter().collect::<Vec<_>>());
     texts.iter().for_each(numbers);
     println!("\n## The line index: instructions a byte\n");
     let indexers: Vec<&Reader> = LINES.iter().collect();
-    head(&["text", "bytes", "items"], &indexers);
-    texts.iter().for_each(|text| counts(text, &indexers));
+    head(&["text", "items"], &indexers);
+    mixed.iter().for_each(|text| counts(text, &indexers, text.bytes()));
     if !wanted.growth.is_empty() {
         growth(&wanted.growth);
         one_piece(&wanted.growth);
@@ -46,10 +51,20 @@ impl Written {
         Written { name: name.into(), text: made, file }
     }
 
+    fn bytes(&self) -> u64 {
+        self.text.len() as u64
+    }
+
     /// How many items the text has.
     fn items(&self) -> u64 {
         (READERS[0].ready)(&self.text)().expect("a text that is served")
     }
+}
+
+/// The readers of every table but the first, which has all.
+fn main_readers() -> Vec<&'static Reader> {
+    const MAIN: &[&str] = &["ample", "counted", "pieces-4096", "rust", "bare"];
+    READERS.iter().filter(|reader| MAIN.contains(&reader.name)).collect()
 }
 
 fn head(first: &[&str], readers: &[&Reader]) {
@@ -61,8 +76,8 @@ fn head(first: &[&str], readers: &[&Reader]) {
 /// What stands for a reader that is refused: piece calls stop at an item of more than 4,096 bytes.
 const STOPS: &str = " stops |";
 
-/// The instructions a byte of each reader. All that are not refused must have met the same items.
-fn counts(text: &Written, readers: &[&Reader]) {
+/// The instructions of each reader, by so many bytes or items. All that are not refused must have met the same items.
+fn counts(text: &Written, readers: &[&Reader], by: u64) {
     let items = text.items();
     let row: String = readers
         .iter()
@@ -71,10 +86,10 @@ fn counts(text: &Written, readers: &[&Reader]) {
                 return STOPS.to_string();
             };
             assert!(!reads(reader) || found.items == items, "{} meets other items of {}", reader.name, text.name);
-            format!(" {:.1} |", found.count as f64 / text.text.len() as f64)
+            format!(" {:.1} |", found.count as f64 / by as f64)
         })
         .collect();
-    println!("| {} | {} | {} |{row}", text.name, grouped(text.text.len() as u64), grouped(items));
+    println!("| {} | {} |{row}", text.name, grouped(items));
 }
 
 /// The speed of each reader; of the Rust as published, which finds its names interned from the second reading on, the first's too.
@@ -120,16 +135,13 @@ fn numbers(text: &Written) {
     println!("| {} | {} | {each:.1} |{row}", text.name, grouped(numbers.len() as u64));
 }
 
-/// The readers whose growth is shown.
-const GROWING: &[&str] = &["ample", "counted", "pieces-4096", "rust", "bare"];
-
 /// The instructions a byte of the plan, by its size in megabytes.
 fn growth(sizes: &[usize]) {
     println!("\n## How cost grows: the plan, instructions a byte\n");
-    let readers: Vec<&Reader> = READERS.iter().filter(|reader| GROWING.contains(&reader.name)).collect();
-    head(&["MB", "bytes", "items"], &readers);
+    head(&["MB", "items"], &main_readers());
     for size in sizes {
-        counts(&Written::of(&TEXTS[0], size.to_string(), size * MEGABYTE), &readers);
+        let plan = Written::of(&TEXTS[0], size.to_string(), size * MEGABYTE);
+        counts(&plan, &main_readers(), plan.bytes());
     }
 }
 

@@ -30,6 +30,28 @@ pub const TEXTS: &[Text] = &[
     text("blanks", |n| " ".repeat(n)),
     text("errors", |n| "\"\\q".repeat(n / 3)),
     text("letters-of-two-bytes", |n| format!("\"{}\"", "é".repeat(n / 2 - 1))),
+    text("letters-of-three-bytes", |n| format!("\"{}\"", repeated("森林", n - 2))),
+    text("letters-of-four-bytes", |n| format!("\"{}\"", repeated("🌲", n - 2))),
+    text("first-line", |n| format!("#!{}\n", "x".repeat(n - 3))),
+];
+
+/// Texts of one sort of item each, whose cost is told by the item.
+pub const ITEMS: &[Text] = &[
+    text("booleans", |n| repeated("#t ", n)),
+    text("vectors", |n| repeated("#(1) ", n)),
+    text("lines-with-returns", |n| repeated("abc\r\n", n)),
+    text("words-of-a-letter", |n| repeated("å ", n)),
+    text("short-strings", |n| repeated("\"abc\" ", n)),
+    text("words-in-bars", |n| repeated("|bjørk| ", n)),
+    text("escapes", |n| repeated("\"\\n\" ", n)),
+    text("short-nested-comments", |n| repeated("#| abc def ghi |# ", n)),
+    text("pairs", |n| repeated("+foo ", n)),
+    text("rationals", |n| repeated("142/7 ", n)),
+    text("complex-numbers", |n| repeated("142.5-52i ", n)),
+    text("exponents", |n| repeated("142.5e-3 ", n)),
+    text("polar-numbers", |n| repeated("142@17 ", n)),
+    text("hexadecimals", |n| repeated("#x8eab ", n)),
+    text("integers-of-19-digits", |n| repeated("1000000000000000142 ", n)),
 ];
 
 /// A text over and over, in at most so many bytes.
@@ -37,20 +59,17 @@ fn repeated(text: &str, bytes: usize) -> String {
     text.repeat(bytes / text.len())
 }
 
-/// A first line that is passed over.
-const FIRST_LINE: &Text = &text("first-line", |n| format!("#!{}\n", "x".repeat(n - 3)));
-
 /// The texts that are lent as one piece.
 pub fn in_one_piece() -> Vec<&'static Text> {
-    ["plan", "blanks", "line-comments"].into_iter().filter_map(named).chain([FIRST_LINE]).collect()
+    ["plan", "blanks", "line-comments", "first-line"].into_iter().filter_map(named).collect()
+}
+
+pub fn all() -> impl Iterator<Item = &'static Text> {
+    TEXTS.iter().chain(ITEMS)
 }
 
 pub fn named(name: &str) -> Option<&'static Text> {
-    TEXTS.iter().find(|text| text.name == name)
-}
-
-pub fn names() -> Vec<&'static str> {
-    TEXTS.iter().map(|text| text.name).collect()
+    all().find(|text| text.name == name)
 }
 
 /// A felling plan in the style of examples/plan.scm, stand after stand.
