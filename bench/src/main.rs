@@ -2,7 +2,7 @@
 //!
 //! `bench [--bytes N] [--growth M,..] [TEXT..]` prints tables in the form of docs/SPEED.md: instructions a byte, MB/s and ns an item of
 //! each text (of all, with 1,048,576 bytes), instructions an item of texts of one sort of item, the number call, the line index, and how cost
-//! grows: the plan's, and that of texts lent as one piece (4 and 16 MB; `--growth 0` leaves both out). Every figure comes from a process of
+//! grows: the plan's, and that of texts lent as one piece (4, 16 and 64 MB; `--growth 0` leaves both out). Every figure comes from a process of
 //! its own, so that no reading finds names that another one interned.
 //!
 //! `bench once READER FILE` and `bench time READER FILE` are those processes: one reading, or the first time and the best of several.
@@ -48,7 +48,7 @@ fn main() -> ExitCode {
 
 /// The words as a wish; none if one of them is unknown.
 fn wanted(words: &[&str]) -> Option<Wanted> {
-    let mut wanted = Wanted { bytes: texts::MEGABYTE, growth: vec![4, 16], texts: Vec::new() };
+    let mut wanted = Wanted { bytes: texts::MEGABYTE, growth: vec![4, 16, 64], texts: Vec::new() };
     let mut words = words.iter();
     while let Some(&word) = words.next() {
         match word {
