@@ -29,6 +29,7 @@ pub const READERS: &[Reader] = &[
     Reader { name: "report-counted", title: "counted", inside: READ, ready: |text| counted(text, REPORT) },
     Reader { name: "pieces-4096", title: "pieces of 4,096", inside: PIECES, ready: |text| pieces(text, PLAIN, 4096) },
     Reader { name: "report-4096", title: "in report mode", inside: PIECES, ready: |text| pieces(text, REPORT, 4096) },
+    Reader { name: "pieces-512", title: "of 512", inside: PIECES, ready: |text| pieces(text, PLAIN, 512) },
     Reader { name: "pieces-64", title: "of 64", inside: PIECES, ready: |text| pieces(text, PLAIN, 64) },
     Reader { name: "pieces-1", title: "of 1", inside: PIECES, ready: |text| pieces(text, PLAIN, 1) },
     Reader {
