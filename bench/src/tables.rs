@@ -13,20 +13,20 @@ pub fn print(wanted: &Wanted) {
         texts.iter().partition(|text| ITEMS.iter().any(|sort| sort.name == text.name));
     println!("## Instructions a byte\n");
     let readers: Vec<&Reader> = READERS.iter().chain(CHECKS).collect();
-    head(&["text", "items"], &readers);
+    head(&["text"], &readers);
     mixed.iter().for_each(|text| counts(text, &readers, text.bytes()));
     println!("\n## MB/s (ns an item), best of nine readings\n");
     head(&["text"], &main_readers());
     mixed.iter().for_each(|text| speeds(text, &main_readers()));
     println!("\n## Instructions an item\n");
-    head(&["text", "items"], &main_readers());
+    head(&["text"], &main_readers());
     sorts.iter().for_each(|text| counts(text, &main_readers(), text.items()));
     println!("\n## The number call: instructions a byte of the numbers, ns a number\n");
-    head(&["text", "numbers", "bytes of each"], &NUMBERS.iter().collect::<Vec<_>>());
+    head(&["text", "bytes of each"], &NUMBERS.iter().collect::<Vec<_>>());
     texts.iter().for_each(numbers);
     println!("\n## The line index: instructions a byte\n");
     let indexers: Vec<&Reader> = LINES.iter().collect();
-    head(&["text", "items"], &indexers);
+    head(&["text"], &indexers);
     mixed.iter().for_each(|text| counts(text, &indexers, text.bytes()));
     if !wanted.growth.is_empty() {
         growth(&wanted.growth);
@@ -89,7 +89,7 @@ fn counts(text: &Written, readers: &[&Reader], by: u64) {
             format!(" {:.1} |", found.count as f64 / by as f64)
         })
         .collect();
-    println!("| {} | {} |{row}", text.name, grouped(items));
+    println!("| {} |{row}", text.name);
 }
 
 /// The speed of each reader; of the Rust as published, which finds its names interned from the second reading on, the first's too.
@@ -132,13 +132,13 @@ fn numbers(text: &Written) {
         })
         .collect();
     let each = bytes as f64 / numbers.len() as f64;
-    println!("| {} | {} | {each:.1} |{row}", text.name, grouped(numbers.len() as u64));
+    println!("| {} | {each:.1} |{row}", text.name);
 }
 
 /// The instructions a byte of the plan, by its size in megabytes.
 fn growth(sizes: &[usize]) {
     println!("\n## How cost grows: the plan, instructions a byte\n");
-    head(&["MB", "items"], &main_readers());
+    head(&["MB"], &main_readers());
     for size in sizes {
         let plan = Written::of(&TEXTS[0], size.to_string(), size * MEGABYTE);
         counts(&plan, &main_readers(), plan.bytes());
