@@ -7,3 +7,4 @@ pub mod Apart
 pub mod Item
 pub mod Ended
 pub mod Sought
+pub mod Linear

@@ -20,7 +20,7 @@ use Rattle.steps.proofs.Delimiter.{unreturned-skip, unreturned-keep, un
 
 -- ---- where it does not stand
 
-begins-same : (d t : List ℕ) → begins d t ≡ true → (q : ℕ) → q < length d → getD t q 0 ≡ getD d q 0
+pub begins-same : (d t : List ℕ) → begins d t ≡ true → (q : ℕ) → q < length d → getD t q 0 ≡ getD d q 0
 unfolding begins
 begins-same [] t e q h = absurd (omega arith)
 begins-same (x ∷ d) [] e q h = no-yes e

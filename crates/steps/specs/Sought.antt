@@ -29,9 +29,12 @@ pub record Knows (s line : List ℕ) (k : Known) : Type 0 where
   pub begun : Begun s line (k .at) (k .count) (k .read)
   pub waits : k .count < length (unreturned line) → Waits line (k .read)
 
--- the delimiter does not stand at the place i, unless it is known whole
-abbrev pub Missed : List ℕ → List ℕ → ℕ → Known → Type 0
-Missed s line i k = k .count < length (unreturned line) → begins (unreturned line) (drop i s) ≡ false
+-- the place i was looked at: so it is known, its first `off` bytes are the delimiter's, and it does not stand there unless it is known whole
+pub record Looked (s line : List ℕ) (i : ℕ) (k : Known) : Type 0 where
+  pub knows : Knows s line k
+  pub stands : (q : ℕ) → q < k .off → getD s (i + q) 0 ≡ getD (unreturned line) q 0
+  pub no-more : k .off ≤ k .count
+  pub missed : k .count < length (unreturned line) → begins (unreturned line) (drop i s) ≡ false
 
 -- no delimiter that begins at the place `from` or behind it ends before the place r
 abbrev pub Absent : List ℕ → List ℕ → ℕ → ℕ → Type 0

@@ -1,6 +1,9 @@
 // The search for a here-string's delimiter. Only places are looked at where its first byte stands, and its last one as far behind as they
 // stand apart. Of the delimiter, whose line may have carriage returns, as many bytes are known as were found in the text: against those a
-// place is compared, blocks of text with blocks of text, once three single bytes have not told that the delimiter does not stand there.
+// place is compared, blocks of text with blocks of text, once three single bytes have not told that the delimiter does not stand there. A text
+// that was made to agree far at many places would cost its length times the delimiter's: after the first such place it is searched by periods.
+use byte_periods::Moved;
+use byte_periods::moved_along;
 use byte_runs::agreeing;
 use byte_runs::find_pair;
 ghost use mathlib.Core.Path.{_≡_};
@@ -9,8 +12,12 @@ ghost use Prim.Native.Nat.{_+_, _-_, _≤_, _<_};
 ghost use lib.ListN.{length, getD, take, drop};
 ghost use Rattle.laws.specs.Quoted.{code};
 ghost use Rattle.laws.specs.Texts.{begins};
+ghost use Rattle.byte_runs.specs.Search.{Alike};
 ghost use Rattle.items.specs.Readers.{unreturned};
-ghost use Rattle.steps.specs.Sought.{Waits, Kept, Begun, Knows, Missed, Absent};
+ghost use Rattle.steps.specs.Sought.{Waits, Kept, Begun, Knows, Looked, Absent};
+
+// So many bytes of a place agree at most with those known before the search goes on in linear time.
+const FAR: usize = 128;
 
 // What is known of a delimiter: its first `count` bytes stand at the place `at`, and its line has them before `read`. The place looked at
 // last failed at its byte `off`, which stands at the place `odd`.
@@ -86,7 +93,7 @@ fn refuted(s: &[u8], i: usize, line: &[u8], known: Known) -> bool
 // What is known where the first bytes stand at a place: they and those that follow.
 fn learn(s: &[u8], at: usize, line: &[u8], count: usize, read: usize) -> Known
     requires { ⌜ (at + length (unreturned (now line)) ≤ length (now s)) × Begun (now s) (now line) at count read ⌝ }
-    ensures { λ r. ⌜ Knows (now (s .entry)) (now (line .entry)) r × Missed (now (s .entry)) (now (line .entry)) at r ⌝ }
+    ensures { λ r. ⌜ Looked (now (s .entry)) (now (line .entry)) at r × (count ≤ r .off) ⌝ }
 {
     let mut i = read;
     let mut j = count;
@@ -116,15 +123,13 @@ fn learn(s: &[u8], at: usize, line: &[u8], count: usize, read: usize) -> Known
     }
 }
 
-// What is known once a place was looked at.
-fn looked(s: &[u8], i: usize, line: &[u8], known: Known) -> Known
-    requires { ⌜ (i + length (unreturned (now line)) ≤ length (now s)) × (known .count < length (unreturned (now line))) × Knows (now s) (now line) known ⌝ }
-    ensures { λ r. ⌜ Knows (now (s .entry)) (now (line .entry)) r × Missed (now (s .entry)) (now (line .entry)) i r ⌝ }
+// What is known once a place was compared, where some bytes agree with those known.
+fn compared(s: &[u8], i: usize, same: usize, line: &[u8], known: Known) -> Known
+    requires { ⌜ (i + length (unreturned (now line)) ≤ length (now s)) × (known .count < length (unreturned (now line))) × Knows (now s) (now line) known
+        × (same ≤ known .count) × Alike (now s) i (known .at) same ⌝ }
+    ensures { λ r. ⌜ Looked (now (s .entry)) (now (line .entry)) i r × (same ≤ r .off) ⌝ }
 {
-    if refuted(s, i, line, known) {
-        return known;
-    }
-    let k = agreeing(s, i, known.at, known.count);
+    let k = same + agreeing(s, i + same, known.at + same, known.count - same);
     if k < known.count {
         return Known {
             at: known.at,
@@ -135,6 +140,39 @@ fn looked(s: &[u8], i: usize, line: &[u8], known: Known) -> Known
         };
     }
     learn(s, i, line, known.count, known.read)
+}
+
+// The search from a place on, in time that grows with the text alone: a place that fails is left by as much as those of the delimiter's bytes that stand
+// there must be moved before they can agree with themselves.
+fn linear_end(s: &[u8], from: usize, line: &[u8], n: usize, first: Known) -> usize
+    requires { ⌜ (from ≤ length (now s)) × (n ≡ length (unreturned (now line))) × (first .count < length (unreturned (now line))) × Knows (now s) (now line) first ⌝ }
+    ensures { λ r. ⌜ Absent (now (s .entry)) (now (line .entry)) from r ⌝ }
+{
+    let mut known = first;
+    let mut at = from;
+    let mut m = Moved {
+        by: 0,
+        kept: 0,
+        start: 0,
+        period: 1,
+    };
+    while n <= s.len() - at {
+        known = compared(s, at, m.kept, line, known);
+        if known.count == n {
+            return at + n;
+        }
+        m = moved_along(&s[at..at + known.off], m);
+        at += m.by;
+    }
+    s.len()
+}
+
+// Whether a place agreed with so many of the bytes known before that the next ones are not to be looked at in this way.
+fn agreed_far(count: usize, off: usize) -> bool {
+    if count < FAR {
+        return false;
+    }
+    FAR <= off
 }
 
 // Where the first delimiter ends that begins at a place or behind it, or where the text ends. Its line begins and ends with a byte that is
@@ -159,9 +197,15 @@ pub(crate) fn delimiter_end(s: &[u8], from: usize, line: &[u8], n: usize) -> usi
         if s.len() - i < n {
             return s.len();
         }
-        known = looked(s, i, line, known);
-        if known.count == n {
-            return i + n;
+        if !refuted(s, i, line, known) {
+            let count = known.count;
+            known = compared(s, i, 0, line, known);
+            if known.count == n {
+                return i + n;
+            }
+            if agreed_far(count, known.off) {
+                return linear_end(s, i + 1, line, n, known);
+            }
         }
         i += 1;
     }

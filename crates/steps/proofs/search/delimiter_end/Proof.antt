@@ -1,12 +1,14 @@
 -- The loop keeps: up to the place i the delimiter stands nowhere, and it is not known whole (Sought).
+use borrow.Author.Needs.{needs}
 use native.Mathlib.Omega.{arith}
 use Prim.Native.Nat.{ℕ, _+_, _-_, _≤_, _<_}
 use mathlib.Core.Path.{_≡_, refl, ap, subst}
 use mathlib.Core.Bool.{false}
+use mathlib.Core.Logic.{⊎-elim}
 use denote.Ref.{now}
 use lib.Dec.{ltb}
 use lib.ListN.{length, drop}
-use borrow.Author.Tests.{ltb-true, ltb-false}
+use borrow.Author.Tests.{ltb-true, ltb-false, not-false}
 use Rattle.laws.specs.Texts.{begins}
 use Rattle.laws.proofs.Choice.{by-bool}
 use Rattle.items.specs.Readers.{unreturned}
@@ -43,57 +45,112 @@ loop-holds c =
 clear : (c : tie.After-find-pair Inv-loop μ-loop) (k : ℕ) → c .before .before .before .before .before .before .before .args .from ≤ k → k < c .find-pair .result
     → begins (unreturned (now (c .before .before .before .before .before .before .before .args .line))) (drop k (now (c .before .before .before .before .before .before .before .args .s))) ≡ false
 clear c =
-    let f = c .before .before .before .before .before .before .before .args in
-    let p = c .before .before .before .before .before .before .before .pre in
+    let entry = c .before .before .before .before .before .before .before in
+    let f = entry .args in
+    let p = entry .pre in
     let l = c .before .before .loop in
     clear-to (now (f .line)) (now (f .s)) (f .from) (l .i) (c .find-pair .result) (f .n - 1) (p .2) (ap (λ (m : ℕ). m - 1) (p .1))
     (l .inv .4) (c .find-pair .ensures .2)
 
 returns : tie.Need-returns Inv-loop μ-loop
 returns c =
-    let p = c .before .before .before .before .before .before .before .before .pre in
-    let r = c .before .find-pair in
-    (omega arith, λ k h m. clear (c .before) k h (omega (arith, m, p .1, c .if1 .taken, r .ensures .1)))
+    let found = c .before in
+    let p = found .before .before .before .before .before .before .before .pre in
+    (omega arith, λ k h m. clear found k h (omega (arith, m, p .1, c .if1 .taken, found .find-pair .ensures .1)))
 
-looked-requires : tie.Need-looked-requires Inv-loop μ-loop
-looked-requires c κs =
-    let p = c .before .before .before .before .before .before .before .before .pre in
+-- there is room for a delimiter, which is not empty
+fits : (c : tie.Else1 Inv-loop μ-loop) → c .before .find-pair .result + c .before .before .before .before .before .before .before .before .args .n ≤ length (now (c .before .before .before .before .before .before .before .before .args .s))
+fits c = omega (arith, c .if1 .left, c .before .find-pair .ensures .1)
+
+some : (c : tie.Else1 Inv-loop μ-loop) → 0 < c .before .before .before .before .before .before .before .before .args .n
+some c =
+    let entry = c .before .before .before .before .before .before .before .before in
+    omega (arith, entry .pre .1, byte-in (now (entry .args .line)) 0 0 refl (entry .pre .2 .0))
+
+refuted-requires : tie.Need-refuted-requires Inv-loop μ-loop
+refuted-requires c κs =
     let l = c .before .before .before .loop in
-    (omega (arith, p .1, c .if1 .left, c .before .find-pair .ensures .1), l .inv .2, l .inv .3)
+    (omega (arith, c .before .before .before .before .before .before .before .before .pre .1, fits c), l .inv .2, l .inv .3)
 
--- there is room for a delimiter
-fits : (c : tie.After-looked Inv-loop μ-loop) → c .before .before .find-pair .result + c .before .before .before .before .before .before .before .before .before .args .n ≤ length (now (c .before .before .before .before .before .before .before .before .before .args .s))
-fits c = omega (arith, c .before .if1 .left, c .before .before .find-pair .ensures .1)
+compared-requires : tie.Need-compared-requires Inv-loop μ-loop
+compared-requires c κs =
+    let room = c .before .before in
+    let l = room .before .before .before .loop in (
+      omega (arith, room .before .before .before .before .before .before .before .before .pre .1, fits room),
+      l .inv .2,
+      l .inv .3,
+      omega arith,
+      λ q h. absurd (omega arith),
+    )
 
 returns-2 : tie.Need-returns-2 Inv-loop μ-loop
 returns-2 c =
-    let p = c .before .before .before .before .before .before .before .before .before .before .before .pre in
-    (fits (c .before .before), λ k h m. clear (c .before .before .before .before) k h (omega (arith, m, p .1)))
+    let room = c .before .before .before .before .before in
+    let p = room .before .before .before .before .before .before .before .before .pre in
+    (fits room, λ k h m. clear (room .before) k h (omega (arith, m, p .1)))
 
--- something is looked for
-some : (c : tie.After-looked Inv-loop μ-loop) → 0 < c .before .before .before .before .before .before .before .before .before .args .n
-some c = let p = c .before .before .before .before .before .before .before .before .before .pre in omega (arith, p .1, byte-in (now (c .before .before .before .before .before .before .before .before .before .args .line)) 0 0 refl (p .2 .0))
+-- past a place that was looked at and is none
+module _ (c : tie.Else1 Inv-loop μ-loop) where
+  clear-past : begins (unreturned (now (c .before .before .before .before .before .before .before .before .args .line))) (drop (c .before .find-pair .result) (now (c .before .before .before .before .before .before .before .before .args .s))) ≡ false
+      → (k : ℕ) → c .before .before .before .before .before .before .before .before .args .from ≤ k → k < c .before .find-pair .result + 1
+      → begins (unreturned (now (c .before .before .before .before .before .before .before .before .args .line))) (drop k (now (c .before .before .before .before .before .before .before .before .args .s))) ≡ false
+  clear-past none k h b =
+      let f = c .before .before .before .before .before .before .before .before .args in
+      let r = c .before .find-pair .result in
+      by-bool (ltb k r)
+      (λ e. clear (c .before) k h (ltb-true k r e))
+      (λ e. let q : r ≡ k = omega (arith, ltb-false k r e, b) in
+      subst (λ (i : ℕ). begins (unreturned (now (f .line))) (drop i (now (f .s))) ≡ false) q none)
 
-loop-again : tie.Need-loop-again Inv-loop μ-loop
-loop-again c =
-    let f = c .before .before .before .before .before .before .before .before .before .before .before .args in
-    let p = c .before .before .before .before .before .before .before .before .before .before .before .pre in
-    let l = c .before .before .before .before .before .before .loop in
-    let r = c .before .before .before .before .find-pair in
-    let k = c .before .before .looked in
-    let less : k .result .count < length (unreturned (now (f .line))) = omega (arith, p .1, c .if2 .left, k .ensures .0 .begun .few) in (
-      omega (arith, l .inv .0, r .ensures .0),
-      omega (arith, fits (c .before .before), some (c .before .before)),
-      less,
-      k .ensures .0,
-      λ m h b. by-bool (ltb m (r .result))
-          (λ e. clear (c .before .before .before .before) m h (ltb-true m (r .result) e))
-          (λ e. let q : r .result ≡ m = omega (arith, ltb-false m (r .result) e, b) in
-          subst (λ (i : ℕ). begins (unreturned (now (f .line))) (drop i (now (f .s))) ≡ false) q (k .ensures .1 less)),
-    )
+-- what was compared and is no delimiter is not known whole
+more : (c : tie.Else3 Inv-loop μ-loop) → c .before .before .compared .result .count < length (unreturned (now (c .before .before .before .before .before .before .before .before .before .before .before .before .before .args .line)))
+more c =
+    let looked = c .before .before in
+    let p = looked .before .before .before .before .before .before .before .before .before .before .before .pre in
+    omega (arith, p .1, c .if3 .left, looked .compared .ensures .0 .knows .begun .few)
+
+linear-end-requires : tie.Need-linear-end-requires Inv-loop μ-loop
+linear-end-requires c κs =
+    let told = c .before .before in
+    let room = told .before .before .before .before .before in
+    let p = room .before .before .before .before .before .before .before .before .pre in
+    (omega (arith, fits room, some room), p .1, more told, told .before .before .compared .ensures .0 .knows)
 
 returns-3 : tie.Need-returns-3 Inv-loop μ-loop
 returns-3 c =
+    let told = c .before .before .before in
+    let room = told .before .before .before .before .before in
+    let none = told .before .before .compared .ensures .0 .missed (more told) in
+    let past = room .before .find-pair .result + 1 in
+    let e = c .linear-end .ensures in (
+      e .0,
+      λ k h m. by-bool (ltb k past)
+          (λ t. clear-past room none k h (ltb-true k past t))
+          (λ t. e .1 k (ltb-false k past t) m),
+    )
+
+loop-again : tie.Need-loop-again Inv-loop μ-loop
+loop-again c =
+    let room = c .before .before in
+    let l = room .before .before .before .loop in
+    let entry = room .before .before .before .before .before .before .before .before in
+    let first : entry .args .from ≤ room .before .find-pair .result + 1 = omega (arith, l .inv .0, room .before .find-pair .ensures .0) in
+    let last : room .before .find-pair .result + 1 ≤ length (now (entry .args .s)) = omega (arith, fits room, some room) in
+    ⊎-elim
+    (λ w. let e = w .1 .ensures .0 in
+    let few : w .1 .result .count < length (unreturned (now (entry .args .line))) = omega (arith, entry .pre .1, w .3 .left, e .knows .begun .few) in
+    (first, last, rw (w .6) few, rw (w .6) (e .knows), clear-past room (e .missed few)))
+    (λ w. (
+      first,
+      last,
+      rw (w .1) (l .inv .2),
+      rw (w .1) (l .inv .3),
+      clear-past room (c .before .refuted .ensures (not-false _ (w .0 .left))),
+    ))
+    (c .if2 .came)
+
+returns-4 : tie.Need-returns-4 Inv-loop μ-loop
+returns-4 c =
     let p = c .before .before .before .before .before .before .pre in
     let l = c .before .loop in
     (omega arith, λ k h m. l .inv .4 k h (omega (arith, m, p .1, c .loop-test .left)))
@@ -113,10 +170,15 @@ delimiter-end-spec =
     (λ c κs. omega (arith, c .before .loop .inv .1, c .loop-test .taken))
     (λ c. omega (arith, c .find-pair .ensures .1))
     returns
-    looked-requires
-    (λ c. omega (arith, fits (c .before .before)))
+    refuted-requires
+    compared-requires
+    (λ c. omega (arith, fits (c .before .before .before .before .before)))
     returns-2
-    (λ c. omega (arith, fits (c .before .before), some (c .before .before)))
-    (λ c. omega (arith, fits (c .before .before), some (c .before .before), c .before .before .before .before .find-pair .ensures .0))
+    (λ c κs. search needs)
+    (λ c. let room = c .before .before .before .before .before .before .before in omega (arith, fits room, some room))
+    linear-end-requires
+    returns-3
+    (λ c. let room = c .before .before in omega (arith, fits room, some room))
+    (λ c. let room = c .before .before in omega (arith, fits room, some room, room .before .find-pair .ensures .0))
     loop-again
-    returns-3)
+    returns-4)
