@@ -10,17 +10,21 @@ use Rattle.steps.proofs.Sought.{begun-there, known-missed}
 use Rattle.steps.proofs.search.compared.Statement.{statement}
 use Rattle.steps.proofs.search.compared.Tie as tie
 
+-- where the call began
+abbrev entry-of : tie.After-agreeing → tie.Start
+entry-of c = c .before .before .before .before .before
+
 -- the bytes that agree
-alike : (c : tie.After-agreeing) → Alike (now (c .before .before .before .before .before .args .s)) (c .before .before .before .before .before .args .i) (c .before .before .before .before .before .args .known .at) (c .before .before .before .before .before .args .same + c .agreeing .result)
+alike : (c : tie.After-agreeing) → Alike (now (entry-of c .args .s)) (entry-of c .args .i) (entry-of c .args .known .at) (entry-of c .args .same + c .agreeing .result)
 alike c =
-    let f = c .before .before .before .before .before .args in
-    alike-on (now (f .s)) (f .i) (f .known .at) (f .same) (c .agreeing .result) (c .before .before .before .before .before .pre .4) (c .agreeing .ensures .1)
+    let f = entry-of c .args in
+    alike-on (now (f .s)) (f .i) (f .known .at) (f .same) (c .agreeing .result) (entry-of c .pre .4) (c .agreeing .ensures .1)
 
 returns : tie.Need-returns
 returns c =
     let g = c .before .before in
-    let f = g .before .before .before .before .before .args in
-    let p = g .before .before .before .before .before .pre in
+    let f = entry-of g .args in
+    let p = entry-of g .pre in
     let k = f .same + g .agreeing .result in
     let b = p .2 .begun in
     let less = c .if1 .taken in (
@@ -39,8 +43,8 @@ returns c =
 learn-requires : tie.Need-learn-requires
 learn-requires c κs =
     let g = c .before .before in
-    let f = g .before .before .before .before .before .args in
-    let p = g .before .before .before .before .before .pre in (
+    let f = entry-of g .args in
+    let p = entry-of g .pre in (
       p .0,
       begun-there (now (f .line)) (now (f .s)) (f .known .at) (f .i) (f .known .count) (f .known .read) (omega (arith, p .0, p .1))
           (λ q h. alike g q (omega (arith, h, c .if1 .left))) (p .2 .begun),
@@ -49,7 +53,7 @@ learn-requires c κs =
 returns-2 : tie.Need-returns-2
 returns-2 c =
     let g = c .before .before .before in
-    (c .learn .ensures .0, omega (arith, c .learn .ensures .1, g .before .before .before .before .before .pre .3))
+    (c .learn .ensures .0, omega (arith, c .learn .ensures .1, entry-of g .pre .3))
 
 pub compared-spec : {M : Type 1} → statement M
 compared-spec =

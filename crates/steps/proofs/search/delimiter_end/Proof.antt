@@ -41,11 +41,18 @@ loop-holds c =
       λ k h m. absurd (omega arith),
     )
 
+-- where the call began, and a place with room for a delimiter
+abbrev entry-of : tie.After-find-pair Inv-loop μ-loop → tie.Start Inv-loop μ-loop
+entry-of c = c .before .before .before .before .before .before .before
+
+abbrev room-of : tie.Else3 Inv-loop μ-loop → tie.Else1 Inv-loop μ-loop
+room-of c = c .before .before .before .before .before
+
 -- up to the place that was found
-clear : (c : tie.After-find-pair Inv-loop μ-loop) (k : ℕ) → c .before .before .before .before .before .before .before .args .from ≤ k → k < c .find-pair .result
-    → begins (unreturned (now (c .before .before .before .before .before .before .before .args .line))) (drop k (now (c .before .before .before .before .before .before .before .args .s))) ≡ false
+clear : (c : tie.After-find-pair Inv-loop μ-loop) (k : ℕ) → entry-of c .args .from ≤ k → k < c .find-pair .result
+    → begins (unreturned (now (entry-of c .args .line))) (drop k (now (entry-of c .args .s))) ≡ false
 clear c =
-    let entry = c .before .before .before .before .before .before .before in
+    let entry = entry-of c in
     let f = entry .args in
     let p = entry .pre in
     let l = c .before .before .loop in
@@ -55,28 +62,28 @@ clear c =
 returns : tie.Need-returns Inv-loop μ-loop
 returns c =
     let found = c .before in
-    let p = found .before .before .before .before .before .before .before .pre in
+    let p = entry-of found .pre in
     (omega arith, λ k h m. clear found k h (omega (arith, m, p .1, c .if1 .taken, found .find-pair .ensures .1)))
 
 -- there is room for a delimiter, which is not empty
-fits : (c : tie.Else1 Inv-loop μ-loop) → c .before .find-pair .result + c .before .before .before .before .before .before .before .before .args .n ≤ length (now (c .before .before .before .before .before .before .before .before .args .s))
+fits : (c : tie.Else1 Inv-loop μ-loop) → c .before .find-pair .result + entry-of (c .before) .args .n ≤ length (now (entry-of (c .before) .args .s))
 fits c = omega (arith, c .if1 .left, c .before .find-pair .ensures .1)
 
-some : (c : tie.Else1 Inv-loop μ-loop) → 0 < c .before .before .before .before .before .before .before .before .args .n
+some : (c : tie.Else1 Inv-loop μ-loop) → 0 < entry-of (c .before) .args .n
 some c =
-    let entry = c .before .before .before .before .before .before .before .before in
+    let entry = entry-of (c .before) in
     omega (arith, entry .pre .1, byte-in (now (entry .args .line)) 0 0 refl (entry .pre .2 .0))
 
 refuted-requires : tie.Need-refuted-requires Inv-loop μ-loop
 refuted-requires c κs =
     let l = c .before .before .before .loop in
-    (omega (arith, c .before .before .before .before .before .before .before .before .pre .1, fits c), l .inv .2, l .inv .3)
+    (omega (arith, entry-of (c .before) .pre .1, fits c), l .inv .2, l .inv .3)
 
 compared-requires : tie.Need-compared-requires Inv-loop μ-loop
 compared-requires c κs =
     let room = c .before .before in
     let l = room .before .before .before .loop in (
-      omega (arith, room .before .before .before .before .before .before .before .before .pre .1, fits room),
+      omega (arith, entry-of (room .before) .pre .1, fits room),
       l .inv .2,
       l .inv .3,
       omega arith,
@@ -86,16 +93,16 @@ compared-requires c κs =
 returns-2 : tie.Need-returns-2 Inv-loop μ-loop
 returns-2 c =
     let room = c .before .before .before .before .before in
-    let p = room .before .before .before .before .before .before .before .before .pre in
+    let p = entry-of (room .before) .pre in
     (fits room, λ k h m. clear (room .before) k h (omega (arith, m, p .1)))
 
 -- past a place that was looked at and is none
 module _ (c : tie.Else1 Inv-loop μ-loop) where
-  clear-past : begins (unreturned (now (c .before .before .before .before .before .before .before .before .args .line))) (drop (c .before .find-pair .result) (now (c .before .before .before .before .before .before .before .before .args .s))) ≡ false
-      → (k : ℕ) → c .before .before .before .before .before .before .before .before .args .from ≤ k → k < c .before .find-pair .result + 1
-      → begins (unreturned (now (c .before .before .before .before .before .before .before .before .args .line))) (drop k (now (c .before .before .before .before .before .before .before .before .args .s))) ≡ false
+  clear-past : begins (unreturned (now (entry-of (c .before) .args .line))) (drop (c .before .find-pair .result) (now (entry-of (c .before) .args .s))) ≡ false
+      → (k : ℕ) → entry-of (c .before) .args .from ≤ k → k < c .before .find-pair .result + 1
+      → begins (unreturned (now (entry-of (c .before) .args .line))) (drop k (now (entry-of (c .before) .args .s))) ≡ false
   clear-past none k h b =
-      let f = c .before .before .before .before .before .before .before .before .args in
+      let f = entry-of (c .before) .args in
       let r = c .before .find-pair .result in
       by-bool (ltb k r)
       (λ e. clear (c .before) k h (ltb-true k r e))
@@ -103,23 +110,23 @@ module _ (c : tie.Else1 Inv-loop μ-loop) where
       subst (λ (i : ℕ). begins (unreturned (now (f .line))) (drop i (now (f .s))) ≡ false) q none)
 
 -- what was compared and is no delimiter is not known whole
-more : (c : tie.Else3 Inv-loop μ-loop) → c .before .before .compared .result .count < length (unreturned (now (c .before .before .before .before .before .before .before .before .before .before .before .before .before .args .line)))
+more : (c : tie.Else3 Inv-loop μ-loop) → c .before .before .compared .result .count < length (unreturned (now (entry-of (room-of c .before) .args .line)))
 more c =
     let looked = c .before .before in
-    let p = looked .before .before .before .before .before .before .before .before .before .before .before .pre in
+    let p = entry-of (room-of c .before) .pre in
     omega (arith, p .1, c .if3 .left, looked .compared .ensures .0 .knows .begun .few)
 
 linear-end-requires : tie.Need-linear-end-requires Inv-loop μ-loop
 linear-end-requires c κs =
     let told = c .before .before in
-    let room = told .before .before .before .before .before in
-    let p = room .before .before .before .before .before .before .before .before .pre in
+    let room = room-of told in
+    let p = entry-of (room .before) .pre in
     (omega (arith, fits room, some room), p .1, more told, told .before .before .compared .ensures .0 .knows)
 
 returns-3 : tie.Need-returns-3 Inv-loop μ-loop
 returns-3 c =
     let told = c .before .before .before in
-    let room = told .before .before .before .before .before in
+    let room = room-of told in
     let none = told .before .before .compared .ensures .0 .missed (more told) in
     let past = room .before .find-pair .result + 1 in
     let e = c .linear-end .ensures in (
@@ -133,7 +140,7 @@ loop-again : tie.Need-loop-again Inv-loop μ-loop
 loop-again c =
     let room = c .before .before in
     let l = room .before .before .before .loop in
-    let entry = room .before .before .before .before .before .before .before .before in
+    let entry = entry-of (room .before) in
     let first : entry .args .from ≤ room .before .find-pair .result + 1 = omega (arith, l .inv .0, room .before .find-pair .ensures .0) in
     let last : room .before .find-pair .result + 1 ≤ length (now (entry .args .s)) = omega (arith, fits room, some room) in
     ⊎-elim

@@ -52,32 +52,39 @@ compared-requires c κs =
       λ q h. i .5 q h ∙ sym (i .3 .begun .same q (omega (arith, h, i .4))),
     )
 
+-- where the call began, and what was compared before the move
+abbrev entry-of : tie.After-compared Inv-loop μ-loop → tie.Start Inv-loop μ-loop
+entry-of c = c .before .before .before .before .before
+
+abbrev compared-of : tie.After-moved-along Inv-loop μ-loop → tie.After-compared Inv-loop μ-loop
+compared-of c = c .before .before .before .before .before
+
 -- there is room for a delimiter
-room : (c : tie.After-compared Inv-loop μ-loop) → c .before .before .loop .at + c .before .before .before .before .before .args .n ≤ length (now (c .before .before .before .before .before .args .s))
+room : (c : tie.After-compared Inv-loop μ-loop) → c .before .before .loop .at + entry-of c .args .n ≤ length (now (entry-of c .args .s))
 room c = omega (arith, c .before .before .loop .inv .1, c .before .loop-test .taken)
 
 -- so many of its bytes stand at the place, which are not all
-less : (c : tie.After-compared Inv-loop μ-loop) → (c .compared .result .count ≡ c .before .before .before .before .before .args .n → ⊥) → c .compared .result .count < length (unreturned (now (c .before .before .before .before .before .args .line)))
-less c left = omega (arith, left, c .before .before .before .before .before .pre .1, c .compared .ensures .0 .knows .begun .few)
+less : (c : tie.After-compared Inv-loop μ-loop) → (c .compared .result .count ≡ entry-of c .args .n → ⊥) → c .compared .result .count < length (unreturned (now (entry-of c .args .line)))
+less c left = omega (arith, left, entry-of c .pre .1, c .compared .ensures .0 .knows .begun .few)
 
 returns : tie.Need-returns Inv-loop μ-loop
 returns c =
     let k = c .before .before in
-    let p = k .before .before .before .before .before .pre in
+    let p = entry-of k .pre in
     (room k, λ j h m. k .before .before .loop .inv .7 j h (omega (arith, m, p .1)))
 
 moved-along-requires : tie.Need-moved-along-requires Inv-loop μ-loop
 moved-along-requires c κs =
     let k = c .before .before .before .before in
     let l = k .before .before .loop in
-    let f = k .before .before .before .before .before .args in
+    let f = entry-of k .args in
     let e = k .compared .ensures .0 in
     let few = less k (c .before .before .if1 .left) in
     let r = room k in
     let d = unreturned (now (f .line)) in
     let off = k .compared .result .off in
     let most = e .no-more in
-    let n = k .before .before .before .before .before .pre .1 in
+    let n = entry-of k .pre .1 in
     let inside : l .at + off ≤ length (now (f .s)) = omega arith in
     let kept = k .compared .ensures .1 in (
       omega (arith, kept, size d (now (f .s)) (l .at) off inside (e .stands) (omega arith)),
@@ -85,16 +92,16 @@ moved-along-requires c κs =
     )
 
 -- the place moved to
-near : (c : tie.After-moved-along Inv-loop μ-loop) → c .before .before .before .before .before .before .before .loop .at + c .moved-along .result .by ≤ length (now (c .before .before .before .before .before .before .before .before .before .before .args .s))
+near : (c : tie.After-moved-along Inv-loop μ-loop) → compared-of c .before .before .loop .at + c .moved-along .result .by ≤ length (now (entry-of (compared-of c) .args .s))
 near c =
-    let k = c .before .before .before .before .before in
+    let k = compared-of c in
     let l = k .before .before .loop in
-    let f = k .before .before .before .before .before .args in
+    let f = entry-of k .args in
     let e = k .compared .ensures .0 in
     let few = less k (c .before .before .before .if1 .left) in
     let r = room k in
     let most = e .no-more in
-    let n = k .before .before .before .before .before .pre .1 in
+    let n = entry-of k .pre .1 in
     let m = c .moved-along in
     omega (
       arith,
@@ -110,9 +117,9 @@ loop-less c = omega (arith, near (c .before), c .before .moved-along .ensures .0
 
 loop-again : tie.Need-loop-again Inv-loop μ-loop
 loop-again c =
-    let k = c .before .before .before .before .before .before in
+    let k = compared-of (c .before) in
     let l = k .before .before .loop in
-    let f = k .before .before .before .before .before .args in
+    let f = entry-of k .args in
     let e = k .compared .ensures .0 in
     let few = less k (c .before .before .before .before .if1 .left) in
     let r = room k in
@@ -120,7 +127,7 @@ loop-again c =
     let s = now (f .s) in
     let off = k .compared .result .off in
     let most = e .no-more in
-    let n = k .before .before .before .before .before .pre .1 in
+    let n = entry-of k .pre .1 in
     let inside : l .at + off ≤ length s = omega arith in
     let m = c .before .moved-along .result in
     let moves = c .before .moved-along .ensures in (
@@ -150,10 +157,10 @@ linear-end-spec =
     compared-requires
     (λ c. omega (arith, room (c .before .before)))
     returns
-    (λ c. let k = c .before .before .before in let e = k .compared .ensures .0 in omega (arith, room k, e .no-more, e .knows .begun .few, k .before .before .before .before .before .pre .1))
+    (λ c. let k = c .before .before .before in let e = k .compared .ensures .0 in omega (arith, room k, e .no-more, e .knows .begun .few, entry-of k .pre .1))
     (λ c. omega arith)
     (λ c. omega arith)
-    (λ c. let k = c .before .before .before in let e = k .compared .ensures .0 in omega (arith, room k, e .no-more, e .knows .begun .few, k .before .before .before .before .before .pre .1))
+    (λ c. let k = c .before .before .before in let e = k .compared .ensures .0 in omega (arith, room k, e .no-more, e .knows .begun .few, entry-of k .pre .1))
     moved-along-requires
     add-at
     loop-less
