@@ -39,8 +39,8 @@ module _ (f g : ℕ → ℕ) (most : ℕ) (same : (k : ℕ) → k < most → f k
 
 module _ (f : ℕ → ℕ) (n : ℕ) where
   -- by a third where there is no such period
-  pub far : (by kept : ℕ) → kept ≡ 0 → n < 3 * by → 3 * by ≤ n + 3 → ((d : ℕ) → 0 < d → 3 * d ≤ n → Period f n d → ⊥) → Moves f n by kept
-  far by kept e h l none =
+  pub far : (by kept : ℕ) → 0 < n → kept ≡ 0 → n < 3 * by → 3 * by ≤ n + 3 → ((d : ℕ) → 0 < d → 3 * d ≤ n → Period f n d → ⊥) → Moves f n by kept
+  far by kept more e h l none =
       record {
         some = omega arith;
         near = omega arith;

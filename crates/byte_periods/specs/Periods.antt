@@ -36,10 +36,10 @@ pub record Suffixed (f : ℕ → ℕ) (top start period end : ℕ) : Type 0 wher
 abbrev pub Stays : (ℕ → ℕ) → ℕ → ℕ → ℕ → Type 0
 Stays f kept start period = 0 < kept → Suffixed f kept start period kept
 
--- n bytes are moved by no less than their least period and by no more than all of them, or by one, and `kept` of them agree there
+-- n bytes are moved by no more than their least period, nor than all of them, and `kept` of them agree there
 pub record Moves (f : ℕ → ℕ) (n by kept : ℕ) : Type 0 where
   pub some : 0 < by
-  pub near : by ≤ 1 + (n - 1)
+  pub near : by ≤ n
   pub least : (d : ℕ) → 0 < d → d < by → Period f n d → ⊥
   pub inside : kept ≤ n - by
   pub agrees : Repeats f kept by

@@ -119,14 +119,11 @@ fn begun(m: Moved) -> Suffix
 
 // The next place where a text may agree with itself, from what is known of its greatest suffix by the move before.
 pub fn moved_along(w: &[u8], m: Moved) -> Moved
-    requires { ⌜ (m .kept ≤ length (now w)) × Stays (byte (now w)) (m .kept) (m .start) (m .period) ⌝ }
+    requires { ⌜ (0 < length (now w)) × (m .kept ≤ length (now w)) × Stays (byte (now w)) (m .kept) (m .start) (m .period) ⌝ }
     ensures { λ r. ⌜ Moves (byte (now (w .entry))) (length (now (w .entry))) (r .by) (r .kept)
         × Stays (byte (now (w .entry))) (r .kept) (r .start) (r .period) ⌝ }
 {
     let n = w.len();
-    if n == 0 {
-        return moved_far(n);
-    }
     let v = grown(w, begun(m));
     let period = v.period;
     if !repeats(w, v.start, period) {

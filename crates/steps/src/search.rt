@@ -142,8 +142,8 @@ fn compared(s: &[u8], i: usize, same: usize, line: &[u8], known: Known) -> Known
     learn(s, i, line, known.count, known.read)
 }
 
-// The search from a place on, in time that grows with the text alone: a place that fails is left by as much as those of the delimiter's bytes that stand
-// there must be moved before they can agree with themselves.
+// The search from a place on, in time that grows with the text alone: a place that fails is left by as much as the bytes that stand there,
+// those of the delimiter and the one that is not, must be moved before they can agree with themselves.
 fn linear_end(s: &[u8], from: usize, line: &[u8], n: usize, first: Known) -> usize
     requires { ⌜ (from ≤ length (now s)) × (n ≡ length (unreturned (now line))) × (first .count < length (unreturned (now line))) × Knows (now s) (now line) first ⌝ }
     ensures { λ r. ⌜ Absent (now (s .entry)) (now (line .entry)) from r ⌝ }
@@ -161,7 +161,8 @@ fn linear_end(s: &[u8], from: usize, line: &[u8], n: usize, first: Known) -> usi
         if known.count == n {
             return at + n;
         }
-        m = moved_along(&s[at..at + known.off], m);
+        let end = at + known.off + 1;
+        m = moved_along(&s[at..end], m);
         at += m.by;
     }
     s.len()

@@ -85,8 +85,9 @@ moved-along-requires c κs =
     let off = k .compared .result .off in
     let most = e .no-more in
     let n = entry-of k .pre .1 in
-    let inside : l .at + off ≤ length (now (f .s)) = omega arith in
+    let inside : l .at + off + 1 ≤ length (now (f .s)) = omega arith in
     let kept = k .compared .ensures .1 in (
+      omega (arith, size d (now (f .s)) (l .at) off inside (e .stands) (omega arith)),
       omega (arith, kept, size d (now (f .s)) (l .at) off inside (e .stands) (omega arith)),
       stays-here d (now (f .s)) (l .at) off inside (e .stands) (omega arith) (l .m .kept) (l .m .start) (l .m .period) kept (l .inv .6),
     )
@@ -128,14 +129,14 @@ loop-again c =
     let off = k .compared .result .off in
     let most = e .no-more in
     let n = entry-of k .pre .1 in
-    let inside : l .at + off ≤ length s = omega arith in
+    let inside : l .at + off + 1 ≤ length s = omega arith in
     let m = c .before .moved-along .result in
     let moves = c .before .moved-along .ensures in (
       omega (arith, l .inv .0),
       near (c .before),
       few,
       e .knows,
-      omega (arith, as-few d s (l .at) off inside (e .stands) (omega arith) (m .by) (m .kept) (moves .0)),
+      omega (arith, as-few d s (l .at) off inside (e .stands) (omega arith) (m .by) (m .kept) (moves .0) .0),
       stood d s (l .at) off inside (e .stands) (omega arith) (m .by) (m .kept) (moves .0),
       stays-there d s (l .at) off inside (e .stands) (omega arith) (m .by) (m .kept) (moves .0) (m .start) (m .period) (moves .1),
       clear-on d s (l .at) off inside (e .stands) (omega arith) (m .by) (m .kept) (moves .0) (f .from) (l .inv .7) (e .missed few),
@@ -145,6 +146,12 @@ returns-2 : tie.Need-returns-2 Inv-loop μ-loop
 returns-2 c =
     let i = c .before .loop .inv in
     (omega arith, λ k h m. i .7 k h (omega (arith, m, c .before .before .before .before .pre .1, i .1, c .loop-test .left)))
+
+-- the byte behind those that stand at the place
+behind : (c : tie.Else1 Inv-loop μ-loop) → c .before .before .before .before .loop .at + c .before .before .compared .result .off + 1 ≤ length (now (entry-of (c .before .before) .args .s))
+behind c =
+    let k = c .before .before in
+    omega (arith, room k, less k (c .if1 .left), k .compared .ensures .0 .no-more, entry-of k .pre .1)
 
 pub linear-end-spec : {M : Type 1} → statement M
 linear-end-spec =
@@ -157,10 +164,11 @@ linear-end-spec =
     compared-requires
     (λ c. omega (arith, room (c .before .before)))
     returns
-    (λ c. let k = c .before .before .before in let e = k .compared .ensures .0 in omega (arith, room k, e .no-more, e .knows .begun .few, entry-of k .pre .1))
+    (λ c. omega (arith, behind (c .before)))
+    (λ c. omega (arith, behind (c .before)))
     (λ c. omega arith)
     (λ c. omega arith)
-    (λ c. let k = c .before .before .before in let e = k .compared .ensures .0 in omega (arith, room k, e .no-more, e .knows .begun .few, entry-of k .pre .1))
+    (λ c. omega (arith, behind (c .before)))
     moved-along-requires
     add-at
     loop-less
