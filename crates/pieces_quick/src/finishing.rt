@@ -18,6 +18,7 @@ use pieces_lent::Words;
 use pieces_lent::codes::CLOSED;
 use pieces_lent::codes::DOUBLE;
 use pieces_lent::codes::IDLE;
+use pieces_lent::codes::YES;
 use pieces_spots::DETAIL;
 use pieces_spots::KIND;
 use pieces_spots::KINDS;
@@ -149,7 +150,7 @@ pub fn copied(m: Means, s: PieceSpot, depth: u32, raw: &[u8], text: &mut [u8]) -
 pub fn skips(skip: u64, number: u32) -> bool
     ensures { λ r. ⌜ r ≡ (eqb skip 1 && eqb number kind.Comment) ⌝ }
 {
-    if skip == 1 {
+    if skip == YES {
         return number == kinds::COMMENT;
     }
     false
@@ -269,7 +270,7 @@ pub fn give_comment(w: Words, s: PieceSpot, b: u8, buf: &mut [u8], text: &[u8]) 
     if f < IDLE {
         return Offer::Not;
     }
-    if w.skip == 1 {
+    if w.skip == YES {
         return Offer::Not;
     }
     let depth = w.depth as u32;

@@ -16,6 +16,14 @@ Inv-loop raw from k old n₀ i₀ free n i = Laying k raw (unescape k (drop from
 abbrev μ-loop : tie.MeasureT-loop
 μ-loop raw from k old n₀ i₀ free n i = length raw - i
 
+-- where the call began, from after `run-end`
+abbrev entry-of : tie.After-run-end Inv-loop μ-loop → tie.Start Inv-loop μ-loop
+entry-of c = c .before .before .before .before .before
+
+-- after `run-end`, from after `slice-known2`
+abbrev run-end-of : tie.After-slice-known2 Inv-loop μ-loop → tie.After-run-end Inv-loop μ-loop
+run-end-of c = c .before .before .before .before .before
+
 loop-holds : tie.Need-loop-holds Inv-loop μ-loop
 loop-holds c = laying-start _ _ _ _ (c .before .before .pre .0)
 
@@ -32,23 +40,23 @@ part-put-run-end : tie.Need-part-put-run-end Inv-loop μ-loop
 part-put-run-end c = omega (arith, run-ends (c .run-end .ensures) (c .before .before .loop .inv .reading))
 
 sub-put-run-2 : tie.Need-sub-put-run-2 Inv-loop μ-loop
-sub-put-run-2 c = omega (arith, laying-le (c .before .before .before .loop .inv) (c .before .before .before .before .before .before .pre .1))
+sub-put-run-2 c = omega (arith, laying-le (c .before .before .before .loop .inv) (entry-of (c .before) .pre .1))
 
 part-put-run-start-2 : tie.Need-part-put-run-start-2 Inv-loop μ-loop
-part-put-run-start-2 c = omega (arith, laying-le (c .before .before .before .loop .inv) (c .before .before .before .before .before .before .pre .1))
+part-put-run-start-2 c = omega (arith, laying-le (c .before .before .before .loop .inv) (entry-of (c .before) .pre .1))
 
 part-put-run-end-2 : tie.Need-part-put-run-end-2 Inv-loop μ-loop
-part-put-run-end-2 c = omega (arith, laying-le (c .before .before .before .loop .inv) (c .before .before .before .before .before .before .pre .1))
+part-put-run-end-2 c = omega (arith, laying-le (c .before .before .before .loop .inv) (entry-of (c .before) .pre .1))
 
 put-run-requires : tie.Need-put-run-requires Inv-loop μ-loop
-put-run-requires c κs = run-room (c .before .before .run-end .ensures) (c .before .before .before .before .loop .inv) (c .before .before .before .before .before .before .before .pre .1)
+put-run-requires c κs = run-room (c .before .before .run-end .ensures) (c .before .before .before .before .loop .inv) (entry-of (c .before .before) .pre .1)
 
 sub-n : tie.Need-sub-n Inv-loop μ-loop
-sub-n c = omega (arith, c .before .before .before .before .before .run-end .ensures)
+sub-n c = omega (arith, run-end-of c .run-end .ensures)
 
 add-n : tie.Need-add-n Inv-loop μ-loop
 add-n c =
-    let passed = c .before .before .before .before .before in
+    let passed = run-end-of c in
     let turn = passed .before .before in
     let entry = turn .before .before .before in
     omega (
@@ -60,16 +68,16 @@ add-n c =
 
 same-length : tie.Need-same-length Inv-loop μ-loop
 same-length c =
-    let entry = c .before .before .before .before .before .before .before .before .before .before .before in
-    laying-length (laying-run (c .before .before .before .before .before .before .run-end .ensures)
-    (c .before .before .before .before .before .before .before .before .loop .inv) (entry .pre .1) _ (c .before .before .before .put-run .ensures))
+    let entry = entry-of (run-end-of (c .before)) in
+    laying-length (laying-run (run-end-of (c .before) .run-end .ensures)
+    (run-end-of (c .before) .before .before .loop .inv) (entry .pre .1) _ (c .before .before .before .put-run .ensures))
     (entry .pre .1)
 
 returns : tie.Need-returns Inv-loop μ-loop
 returns c =
-    let entry = c .before .before .before .before .before .before .before .before .before .before .before in
-    laying-end (laying-run (c .before .before .before .before .before .before .run-end .ensures)
-    (c .before .before .before .before .before .before .before .before .loop .inv) (entry .pre .1) _ (c .before .before .before .put-run .ensures))
+    let entry = entry-of (run-end-of (c .before)) in
+    laying-end (laying-run (run-end-of (c .before) .run-end .ensures)
+    (run-end-of (c .before) .before .before .loop .inv) (entry .pre .1) _ (c .before .before .before .put-run .ensures))
     (entry .pre .1) (c .if1 .taken)
 
 read-element-requires : tie.Need-read-element-requires Inv-loop μ-loop
@@ -78,7 +86,7 @@ read-element-requires c κs = search needs
 sub-put-given : tie.Need-sub-put-given Inv-loop μ-loop
 sub-put-given c =
     let written = c .before .before .before .before in
-    let entry = written .before .before .before .before .before .before .before .before in
+    let entry = entry-of (written .before .before .before) in
     omega (
       arith,
       laying-le (laying-run (written .before .before .before .run-end .ensures)
@@ -88,7 +96,7 @@ sub-put-given c =
 part-put-given-start : tie.Need-part-put-given-start Inv-loop μ-loop
 part-put-given-start c =
     let written = c .before .before .before .before in
-    let entry = written .before .before .before .before .before .before .before .before in
+    let entry = entry-of (written .before .before .before) in
     omega (
       arith,
       laying-le (laying-run (written .before .before .before .run-end .ensures)
@@ -98,7 +106,7 @@ part-put-given-start c =
 part-put-given-end : tie.Need-part-put-given-end Inv-loop μ-loop
 part-put-given-end c =
     let written = c .before .before .before .before in
-    let entry = written .before .before .before .before .before .before .before .before in
+    let entry = entry-of (written .before .before .before) in
     omega (
       arith,
       laying-le (laying-run (written .before .before .before .run-end .ensures)
@@ -108,7 +116,7 @@ part-put-given-end c =
 put-given-requires : tie.Need-put-given-requires Inv-loop μ-loop
 put-given-requires c κs =
     let written = c .before .before .before .before .before in
-    let entry = written .before .before .before .before .before .before .before .before in
+    let entry = entry-of (written .before .before .before) in
     laying-room (laying-run (written .before .before .before .run-end .ensures) (written .before .before .before .before .before .loop .inv)
     (entry .pre .1) _ (written .put-run .ensures)) (entry .pre .1) (c .before .read-element .result) (c .before .read-element .ensures)
 
@@ -135,14 +143,14 @@ loop-less c =
       arith,
       element .read-element .ensures .ahead,
       element .read-element .ensures .inside,
-      element .before .before .before .before .before .before .before .run-end .ensures,
+      run-end-of (element .before .before) .run-end .ensures,
     )
 
 loop-again : tie.Need-loop-again Inv-loop μ-loop
 loop-again c =
     let element = c .before .before .before .before in
     let written = element .before .before .before .before in
-    let entry = written .before .before .before .before .before .before .before .before in
+    let entry = entry-of (written .before .before .before) in
     laying-on (laying-run (written .before .before .before .run-end .ensures) (written .before .before .before .before .before .loop .inv)
     (entry .pre .1) _ (written .put-run .ensures)) (entry .pre .1) (element .read-element .result)
     (element .read-element .ensures) _ _ (c .before .before .put-given .ensures .0) (c .before .before .put-given .ensures .1)

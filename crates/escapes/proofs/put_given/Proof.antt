@@ -37,8 +37,10 @@ same-length-2 : tie.Need-same-length-2
 same-length-2 c = search needs
 
 returns-3 : tie.Need-returns-3
-returns-3 c = let e = c .before .before .before .before .before .given2 .given .1 in
-    let h = lay-written _ _ (rw e at (c .before .before .before .before .before .before .before .before .pre)) in
+returns-3 c =
+    let at-given2 = c .before .before .before .before .before in
+    let e = at-given2 .given2 .given .1 in
+    let h = lay-written _ _ (rw e at (at-given2 .before .before .before .pre)) in
     rw e (c .before .before .put-char .ensures .0 ∙ h .0, c .before .before .put-char .ensures .1 ∙ h .1)
 
 pub put-given-spec : {M : Type 1} → statement M

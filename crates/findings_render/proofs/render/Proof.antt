@@ -32,7 +32,8 @@ same-length c = search needs
 returns-2 : tie.Need-returns-2
 unfolding rendered
 returns-2 c =
-    let fit : length (c .before .before .before .before .before .before .before .before .before .before .before .args .out .now) ≤ top = omega arith in
+    let at-read-words = c .before .before .before .before .before .before in
+    let fit : length (at-read-words .before .before .before .before .before .args .out .now) ≤ top = omega arith in
     let branch = c .before .before .before .before in
     let after-is-told = branch .before in
     let after-read-words = after-is-told .before in

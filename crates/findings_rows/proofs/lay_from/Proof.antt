@@ -25,6 +25,14 @@ Inv-loop source words₀ p₀ depth₀ w₀ words p depth w = Laying source p₀
 abbrev μ-loop : tie.MeasureT-loop
 μ-loop source words₀ p₀ depth₀ w₀ words p depth w = sizeOf source p
 
+-- where the call began, from after `r`
+abbrev entry-of : tie.After-r Inv-loop μ-loop → tie.Start Inv-loop μ-loop
+entry-of c = c .before .before .before .before .before .before
+
+-- after `r`, from after `depth-after`
+abbrev r-of : tie.After-depth-after Inv-loop μ-loop → tie.After-r Inv-loop μ-loop
+r-of c = c .before .before .before .before .before .before .before
+
 loop-holds : tie.Need-loop-holds Inv-loop μ-loop
 loop-holds c =
     let entry = c .before .before in
@@ -47,13 +55,13 @@ depth-after-requires c κs = search needs
 
 add-w : tie.Need-add-w Inv-loop μ-loop
 add-w c =
-    let g = c .before .before .before .before .before .before .before .before .before .before .loop .inv in
-    let entry = c .before .before .before .before .before .before .before .before .before .before .before .before .before in
+    let g = r-of c .before .before .before .loop .inv in
+    let entry = entry-of (r-of c) in
     omega (arith, g .count, g .few, size-le (now (entry .args .source)) (entry .args .spot), entry .pre)
 
 loop-less : tie.Need-loop-less Inv-loop μ-loop
 loop-less c =
-    let told = c .before .before .before .before .before .before .before in
+    let told = r-of c in
     let round = told .before .before .before in
     let entry = round .before .before .before in
     laying-moved (now (entry .args .source)) (entry .args .spot) (now (entry .args .words)) (round .loop .inv)
@@ -61,7 +69,7 @@ loop-less c =
 
 loop-again : tie.Need-loop-again Inv-loop μ-loop
 loop-again c =
-    let told = c .before .before .before .before .before .before .before in
+    let told = r-of c in
     let round = told .before .before .before in
     let entry = round .before .before .before in
     laying-on (now (entry .args .source)) (entry .args .spot) (now (entry .args .words)) (round .loop .inv)

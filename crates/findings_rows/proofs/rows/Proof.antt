@@ -14,6 +14,10 @@ use Rattle.findings_rows.proofs.rows.Lts as lts
 use Rattle.findings_rows.proofs.lay_from.Reads as lay-from-reads
 use Rattle.lexer.proofs.begin.Reads as start-reads
 
+-- where the call began, from after `words`
+abbrev entry-of : tie.After-words → tie.Start
+entry-of c = c .before .before .before .before .before .before .before
+
 returns : tie.Need-returns
 returns c = rows-none _ _ (c .if1 .taken)
 
@@ -28,7 +32,7 @@ same-length c = search needs
 
 returns-2 : tie.Need-returns-2
 returns-2 c =
-    let entry = c .before .before .before .before .before .before .before .before in
+    let entry = entry-of (c .before) in
     c .before .before .lay-from .ensures
     ∙ ap (λ (l : List (List ℕ)). allLaid l (now (entry .args .words)))
     (rows-all (now (entry .args .source)) (c .before .before .before .before .before .if1 .left) _

@@ -6,6 +6,14 @@ use Rattle.items_files.proofs.Calls.{reads-fails, reads-sound, reads-fi
 use Rattle.items_files.proofs.read.Statement.{statement}
 use Rattle.items_files.proofs.read.Tie as tie
 
+-- where the call began, from after `scan`
+abbrev entry-of : tie.After-scan → tie.Start
+entry-of c = c .before .before .before
+
+-- after `scan`, from after `fill-arg`
+abbrev scan-of : tie.After-fill-arg → tie.After-scan
+scan-of c = c .before .before .before .before .before
+
 scan-requires : tie.Need-scan-requires
 scan-requires c κs = search needs
 
@@ -23,27 +31,27 @@ enum-known-seen-4 c = search needs
 
 returns : tie.Need-returns
 returns c =
-    let entry = c .before .before .before .before .before .before .before in
+    let entry = entry-of (c .before .before .before .before) in
     reads-short (entry .args .file .now) (entry .args .records .now) (sym (ap counted (c .before .before .seen4 .given .1)) ∙ c .before .before .before .before .scan .ensures) (c .if1 .taken)
 
 fill-requires : tie.Need-fill-requires
 fill-requires c κs =
-    let entry = c .before .before .before .before .before .before .before .before in
-    (reads-sound (entry .args .file .now) (entry .args .records .now) (sym (ap counted (c .before .before .before .seen4 .given .1)) ∙ c .before .before .before .before .before .scan .ensures), reads-fit (entry .args .file .now) (entry .args .records .now) (sym (ap counted (c .before .before .before .seen4 .given .1)) ∙ c .before .before .before .before .before .scan .ensures) (λ i. c .before .before .before .before .before .before .before .shared-slice-known .given i .fits) (c .before .if1 .left))
+    let entry = entry-of (scan-of c) in
+    (reads-sound (entry .args .file .now) (entry .args .records .now) (sym (ap counted (c .before .before .before .seen4 .given .1)) ∙ scan-of c .scan .ensures), reads-fit (entry .args .file .now) (entry .args .records .now) (sym (ap counted (c .before .before .before .seen4 .given .1)) ∙ scan-of c .scan .ensures) (λ i. scan-of c .before .before .shared-slice-known .given i .fits) (c .before .if1 .left))
 
 returns-2 : tie.Need-returns-2
 returns-2 c =
-    let entry = c .before .before .before .before .before .before in
+    let entry = entry-of (c .before .before .before) in
     reads-fails (entry .args .file .now) (entry .args .records .now) (sym (ap counted (c .before .seen .given .1)) ∙ c .before .before .before .scan .ensures)
 
 returns-3 : tie.Need-returns-3
 returns-3 c =
-    let entry = c .before .before .before .before .before .before in
+    let entry = entry-of (c .before .before .before) in
     reads-fails (entry .args .file .now) (entry .args .records .now) (sym (ap counted (c .before .seen2 .given .1)) ∙ c .before .before .before .scan .ensures)
 
 returns-4 : tie.Need-returns-4
 returns-4 c =
-    let entry = c .before .before .before .before .before .before in
+    let entry = entry-of (c .before .before .before) in
     reads-fails (entry .args .file .now) (entry .args .records .now) (sym (ap counted (c .before .seen3 .given .1)) ∙ c .before .before .before .scan .ensures)
 
 same-length : tie.Need-same-length
@@ -51,8 +59,8 @@ same-length c = search needs
 
 returns-5 : tie.Need-returns-5
 returns-5 c =
-    let entry = c .before .before .before .before .before .before .before .before .before .before .before in
-    reads-all (entry .args .file .now) (entry .args .records .now) (sym (ap counted (c .before .before .before .before .before .before .seen4 .given .1)) ∙ c .before .before .before .before .before .before .before .before .scan .ensures) (c .before .before .before .before .if1 .left) (c .before .before .fill .ensures)
+    let entry = entry-of (scan-of (c .before .before .before)) in
+    reads-all (entry .args .file .now) (entry .args .records .now) (sym (ap counted (c .before .before .before .before .before .before .seen4 .given .1)) ∙ scan-of (c .before .before .before) .scan .ensures) (c .before .before .before .before .if1 .left) (c .before .before .fill .ensures)
 
 pub read-spec : {M : Type 1} → statement M
 read-spec =

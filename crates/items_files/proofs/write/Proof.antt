@@ -10,6 +10,14 @@ use Rattle.items_files.proofs.Calls.{whole-tens, writes-back, writes-sh
 use Rattle.items_files.proofs.write.Statement.{statement}
 use Rattle.items_files.proofs.write.Tie as tie
 
+-- where the call began, from after `measure`
+abbrev entry-of : tie.After-measure → tie.Start
+entry-of c = c .before .before .before .before
+
+-- after `measure`, from after `out`
+abbrev measure-of : tie.After-out → tie.After-measure
+measure-of c = c .before .before .before .before .before .before .before
+
 mul-n : tie.Need-mul-n
 mul-n c = search needs
 
@@ -29,17 +37,17 @@ enum-known-seen-2 c = search needs
 
 returns : tie.Need-returns
 returns c =
-    let entry = c .before .before .before .before .before .before .before .before in
+    let entry = entry-of (c .before .before .before .before) in
     writes-short (entry .args .records .now) (entry .args .out .now) (sym (c .before .before .before .before .measure .ensures) ∙ c .before .before .seen2 .given .1) (c .if1 .taken)
 
 put-words-requires : tie.Need-put-words-requires
 put-words-requires c κs =
-    let entry = c .before .before .before .before .before .before .before .before .before in
+    let entry = entry-of (c .before .before .before .before .before) in
     let m = measured-bytes (take (length (entry .args .records .now) / recordWords * recordWords) (entry .args .records .now)) (sym (c .before .before .before .before .before .measure .ensures) ∙ c .before .before .before .seen2 .given .1) in (whole-tens (entry .args .records .now), m .0, omega (arith, m .1, c .before .if1 .left))
 
 returns-2 : tie.Need-returns-2
 returns-2 c =
-    let entry = c .before .before .before .before .before .before .before in
+    let entry = entry-of (c .before .before .before) in
     writes-back (entry .args .records .now) (entry .args .out .now) (sym (c .before .before .before .measure .ensures) ∙ c .before .seen .given .1)
 
 same-length : tie.Need-same-length
@@ -47,8 +55,8 @@ same-length c = search needs
 
 returns-3 : tie.Need-returns-3
 returns-3 c =
-    let entry = c .before .before .before .before .before .before .before .before .before .before .before .before in
-    writes-all (entry .args .records .now) (entry .args .out .now) (sym (c .before .before .before .before .before .before .before .before .measure .ensures) ∙ c .before .before .before .before .before .before .seen2 .given .1) (c .before .before .before .before .if1 .left) (c .before .before .put-words .ensures)
+    let entry = entry-of (measure-of (c .before)) in
+    writes-all (entry .args .records .now) (entry .args .out .now) (sym (measure-of (c .before) .measure .ensures) ∙ c .before .before .before .before .before .before .seen2 .given .1) (c .before .before .before .before .if1 .left) (c .before .before .put-words .ensures)
 
 pub write-spec : {M : Type 1} → statement M
 write-spec =

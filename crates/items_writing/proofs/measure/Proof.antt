@@ -19,11 +19,19 @@ Inv-loop records source text count n₀ p₀ first₀ n p first =
 abbrev μ-loop : tie.MeasureT-loop
 μ-loop records source text count n₀ p₀ first₀ n p first = countOf records - p
 
+-- where the call began, from where a turn of the loop began
+abbrev entry-of : tie.At-loop Inv-loop μ-loop → tie.Start Inv-loop μ-loop
+entry-of c = c .before .before .before .before
+
+-- where a turn of the loop began, from after `body-of`
+abbrev turn-of : tie.After-body-of Inv-loop μ-loop → tie.At-loop Inv-loop μ-loop
+turn-of c = c .before .before .before .before
+
 loop-holds : tie.Need-loop-holds Inv-loop μ-loop
 loop-holds c = (omega arith, omega arith, omega arith)
 
 turn-at-requires : tie.Need-turn-at-requires Inv-loop μ-loop
-turn-at-requires c κs = (omega arith, c .before .before .before .before .before .pre)
+turn-at-requires c κs = (omega arith, entry-of (c .before) .pre)
 
 words-at-requires : tie.Need-words-at-requires Inv-loop μ-loop
 words-at-requires c κs = c .turn-at .ensures .inside
@@ -37,18 +45,18 @@ piece-length-requires c κs =
       arith,
       ap (λ (u : WriteWords). u .past)
           (c .before .words-at .ensures),
-      c .before .before .before .before .before .before .before .shared-slice-known .given
+      turn-of c .before .before .before .shared-slice-known .given
           (c .before .before .turn-at .result .last * 10 + 8),
     )) (omega (
       arith,
       ap (λ (u : WriteWords). u .«end») (c .before .words-at .ensures),
-      c .before .before .before .before .before .before .before .shared-slice-known .given
+      turn-of c .before .before .before .shared-slice-known .given
           (c .before .before .turn-at .result .last * 10 + 3),
     ))
 
 add-n : tie.Need-add-n Inv-loop μ-loop
 add-n c =
-    let there = c .before .before .before .before .before .before .before .before in
+    let there = turn-of (c .before) .before .before .before in
     omega (
       arith,
       turn-fits (c .before .before .before .turn-at .ensures) (c .before .before .words-at .ensures) (c .before .body-of .ensures) refusal.limit (omega (
@@ -66,7 +74,7 @@ add-n c =
 
 returns : tie.Need-returns Inv-loop μ-loop
 returns c =
-    let entry = c .before .before .before .before .before .before .before .before .before .before in
+    let entry = entry-of (turn-of (c .before .before)) in
     measured-past (length
     (onward (entry .args .records .now) (entry .args .source .now) (entry .args .text .now) false (c .before .before .before .before .turn-at .result .last + 1))) (c .if1 .taken)
     (omega (
@@ -94,7 +102,7 @@ loop-again c = (
 
 returns-2 : tie.Need-returns-2 Inv-loop μ-loop
 returns-2 c =
-    let entry = c .before .before .before .before .before in
+    let entry = entry-of (c .before) in
     measured-all (c .before .loop .inv .1)
     (omega (arith, none-left (entry .args .records .now) (entry .args .source .now) (entry .args .text .now) (c .before .loop .first) (c .before .loop .p) (omega arith)))
 

@@ -14,6 +14,14 @@ Inv-loop records source text out₀ count n₀ p₀ first₀ out n p first = Put
 abbrev μ-loop : tie.MeasureT-loop
 μ-loop records source text out₀ count n₀ p₀ first₀ out n p first = countOf records - p
 
+-- where the call began, from after `turn-at`
+abbrev entry-of : tie.After-turn-at Inv-loop μ-loop → tie.Start Inv-loop μ-loop
+entry-of c = c .before .before .before .before .before .before .before
+
+-- after `turn-at`, from after `slice-known2`
+abbrev turn-at-of : tie.After-slice-known2 Inv-loop μ-loop → tie.After-turn-at Inv-loop μ-loop
+turn-at-of c = c .before .before .before .before .before .before
+
 loop-holds : tie.Need-loop-holds Inv-loop μ-loop
 loop-holds c =
     let entry = c .before .before .before .before in
@@ -30,7 +38,7 @@ body-of-requires c κs = turn-right (c .before .turn-at .ensures) (c .words-at .
 
 sub-put-piece : tie.Need-sub-put-piece Inv-loop μ-loop
 sub-put-piece c =
-    let entry = c .before .before .before .before .before .before .before .before .before in
+    let entry = entry-of (c .before .before) in
     let turn = c .before .before .before .before .loop in
     omega (
       arith,
@@ -40,7 +48,7 @@ sub-put-piece c =
 
 part-put-piece-start : tie.Need-part-put-piece-start Inv-loop μ-loop
 part-put-piece-start c =
-    let entry = c .before .before .before .before .before .before .before .before .before in
+    let entry = entry-of (c .before .before) in
     let turn = c .before .before .before .before .loop in
     omega (
       arith,
@@ -50,7 +58,7 @@ part-put-piece-start c =
 
 part-put-piece-end : tie.Need-part-put-piece-end Inv-loop μ-loop
 part-put-piece-end c =
-    let entry = c .before .before .before .before .before .before .before .before .before in
+    let entry = entry-of (c .before .before) in
     let turn = c .before .before .before .before .loop in
     omega (
       arith,
@@ -60,37 +68,37 @@ part-put-piece-end c =
 
 put-piece-requires : tie.Need-put-piece-requires Inv-loop μ-loop
 put-piece-requires c κs =
-    let entry = c .before .before .before .before .before .before .before .before .before .before in
+    let entry = entry-of (c .before .before .before) in
     let turn = c .before .before .before .before .before .loop in
     put-part (entry .args .records .now) (entry .args .source .now) (entry .args .text .now) (turn .inv) (entry .pre .1) (c .before .before .before .turn-at .ensures)
     (c .before .before .words-at .ensures) (c .before .body-of .ensures)
 
 add-n : tie.Need-add-n Inv-loop μ-loop
 add-n c =
-    let entry = c .before .before .before .before .before .before .before .before .before .before .before .before .before in
-    let turn = c .before .before .before .before .before .before .before .before .loop in
+    let entry = entry-of (turn-at-of c) in
+    let turn = turn-at-of c .before .before .loop in
     omega (
       arith,
       c .before .before .put-piece .ensures .0,
       put-room (entry .args .records .now) (entry .args .source .now) (entry .args .text .now) (turn .inv)
-          (entry .pre .1) (c .before .before .before .before .before .before .turn-at .ensures) (c .before .before .before .before .before .words-at .ensures)
+          (entry .pre .1) (turn-at-of c .turn-at .ensures) (c .before .before .before .before .before .words-at .ensures)
           (c .before .before .before .before .body-of .ensures),
       put-length (entry .args .records .now) (entry .args .source .now) (entry .args .text .now) (turn .inv)
           (entry .pre .1),
     )
 
 add-p : tie.Need-add-p Inv-loop μ-loop
-add-p c = omega (arith, c .before .before .before .before .before .before .turn-at .ensures .inside)
+add-p c = omega (arith, turn-at-of c .turn-at .ensures .inside)
 
 loop-less : tie.Need-loop-less Inv-loop μ-loop
-loop-less c = omega (arith, c .before .before .before .before .before .before .turn-at .ensures .from, c .before .before .before .before .before .before .turn-at .ensures .inside)
+loop-less c = omega (arith, turn-at-of c .turn-at .ensures .from, turn-at-of c .turn-at .ensures .inside)
 
 loop-again : tie.Need-loop-again Inv-loop μ-loop
 loop-again c =
-    let entry = c .before .before .before .before .before .before .before .before .before .before .before .before .before in
-    let turn = c .before .before .before .before .before .before .before .before .loop in
+    let entry = entry-of (turn-at-of c) in
+    let turn = turn-at-of c .before .before .loop in
     put-on (entry .args .records .now) (entry .args .source .now) (entry .args .text .now) (turn .inv) (entry .pre .1)
-    (c .before .before .before .before .before .before .turn-at .ensures) (c .before .before .before .before .before .words-at .ensures)
+    (turn-at-of c .turn-at .ensures) (c .before .before .before .before .before .words-at .ensures)
     (c .before .before .before .before .body-of .ensures) (c .before .before .put-piece .ensures .1) (c .before .before .put-piece .ensures .0)
 
 same-length : tie.Need-same-length Inv-loop μ-loop

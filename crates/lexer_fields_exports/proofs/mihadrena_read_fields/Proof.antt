@@ -9,7 +9,8 @@ returns : tie.Need-returns
 unfolding fieldsLeft
 returns c =
     let answered = c .before .before in
-    call-told _ _ (answered .before .before .before .before .before .before .before .before .read-fields .ensures) (answered .tell .ensures .0) (answered .tell .ensures .1)
+    let records-back = answered .before .before .before .before .before in
+    call-told _ _ (records-back .before .before .before .read-fields .ensures) (answered .tell .ensures .0) (answered .tell .ensures .1)
 
 pub mihadrena-read-fields-spec : {M : Type 1} → statement M
 mihadrena-read-fields-spec =

@@ -31,7 +31,9 @@ same-length : tie.Need-same-length Inv-loop μ-loop
 same-length c = search needs
 
 returns : tie.Need-returns Inv-loop μ-loop
-returns c = λ next. let l = c .before .before .before .before .before .before .before .before .before .loop in let p = c .before .before .before .before .before .end in
+returns c =
+    let at-end = c .before .before .before .before .before in
+    λ next. let l = at-end .before .before .before .before .loop in let p = at-end .end in
     rw (c .before .before .heed .ensures) (sym (end-said _ _ (l .calls) (l .now .items) (l .now .state) (p .result) _ (l .inv .0) (p .ensures .0) (omega arith)
     (rw (c .before .before .heed .ensures) at (sym (c .before .is-over .ensures) ∙ c .if1 .taken)) next) ∙ l .inv .1)
 
@@ -42,11 +44,13 @@ loop-less : tie.Need-loop-less Inv-loop μ-loop
 loop-less c = search needs
 
 loop-again : tie.Need-loop-again Inv-loop μ-loop
-loop-again c = let l = c .before .before .before .before .before .before .before .before .before .loop in let p = c .before .before .before .before .before .end in (
-  omega arith,
-  rw (c .before .before .heed .ensures) (sym (end-on _ _ (l .calls) (l .now .items) (l .now .state) (p .result) _ (l .inv .0) (p .ensures .0) (omega arith)
-      (rw (c .before .before .heed .ensures) at (sym (c .before .is-over .ensures) ∙ c .if1 .left))) ∙ l .inv .1),
-)
+loop-again c =
+    let at-end = c .before .before .before .before .before in
+    let l = at-end .before .before .before .before .loop in let p = at-end .end in (
+      omega arith,
+      rw (c .before .before .heed .ensures) (sym (end-on _ _ (l .calls) (l .now .items) (l .now .state) (p .result) _ (l .inv .0) (p .ensures .0) (omega arith)
+          (rw (c .before .before .heed .ensures) at (sym (c .before .is-over .ensures) ∙ c .if1 .left))) ∙ l .inv .1),
+    )
 
 too-few-requires : tie.Need-too-few-requires Inv-loop μ-loop
 too-few-requires c κs = search needs

@@ -51,7 +51,9 @@ same-length : tie.Need-same-length Inv-loop μ-loop
 same-length c = search needs
 
 returns : tie.Need-returns Inv-loop μ-loop
-returns c = λ next. let l = c .before .before .before .before .before .before .before .before .before .before .loop in let p = c .before .before .before .before .before .piece in
+returns c =
+    let at-piece = c .before .before .before .before .before in
+    λ next. let l = at-piece .before .before .before .before .before .loop in let p = at-piece .piece in
     rw (c .before .before .heed .ensures) (sym (last-word _ _ (l .from) (l .calls) (l .now .items) (l .now .state) _ (p .result) _ (l .inv .1) (p .ensures .0) (omega arith)
     (rw (c .before .before .heed .ensures) at (sym (c .before .is-over .ensures) ∙ c .if1 .taken)) next) ∙ l .inv .2 next)
 
@@ -62,7 +64,9 @@ same-length-2 : tie.Need-same-length-2 Inv-loop μ-loop
 same-length-2 c = search needs
 
 returns-2 : tie.Need-returns-2 Inv-loop μ-loop
-returns-2 c = λ next. let l = c .before .before .before .before .before .before .before .before .before .before .before .loop in let p = c .before .before .before .before .before .before .piece in
+returns-2 c =
+    let at-piece = c .before .before .before .before .before .before in
+    λ next. let l = at-piece .before .before .before .before .before .loop in let p = at-piece .piece in
     rw (c .before .before .before .heed .ensures) (sym (all-taken _ _ (l .from) (l .calls) (l .now .items) (l .now .state) _ (p .result) _ (l .inv .1) (p .ensures .0) (omega arith)
     (c .if2 .taken) next) ∙ l .inv .2 next)
 
@@ -76,12 +80,14 @@ loop-less : tie.Need-loop-less Inv-loop μ-loop
 loop-less c = search needs
 
 loop-again : tie.Need-loop-again Inv-loop μ-loop
-loop-again c = let l = c .before .before .before .before .before .before .before .before .before .before .before .loop in let p = c .before .before .before .before .before .before .piece in (
-  omega arith,
-  omega arith,
-  λ next. rw (c .before .before .before .heed .ensures) (sym (some-left _ _ (l .from) (l .calls) (l .now .items) (l .now .state) _ (p .result) _ (l .inv .1) (p .ensures .0) (omega arith)
-      (rw (c .before .before .before .heed .ensures) at (sym (c .before .before .is-over .ensures) ∙ c .before .if1 .left)) (c .if2 .left) next) ∙ l .inv .2 next),
-)
+loop-again c =
+    let at-piece = c .before .before .before .before .before .before in
+    let l = at-piece .before .before .before .before .before .loop in let p = at-piece .piece in (
+      omega arith,
+      omega arith,
+      λ next. rw (c .before .before .before .heed .ensures) (sym (some-left _ _ (l .from) (l .calls) (l .now .items) (l .now .state) _ (p .result) _ (l .inv .1) (p .ensures .0) (omega arith)
+          (rw (c .before .before .before .heed .ensures) at (sym (c .before .before .is-over .ensures) ∙ c .before .if1 .left)) (c .if2 .left) next) ∙ l .inv .2 next),
+    )
 
 too-few-requires : tie.Need-too-few-requires Inv-loop μ-loop
 too-few-requires c κs = search needs

@@ -57,7 +57,9 @@ sequence-node-kind-requires : (t : ℕ) → sequence-lts.Need-node-kind-requires
 sequence-node-kind-requires t c κs = search needs
 
 sequence-same-length : (t : ℕ) → sequence-lts.Need-same-length (sequence-claims t) (sequence-at t) sequence.Post sequence-Inv-loop sequence-μ-loop
-sequence-same-length t c = c .before .before .before .before .before .before .datum .kept .1 .1 .1 .1 .1 .0 ∙ c .before .before .before .before .before .before .before .before .before .loop .inv .long
+sequence-same-length t c =
+    let at-datum = c .before .before .before .before .before .before in
+    at-datum .datum .kept .1 .1 .1 .1 .1 .0 ∙ at-datum .before .before .before .loop .inv .long
 
 sequence-returns : (t : ℕ) → sequence-lts.Need-returns (sequence-claims t) (sequence-at t) sequence.Post sequence-Inv-loop sequence-μ-loop
 sequence-returns t c =
@@ -72,7 +74,9 @@ sequence-enum-known-t-3 : (t : ℕ) → sequence-lts.Need-enum-known-t-3 (sequen
 sequence-enum-known-t-3 t c = search needs
 
 sequence-same-length-2 : (t : ℕ) → sequence-lts.Need-same-length-2 (sequence-claims t) (sequence-at t) sequence.Post sequence-Inv-loop sequence-μ-loop
-sequence-same-length-2 t c = c .before .before .before .before .before .datum .kept .1 .1 .1 .1 .1 .0 ∙ c .before .before .before .before .before .before .before .before .loop .inv .long
+sequence-same-length-2 t c =
+    let at-datum = c .before .before .before .before .before in
+    at-datum .datum .kept .1 .1 .1 .1 .1 .0 ∙ at-datum .before .before .before .loop .inv .long
 
 sequence-returns-2 : (t : ℕ) → sequence-lts.Need-returns-2 (sequence-claims t) (sequence-at t) sequence.Post sequence-Inv-loop sequence-μ-loop
 sequence-returns-2 t c =

@@ -9,10 +9,14 @@ use Rattle.numbers_words.proofs.Words.{second-in, second-room, third-pu
 use Rattle.numbers_words.proofs.put_answer.Statement.{statement}
 use Rattle.numbers_words.proofs.put_answer.Tie as tie
 
+-- where the call began, from after `slice-known2`
+abbrev entry-of : tie.After-slice-known2 → tie.Start
+entry-of c = c .before .before .before .before .before
+
 returns : tie.Need-returns
 unfolding joined answer
 returns c =
-    let entry = c .before .before .before .before .before .before .before .before .before in
+    let entry = entry-of (c .before .before .before .before) in
     third-put (now (entry .args .words)) (entry .args .w .first) (entry .pre) _ _
     (c .before .before .before .before .before .before .put-real .ensures) _ _ (c .before .before .put-real2 .ensures)
 
@@ -25,14 +29,14 @@ put-answer-spec =
     (λ c. simp length-set (omega arith))
     (λ c. search needs)
     (λ c κs. rw (length-part _ 1) (simp length-set (omega arith)))
-    (λ c. let entry = c .before .before .before .before .before in
+    (λ c. let entry = entry-of c in
     second-in (now (entry .args .words)) (entry .args .w .first) (entry .pre) _ _ (c .before .before .put-real .ensures))
-    (λ c. let entry = c .before .before .before .before .before in
+    (λ c. let entry = entry-of c in
     second-in (now (entry .args .words)) (entry .args .w .first) (entry .pre) _ _ (c .before .before .put-real .ensures))
     (λ c. search needs)
-    (λ c κs. let entry = c .before .before .before .before .before .before in
+    (λ c κs. let entry = entry-of (c .before) in
     second-room (now (entry .args .words)) (entry .args .w .first) (entry .pre) _ _ (c .before .before .before .put-real .ensures))
-    (λ c. let entry = c .before .before .before .before .before .before .before .before .before in
+    (λ c. let entry = entry-of (c .before .before .before .before) in
     length-third (now (entry .args .words)) (entry .args .w .first)
     (entry .pre) _ _ (c .before .before .before .before .before .before .put-real .ensures) _ _ (c .before .before .put-real2 .ensures))
     returns)

@@ -28,19 +28,26 @@ returns-3 : tie.Need-returns-3
 returns-3 c = let m : Marks = c .before .before .before .before .before .before .before .args .m in simp (lt-ltb (m .mode) 2 (omega arith), lt-leb (m .at + m .part .count) limit (omega arith))
 
 returns-4 : tie.Need-returns-4
-returns-4 c = let m : Marks = c .before .before .before .before .before .before .before .before .before .args .m in
+returns-4 c =
+    let at-if2 = c .before .before .before .before .before in
+    let m : Marks = at-if2 .before .before .before .before .args .m in
     simp (lt-ltb (m .mode) 2 (omega arith), le-leb (m .at + m .part .count) limit (omega arith), lt-leb (m .len) longest (omega arith))
 
 returns-5 : tie.Need-returns-5
-returns-5 c = let m : Marks = c .before .before .before .before .before .before .before .before .before .before .before .args .m in simp (
-  lt-ltb (m .mode) 2 (omega arith),
-  le-leb (m .at + m .part .count) limit (omega arith),
-  le-leb (m .len) longest (omega arith),
-  lt-leb (m .from) limit (omega arith),
-)
+returns-5 c =
+    let at-if2 = c .before .before .before .before .before .before .before in
+    let m : Marks = at-if2 .before .before .before .before .args .m in simp (
+      lt-ltb (m .mode) 2 (omega arith),
+      le-leb (m .at + m .part .count) limit (omega arith),
+      le-leb (m .len) longest (omega arith),
+      lt-leb (m .from) limit (omega arith),
+    )
 
 returns-6 : tie.Need-returns-6
-returns-6 c = let m : Marks = c .before .before .before .before .before .before .before .before .before .before .before .before .before .args .m in
+returns-6 c =
+    let at-if3 = c .before .before .before .before .before .before in
+    let entry = at-if3 .before .before .before .before .before .before .before in
+    let m : Marks = entry .args .m in
     simp (
       lt-ltb (m .mode) 2 (omega arith),
       le-leb (m .at + m .part .count) limit (omega arith),
@@ -50,8 +57,12 @@ returns-6 c = let m : Marks = c .before .before .before .before .before .before 
     )
 
 returns-7 : tie.Need-returns-7
-returns-7 c = let m : Marks =
-    c .before .before .before .before .before .before .before .before .before .before .before .before .before .before .before .args .m in simp (
+returns-7 c =
+    let at-if4 = c .before .before .before .before .before .before in
+    let at-if2-2 = at-if4 .before .before .before .before .before in
+    let entry = at-if2-2 .before .before .before .before in
+    let m : Marks =
+    entry .args .m in simp (
       lt-ltb (m .mode) 2 (omega arith),
       le-leb (m .at + m .part .count) limit (omega arith),
       le-leb (m .len) longest (omega arith),
@@ -65,7 +76,8 @@ cast-result c = search needs
 
 returns-8 : tie.Need-returns-8
 returns-8 c =
-    let branch = c .before .before .before .before .before .before .before .before .before .before in
+    let at-if5 = c .before .before .before .before .before .before in
+    let branch = at-if5 .before .before .before .before in
     let m : Marks = branch .before .before .before .before .before .before .before .args .m in
     simp (
       lt-ltb (m .mode) 2 (omega (arith, branch .before .before .before .before .before .if1 .left)),

@@ -29,9 +29,10 @@ add-if4 c = search needs
 
 returns-4 : tie.Need-returns-4
 returns-4 c =
-    let entry = c .before .before .before .before .before .before .before .before in
+    let at-if1 = c .before .before .before .before .before in
+    let entry = at-if1 .before .before .before in
     simp (
-      ne-eqb _ _ (c .before .before .before .before .before .if1 .left),
+      ne-eqb _ _ (at-if1 .if1 .left),
       le-leb 1 (entry .args .part .state .need) (omega arith),
       lt-leb (entry .args .part .count + entry .args .part .state .need) 4 (omega arith),
     )
@@ -41,9 +42,10 @@ code-end-requires c κs = search needs
 
 returns-5 : tie.Need-returns-5
 returns-5 c =
-    let entry = c .before .before .before .before .before .before .before .before .before .before in
+    let at-if2 = c .before .before .before .before .before .before in
+    let entry = at-if2 .before .before .before .before in
     simp (
-      ne-eqb _ _ (c .before .before .before .before .before .before .before .if1 .left),
+      ne-eqb _ _ (at-if2 .before .if1 .left),
       le-leb 1 (entry .args .part .state .need) (omega arith),
       le-leb (entry .args .part .count + entry .args .part .state .need) 4 (omega arith),
       c .before .code-end .ensures,

@@ -36,10 +36,12 @@ same-length-3 c = search needs
 returns : tie.Need-returns
 unfolding endNoted
 returns c =
-    let entry = c .before .before .before .before .before .before .before .before .before .before .before .before .before .before .before .before .before .before .before .before .before in
-    let p = c .before .before .before .before .before .before .before .before .before .before .before .before .before .before .end in
+    let at-note-arg3 = c .before .before .before .before .before .before .before in
+    let at-end = at-note-arg3 .before .before .before .before .before .before .before in
+    let entry = at-end .before .before .before .before .before .before .before in
+    let p = at-end .end in
     call-noted (p .result) _ (rw (length-replicate room mark) at (p .ensures .0)) (standing (entry .args .stand) (now (entry .args .records)) (now (entry .args .counts)) (now (entry .args .texts)))
-    (rw (← c .before .before .before .before .before .before .before .before .before .before .before .wrapping-add-usize .ensures) (c .before .before .before .before .before .before .note .ensures))
+    (rw (← at-note-arg3 .before .before .before .before .wrapping-add-usize .ensures) (c .before .before .before .before .before .before .note .ensures))
 
 pub call-end-spec : {M : Type 1} → statement M
 call-end-spec =

@@ -39,11 +39,14 @@ same-length-3 c = search needs
 returns : tie.Need-returns
 unfolding pieceNoted
 returns c =
-    let entry = c .before .before .before .before .before .before .before .before .before .before .before .before .before .before .before .before .before .before .before .before .before .before .before in
-    let p = c .before .before .before .before .before .before .before .before .before .before .before .before .before .before .piece in
-    let part = c .before .before .before .before .before .before .before .before .before .before .before .before .before .before .before .before .part in
+    let at-note-arg3 = c .before .before .before .before .before .before .before in
+    let at-piece = at-note-arg3 .before .before .before .before .before .before .before in
+    let at-state = at-piece .before .before .before .before in
+    let entry = at-state .before .before .before .before .before in
+    let p = at-piece .piece in
+    let part = at-piece .before .before .part in
     call-noted (p .result) _ (rw (part .ensures, length-replicate room mark) at (p .ensures .0)) (standing (entry .args .stand) (now (entry .args .records)) (now (entry .args .counts)) (now (entry .args .texts)))
-    (rw (← c .before .before .before .before .before .before .before .before .before .before .before .wrapping-add-usize .ensures) (c .before .before .before .before .before .before .note .ensures))
+    (rw (← at-note-arg3 .before .before .before .before .wrapping-add-usize .ensures) (c .before .before .before .before .before .before .note .ensures))
 
 pub call-piece-spec : {M : Type 1} → statement M
 call-piece-spec =

@@ -16,6 +16,18 @@ Inv-loop source cutting records₀ counts₀ texts₀ now₀ size₀ pieces₀ r
 abbrev μ-loop : tie.MeasureT-loop
 μ-loop source cutting records₀ counts₀ texts₀ now₀ size₀ pieces₀ records counts texts now size pieces = pieces
 
+-- where a turn of the loop began, from after `piece-end`
+abbrev turn-of : tie.After-piece-end Inv-loop μ-loop → tie.At-loop Inv-loop μ-loop
+turn-of c = c .before .before .before .before .before .before
+
+-- after `piece-end`, from after `hand-over`
+abbrev piece-end-of : tie.After-hand-over Inv-loop μ-loop → tie.After-piece-end Inv-loop μ-loop
+piece-end-of c = c .before .before .before .before
+
+-- after `hand-over`, from after `next-size`
+abbrev hand-over-of : tie.After-next-size Inv-loop μ-loop → tie.After-hand-over Inv-loop μ-loop
+hand-over-of c = c .before .before .before .before .before .before .before
+
 loop-holds : tie.Need-loop-holds Inv-loop μ-loop
 loop-holds c = (refl, refl, refl, refl)
 
@@ -64,11 +76,11 @@ loop-less c = search needs
 
 loop-again : tie.Need-loop-again Inv-loop μ-loop
 loop-again c =
-    let l = c .before .before .before .before .before .before .before .before .before .before .before .before .before .before .before .before .before .loop in (
+    let l = turn-of (piece-end-of (hand-over-of c)) .loop in (
       omega arith,
       omega arith,
       omega arith,
-      sym (all-on _ _ (l .pieces) (l .size) (standing (l .now) (l .records) (l .counts) (l .texts)) (c .before .before .before .before .before .before .before .before .before .before .before .before .before .before .before .before .loop-test .taken) (c .before .before .before .before .before .before .before .before .before .before .before .before .before .before .if1 .left) (c .before .before .before .before .before .before .before .before .before .before .before .before .if2 .left) (c .before .before .before .before .before .before .before .before .before .before .before .piece-end .ensures) (c .before .before .before .before .before .before .before .hand-over .ensures)
+      sym (all-on _ _ (l .pieces) (l .size) (standing (l .now) (l .records) (l .counts) (l .texts)) (piece-end-of (hand-over-of c) .before .before .before .before .before .loop-test .taken) (piece-end-of (hand-over-of c) .before .before .before .if1 .left) (piece-end-of (hand-over-of c) .before .if2 .left) (piece-end-of (hand-over-of c) .piece-end .ensures) (hand-over-of c .hand-over .ensures)
           (c .next-size .ensures)) ∙ l .inv .3,
     )
 

@@ -17,6 +17,10 @@ Inv-loop records₀ counts₀ texts₀ now₀ calls₀ records counts texts now 
 abbrev μ-loop : tie.MeasureT-loop
 μ-loop records₀ counts₀ texts₀ now₀ calls₀ records counts texts now calls = calls
 
+-- where `if1` failed, from after `counts`
+abbrev if1-of : tie.After-counts Inv-loop μ-loop → tie.Else1 Inv-loop μ-loop
+if1-of c = c .before .before .before .before .before .before .before
+
 loop-holds : tie.Need-loop-holds Inv-loop μ-loop
 loop-holds c = (refl, refl, refl, refl)
 
@@ -45,12 +49,12 @@ loop-less c = search needs
 
 loop-again : tie.Need-loop-again Inv-loop μ-loop
 loop-again c =
-    let l = c .before .before .before .before .before .before .before .before .before .before .before .before .before .loop in (
+    let l = if1-of (c .before .before .before) .before .before .before .loop in (
       omega arith,
       omega arith,
       omega arith,
       ap (handEnd (l .calls - 1)) (c .before .before .before .before .before .before .call-end .ensures)
-          ∙ sym (end-on (l .calls) (standing (l .now) (l .records) (l .counts) (l .texts)) (c .before .before .before .before .before .before .before .before .before .before .before .before .loop-test .taken) (c .before .before .before .before .before .before .before .before .before .before .if1 .left)) ∙ l .inv .3,
+          ∙ sym (end-on (l .calls) (standing (l .now) (l .records) (l .counts) (l .texts)) (if1-of (c .before .before .before) .before .before .loop-test .taken) (if1-of (c .before .before .before) .if1 .left)) ∙ l .inv .3,
     )
 
 same-length-4 : tie.Need-same-length-4 Inv-loop μ-loop

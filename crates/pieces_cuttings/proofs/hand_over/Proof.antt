@@ -16,6 +16,14 @@ Inv-loop source to records₀ counts₀ texts₀ now₀ calls₀ records counts 
 abbrev μ-loop : tie.MeasureT-loop
 μ-loop source to records₀ counts₀ texts₀ now₀ calls₀ records counts texts now calls = calls
 
+-- where a turn of the loop began, from after `call-piece`
+abbrev turn-of : tie.After-call-piece Inv-loop μ-loop → tie.At-loop Inv-loop μ-loop
+turn-of c = c .before .before .before .before .before
+
+-- after `call-piece`, from after `reading`
+abbrev call-piece-of : tie.After-reading Inv-loop μ-loop → tie.After-call-piece Inv-loop μ-loop
+call-piece-of c = c .before .before .before .before .before .before .before
+
 loop-holds : tie.Need-loop-holds Inv-loop μ-loop
 loop-holds c = (refl, refl, refl, refl)
 
@@ -33,8 +41,8 @@ same-length-3 c = search needs
 
 returns : tie.Need-returns Inv-loop μ-loop
 returns c =
-    let l = c .before .before .before .before .before .before .before .before .before .before .before .before .before .loop in
-    sym (piece-over _ _ (l .calls) (standing (l .now) (l .records) (l .counts) (l .texts)) (c .before .before .before .before .before .before .before .before .before .before .before .before .loop-test .taken) (c .before .before .before .before .before .before .before .before .call-piece .ensures) (c .if1 .taken)) ∙ l .inv .3
+    let l = turn-of (call-piece-of (c .before)) .loop in
+    sym (piece-over _ _ (l .calls) (standing (l .now) (l .records) (l .counts) (l .texts)) (call-piece-of (c .before) .before .before .before .before .loop-test .taken) (call-piece-of (c .before) .call-piece .ensures) (c .if1 .taken)) ∙ l .inv .3
 
 same-length-4 : tie.Need-same-length-4 Inv-loop μ-loop
 same-length-4 c = search needs
@@ -47,8 +55,8 @@ same-length-6 c = search needs
 
 returns-2 : tie.Need-returns-2 Inv-loop μ-loop
 returns-2 c =
-    let l = c .before .before .before .before .before .before .before .before .before .before .before .before .before .before .before .loop in
-    sym (piece-taken _ _ (l .calls) (standing (l .now) (l .records) (l .counts) (l .texts)) (c .before .before .before .before .before .before .before .before .before .before .before .before .before .before .loop-test .taken) (c .before .before .before .before .before .before .before .before .before .before .call-piece .ensures) (c .before .before .if1 .left) (c .if2 .taken)) ∙ l .inv .3
+    let l = turn-of (call-piece-of (c .before .before .before)) .loop in
+    sym (piece-taken _ _ (l .calls) (standing (l .now) (l .records) (l .counts) (l .texts)) (call-piece-of (c .before .before .before) .before .before .before .before .loop-test .taken) (call-piece-of (c .before .before .before) .call-piece .ensures) (c .before .before .if1 .left) (c .if2 .taken)) ∙ l .inv .3
 
 sub-calls : tie.Need-sub-calls Inv-loop μ-loop
 sub-calls c = search needs
@@ -58,11 +66,11 @@ loop-less c = search needs
 
 loop-again : tie.Need-loop-again Inv-loop μ-loop
 loop-again c =
-    let l = c .before .before .before .before .before .before .before .before .before .before .before .before .before .before .before .loop in (
+    let l = turn-of (call-piece-of (c .before .before .before)) .loop in (
       omega arith,
       omega arith,
       omega arith,
-      sym (piece-on _ _ (l .calls) (standing (l .now) (l .records) (l .counts) (l .texts)) (c .before .before .before .before .before .before .before .before .before .before .before .before .before .before .loop-test .taken) (c .before .before .before .before .before .before .before .before .before .before .call-piece .ensures) (c .before .before .if1 .left) (c .if2 .left)) ∙ l .inv .3,
+      sym (piece-on _ _ (l .calls) (standing (l .now) (l .records) (l .counts) (l .texts)) (call-piece-of (c .before .before .before) .before .before .before .before .loop-test .taken) (call-piece-of (c .before .before .before) .call-piece .ensures) (c .before .before .if1 .left) (c .if2 .left)) ∙ l .inv .3,
     )
 
 same-length-7 : tie.Need-same-length-7 Inv-loop μ-loop

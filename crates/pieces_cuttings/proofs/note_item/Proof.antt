@@ -16,6 +16,18 @@ use Rattle.pieces_cuttings.proofs.Noted.{text-long, left-alone, no-reco
 use Rattle.pieces_cuttings.proofs.note_item.Statement.{statement}
 use Rattle.pieces_cuttings.proofs.note_item.Tie as tie
 
+-- where the call began, from where `if2` failed
+abbrev entry-of : tie.Else2 → tie.Start
+entry-of c = c .before .before .before .before .before .before
+
+-- where `if2` failed, from after `put`
+abbrev if2-of : tie.After-put → tie.Else2
+if2-of c = c .before .before .before .before .before
+
+-- after `put`, from after `slice-known5`
+abbrev put-of : tie.After-slice-known5 → tie.After-put
+put-of c = c .before .before .before .before .before .before .before
+
 cast-past : tie.Need-cast-past
 cast-past c = search needs
 
@@ -41,17 +53,18 @@ broken-requires-3 : tie.Need-broken-requires-3
 broken-requires-3 c κs = search needs
 
 returns-3 : tie.Need-returns-3
-returns-3 c = absurd (omega (arith, text-long (c .before .before .before .before .before .before .before .before .pre), c .before .if3 .taken))
+returns-3 c = absurd (omega (arith, text-long (entry-of (c .before .before) .pre), c .before .if3 .taken))
 
 broken-requires-4 : tie.Need-broken-requires-4
 broken-requires-4 c κs = search needs
 
 returns-4 : tie.Need-returns-4
 returns-4 c =
-    let entry = c .before .before .before .before .before .before .before .before .before in
+    let at-if1 = c .before .before .before .before in
+    let entry = at-if1 .before .before .before .before .before in
     let a = entry .args in
     rw (c .broken4 .ensures)
-    (no-text (entry .pre) (notes (a .before) (now (a .records)) (now (a .counts)) (now (a .texts))) (a .taken) (c .before .before .before .before .if1 .left) (c .before .before .before .if2 .left) (omega (arith, c .before .if4 .taken)))
+    (no-text (entry .pre) (notes (a .before) (now (a .records)) (now (a .counts)) (now (a .texts))) (a .taken) (at-if1 .if1 .left) (c .before .before .before .if2 .left) (omega (arith, c .before .if4 .taken)))
 
 sub-if5 : tie.Need-sub-if5
 sub-if5 c = search needs
@@ -61,11 +74,12 @@ broken-requires-5 c κs = search needs
 
 returns-5 : tie.Need-returns-5
 returns-5 c =
-    let entry = c .before .before .before .before .before .before .before .before .before .before in
+    let at-if1 = c .before .before .before .before .before in
+    let entry = at-if1 .before .before .before .before .before in
     let a = entry .args in
     let full = c .before .before in
     rw (c .broken5 .ensures)
-    (no-text (entry .pre) (notes (a .before) (now (a .records)) (now (a .counts)) (now (a .texts))) (a .taken) (full .before .before .before .if1 .left) (full .before .before .if2 .left) (omega (arith, c .before .if5 .taken, full .if4 .left)))
+    (no-text (entry .pre) (notes (a .before) (now (a .records)) (now (a .counts)) (now (a .texts))) (a .taken) (at-if1 .if1 .left) (full .before .before .if2 .left) (omega (arith, c .before .if5 .taken, full .if4 .left)))
 
 mul-at : tie.Need-mul-at
 mul-at c = search needs
@@ -135,14 +149,14 @@ same-length-3 c = search needs
 
 returns-6 : tie.Need-returns-6
 returns-6 c =
-    let entry = c .before .before .before .before .before .before .before .before .before .before .before .before .before .before .before .before .before .before .before .before .before in
+    let entry = entry-of (if2-of (put-of (c .before .before .before))) in
     let a = entry .args in
-    let room = c .before .before .before .before .before .before .before .before .before .before .before .before in
+    let room = put-of (c .before .before .before) .before .before in
     let fits : a .before .bytes + a .r .nine .past ≤ length (now (a .texts)) = omega (arith, room .if5 .left, room .before .if4 .left) in
     let kept : c .marked .result ≡ a .before .kept =
     c .marked .ensures ∙ ap isUnwritten (part-rest (now (a .text)) (a .r .nine .past)) ∙ left-alone (entry .pre) ∙ sym (c .before .before .if6 .taken) in
     noted (entry .pre) (notes (a .before) (now (a .records)) (now (a .counts)) (now (a .texts))) (a .taken) (room .before .before .before .before .if1 .left) (room .before .before .before .if2 .left) fits kept
-    (part-laid (a .before .items * recordWords) (wordsOf (a .r)) (now (a .records)) (c .before .before .before .before .before .before .before .before .before .before .put .ensures)) refl
+    (part-laid (a .before .items * recordWords) (wordsOf (a .r)) (now (a .records)) (put-of (c .before .before .before) .put .ensures)) refl
     (text-laid (a .r .nine .past) (a .before .bytes) (now (a .text)) (now (a .texts)) (room .before .before .if3 .left) fits (c .before .before .before .before .before .copy .ensures))
 
 same-length-4 : tie.Need-same-length-4
@@ -156,12 +170,12 @@ same-length-6 c = search needs
 
 returns-7 : tie.Need-returns-7
 returns-7 c =
-    let entry = c .before .before .before .before .before .before .before .before .before .before .before .before .before .before .before .before .before .before .before in
+    let entry = entry-of (if2-of (put-of (c .before))) in
     let a = entry .args in
-    let room = c .before .before .before .before .before .before .before .before .before .before in
+    let room = put-of (c .before) .before .before in
     let fits : a .before .bytes + a .r .nine .past ≤ length (now (a .texts)) = omega (arith, room .if5 .left, room .before .if4 .left) in
     noted (entry .pre) (notes (a .before) (now (a .records)) (now (a .counts)) (now (a .texts))) (a .taken) (room .before .before .before .before .if1 .left) (room .before .before .before .if2 .left) fits refl
-    (part-laid (a .before .items * recordWords) (wordsOf (a .r)) (now (a .records)) (c .before .before .before .before .before .before .before .before .put .ensures)) refl
+    (part-laid (a .before .items * recordWords) (wordsOf (a .r)) (now (a .records)) (put-of (c .before) .put .ensures)) refl
     (text-laid (a .r .nine .past) (a .before .bytes) (now (a .text)) (now (a .texts)) (room .before .before .if3 .left) fits (c .before .before .before .copy .ensures))
 
 pub note-item-spec : {M : Type 1} → statement M

@@ -98,7 +98,9 @@ shared-slice-read-t45 : tie.Need-shared-slice-read-t45
 shared-slice-read-t45 c = search needs
 
 returns-2 : tie.Need-returns-2
-returns-2 c = rw (lt-leb _ _ (c .before .before .before .before .before .before .before .before .before .before .if1 .left))
+returns-2 c =
+    let at-shared-slice-known5 = c .before .before .before .before .before in
+    rw (lt-leb _ _ (at-shared-slice-known5 .before .before .before .before .before .if1 .left))
 
 pub record-at-spec : {M : Type 1} → statement M
 record-at-spec =

@@ -13,6 +13,10 @@ use Rattle.pieces_last.proofs.Ending.{all-given}
 use Rattle.pieces_last.proofs.end_quickly.Statement.{statement}
 use Rattle.pieces_last.proofs.end_quickly.Tie as tie
 
+-- where the call began, from after `tell-last-arg`
+abbrev entry-of : tie.After-tell-last-arg → tie.Start
+entry-of c = c .before .before .before .before .before .before
+
 returns : tie.Need-returns
 returns c =
     let a = c .before .before .before .before in
@@ -23,14 +27,14 @@ spot-requires c κs = search needs
 
 slice-aggregate-tell-last : tie.Need-slice-aggregate-tell-last
 slice-aggregate-tell-last c =
-    let a = c .before .before .before .before .before .before in
+    let a = entry-of c in
     let s = c .before .spot in
     let len = ap (λ (x : PieceSpot). x .len) (s .ensures) in
     sym (length-take-le (s .result .len) (now (a .args .buf)) (omega (arith, len, a .pre .0 .ready .small, a .pre .1)))
 
 tell-last-requires : tie.Need-tell-last-requires
 tell-last-requires c κs =
-    let a = c .before .before .before .before .before .before in
+    let a = entry-of c in
     let w = a .args .w in
     let raw = take (w .len) (now (a .args .buf)) in
     let l = length-take-le (w .len) (now (a .args .buf)) (omega (arith, a .pre .0 .ready .small, a .pre .1)) in
@@ -43,7 +47,7 @@ enum-known-told c = search needs
 
 give-last-requires : tie.Need-give-last-requires
 give-last-requires c κs =
-    let a = c .before .before .before .before .before .before .before .before .before .before .before in
+    let a = entry-of (c .before .before .before .before .before) in
     let s = c .before .before .before .before .before .before .spot in
     let told = c .before .before .before .before .tell-last in
     let buf = now (a .args .buf) in

@@ -20,6 +20,10 @@ use Rattle.pieces_last.proofs.Ending.{item-given}
 use Rattle.pieces_last.proofs.give_decoded.Statement.{statement}
 use Rattle.pieces_last.proofs.give_decoded.Tie as tie
 
+-- where the call began, from after `decoded-record-arg`
+abbrev entry-of : tie.After-decoded-record-arg → tie.Start
+entry-of c = c .before .before .before .before .before .before .before
+
 slice-aggregate-is-escaped : tie.Need-slice-aggregate-is-escaped
 slice-aggregate-is-escaped c =
     let a = c .before .before .before in
@@ -37,13 +41,13 @@ cast-decoded-record c = search needs
 
 slice-aggregate-decoded-record : tie.Need-slice-aggregate-decoded-record
 slice-aggregate-decoded-record c =
-    let a = c .before .before .before .before .before .before .before in
+    let a = entry-of c in
     let len = ap (λ (x : PieceSpot). x .len) (a .pre .1) in
     sym (length-take-le (a .args .s .len) (now (a .args .buf)) (omega (arith, len, a .pre .0 .closing .ready .small, a .pre .0 .full)))
 
 decoded-record-requires : tie.Need-decoded-record-requires
 decoded-record-requires c κs =
-    let a = c .before .before .before .before .before .before .before .before in
+    let a = entry-of (c .before) in
     let h = a .pre .0 in
     let l = length-take-le (a .args .w .len) (now (a .args .buf)) (omega (arith, h .closing .ready .small, h .full)) in
     let k = h .closing .ready .known .held (h .item) in
@@ -62,12 +66,13 @@ same-length c = search needs
 
 returns-2 : tie.Need-returns-2
 returns-2 c =
-    let a = c .before .before .before .before .before .before .before .before .before .before .before in
+    let at-is-escaped = c .before .before .before .before .before .before .before in
+    let a = at-is-escaped .before .before .before .before in
     let w = a .args .w in
     let h = a .pre .0 in
     let raw = take (w .len) (now (a .args .buf)) in
     let string = subst (λ (x : PieceSpot). (x .stage ≡ 25) × (x .which ≡ 0) × (escaped (take (x .len) (now (a .args .buf))) ≡ true)) (a .pre .1)
-    (c .before .before .before .before .before .before .before .is-escaped .ensures (not-false _ (c .before .before .before .before .before .before .if1 .left))) in
+    (at-is-escaped .is-escaped .ensures (not-false _ (c .before .before .before .before .before .before .if1 .left))) in
     let decoded = c .before .before .decoded-record in
     let copied = subst (λ (x : PieceSpot). Copied x (decodedMeans (take (x .len) (now (a .args .buf)))) (w .depth) (take (x .len) (now (a .args .buf))) (now (a .args .text)) (decoded .last .1 .1 .1 .0) (Of (decoded .result))) (a .pre .1) (decoded .ensures) in
     item-given w (h .closing) (now (a .args .buf)) (now (a .args .text)) (h .full) (h .room) (decodedMeans raw)

@@ -13,6 +13,14 @@ use Rattle.pieces_last.proofs.Ending.{item-given}
 use Rattle.pieces_last.proofs.give_last.Statement.{statement}
 use Rattle.pieces_last.proofs.give_last.Tie as tie
 
+-- where the call began, from after `copied-arg2`
+abbrev entry-of : tie.After-copied-arg2 → tie.Start
+entry-of c = c .before .before .before .before .before .before .before
+
+-- after `copied-arg2`, from after `depth-after`
+abbrev copied-arg2-of : tie.After-depth-after → tie.After-copied-arg2
+copied-arg2-of c = c .before .before .before .before .before .before .before
+
 skips-requires : tie.Need-skips-requires
 skips-requires c κs = search needs
 
@@ -30,7 +38,7 @@ slice-aggregate-copied c =
 
 copied-requires : tie.Need-copied-requires
 copied-requires c κs =
-    let a = c .before .before .before .before .before .before .before in
+    let a = entry-of c in
     let w = a .args .w in
     let h = a .pre .0 in
     let l = length-take-le (w .len) (now (a .args .buf)) (omega (arith, h .closing .ready .small, h .full)) in
@@ -61,10 +69,10 @@ same-length c = search needs
 
 returns-2 : tie.Need-returns-2
 returns-2 c =
-    let a = c .before .before .before .before .before .before .before .before .before .before .before .before .before .before in
+    let a = entry-of (copied-arg2-of c) in
     let w = a .args .w in
     let h = a .pre .0 in
-    let kept = sym (c .before .before .before .before .before .before .before .before .before .before .before .skips .ensures) ∙ c .before .before .before .before .before .before .before .before .before .before .if1 .left in
+    let kept = sym (copied-arg2-of c .before .before .before .before .skips .ensures) ∙ copied-arg2-of c .before .before .before .if1 .left in
     let copied = c .before .before .before .before .before .before .copied in
     let gift = subst (λ (q : Gift). Copied (a .args .s) (a .args .m) (w .depth) (take (a .args .s .len) (now (a .args .buf))) (now (a .args .text)) (copied .last .1 .1 .1 .1 .0) q) (c .before .before .r .given .1) (copied .ensures) in
     let k = subst (λ (x : PieceSpot). Copied x (a .args .m) (w .depth) (take (x .len) (now (a .args .buf))) (now (a .args .text)) (copied .last .1 .1 .1 .1 .0) (Of (c .before .before .r .given .0 .0))) (a .pre .1) gift in
@@ -75,7 +83,7 @@ same-length-2 c = search needs
 
 returns-3 : tie.Need-returns-3
 returns-3 c =
-    let a = c .before .before .before .before .before .before .before .before .before .before .before .before in
+    let a = entry-of (c .before .before .before .before .before) in
     let copied = c .before .before .before .before .copied in
     subst (λ (q : Gift). Copied (a .args .s) (a .args .m) (a .args .w .depth) (take (a .args .s .len) (now (a .args .buf))) (now (a .args .text)) (copied .last .1 .1 .1 .1 .0) q) (c .enum-told .given .1) (copied .ensures)
 

@@ -10,6 +10,10 @@ use Rattle.pieces_quick.proofs.Answering.{before-byte, item-feeds}
 use Rattle.pieces_quick.proofs.from_comment.Statement.{statement}
 use Rattle.pieces_quick.proofs.from_comment.Tie as tie
 
+-- where the call began, from after `buf`
+abbrev entry-of : tie.After-buf → tie.Start
+entry-of c = c .before .before .before .before .before .before .before
+
 shared-slice-read-give-comment : tie.Need-shared-slice-read-give-comment
 shared-slice-read-give-comment c = search needs
 
@@ -34,17 +38,17 @@ same-length c = search needs
 
 returns : tie.Need-returns
 returns c =
-    let a = c .before .before .before .before .before .before .before .before .before .before .before in
+    let a = entry-of (c .before .before .before .before) in
     item-feeds (a .args .w) (a .pre .1 .left) (a .pre .1 .ready) (a .args .s) (now (a .args .buf)) (now (a .args .text)) (now (a .args .piece)) (a .pre .0) (a .pre .1 .sound)
     (a .pre .3 .inside) _ _ _ _ _
-    (subst (λ (q : Offer). Finished (c .before .before .before .before .before .before .before .before .before .before .before .args .w) (c .before .before .before .before .before .before .before .before .before .before .before .args .s) (getD (now (c .before .before .before .before .before .before .before .before .before .before .before .args .piece)) (c .before .before .before .before .before .before .before .before .before .before .before .args .s .i) 0) (now (c .before .before .before .before .before .before .before .before .before .before .before .args .buf)) (c .before .before .before .before .before .give-comment .last .1 .1 .1 .0) (now (c .before .before .before .before .before .before .before .before .before .before .before .args .text)) (now (c .before .before .before .before .before .before .before .before .before .before .before .args .text)) q) (c .before .next .given .1) (c .before .before .before .before .before .give-comment .ensures))
+    (subst (λ (q : Offer). Finished (a .args .w) (a .args .s) (getD (now (a .args .piece)) (a .args .s .i) 0) (now (a .args .buf)) (c .before .before .before .before .before .give-comment .last .1 .1 .1 .0) (now (a .args .text)) (now (a .args .text)) q) (c .before .next .given .1) (c .before .before .before .before .before .give-comment .ensures))
 
 same-length-2 : tie.Need-same-length-2
 same-length-2 c = search needs
 
 returns-2 : tie.Need-returns-2
 returns-2 c =
-    let same = subst (λ (q : Offer). Finished (c .before .before .before .before .before .before .before .before .before .before .args .w) (c .before .before .before .before .before .before .before .before .before .before .args .s) (getD (now (c .before .before .before .before .before .before .before .before .before .before .args .piece)) (c .before .before .before .before .before .before .before .before .before .before .args .s .i) 0) (now (c .before .before .before .before .before .before .before .before .before .before .args .buf)) (c .before .before .before .before .give-comment .last .1 .1 .1 .0) (now (c .before .before .before .before .before .before .before .before .before .before .args .text)) (now (c .before .before .before .before .before .before .before .before .before .before .args .text)) q) (c .enum-told .given .1) (c .before .before .before .before .give-comment .ensures) in
+    let same = subst (λ (q : Offer). Finished (entry-of (c .before .before .before) .args .w) (entry-of (c .before .before .before) .args .s) (getD (now (entry-of (c .before .before .before) .args .piece)) (entry-of (c .before .before .before) .args .s .i) 0) (now (entry-of (c .before .before .before) .args .buf)) (c .before .before .before .before .give-comment .last .1 .1 .1 .0) (now (entry-of (c .before .before .before) .args .text)) (now (entry-of (c .before .before .before) .args .text)) q) (c .enum-told .given .1) (c .before .before .before .before .give-comment .ensures) in
     (refl, same .0, refl)
 
 pub from-comment-spec : {M : Type 1} → statement M

@@ -10,6 +10,18 @@ use Rattle.pieces_quick.proofs.Answering.{more-feeds, before-byte, item
 use Rattle.pieces_quick.proofs.from_spot.Statement.{statement}
 use Rattle.pieces_quick.proofs.from_spot.Tie as tie
 
+-- where the call began, from where `if1` failed
+abbrev entry-of : tie.Else1 → tie.Start
+entry-of c = c .before .before .before .before
+
+-- where `if1` failed, from after `buf`
+abbrev if1-of : tie.After-buf → tie.Else1
+if1-of c = c .before .before .before .before .before
+
+-- after `buf`, from after `known-told`
+abbrev buf-of : tie.After-known-told → tie.After-buf
+buf-of c = c .before .before .before .before .before .before
+
 returns : tie.Need-returns
 returns c =
     let a = c .before .before .before .before in
@@ -20,7 +32,7 @@ shared-slice-read-give-item c = search needs
 
 give-item-requires : tie.Need-give-item-requires
 give-item-requires c κs =
-    let a = c .before .before .before .before .before .before .before in
+    let a = entry-of (c .before .before .before) in
     before-byte (a .args .w) (a .pre .1 .left) (a .pre .1 .ready) (a .args .s) (now (a .args .buf)) (now (a .args .text)) (now (a .args .piece)) (a .pre .0) (a .pre .1 .sound) (omega arith) (omega arith)
 
 enum-known-next : tie.Need-enum-known-next
@@ -37,11 +49,11 @@ same-length-2 c = search needs
 
 returns-2 : tie.Need-returns-2
 returns-2 c =
-    let a = c .before .before .before .before .before .before .before .before .before .before .before .before .before .before .before in
+    let a = entry-of (if1-of (buf-of c)) in
     let s = a .args .s in
     item-feeds (a .args .w) (a .pre .1 .left) (a .pre .1 .ready) s (now (a .args .buf)) (now (a .args .text)) (now (a .args .piece)) (a .pre .0) (a .pre .1 .sound)
-    (omega (arith, c .before .before .before .before .before .before .before .before .before .before .before .if1 .left)) _ _ _ _ _
-    (subst (λ (q : Offer). Finished (a .args .w) s (getD (now (a .args .piece)) (s .i) 0) (now (a .args .buf)) (c .before .before .before .before .before .before .before .give-item .last .1 .1 .1 .0) (now (a .args .text)) (c .before .before .before .before .before .before .before .give-item .last .1 .1 .1 .1 .0) q) (c .before .next .given .1) (c .before .before .before .before .before .before .before .give-item .ensures))
+    (omega (arith, if1-of (buf-of c) .if1 .left)) _ _ _ _ _
+    (subst (λ (q : Offer). Finished (a .args .w) s (getD (now (a .args .piece)) (s .i) 0) (now (a .args .buf)) (buf-of c .before .give-item .last .1 .1 .1 .0) (now (a .args .text)) (buf-of c .before .give-item .last .1 .1 .1 .1 .0) q) (c .before .next .given .1) (buf-of c .before .give-item .ensures))
 
 same-length-3 : tie.Need-same-length-3
 same-length-3 c = search needs
@@ -51,7 +63,7 @@ same-length-4 c = search needs
 
 returns-3 : tie.Need-returns-3
 returns-3 c =
-    let a = c .before .before .before .before .before .before .before .before .before .before .before .before .before .before in
+    let a = entry-of (if1-of (c .before .before .before .before .before)) in
     let s = a .args .s in
     let same = subst (λ (q : Offer). Finished (a .args .w) s (getD (now (a .args .piece)) (s .i) 0) (now (a .args .buf)) (c .before .before .before .before .before .before .give-item .last .1 .1 .1 .0) (now (a .args .text)) (c .before .before .before .before .before .before .give-item .last .1 .1 .1 .1 .0) q) (c .enum-told .given .1) (c .before .before .before .before .before .before .give-item .ensures) in
     (refl, same .0, same .1)

@@ -6,6 +6,14 @@ use Rattle.pieces_quick.proofs.Answering.{plain-taken, continues}
 use Rattle.pieces_quick.proofs.plainly.Statement.{statement}
 use Rattle.pieces_quick.proofs.plainly.Tie as tie
 
+-- where the call began, from after `called`
+abbrev entry-of : tie.After-called → tie.Start
+entry-of c = c .before .before .before .before .before .before .before
+
+-- after `called`, from after `struct-known`
+abbrev called-of : tie.After-struct-known → tie.After-called
+called-of c = c .before .before .before .before .before .before
+
 sub-called : tie.Need-sub-called
 sub-called c = search needs
 
@@ -20,8 +28,8 @@ called-requires c κs = c .before .before .before .before .before .before .pre .
 
 add-t13 : tie.Need-add-t13
 add-t13 c =
-    let a = c .before .before .before .before .before .before .before .before .before .before .before .before .before in
-    let p = c .before .before .before .before .before .before .called in
+    let a = entry-of (called-of c) in
+    let p = called-of c .called in
     omega (arith, plain-taken (a .args .words) (a .args .from) (now (a .args .piece)) (now (a .args .buf)) _ (now (a .args .text)) _ (a .pre .0) (p .result) (p .ensures .0) (p .ensures .1))
 
 same-length : tie.Need-same-length
@@ -32,8 +40,8 @@ same-length-2 c = search needs
 
 returns : tie.Need-returns
 returns c =
-    let a = c .before .before .before .before .before .before .before .before .before .before .before .before .before in
-    let p = c .before .before .before .before .before .before .called in
+    let a = entry-of (called-of c) in
+    let p = called-of c .called in
     continues (a .args .words) (a .args .from) (now (a .args .piece)) (now (a .args .buf)) _ (now (a .args .text)) _ (a .pre .0) (p .result) (p .ensures .0) (p .ensures .1)
 
 pub plainly-spec : {M : Type 1} → statement M

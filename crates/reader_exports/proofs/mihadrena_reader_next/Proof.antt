@@ -9,6 +9,14 @@ use Rattle.reader_exports.proofs.Left.{room-record, too-few, no-positio
 use Rattle.reader_exports.proofs.mihadrena_reader_next.Statement.{statement}
 use Rattle.reader_exports.proofs.mihadrena_reader_next.Tie as tie
 
+-- where the call began, from after `is-room`
+abbrev entry-of : tie.After-is-room → tie.Start
+entry-of c = c .before .before .before .before .before .before
+
+-- after `position-in`, from after `text`
+abbrev position-in-of : tie.After-text → tie.After-position-in
+position-in-of c = c .before .before .before
+
 returns : tie.Need-returns
 returns c = too-few _ _ (sym (c .before .before .before .before .before .is-room .ensures) ∙ not-true _ (c .before .before .before .before .if1 .taken)) (c .before .before .put-values .ensures)
 
@@ -23,9 +31,9 @@ position-in-requires c κs = sym (c .before .before .is-position .ensures) ∙ n
 
 tell-next-requires : tie.Need-tell-next-requires
 tell-next-requires c κs =
-    let branch = c .before .before .before .before .before .before .before .before .before in (
+    let branch = position-in-of (c .before .before .before .before) .before .before in (
       position-length _ (sym (branch .before .is-position .ensures) ∙ not-false _ (branch .if2 .left)),
-      room-record _ (length (now (branch .before .before .before .before .before .before .before .before .before .before .args .values)))
+      room-record _ (length (now (entry-of (branch .before .before .before .before) .args .values)))
           (sym (branch .before .before .before .before .is-room .ensures) ∙ not-false _ (branch .before .before .before .if1 .left)),
     )
 

@@ -8,9 +8,13 @@ use Rattle.reader_exports.proofs.Left.{open-told, refused-told}
 use Rattle.reader_exports.proofs.tell_open.Statement.{statement}
 use Rattle.reader_exports.proofs.tell_open.Tie as tie
 
+-- after `put-position`, from after `slice-known4`
+abbrev put-position-of : tie.After-slice-known4 → tie.After-put-position
+put-position-of c = c .before .before .before .before .before .before
+
 returns : tie.Need-returns
-returns c = open-told _ _ _ (ap openingOf (c .before .before .before .before .before .before .before .before .before .answer .given .1))
-    (c .before .before .before .before .before .before .put-position .ensures) (c .before .before .put-values .ensures)
+returns c = open-told _ _ _ (ap openingOf (put-position-of c .before .before .before .answer .given .1))
+    (put-position-of c .put-position .ensures) (c .before .before .put-values .ensures)
 
 returns-2 : tie.Need-returns-2
 returns-2 c = refused-told _ _ refusal.noMode _ (ap openingOf (c .before .before .before .before .before .answer2 .given .1)) (c .before .before .put-values2 .ensures)

@@ -24,6 +24,10 @@ Inv-loop2 t from a b i₀ i = i + span (apart a b) (drop i t) ≡ from + span (a
 abbrev μ-loop2 : tie.MeasureT-loop2
 μ-loop2 t from a b i₀ i = length t - i
 
+-- where the call began, from where a turn of `loop2` began
+abbrev entry-of : tie.At-loop2 Inv-loop μ-loop Inv-loop2 μ-loop2 → tie.Start Inv-loop μ-loop Inv-loop2 μ-loop2
+entry-of c = c .before .before .before .before .before
+
 -- a block that passed its test is within the text
 room : (c : tie.Then1 Inv-loop μ-loop Inv-loop2 μ-loop2) → c .before .before .loop .i + block ≤ length (now (c .before .before .before .before .args .t))
 room c =
@@ -67,24 +71,24 @@ loop2-less c = omega arith
 
 loop2-again : tie.Need-loop2-again Inv-loop μ-loop Inv-loop2 μ-loop2
 loop2-again c =
-    let entry = c .before .before .before .before .before .before .before .before .before in
+    let entry = entry-of (c .before .before .before .before) in
     let l = c .before .before .before .before in
-    sym (span-hit (apart (entry .args .a) (entry .args .b)) (now (l .before .before .before .before .before .args .t))
+    sym (span-hit (apart (entry .args .a) (entry .args .b)) (now (entry .args .t))
     (l .loop2 .i) (c .before .before .before .loop2-test .taken) (sym (c .before .is-apart .ensures) ∙ c .if2 .taken)) ∙ l .loop2 .inv
 
 returns : tie.Need-returns Inv-loop μ-loop Inv-loop2 μ-loop2
 returns c =
-    let entry = c .before .before .before .before .before .before .before .before .before in
+    let entry = entry-of (c .before .before .before .before) in
     let l = c .before .before .before .before in
-    sym (span-stop (apart (entry .args .a) (entry .args .b)) (now (l .before .before .before .before .before .args .t))
+    sym (span-stop (apart (entry .args .a) (entry .args .b)) (now (entry .args .t))
     (l .loop2 .i) (c .before .before .before .loop2-test .taken) (sym (c .before .is-apart .ensures) ∙ c .if2 .left)) ∙ l .loop2 .inv
 
 returns-2 : tie.Need-returns-2 Inv-loop μ-loop Inv-loop2 μ-loop2
 returns-2 c =
-    let entry = c .before .before .before .before .before .before in
+    let entry = entry-of (c .before) in
     let l = c .before in
     sym (span-end (apart (entry .args .a) (entry .args .b))
-    (now (l .before .before .before .before .before .args .t)) (l .loop2 .i) (c .loop2-test .left)) ∙ l .loop2 .inv
+    (now (entry .args .t)) (l .loop2 .i) (c .loop2-test .left)) ∙ l .loop2 .inv
 
 pub apart-end-spec : {M : Type 1} → statement M
 apart-end-spec =

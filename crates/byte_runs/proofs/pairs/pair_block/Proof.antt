@@ -17,10 +17,14 @@ Inv-loop t at all₀ j₀ all j = (j ≤ block) × (all ≡ true → PairedTo t 
 abbrev μ-loop : tie.MeasureT-loop
 μ-loop t at all₀ j₀ all j = block - j
 
+-- where the call began, from where a turn of the loop began
+abbrev entry-of : tie.At-loop Inv-loop μ-loop → tie.Start Inv-loop μ-loop
+entry-of c = c .before .before .before .before .before .before .before
+
 loop-again : tie.Need-loop-again Inv-loop μ-loop
 loop-again c =
     let l = c .before .before .before .before .before .loop in
-    let f = c .before .before .before .before .before .before .before .before .before .before .before .before .args in
+    let f = entry-of (c .before .before .before .before .before) .args in
     (omega arith, paired-next (now (f .t)) (f .at) (l .j) (l .all) (c .before .is-paired .result) (c .both .result) (l .inv .1) (c .before .is-paired .ensures) (c .both .ensures))
 
 returns-4 : tie.Need-returns-4 Inv-loop μ-loop

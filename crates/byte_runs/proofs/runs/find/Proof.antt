@@ -26,6 +26,10 @@ Inv-loop2 t from b i₀ i = i + span (other b) (drop i t) ≡ from + span (other
 abbrev μ-loop2 : tie.MeasureT-loop2
 μ-loop2 t from b i₀ i = length t - i
 
+-- where the call began, from where a turn of `loop2` began
+abbrev entry-of : tie.At-loop2 Inv-loop μ-loop Inv-loop2 μ-loop2 → tie.Start Inv-loop μ-loop Inv-loop2 μ-loop2
+entry-of c = c .before .before .before .before .before
+
 -- a block that passed its test is within the text
 room : (c : tie.Then1 Inv-loop μ-loop Inv-loop2 μ-loop2) → c .before .before .loop .i + block ≤ length (now (c .before .before .before .before .args .t))
 room c =
@@ -60,8 +64,8 @@ shared-slice-read-if2 c = omega arith
 returns : tie.Need-returns Inv-loop μ-loop Inv-loop2 μ-loop2
 returns c =
     let l = c .before .before .before in
-    sym (span-stop (other (c .before .before .before .before .before .before .before .before .args .b))
-    (now (l .before .before .before .before .before .args .t))
+    sym (span-stop (other (entry-of l .args .b))
+    (now (entry-of l .args .t))
     (l .loop2 .i) (c .before .before .loop2-test .taken) (ap not (eq-eqb _ _ (c .if2 .taken)))) ∙ l .loop2 .inv
 
 add-i-2 : tie.Need-add-i-2 Inv-loop μ-loop Inv-loop2 μ-loop2
@@ -73,14 +77,14 @@ loop2-less c = omega arith
 loop2-again : tie.Need-loop2-again Inv-loop μ-loop Inv-loop2 μ-loop2
 loop2-again c =
     let l = c .before .before .before in
-    sym (span-hit (other (c .before .before .before .before .before .before .before .before .args .b))
-    (now (l .before .before .before .before .before .args .t))
+    sym (span-hit (other (entry-of l .args .b))
+    (now (entry-of l .args .t))
     (l .loop2 .i) (c .before .before .loop2-test .taken) (ap not (ne-eqb _ _ (c .if2 .left)))) ∙ l .loop2 .inv
 
 returns-2 : tie.Need-returns-2 Inv-loop μ-loop Inv-loop2 μ-loop2
 returns-2 c =
     let l = c .before in
-    sym (span-end (other (c .before .before .before .before .before .before .args .b)) (now (l .before .before .before .before .before .args .t)) (l .loop2 .i) (c .loop2-test .left)) ∙ l .loop2 .inv
+    sym (span-end (other (entry-of l .args .b)) (now (entry-of l .args .t)) (l .loop2 .i) (c .loop2-test .left)) ∙ l .loop2 .inv
 
 pub find-spec : {M : Type 1} → statement M
 find-spec =

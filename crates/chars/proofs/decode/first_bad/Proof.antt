@@ -20,13 +20,17 @@ Inv-loop s i₀ i = verdict (sequences 0 i (drop i s)) ≡ firstBad s
 abbrev μ-loop : tie.MeasureT-loop
 μ-loop s i₀ i = length s - i
 
+-- where the call began, from after `wide-end`
+abbrev entry-of : tie.After-wide-end Inv-loop μ-loop → tie.Start Inv-loop μ-loop
+entry-of c = c .before .before .before .before .before .before
+
 loop-holds : tie.Need-loop-holds Inv-loop μ-loop
 unfolding firstBad
 loop-holds c = refl
 
 loop-again : tie.Need-loop-again Inv-loop μ-loop
 loop-again c =
-    let s = now (c .before .before .before .before .before .before .before .args .s) in
+    let s = now (entry-of (c .before) .args .s) in
     let l = c .before .before .before .before .before .loop in
     let j = c .before .before .before .past-blocks in
     let k = c .before .before .ascii-end in
@@ -36,8 +40,8 @@ loop-again c =
 
 -- what the answer says of the rest it says of the whole
 turn : (c : tie.After-decode-at Inv-loop μ-loop) {o : Decoded} → c .decode-at .result ≡ o
-    → said (now (c .before .before .before .before .before .before .before .before .args .s)) (c .before .before .before .before .before .before .loop .i) o ≡ firstBad (now (c .before .before .before .before .before .before .before .before .args .s))
-turn c e = sym (turns (now (c .before .before .before .before .before .before .before .before .args .s)) (c .before .before .before .before .before .before .loop .i) (sym e ∙ c .decode-at .ensures)) ∙ c .before .before .before .before .before .before .loop .inv
+    → said (now (entry-of (c .before .before) .args .s)) (c .before .before .before .before .before .before .loop .i) o ≡ firstBad (now (entry-of (c .before .before) .args .s))
+turn c e = sym (turns (now (entry-of (c .before .before) .args .s)) (c .before .before .before .before .before .before .loop .i) (sym e ∙ c .decode-at .ensures)) ∙ c .before .before .before .before .before .before .loop .inv
 
 -- at the end nothing is bad
 returns-4 : tie.Need-returns-4 Inv-loop μ-loop
@@ -60,7 +64,7 @@ first-bad-spec =
     (λ c. search needs)
     (λ c. let d = c .before .before .before in
     let v = c .before .next .given in
-    omega (arith, further (now (d .before .before .before .before .before .before .before .before .args .s)) (d .before .before .before .before .before .before .loop .i) (v .0 .0) (v .0 .1 .0) (sym (v .1) ∙ d .decode-at .ensures)))
+    omega (arith, further (now (entry-of (d .before .before) .args .s)) (d .before .before .before .before .before .before .loop .i) (v .0 .0) (v .0 .1 .0) (sym (v .1) ∙ d .decode-at .ensures)))
     (λ c. turn (c .before .before .before) (c .before .next .given .1))
     (λ c. search needs)
     (λ c. turn (c .before .before) (c .enum-told .given .1))

@@ -14,6 +14,10 @@ use Rattle.chars.proofs.Lay.{lay-none, lay-short, lay-bytes}
 use Rattle.chars.proofs.encode.put_char.Statement.{statement}
 use Rattle.chars.proofs.encode.put_char.Tie as tie
 
+-- where the call began, from where `if2` failed
+abbrev entry-of : tie.Else2 → tie.Start
+entry-of c = c .before .before .before .before .before
+
 pub put-char-spec : {M : Type 1} → statement M
 put-char-spec =
     tie.close
@@ -25,9 +29,9 @@ put-char-spec =
     lay-short (entry .args .code) (now (entry .args .text)) _ (sym (c .before .before .before .is-scalar .ensures)
     ∙ not-false _ (c .before .before .if1 .left)) (c .before .char-width .ensures) (c .if2 .taken))
     (λ c. search needs)
-    (λ c. omega (arith, c .before .if2 .left, c .before .before .char-width .ensures, wide (c .before .before .before .before .before .before .args .code)))
+    (λ c. omega (arith, c .before .if2 .left, c .before .before .char-width .ensures, wide (entry-of (c .before) .args .code)))
     (λ c. search needs)
-    (λ c. let entry = c .before .before .before .before .before .before in
+    (λ c. let entry = entry-of (c .before) in
     lay-bytes (entry .args .code) (now (entry .args .text)) _
     (one (entry .args .code)) (sym (c .before .before .before .before .is-scalar .ensures) ∙ not-false _ (c .before .before .before .if1 .left))
     (c .before .before .char-width .ensures) (c .before .if2 .left) (utf8-one (entry .args .code) (c .if3 .taken)))
@@ -37,14 +41,15 @@ put-char-spec =
       arith,
       c .before .before .if2 .left,
       c .before .before .before .char-width .ensures,
-      width-two (c .before .before .before .before .before .before .before .args .code) (c .before .if3 .left),
+      width-two (entry-of (c .before .before) .args .code) (c .before .if3 .left),
     ))
     (λ c κs. search needs)
-    (λ c. simp length-set (omega (
+    (λ c. let at-char-width = c .before .before .before .before in
+    simp length-set (omega (
       arith,
       c .before .before .before .if2 .left,
-      c .before .before .before .before .char-width .ensures,
-      width-two (c .before .before .before .before .before .before .before .before .args .code) (c .before .before .if3 .left),
+      at-char-width .char-width .ensures,
+      width-two (at-char-width .before .before .before .before .args .code) (c .before .before .if3 .left),
     )))
     (λ c. search needs)
     (λ c. let measured = c .before .before .before .before in
@@ -58,7 +63,7 @@ put-char-spec =
       arith,
       c .before .before .before .if2 .left,
       c .before .before .before .before .char-width .ensures,
-      width-three (c .before .before .before .before .before .before .before .before .args .code) (c .before .if4 .left),
+      width-three (entry-of (c .before .before .before) .args .code) (c .before .if4 .left),
     ))
     (λ c κs. search needs)
     (λ c. let branch = c .before .before .before .before in
@@ -90,7 +95,7 @@ put-char-spec =
       arith,
       c .before .before .before .if2 .left,
       c .before .before .before .before .char-width .ensures,
-      width-four (c .before .before .before .before .before .before .before .before .args .code) (c .if5 .left),
+      width-four (entry-of (c .before .before .before) .args .code) (c .if5 .left),
     ))
     (λ c κs. search needs)
     (λ c. let branch = c .before .before .before .before in

@@ -19,6 +19,10 @@ Inv-loop s from until i₀ i = Walk s until from i
 abbrev μ-loop : tie.MeasureT-loop
 μ-loop s from until i₀ i = until - i
 
+-- where the call began, from after `plain-end-arg`
+abbrev entry-of : tie.After-plain-end-arg Inv-loop μ-loop → tie.Start Inv-loop μ-loop
+entry-of c = c .before .before .before .before .before .before
+
 letter : (c : tie.Else1 Inv-loop μ-loop)
     → PastAscii (drop (c .before .before .before .loop .i) (now (c .before .before .before .before .before .args .s))) (c .before .wide-at .result)
 letter c = is-past _ _ (omega arith) (c .before .wide-at .ensures)
@@ -28,8 +32,8 @@ fits c = omega (arith, past-fits _ _ (letter c), length-drop (c .before .before 
 
 loop-again : tie.Need-loop-again Inv-loop μ-loop
 loop-again c =
-    let f = c .before .before .before .before .before .before .before .before .args in
-    walk-plain (now (f .s)) (f .until) (f .from) (c .before .before .before .before .before .before .before .before .pre) (c .before .before .before .before .before .before .loop .i) (c .before .plain-end .result) (c .before .before .before .before .before .before .loop .inv) (c .before .plain-end .ensures)
+    let f = entry-of (c .before .before) .args in
+    walk-plain (now (f .s)) (f .until) (f .from) (entry-of (c .before .before) .pre) (c .before .before .before .before .before .before .loop .i) (c .before .plain-end .result) (c .before .before .before .before .before .before .loop .inv) (c .before .plain-end .ensures)
 
 pub chars-end-spec : {M : Type 1} → statement M
 chars-end-spec =
@@ -39,7 +43,7 @@ chars-end-spec =
     μ-loop
     (λ c. stays)
     (λ c κs. search needs)
-    (λ c. sym (length-take-le (c .before .before .before .before .before .before .args .until) (now (c .before .before .before .before .before .before .args .s)) (c .before .before .before .before .before .before .pre)))
+    (λ c. sym (length-take-le (entry-of c .args .until) (now (entry-of c .args .s)) (entry-of c .pre)))
     (λ c κs. search needs)
     (λ c. c .before .before .before .before .before .before .loop .inv)
     (λ c. omega arith)

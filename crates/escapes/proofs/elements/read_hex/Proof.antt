@@ -19,6 +19,10 @@ Inv-loop raw from closer k i₀ i = (from ≤ i) × ((i ≤ length raw) × (unes
 abbrev μ-loop : tie.MeasureT-loop
 μ-loop raw from closer k i₀ i = length raw - i
 
+-- where the call began, from after `stops-hex`
+abbrev entry-of : tie.After-stops-hex Inv-loop μ-loop → tie.Start Inv-loop μ-loop
+entry-of c = c .before .before .before .before .before .before
+
 loop-holds : tie.Need-loop-holds Inv-loop μ-loop
 loop-holds c = (
   le-refl _,
@@ -59,9 +63,11 @@ give-requires : tie.Need-give-requires Inv-loop μ-loop
 give-requires c κs = search needs
 
 returns-2 : tie.Need-returns-2 Inv-loop μ-loop
-returns-2 c = let l = c .before .before .before .before .before .before .loop in let a = c .before .before .before .before .before .before .before .before .args in
+returns-2 c =
+    let at-loop-test = c .before .before .before .before .before in
+    let l = at-loop-test .before .loop in let a = at-loop-test .before .before .before .args in
     rw (c .give .ensures) (same-text (a .k) (a .raw .now) (l .inv .1 .1)
-    (le-refl _) (hex-stops (a .k) (a .raw .now) (a .closer) (a .from) (l .i) (l .inv .0) (c .before .before .before .before .before .loop-test .taken)
+    (le-refl _) (hex-stops (a .k) (a .raw .now) (a .closer) (a .from) (l .i) (l .inv .0) (at-loop-test .loop-test .taken)
     (is-stop _ _ _ (c .before .before .before .if1 .left) (sym (c .before .before .stops-hex .ensures) ∙ c .before .if2 .taken))))
 
 delimiter-requires : tie.Need-delimiter-requires Inv-loop μ-loop
@@ -87,7 +93,7 @@ loop-less c = search needs
 
 loop-again : tie.Need-loop-again Inv-loop μ-loop
 loop-again c = let l = c .before .before .before .before .before .before .before .loop in
-    let a = c .before .before .before .before .before .before .before .before .before .args in (
+    let a = entry-of (c .before .before .before) .args in (
       omega arith,
       (
         omega arith,

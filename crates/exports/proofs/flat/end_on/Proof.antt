@@ -14,6 +14,34 @@ use Rattle.exports.proofs.Ended.{placed-last, ends-on}
 use Rattle.exports.proofs.flat.end_on.Statement.{statement}
 use Rattle.exports.proofs.flat.end_on.Tie as tie
 
+-- where the call began, from where `end-quickly` answered
+abbrev entry-of : tie.After-end-quickly → tie.Start
+entry-of c =
+    let lends = c .before .before .before in
+    lends .before .before .before .before .before
+
+-- where `end-quickly` answered: an item is given, all are, or it did not tell
+abbrev quickly-given : tie.After-depth → tie.After-end-quickly
+quickly-given c = c .before .before .before .before
+
+abbrev quickly-finished : tie.After-tell-finished → tie.After-end-quickly
+quickly-finished c = c .before .before .before .before .before .before .before
+
+abbrev quickly-not : tie.After-enum-told2 → tie.After-end-quickly
+quickly-not c = c .before .before .before .before
+
+-- where the item was told, from where the words came back
+abbrev item-told : tie.After-words → tie.After-depth
+item-told c = c .before .before .before .before .before .before
+
+-- where nothing was told, from where `end-plainly` answered
+abbrev nothing-told : tie.After-end-plainly → tie.After-enum-told2
+nothing-told c = c .before .before .before .before .before .before
+
+-- where `end-plainly` answered, from where the item's memory came back
+abbrev end-plainly-of : tie.After-item2 → tie.After-end-plainly
+end-plainly-of c = c .before .before .before .before .before .before .before
+
 end-quickly-requires : tie.Need-end-quickly-requires
 end-quickly-requires c κs = search needs
 
@@ -52,11 +80,11 @@ same-length-5 c = search needs
 
 returns : tie.Need-returns
 returns c =
-    let there = c .before .before .before .before .before .before .before .before .before .before .before in
-    let entry = there .before .before .before .before .before .before .before .before .before .before .before .before in
+    let there = item-told (c .before .before .before .before .before) in
+    let entry = entry-of (quickly-given there) in
     let a = entry .args in
     let m = memory (now (a .buf)) (now (a .words)) (now (a .text)) (now (a .item)) (now (a .values)) in
-    let ended = there .before .before .before .before .end-quickly in
+    let ended = quickly-given there .end-quickly in
     let then = ended .last .1 .1 .0 in
     let depth = there .depth .given .0 .0 in
     let given = there .depth .given .0 .1 .0 in
@@ -79,14 +107,15 @@ same-length-9 c = search needs
 
 returns-2 : tie.Need-returns-2
 returns-2 c =
-    let ended = c .before .before .before .before .before .before .before .before .before .before .before .end-quickly in
-    let entry = c .before .before .before .before .before .before .before .before .before .before .before .before .before .before .before .before .before .before .before in
+    let told = c .before .before .before .before in
+    let ended = quickly-finished told .end-quickly in
+    let entry = entry-of (quickly-finished told) in
     let a = entry .args in
     let m = memory (now (a .buf)) (now (a .words)) (now (a .text)) (now (a .item)) (now (a .values)) in
     let then = ended .last .1 .1 .0 in
-    let h = subst (λ (q : Last). Ends (a .state) (now (a .buf)) (now (a .text)) then q) (c .before .before .before .before .before .before .before .enum-told .given .1) (ended .ensures) in
+    let h = subst (λ (q : Last). Ends (a .state) (now (a .buf)) (now (a .text)) then q) (told .before .before .before .enum-told .given .1) (ended .ensures) in
     told-by m _ (toldLast (withEnd (a .state) 1) got.Finished) (h .0) (h .1)
-    (c .before .before .before .before .tell-finished .ensures (now (a .item)) (now (a .buf)) then (now (a .text))
+    (told .tell-finished .ensures (now (a .item)) (now (a .buf)) then (now (a .text))
     ∙ ap (λ (v : Words). gives m (said (toldLast (withEnd v 1) got.Finished) (now (a .buf)) then)) (sym (entry .pre .2)))
 
 same-length-10 : tie.Need-same-length-10
@@ -106,12 +135,14 @@ same-length-14 c = search needs
 
 returns-3 : tie.Need-returns-3
 returns-3 c =
-    let ended = c .before .before .before .before .before .before .before .before .before .before .before .before .before .before .before .before .before .before .before .before .end-quickly in
-    let entry = c .before .before .before .before .before .before .before .before .before .before .before .before .before .before .before .before .before .before .before .before .before .before .before .before .before .before .before .before in
+    let answered = end-plainly-of (c .before .before .before) in
+    let there = nothing-told answered in
+    let ended = quickly-not there .end-quickly in
+    let entry = entry-of (quickly-not there) in
     let a = entry .args in
     let then = ended .last .1 .1 .0 in
-    let h = subst (λ (q : Last). Ends (a .state) (now (a .buf)) (now (a .text)) then q) (c .before .before .before .before .before .before .before .before .before .before .before .before .before .before .before .before .enum-told2 .given .1) (ended .ensures) in
-    ends-on (memory (now (a .buf)) (now (a .words)) (now (a .text)) (now (a .item)) (now (a .values))) (a .state) then (entry .pre .2) h (c .before .before .before .before .before .before .before .before .before .before .end-plainly .ensures)
+    let h = subst (λ (q : Last). Ends (a .state) (now (a .buf)) (now (a .text)) then q) (there .enum-told2 .given .1) (ended .ensures) in
+    ends-on (memory (now (a .buf)) (now (a .words)) (now (a .text)) (now (a .item)) (now (a .values))) (a .state) then (entry .pre .2) h (answered .end-plainly .ensures)
 
 pub end-on-spec : {M : Type 1} → statement M
 end-on-spec =

@@ -13,6 +13,30 @@ use Rattle.laws.proofs.Choice.{no-yes}
 use Rattle.exports.proofs.flat.piece.Statement.{statement}
 use Rattle.exports.proofs.flat.piece.Tie as tie
 
+-- where the call began, from after `is-room`
+abbrev entry-of : tie.After-is-room → tie.Start
+entry-of c = c .before .before .before .before .before .before .before
+
+-- after `is-room`, from after `words-in`
+abbrev is-room-of : tie.After-words-in → tie.After-is-room
+is-room-of c = c .before .before .before .before .before
+
+-- after `words-in`, from after `read-on-arg5`
+abbrev words-in-of : tie.After-read-on-arg5 → tie.After-words-in
+words-in-of c = c .before .before .before .before .before .before .before
+
+-- after `words-in`, from after `read-plainly-arg5`
+abbrev words-in-of-2 : tie.After-read-plainly-arg5 → tie.After-words-in
+words-in-of-2 c = c .before .before .before .before .before .before .before
+
+-- where `read-plainly` answered, from where the item's memory came back
+abbrev read-plainly-of : tie.After-item2 → tie.After-read-plainly
+read-plainly-of c = c .before .before .before .before .before .before .before
+
+-- where `read-on` answered, from where the item's memory came back
+abbrev read-on-of : tie.After-item → tie.After-read-on
+read-on-of c = c .before .before .before .before .before .before .before
+
 is-room-requires : tie.Need-is-room-requires
 is-room-requires c κs = search needs
 
@@ -38,18 +62,19 @@ returns-2 : tie.Need-returns-2
 returns-2 c = no-state _ _ (sym (c .before .before .before .before .before .before .before .is-room .ensures) ∙ not-false _ (c .before .before .before .before .before .before .if1 .left)) (sym (c .before .before .before .before .before .is-state .ensures) ∙ not-true _ (c .before .before .before .before .if2 .taken)) (c .before .before .put-values2 .ensures)
 
 words-in-requires : tie.Need-words-in-requires
-words-in-requires c κs = state-words (length (now (c .before .before .before .before .before .before .before .before .before .before .before .args .buf))) _ (sym (c .before .before .is-state .ensures) ∙ not-false _ (c .before .if2 .left))
+words-in-requires c κs = state-words (length (now (entry-of (c .before .before .before .before) .args .buf))) _ (sym (c .before .before .is-state .ensures) ∙ not-false _ (c .before .if2 .left))
 
 is-served-requires : tie.Need-is-served-requires
 is-served-requires c κs = search needs
 
 read-on-requires : tie.Need-read-on-requires
 read-on-requires c κs =
-    let a = c .before .before .before .before .before .before .before .before .before .before .before .before .before .before .before .before .before .before .before in
+    let words = words-in-of c in
+    let a = entry-of (is-room-of words) in
     let h = c .before .before .before .before .before .before .is-served .ensures (c .before .before .before .before .before .if3 .taken) in (
-      state-words (length (now (a .args .buf))) _ (sym (c .before .before .before .before .before .before .before .before .before .before .is-state .ensures) ∙ not-false _ (c .before .before .before .before .before .before .before .before .before .if2 .left)),
-      room-record _ (length (now (a .args .values))) (sym (c .before .before .before .before .before .before .before .before .before .before .before .before .is-room .ensures) ∙ not-false _ (c .before .before .before .before .before .before .before .before .before .before .before .if1 .left)),
-      c .before .before .before .before .before .before .before .words-in .ensures,
+      state-words (length (now (a .args .buf))) _ (sym (words .before .before .before .is-state .ensures) ∙ not-false _ (words .before .before .if2 .left)),
+      room-record _ (length (now (a .args .values))) (sym (is-room-of words .is-room .ensures) ∙ not-false _ (words .before .before .before .before .if1 .left)),
+      words .words-in .ensures,
       h .0,
       h .1,
       h .2,
@@ -72,14 +97,17 @@ same-length-7 c = search needs
 
 returns-3 : tie.Need-returns-3
 returns-3 c =
-    served _ _ (sym (c .before .before .before .before .before .before .before .before .before .before .before .before .before .before .before .before .before .before .before .before .before .before .before .is-room .ensures) ∙ not-false _ (c .before .before .before .before .before .before .before .before .before .before .before .before .before .before .before .before .before .before .before .before .before .before .if1 .left)) (sym (c .before .before .before .before .before .before .before .before .before .before .before .before .before .before .before .before .before .before .before .before .before .is-state .ensures) ∙ not-false _ (c .before .before .before .before .before .before .before .before .before .before .before .before .before .before .before .before .before .before .before .before .if2 .left))
-    (c .before .before .before .before .before .before .before .before .before .before .before .before .before .before .before .before .before .before .words-in .ensures) (c .before .before .before .before .before .before .before .before .before .before .read-on .ensures)
+    let answered = read-on-of (c .before .before .before) in
+    let words = words-in-of (answered .before) in
+    served _ _ (sym (is-room-of words .is-room .ensures) ∙ not-false _ (words .before .before .before .before .if1 .left)) (sym (words .before .before .before .is-state .ensures) ∙ not-false _ (words .before .before .if2 .left))
+    (words .words-in .ensures) (answered .read-on .ensures)
 
 read-plainly-requires : tie.Need-read-plainly-requires
 read-plainly-requires c κs =
-    let a = c .before .before .before .before .before .before .before .before .before .before .before .before .before .before .before .before .before .before .before in (
-      state-words (length (now (a .args .buf))) _ (sym (c .before .before .before .before .before .before .before .before .before .before .is-state .ensures) ∙ not-false _ (c .before .before .before .before .before .before .before .before .before .if2 .left)),
-      room-record _ (length (now (a .args .values))) (sym (c .before .before .before .before .before .before .before .before .before .before .before .before .is-room .ensures) ∙ not-false _ (c .before .before .before .before .before .before .before .before .before .before .before .if1 .left)),
+    let words = words-in-of-2 c in
+    let a = entry-of (is-room-of words) in (
+      state-words (length (now (a .args .buf))) _ (sym (words .before .before .before .is-state .ensures) ∙ not-false _ (words .before .before .if2 .left)),
+      room-record _ (length (now (a .args .values))) (sym (is-room-of words .is-room .ensures) ∙ not-false _ (words .before .before .before .before .if1 .left)),
       omega arith,
       no-yes,
     )
@@ -101,9 +129,11 @@ same-length-12 c = search needs
 
 returns-4 : tie.Need-returns-4
 returns-4 c =
-    let a = c .before .before .before .before .before .before .before .before .before .before .before .before .before .before .before .before .before .before .before .before .before .before .before .before .before .before .before .before .before .before .args in
-    served _ _ (sym (c .before .before .before .before .before .before .before .before .before .before .before .before .before .before .before .before .before .before .before .before .before .before .before .is-room .ensures) ∙ not-false _ (c .before .before .before .before .before .before .before .before .before .before .before .before .before .before .before .before .before .before .before .before .before .before .if1 .left)) (sym (c .before .before .before .before .before .before .before .before .before .before .before .before .before .before .before .before .before .before .before .before .before .is-state .ensures) ∙ not-false _ (c .before .before .before .before .before .before .before .before .before .before .before .before .before .before .before .before .before .before .before .before .if2 .left)) refl
-    (c .before .before .before .before .before .before .before .before .before .before .read-plainly .ensures ∙ ap (gives (memory (now (a .buf)) (now (a .words)) (now (a .text)) (now (a .item)) (now (a .values)))) (later-none (pieceFor (lent (wordsIn (now (a .words))) (now (a .buf))) (now (a .piece)) (length (now (a .text))))))
+    let answered = read-plainly-of (c .before .before .before) in
+    let words = words-in-of-2 (answered .before) in
+    let a = entry-of (is-room-of words) .args in
+    served _ _ (sym (is-room-of words .is-room .ensures) ∙ not-false _ (words .before .before .before .before .if1 .left)) (sym (words .before .before .before .is-state .ensures) ∙ not-false _ (words .before .before .if2 .left)) refl
+    (answered .read-plainly .ensures ∙ ap (gives (memory (now (a .buf)) (now (a .words)) (now (a .text)) (now (a .item)) (now (a .values)))) (later-none (pieceFor (lent (wordsIn (now (a .words))) (now (a .buf))) (now (a .piece)) (length (now (a .text))))))
 
 pub piece-spec : {M : Type 1} → statement M
 piece-spec =

@@ -8,9 +8,13 @@ use Rattle.exports.specs.Piece.{recordAfter}
 use Rattle.exports.proofs.flat.put_item.Statement.{statement}
 use Rattle.exports.proofs.flat.put_item.Tie as tie
 
+-- where the call began, from after `item`
+abbrev entry-of : tie.After-item → tie.Start
+entry-of c = c .before .before .before .before .before .before .before
+
 returns : tie.Need-returns
 returns c = λ text. c .before .before .put .ensures
-    ∙ ap (λ (g : Got). recordAfter (whatOf g text) (now (c .before .before .before .before .before .before .before .before .args .item)))
+    ∙ ap (λ (g : Got). recordAfter (whatOf g text) (now (entry-of (c .before) .args .item)))
     (sym (c .before .before .before .before .before .got .given .1))
 
 returns-2 : tie.Need-returns-2

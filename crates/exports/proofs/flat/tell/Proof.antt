@@ -4,10 +4,14 @@ use Rattle.exports.proofs.Left.{left-is, values-are}
 use Rattle.exports.proofs.flat.tell.Statement.{statement}
 use Rattle.exports.proofs.flat.tell.Tie as tie
 
+-- after `words`, from after `place`
+abbrev words-of : tie.After-place → tie.After-words
+words-of c = c .before .before .before .before .before .before .before
+
 returns : tie.Need-returns
 returns c =
     let placed = c .before .before .before .before in
-    λ buf text old. left-is (c .number .ensures text) (placed .before .before .before .before .before .before .before .before .put-words .ensures)
+    λ buf text old. left-is (c .number .ensures text) (words-of placed .before .put-words .ensures)
     (placed .before .before .before .before .put-item .ensures text)
     (values-are _ _ (c .before .before .before .put-values .ensures) (placed .place .ensures text))
 

@@ -7,6 +7,10 @@ use Rattle.exports.proofs.Ended.{ends-so}
 use Rattle.exports.proofs.quick.tell_finished.Statement.{statement}
 use Rattle.exports.proofs.quick.tell_finished.Tie as tie
 
+-- where the call began, from after `words`
+abbrev entry-of : tie.After-words → tie.Start
+entry-of c = c .before .before .before .before .before
+
 put-end-requires : tie.Need-put-end-requires
 put-end-requires c κs = search needs
 
@@ -21,7 +25,7 @@ same-length-2 c = search needs
 
 returns : tie.Need-returns
 returns c =
-    let a = c .before .before .before .before .before .before .before .before .before .before in
+    let a = entry-of (c .before .before .before .before .before) in
     λ i. ends-so _ Finished (now (a .args .words)) _ i i (now (a .args .values)) _ _ (c .before .before .before .before .before .before .put-end .ensures) (λ text. (refl, c .before .before .put-values .ensures, refl))
 
 pub tell-finished-spec : {M : Type 1} → statement M

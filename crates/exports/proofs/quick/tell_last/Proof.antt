@@ -7,6 +7,14 @@ use Rattle.exports.proofs.Ended.{ends-so}
 use Rattle.exports.proofs.quick.tell_last.Statement.{statement}
 use Rattle.exports.proofs.quick.tell_last.Tie as tie
 
+-- where the call began, from after `slice-known4`
+abbrev entry-of : tie.After-slice-known4 → tie.Start
+entry-of c = c .before .before .before .before .before .before .before
+
+-- after `slice-known4`, from after `values`
+abbrev slice-known4-of : tie.After-values → tie.After-slice-known4
+slice-known4-of c = c .before .before .before .before .before .before .before
+
 put-last-requires : tie.Need-put-last-requires
 put-last-requires c κs = search needs
 
@@ -27,8 +35,8 @@ same-length-3 c = search needs
 
 returns : tie.Need-returns
 returns c =
-    let a = c .before .before .before .before .before .before .before .before .before .before .before .before .before .before .before in
-    ends-so _ (Item (a .args .given)) (now (a .args .words)) _ (now (a .args .item)) _ (now (a .args .values)) _ _ (c .before .before .before .before .before .before .before .before .before .before .put-last .ensures) (λ text. (c .before .before .before .before .before .before .put .ensures, c .before .before .put-values .ensures, refl))
+    let a = entry-of (slice-known4-of (c .before)) in
+    ends-so _ (Item (a .args .given)) (now (a .args .words)) _ (now (a .args .item)) _ (now (a .args .values)) _ _ (slice-known4-of (c .before) .before .before .put-last .ensures) (λ text. (c .before .before .before .before .before .before .put .ensures, c .before .before .put-values .ensures, refl))
 
 pub tell-last-spec : {M : Type 1} → statement M
 tell-last-spec =

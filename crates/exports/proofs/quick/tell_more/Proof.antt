@@ -7,6 +7,10 @@ use Rattle.exports.proofs.Spotted.{tells-so}
 use Rattle.exports.proofs.quick.tell_more.Statement.{statement}
 use Rattle.exports.proofs.quick.tell_more.Tie as tie
 
+-- where the call began, from after `words`
+abbrev entry-of : tie.After-words → tie.Start
+entry-of c = c .before .before .before .before .before
+
 put-spot-requires : tie.Need-put-spot-requires
 put-spot-requires c κs = search needs
 
@@ -21,7 +25,7 @@ same-length-2 c = search needs
 
 returns : tie.Need-returns
 returns c =
-    let a = c .before .before .before .before .before .before .before .before .before .before in
+    let a = entry-of (c .before .before .before .before .before) in
     λ i. tells-so (a .args .s) (a .args .depth) More (now (a .args .words)) _ i i (now (a .args .values)) _ _ (c .before .before .before .before .before .before .put-spot .ensures) (λ text. (refl, c .before .before .put-values .ensures, refl))
 
 pub tell-more-spec : {M : Type 1} → statement M

@@ -28,8 +28,9 @@ same-length c = search needs
 returns : tie.Need-returns
 unfolding errorsIn laidFrom
 returns c =
-    let t = c .before .before .before .before .before .before .before .before .before .t in
-    let lay-one = c .before .before .before .before .before .before .lay-one in
+    let at-findings = c .before .before .before .before .before in
+    let t = at-findings .before .before .before .before .t in
+    let lay-one = at-findings .before .lay-one in
     rw (t .given .1) (rw (eq-eqb _ _ (c .before .before .if1 .taken), lay-one .ensures))
 
 add-t12 : tie.Need-add-t12
@@ -45,8 +46,9 @@ same-length-2 c = search needs
 returns-3 : tie.Need-returns-3
 unfolding errorsIn laidFrom
 returns-3 c =
-    let t = c .before .before .before .before .before .before .before .before .t in
-    let lay-one = c .before .before .before .before .before .lay-one in
+    let at-lay-one = c .before .before .before .before .before in
+    let t = at-lay-one .before .before .before .t in
+    let lay-one = at-lay-one .lay-one in
     rw (t .given .1) (rw (ne-eqb _ _ (c .before .if1 .left), lay-one .ensures, add-zero))
 
 pub lay-spec : {M : Type 1} → statement M

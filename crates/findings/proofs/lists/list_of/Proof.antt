@@ -7,6 +7,10 @@ use mathlib.Core.Path.{sym, ap, _∙_}
 use denote.Ref.{now}
 use Rattle.nested.specs.Lent.{Outcome}
 
+-- where the call began, from after `none2`
+abbrev entry-of : tie.After-none2 → tie.Start
+entry-of c = c .before .before .before .before .before
+
 array-borrow-prefix-none : tie.Need-array-borrow-prefix-none
 array-borrow-prefix-none c = search needs
 
@@ -28,7 +32,7 @@ refused-list-requires c κs = search needs
 returns : tie.Need-returns
 unfolding listOf
 returns c =
-    let args = c .before .before .before .before .before .before .before .before .args in
+    let args = entry-of (c .before .before .before) .args in
     let build = c .before .before .before .before .build in
     let told = nestedTold (now (args .source)) (now (args .rows)) in
     sym (ap told (ap (λ (o : Outcome). o .answer) (sym (build .ensures)) ∙ c .before .built .given .1))
@@ -36,7 +40,7 @@ returns c =
 returns-2 : tie.Need-returns-2
 unfolding listOf
 returns-2 c =
-    let args = c .before .before .before .before .before .before .before .before .before .args in
+    let args = entry-of (c .before .before .before .before) .args in
     let build = c .before .before .before .before .before .build in
     let told = nestedTold (now (args .source)) (now (args .rows)) in
     c .refused-list .ensures ∙ sym (ap told (ap (λ (o : Outcome). o .answer) (sym (build .ensures)) ∙ c .before .before .built2 .given .1))

@@ -44,9 +44,11 @@ stands-out-requires c κs = search needs
 returns-4 : tie.Need-returns-4
 unfolding misfitBy
 returns-4 c =
-    let args = c .before .before .before .before .before .before .before .before .before .before .before .before .before .before .before .args in
-    let if1 = c .before .before .before .before .before .before .before .before .before .before .if1 in
-    let kept-at = c .before .before .before .before .kept-at in
+    let at-kept-at = c .before .before .before .before in
+    let at-if1 = at-kept-at .before .before .before .before .before .before in
+    let args = at-if1 .before .before .before .before .before .args in
+    let if1 = at-if1 .if1 in
+    let kept-at = at-kept-at .kept-at in
     simp (eq-eqb _ _ (if1 .left), within-in 1 64 (args .row .depth) (omega arith) (omega arith), sym (kept-at .ensures), sym (c .before .before .kept-at2 .ensures)) (c .stands-out .ensures)
 
 pub is-misfit-spec : {M : Type 1} → statement M

@@ -8,6 +8,18 @@ use denote.Ref.{now}
 use Rattle.lexer_fields.proofs.Parts.{first-bad-ahead}
 use Rattle.findings.proofs.Calls.{call-long, call-bad, call-good}
 
+-- where the call began, from after `first-bad`
+abbrev entry-of : tie.After-first-bad → tie.Start
+entry-of c = c .before .before .before .before .before
+
+-- where the call began, from after `alone`
+abbrev entry-of-2 : tie.After-alone → tie.Start
+entry-of-2 c = c .before .before .before .before .before .before .before
+
+-- after `first-bad`, from after `rows`
+abbrev first-bad-of : tie.After-rows → tie.After-first-bad
+first-bad-of c = c .before .before .before .before .before .before
+
 alone-requires : tie.Need-alone-requires
 alone-requires c κs = search needs
 
@@ -19,7 +31,7 @@ same-length-2 c = search needs
 
 returns : tie.Need-returns
 returns c =
-    let args = c .before .before .before .before .before .before .before .before .before .args in
+    let args = entry-of-2 (c .before .before) .args in
     let if1 = c .before .before .before .before .before .if1 in
     c .before .before .alone .ensures ∙ call-long (now (args .source)) (now (args .rows)) (now (args .findings)) (if1 .taken)
 
@@ -37,7 +49,7 @@ enum-known-b c = search needs
 
 not-utf8-requires : tie.Need-not-utf8-requires
 not-utf8-requires c κs =
-    let args = c .before .before .before .before .before .before .before .before .before .before .args in
+    let args = entry-of (c .before .before .before .before .before) .args in
     let if1 = c .before .before .before .before .before .before .if1 in
     let first-bad = c .before .before .before .before .before .first-bad in
     let b = c .before .before .before .b in
@@ -55,9 +67,9 @@ same-length-4 c = search needs
 
 returns-2 : tie.Need-returns-2
 returns-2 c =
-    let args = c .before .before .before .before .before .before .before .before .before .before .before .before .before .before .args in
-    let if1 = c .before .before .before .before .before .before .before .before .before .before .if1 in
-    let first-bad = c .before .before .before .before .before .before .before .before .before .first-bad in
+    let args = entry-of (first-bad-of (c .before .before .before)) .args in
+    let if1 = first-bad-of (c .before .before .before) .before .if1 in
+    let first-bad = first-bad-of (c .before .before .before) .first-bad in
     let enum-told = c .before .before .before .before .before .before .before .enum-told in
     let find-good = c .before .before .before .before .find-good in
     find-good .ensures
@@ -71,11 +83,13 @@ same-length-6 c = search needs
 
 returns-3 : tie.Need-returns-3
 returns-3 c =
-    let args = c .before .before .before .before .before .before .before .before .before .before .before .before .before .before .args in
-    let if1 = c .before .before .before .before .before .before .before .before .before .before .if1 in
-    let first-bad = c .before .before .before .before .before .before .before .before .before .first-bad in
+    let at-not-utf8 = c .before .before .before in
+    let at-first-bad = at-not-utf8 .before .before .before .before .before .before in
+    let args = at-first-bad .before .before .before .before .before .args in
+    let if1 = at-first-bad .before .if1 in
+    let first-bad = at-first-bad .first-bad in
     let b = c .before .before .before .before .before .before .before .b in
-    let not-utf8 = c .before .before .before .not-utf8 in
+    let not-utf8 = at-not-utf8 .not-utf8 in
     let b = b .given in
     c .before .before .alone2 .ensures
     ∙ rw (not-utf8 .ensures)

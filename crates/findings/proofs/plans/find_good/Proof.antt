@@ -8,6 +8,14 @@ use Rattle.findings_rows.specs.Rows.{rowsOf}
 use Rattle.findings.specs.Told.{toldOf}
 use Rattle.findings.proofs.Calls.{too-few, part-length, all-found}
 
+-- where the call began, from after `rows2`
+abbrev entry-of : tie.After-rows2 → tie.Start
+entry-of c = c .before .before .before .before .before .before
+
+-- after `rows2`, from after `slice-known4`
+abbrev rows2-of : tie.After-slice-known4 → tie.After-rows2
+rows2-of c = c .before .before .before .before .before .before .before
+
 rows-requires : tie.Need-rows-requires
 rows-requires c κs = search needs
 
@@ -16,7 +24,7 @@ same-length c = search needs
 
 returns : tie.Need-returns
 returns c =
-    let args = c .before .before .before .before .before .before .before .before .args in
+    let args = entry-of (c .before .before) .args in
     let rows = c .before .before .before .rows in
     let a = args in
     let source = now (a .source) in
@@ -30,7 +38,7 @@ slice-reshare-prefix-tell c = search needs
 
 slice-aggregate-tell : tie.Need-slice-aggregate-tell
 slice-aggregate-tell c =
-    let args = c .before .before .before .before .before .before .before .before .before .args in
+    let args = entry-of (c .before .before .before) .args in
     let rows = c .before .before .before .before .rows in
     part-length (now (args .source)) (now (args .rows)) (rows .ensures) (c .before .if1 .left)
 
@@ -45,8 +53,8 @@ same-length-3 c = search needs
 
 returns-2 : tie.Need-returns-2
 returns-2 c =
-    let args = c .before .before .before .before .before .before .before .before .before .before .before .before .before .args in
-    let rows = c .before .before .before .before .before .before .before .before .rows in
+    let args = entry-of (rows2-of c) .args in
+    let rows = rows2-of c .before .rows in
     let if1 = c .before .before .before .before .before .if1 in
     all-found (now (args .source)) (now (args .rows)) (rows .ensures) (if1 .left) (now (args .findings)) (c .before .before .tell .ensures)
 

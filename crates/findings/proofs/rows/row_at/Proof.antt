@@ -80,7 +80,8 @@ shared-slice-read-t37 c = search needs
 returns : tie.Need-returns
 unfolding rowAt
 returns c =
-    let if1 = c .before .before .before .before .before .before .before .before .if1 in
+    let at-shared-slice-known3 = c .before .before .before .before .before in
+    let if1 = at-shared-slice-known3 .before .before .before .if1 in
     simp (lt-ltb _ _ (if1 .taken))
 
 returns-2 : tie.Need-returns-2

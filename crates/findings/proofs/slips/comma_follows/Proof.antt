@@ -36,9 +36,10 @@ row-at-requires-3 c κs = search needs
 returns-3 : tie.Need-returns-3
 unfolding commaFollows
 returns-3 c =
-    let row-at = c .before .before .before .before .before .before .before .before .before .before .row-at in
-    let if1 = c .before .before .before .before .before .before .before .before .if1 in
-    let row-at2 = c .before .before .before .before .before .before .before .row-at2 in
+    let at-row-at2 = c .before .before .before .before .before .before .before in
+    let row-at = at-row-at2 .before .before .before .row-at in
+    let if1 = at-row-at2 .before .if1 in
+    let row-at2 = at-row-at2 .row-at2 in
     let if2 = c .before .before .before .before .if2 in
     let row-at3 = c .before .before .before .row-at3 in
     rw (← (row-at .ensures), ← (row-at2 .ensures), ← (row-at3 .ensures))
@@ -56,11 +57,13 @@ is-digit-requires c κs = search needs
 returns-4 : tie.Need-returns-4
 unfolding commaFollows
 returns-4 c =
-    let row-at = c .before .before .before .before .before .before .before .before .before .before .before .before .before .row-at in
-    let if1 = c .before .before .before .before .before .before .before .before .before .before .before .if1 in
-    let row-at2 = c .before .before .before .before .before .before .before .before .before .before .row-at2 in
-    let if2 = c .before .before .before .before .before .before .before .if2 in
-    let row-at3 = c .before .before .before .before .before .before .row-at3 in
+    let at-row-at3 = c .before .before .before .before .before .before in
+    let at-row-at2 = at-row-at3 .before .before .before .before in
+    let row-at = at-row-at2 .before .before .before .row-at in
+    let if1 = at-row-at2 .before .if1 in
+    let row-at2 = at-row-at2 .row-at2 in
+    let if2 = at-row-at3 .before .if2 in
+    let row-at3 = at-row-at3 .row-at3 in
     let if3 = c .before .before .before .if3 in
     rw (← (row-at .ensures), ← (row-at2 .ensures), ← (row-at3 .ensures))
     (rw (eq-eqb _ _ (if1 .left), eq-eqb _ _ (if2 .left), eq-eqb _ _ (if3 .left)) (c .is-digit .ensures ∙ ap isDigit (c .before .byte-at .ensures)))

@@ -21,6 +21,18 @@ Inv-loop part a i₀ i = (i ≤ length part) × (oddFrom part a i ≡ firstOdd (
 abbrev μ-loop : tie.MeasureT-loop
 μ-loop part a i₀ i = length part - i
 
+-- where the call began, from where a turn of the loop began
+abbrev entry-of : tie.At-loop Inv-loop μ-loop → tie.Start Inv-loop μ-loop
+entry-of c = c .before .before
+
+-- where a turn of the loop began, from after `decode-at`
+abbrev turn-of : tie.After-decode-at Inv-loop μ-loop → tie.At-loop Inv-loop μ-loop
+turn-of c = c .before .before .before .before .before
+
+-- after `decode-at`, from where `if2` failed
+abbrev decode-at-of : tie.Else2 Inv-loop μ-loop → tie.After-decode-at Inv-loop μ-loop
+decode-at-of c = c .before .before .before .before .before
+
 loop-holds : tie.Need-loop-holds Inv-loop μ-loop
 loop-holds c = (omega arith, ap (λ (n : ℕ). firstOdd (sequences 0 n (now (c .before .args .part)))) (add-zero (c .before .args .a)))
 
@@ -38,7 +50,7 @@ loop-less c = omega arith
 
 loop-again : tie.Need-loop-again Inv-loop μ-loop
 loop-again c =
-    let args = c .before .before .before .before .before .before .args in
+    let args = entry-of (c .before .before .before .before) .args in
     let loop = c .before .before .before .before .loop in
     let loop-test = c .before .before .before .loop-test in
     let s = now (args .part) in
@@ -61,16 +73,16 @@ cast-warn c = omega arith
 
 add-warn-2 : tie.Need-add-warn-2 Inv-loop μ-loop
 add-warn-2 c =
-    let args = c .before .before .before .before .before .before .before .before .before .before .before .before .args in
-    let loop = c .before .before .before .before .before .before .before .before .before .before .loop in
+    let args = turn-of (c .before .before .before .before .before) .before .before .args in
+    let loop = turn-of (c .before .before .before .before .before) .loop in
     let decode-at = c .before .before .before .before .before .decode-at in
     let code = c .before .before .before .code in
     let v = code .given in omega (arith, char-at (now (args .part)) (loop .i) (v .0 .0) (v .0 .1 .0) (sym (v .1) ∙ decode-at .ensures) (loop .inv .0) .inside)
 
 cast-warn-2 : tie.Need-cast-warn-2 Inv-loop μ-loop
 cast-warn-2 c =
-    let args = c .before .before .before .before .before .before .before .before .before .before .before .before .args in
-    let loop = c .before .before .before .before .before .before .before .before .before .before .loop in
+    let args = turn-of (c .before .before .before .before .before) .before .before .args in
+    let loop = turn-of (c .before .before .before .before .before) .loop in
     let decode-at = c .before .before .before .before .before .decode-at in
     let code = c .before .before .before .code in
     let v = code .given in omega (arith, char-at (now (args .part)) (loop .i) (v .0 .0) (v .0 .1 .0) (sym (v .1) ∙ decode-at .ensures) (loop .inv .0) .inside)
@@ -80,25 +92,28 @@ warn-requires c κs = tt
 
 returns : tie.Need-returns Inv-loop μ-loop
 returns c =
-    let args = c .before .before .before .before .before .before .before .before .before .before .before .before .before .args in
-    let loop = c .before .before .before .before .before .before .before .before .before .before .before .loop in
-    let decode-at = c .before .before .before .before .before .before .decode-at in
+    let at-match = c .before .before .before .before .before in
+    let turn-2 = at-match .before .before .before .before .before .before in
+    let args = turn-2 .before .before .args in
+    let loop = turn-2 .loop in
+    let decode-at = at-match .before .decode-at in
     let code = c .before .before .before .before .code in
     let turn = odd-turn (now (args .part)) (args .a) (loop .i) (sym (code .given .1) ∙ decode-at .ensures) in
     c .warn .ensures ∙ sym (turn ∙ rw (← (c .before .before .odd-code .ensures)) (rw (ne-eqb _ _ (c .before .if2 .taken)))) ∙ loop .inv .1
 
 loop-less-2 : tie.Need-loop-less-2 Inv-loop μ-loop
 loop-less-2 c =
-    let args = c .before .before .before .before .before .before .before .before .before .before .before .before .args in
-    let loop = c .before .before .before .before .before .before .before .before .before .before .loop in
-    let decode-at = c .before .before .before .before .before .decode-at in
+    let args = turn-of (decode-at-of c) .before .before .args in
+    let loop = turn-of (decode-at-of c) .loop in
+    let decode-at = decode-at-of c .decode-at in
     let code = c .before .before .before .code in
     let v = code .given in omega (arith, further (now (args .part)) (loop .i) (v .0 .0) (v .0 .1 .0) (sym (v .1) ∙ decode-at .ensures))
 
 loop-again-2 : tie.Need-loop-again-2 Inv-loop μ-loop
 loop-again-2 c =
-    let args = c .before .before .before .before .before .before .before .before .before .before .before .before .args in
-    let loop = c .before .before .before .before .before .before .before .before .before .before .loop in
+    let at-is-plain = c .before .before .before .before .before .before .before in
+    let args = at-is-plain .before .before .before .before .before .args in
+    let loop = at-is-plain .before .before .before .loop in
     let decode-at = c .before .before .before .before .before .decode-at in
     let code = c .before .before .before .code in
     let v = code .given in
@@ -112,7 +127,7 @@ enum-told c = search needs
 
 returns-2 : tie.Need-returns-2 Inv-loop μ-loop
 returns-2 c =
-    let loop = c .before .before .before .before .before .before .before .loop in
+    let loop = turn-of (c .before .before) .loop in
     sym (odd-turn _ _ _ (sym (c .enum-told .given .1) ∙ c .before .before .decode-at .ensures)) ∙ loop .inv .1
 
 enum-told-2 : tie.Need-enum-told-2 Inv-loop μ-loop
@@ -120,7 +135,7 @@ enum-told-2 c = search needs
 
 returns-3 : tie.Need-returns-3 Inv-loop μ-loop
 returns-3 c =
-    let loop = c .before .before .before .before .before .before .before .loop in
+    let loop = turn-of (c .before .before) .loop in
     sym (odd-turn _ _ _ (sym (c .enum-told2 .given .1) ∙ c .before .before .decode-at .ensures)) ∙ loop .inv .1
 
 enum-told-3 : tie.Need-enum-told-3 Inv-loop μ-loop
@@ -128,7 +143,7 @@ enum-told-3 c = search needs
 
 returns-4 : tie.Need-returns-4 Inv-loop μ-loop
 returns-4 c =
-    let loop = c .before .before .before .before .before .before .before .loop in
+    let loop = turn-of (c .before .before) .loop in
     sym (odd-turn _ _ _ (sym (c .enum-told3 .given .1) ∙ c .before .before .decode-at .ensures)) ∙ loop .inv .1
 
 returns-5 : tie.Need-returns-5 Inv-loop μ-loop

@@ -52,9 +52,10 @@ is-within-requires-3 c κs = search needs
 returns-6 : tie.Need-returns-6
 unfolding isInvisible
 returns-6 c =
-    let is-within = c .before .before .before .before .before .before .before .before .is-within in
-    let if1 = c .before .before .before .before .before .before .before .if1 in
-    let is-within2 = c .before .before .before .before .before .before .is-within2 in
+    let at-is-within2 = c .before .before .before .before .before .before in
+    let is-within = at-is-within2 .before .before .is-within in
+    let if1 = at-is-within2 .before .if1 in
+    let is-within2 = at-is-within2 .is-within2 in
     let if2 = c .before .before .before .before .before .if2 in
     let if3 = c .before .before .before .before .if3 in
     let if4 = c .before .before .before .if4 in
@@ -66,10 +67,11 @@ is-within-requires-4 c κs = search needs
 returns-7 : tie.Need-returns-7
 unfolding isInvisible
 returns-7 c =
-    let is-within = c .before .before .before .before .before .before .before .before .before .before .is-within in
-    let if1 = c .before .before .before .before .before .before .before .before .before .if1 in
-    let is-within2 = c .before .before .before .before .before .before .before .before .is-within2 in
-    let if2 = c .before .before .before .before .before .before .before .if2 in
+    let at-if2 = c .before .before .before .before .before .before .before in
+    let is-within = at-if2 .before .before .before .is-within in
+    let if1 = at-if2 .before .before .if1 in
+    let is-within2 = at-if2 .before .is-within2 in
+    let if2 = at-if2 .if2 in
     let if3 = c .before .before .before .before .before .before .if3 in
     let if4 = c .before .before .before .before .before .if4 in
     let if5 = c .before .before .before .before .if5 in
@@ -82,14 +84,16 @@ is-within-requires-5 c κs = search needs
 returns-8 : tie.Need-returns-8
 unfolding isInvisible
 returns-8 c =
-    let is-within = c .before .before .before .before .before .before .before .before .before .before .before .before .is-within in
-    let if1 = c .before .before .before .before .before .before .before .before .before .before .before .if1 in
-    let is-within2 = c .before .before .before .before .before .before .before .before .before .before .is-within2 in
-    let if2 = c .before .before .before .before .before .before .before .before .before .if2 in
-    let if3 = c .before .before .before .before .before .before .before .before .if3 in
-    let if4 = c .before .before .before .before .before .before .before .if4 in
-    let if5 = c .before .before .before .before .before .before .if5 in
-    let is-within3 = c .before .before .before .before .before .is-within3 in
+    let at-is-within3 = c .before .before .before .before .before in
+    let at-is-within2 = at-is-within3 .before .before .before .before .before in
+    let is-within = at-is-within2 .before .before .is-within in
+    let if1 = at-is-within2 .before .if1 in
+    let is-within2 = at-is-within2 .is-within2 in
+    let if2 = at-is-within3 .before .before .before .before .if2 in
+    let if3 = at-is-within3 .before .before .before .if3 in
+    let if4 = at-is-within3 .before .before .if4 in
+    let if5 = at-is-within3 .before .if5 in
+    let is-within3 = at-is-within3 .is-within3 in
     let if6 = c .before .before .before .before .if6 in
     let is-within4 = c .before .before .before .is-within4 in
     rw (sym (is-within .ensures) ∙ if1 .left, sym (is-within2 .ensures) ∙ if2 .left, ne-eqb _ _ (if3 .left), ne-eqb _ _ (if4 .left), ne-eqb _ _ (if5 .left), sym (is-within3 .ensures) ∙ if6 .left, sym (is-within4 .ensures) ∙ c .before .before .if7 .left, sym (c .before .is-within5 .ensures) ∙ c .if8 .taken)
@@ -97,14 +101,16 @@ returns-8 c =
 returns-9 : tie.Need-returns-9
 unfolding isInvisible
 returns-9 c =
-    let is-within = c .before .before .before .before .before .before .before .before .before .before .before .before .is-within in
-    let if1 = c .before .before .before .before .before .before .before .before .before .before .before .if1 in
-    let is-within2 = c .before .before .before .before .before .before .before .before .before .before .is-within2 in
-    let if2 = c .before .before .before .before .before .before .before .before .before .if2 in
-    let if3 = c .before .before .before .before .before .before .before .before .if3 in
-    let if4 = c .before .before .before .before .before .before .before .if4 in
-    let if5 = c .before .before .before .before .before .before .if5 in
-    let is-within3 = c .before .before .before .before .before .is-within3 in
+    let at-is-within3 = c .before .before .before .before .before in
+    let at-is-within2 = at-is-within3 .before .before .before .before .before in
+    let is-within = at-is-within2 .before .before .is-within in
+    let if1 = at-is-within2 .before .if1 in
+    let is-within2 = at-is-within2 .is-within2 in
+    let if2 = at-is-within3 .before .before .before .before .if2 in
+    let if3 = at-is-within3 .before .before .before .if3 in
+    let if4 = at-is-within3 .before .before .if4 in
+    let if5 = at-is-within3 .before .if5 in
+    let is-within3 = at-is-within3 .is-within3 in
     let if6 = c .before .before .before .before .if6 in
     let is-within4 = c .before .before .before .is-within4 in
     rw (sym (is-within .ensures) ∙ if1 .left, sym (is-within2 .ensures) ∙ if2 .left, ne-eqb _ _ (if3 .left), ne-eqb _ _ (if4 .left), ne-eqb _ _ (if5 .left), sym (is-within3 .ensures) ∙ if6 .left, sym (is-within4 .ensures) ∙ c .before .before .if7 .left, sym (c .before .is-within5 .ensures) ∙ c .if8 .left)

@@ -42,9 +42,10 @@ row-at-requires-2 c κs = search needs
 returns-4 : tie.Need-returns-4
 unfolding isName
 returns-4 c =
-    let row-at = c .before .before .before .before .before .before .before .before .before .before .row-at in
-    let if1 = c .before .before .before .before .before .before .before .before .if1 in
-    let if2 = c .before .before .before .before .before .before .if2 in
+    let at-if2 = c .before .before .before .before .before .before in
+    let row-at = at-if2 .before .before .before .before .row-at in
+    let if1 = at-if2 .before .before .if1 in
+    let if2 = at-if2 .if2 in
     let byte-at = c .before .before .before .before .byte-at in
     let if3 = c .before .before .before .if3 in
     rw (← (row-at .ensures), ← (byte-at .ensures), ← (c .before .before .row-at2 .ensures))
@@ -53,10 +54,11 @@ returns-4 c =
 returns-5 : tie.Need-returns-5
 unfolding isName
 returns-5 c =
-    let row-at = c .before .before .before .before .before .before .before .before .before .before .before .before .row-at in
-    let if1 = c .before .before .before .before .before .before .before .before .before .before .if1 in
-    let if2 = c .before .before .before .before .before .before .before .before .if2 in
-    let byte-at = c .before .before .before .before .before .before .byte-at in
+    let at-byte-at = c .before .before .before .before .before .before in
+    let row-at = at-byte-at .before .before .before .before .before .before .row-at in
+    let if1 = at-byte-at .before .before .before .before .if1 in
+    let if2 = at-byte-at .before .before .if2 in
+    let byte-at = at-byte-at .byte-at in
     let if3 = c .before .before .before .before .before .if3 in
     let row-at2 = c .before .before .before .before .row-at2 in
     rw (← (row-at .ensures), ← (byte-at .ensures), ← (row-at2 .ensures))

@@ -40,9 +40,10 @@ has-swallowed-requires c κs = search needs
 returns-3 : tie.Need-returns-3
 unfolding isSwallower
 returns-3 c =
-    let row-at = c .before .before .before .before .before .before .before .before .before .row-at in
-    let if1 = c .before .before .before .before .before .before .before .if1 in
-    let byte-at = c .before .before .before .before .before .byte-at in
+    let at-byte-at = c .before .before .before .before .before in
+    let row-at = at-byte-at .before .before .before .before .row-at in
+    let if1 = at-byte-at .before .before .if1 in
+    let byte-at = at-byte-at .byte-at in
     let if2 = c .before .before .before .before .if2 in
     rw (← (row-at .ensures), ← (byte-at .ensures))
     (rw (eq-eqb _ _ (if1 .left), eq-eqb _ _ (if2 .left), ← (c .before .part .ensures)) (c .has-swallowed .ensures))

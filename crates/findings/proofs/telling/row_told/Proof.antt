@@ -43,9 +43,10 @@ number-told-requires c κs = search needs
 returns-4 : tie.Need-returns-4
 unfolding rowTold
 returns-4 c =
-    let row-at = c .before .before .before .before .before .before .before .before .before .row-at in
-    let if1 = c .before .before .before .before .before .before .before .if1 in
-    let if2 = c .before .before .before .before .before .if2 in
+    let at-if2 = c .before .before .before .before .before in
+    let row-at = at-if2 .before .before .before .before .row-at in
+    let if1 = at-if2 .before .before .if1 in
+    let if2 = at-if2 .if2 in
     let if3 = c .before .before .before .if3 in
     rw (← (row-at .ensures))
     (rw (le-ltb _ _ (if1 .left), ne-eqb _ _ (if2 .left), ne-eqb _ _ (if3 .left), eq-eqb _ _ (c .before .if4 .taken)) (c .number-told .ensures))
@@ -53,9 +54,10 @@ returns-4 c =
 returns-5 : tie.Need-returns-5
 unfolding rowTold
 returns-5 c =
-    let row-at = c .before .before .before .before .before .before .before .before .row-at in
-    let if1 = c .before .before .before .before .before .before .if1 in
-    let if2 = c .before .before .before .before .if2 in
+    let at-if2 = c .before .before .before .before in
+    let row-at = at-if2 .before .before .before .before .row-at in
+    let if1 = at-if2 .before .before .if1 in
+    let if2 = at-if2 .if2 in
     rw (← (row-at .ensures))
     (rw (le-ltb _ _ (if1 .left), ne-eqb _ _ (if2 .left), ne-eqb _ _ (c .before .before .if3 .left), ne-eqb _ _ (c .if4 .left)))
 

@@ -16,6 +16,18 @@ Inv-loop source rows findings₀ list first left count n₀ p₀ findings n p = 
 abbrev μ-loop : tie.MeasureT-loop
 μ-loop source rows findings₀ list first left count n₀ p₀ findings n p = length rows / 10 - p
 
+-- where the call began, from where a turn of the loop began
+abbrev entry-of : tie.At-loop Inv-loop μ-loop → tie.Start Inv-loop μ-loop
+entry-of c = c .before .before .before .before .before .before .before
+
+-- where a turn of the loop began, from after `list-told`
+abbrev turn-of : tie.After-list-told Inv-loop μ-loop → tie.At-loop Inv-loop μ-loop
+turn-of c = c .before .before .before
+
+-- after `list-told`, from after `row-told`
+abbrev list-told-of : tie.After-row-told Inv-loop μ-loop → tie.After-list-told Inv-loop μ-loop
+list-told-of c = c .before .before .before .before .before
+
 list-of-requires : tie.Need-list-of-requires Inv-loop μ-loop
 list-of-requires c κs = tt
 
@@ -35,7 +47,7 @@ lay-requires : tie.Need-lay-requires Inv-loop μ-loop
 lay-requires c κs =
     let loop = c .before .before .before .loop in
     let g = loop .inv in
-    (omega (arith, g .few, g .held .found, c .before .before .loop-test .taken, c .before .before .before .before .before .before .before .before .before .before .good .1 .0 .1), held-errors (g .held))
+    (omega (arith, g .few, g .held .found, c .before .before .loop-test .taken, entry-of (turn-of c) .good .1 .0 .1), held-errors (g .held))
 
 row-told-requires : tie.Need-row-told-requires Inv-loop μ-loop
 row-told-requires c κs =
@@ -44,31 +56,32 @@ row-told-requires c κs =
 
 lay-requires-2 : tie.Need-lay-requires-2 Inv-loop μ-loop
 lay-requires-2 c κs =
-    let loop = c .before .before .before .before .before .before .before .before .loop in
-    let loop-test = c .before .before .before .before .before .before .before .loop-test in
-    let list-told = c .before .before .before .before .before .list-told in
+    let loop = turn-of (list-told-of c) .loop in
+    let loop-test = list-told-of c .before .before .loop-test in
+    let list-told = list-told-of c .list-told in
     let lay = c .before .before .before .before .lay in
     let g = loop .inv in
     let t = list-told .result in
     let h = held-more (g .held) (listed t) (lay .ensures) in
-    (omega (arith, g .few, h .found, length-append (g .done) (listed t), listed-few t, loop-test .taken, c .before .before .before .before .before .before .before .before .before .before .before .before .before .before .before .good .1 .0 .1), held-errors h)
+    (omega (arith, g .few, h .found, length-append (g .done) (listed t), listed-few t, loop-test .taken, entry-of (turn-of (list-told-of c)) .good .1 .0 .1), held-errors h)
 
 add-p : tie.Need-add-p Inv-loop μ-loop
 add-p c =
-    let loop-test = c .before .before .before .before .before .before .before .before .before .before .loop-test in
-    omega (arith, loop-test .taken, c .before .before .before .before .before .before .before .before .before .before .before .before .before .before .before .before .before .before .good .1 .0 .0)
+    let loop-test = list-told-of (c .before .before .before) .before .before .loop-test in
+    omega (arith, loop-test .taken, entry-of (turn-of (list-told-of (c .before .before .before))) .good .1 .0 .0)
 
 loop-less : tie.Need-loop-less Inv-loop μ-loop
 loop-less c =
-    let loop-test = c .before .before .before .before .before .before .before .before .before .before .loop-test in
+    let loop-test = list-told-of (c .before .before .before) .before .before .loop-test in
     omega (arith, loop-test .taken)
 
 loop-again : tie.Need-loop-again Inv-loop μ-loop
 loop-again c =
-    let loop = c .before .before .before .before .before .before .before .before .before .before .before .loop in
-    let loop-test = c .before .before .before .before .before .before .before .before .before .before .loop-test in
-    let list-told = c .before .before .before .before .before .before .before .before .list-told in
-    let lay = c .before .before .before .before .before .before .before .lay in
+    let at-lay = c .before .before .before .before .before .before .before in
+    let loop = at-lay .before .before .before .before .loop in
+    let loop-test = at-lay .before .before .before .loop-test in
+    let list-told = at-lay .before .list-told in
+    let lay = at-lay .lay in
     let row-told = c .before .before .before .row-told in
     let g = loop .inv in
     let t = list-told .result in

@@ -14,6 +14,14 @@ use Rattle.findings_rows.proofs.slips.rest_from.Reads as rest-from-read
 use Rattle.findings_rows.proofs.slips.spot_at.Reads as spot-at-reads
 use Rattle.findings_rows.proofs.slips.unclosed.Reads as unclosed-reads
 
+-- where the call began, from after `past-quote`
+abbrev entry-of : tie.After-past-quote → tie.Start
+entry-of c = c .before .before .before .before .before
+
+-- after `past-quote`, from after `spot-at`
+abbrev past-quote-of : tie.After-spot-at → tie.After-past-quote
+past-quote-of c = c .before .before .before .before .before
+
 cast-quote-of : tie.Need-cast-quote-of
 cast-quote-of c = search needs
 
@@ -32,7 +40,7 @@ enum-known-e c = search needs
 cast-ended : tie.Need-cast-ended
 cast-ended c =
     let told = c .before in
-    let entry = c .before .before .before .before .before .before .before .before in
+    let entry = entry-of (told .before .before) in
     omega (
       arith,
       entry .pre,
@@ -62,14 +70,14 @@ spot-at-requires-2 c κs = search needs
 returns : tie.Need-returns
 returns c =
     let told = c .before .before .before in
-    let entry = told .before .before .before .before .before .before .before in
-    mend-behind (now (entry .args .source)) (entry .args .r) (entry .args .after) (c .before .before .before .before .before .before .before .quote-of .result) (c .before .before .before .before .before .before .rest-from .result)
-    (c .before .before .before .before .before .past-quote .result) (c .before .before .before .before .before .before .before .quote-of .ensures) (c .before .before .before .before .before .before .rest-from .ensures) (c .before .before .before .before .before .past-quote .ensures)
+    let entry = entry-of (told .before .before) in
+    mend-behind (now (entry .args .source)) (entry .args .r) (entry .args .after) (past-quote-of c .before .before .quote-of .result) (past-quote-of c .before .rest-from .result)
+    (past-quote-of c .past-quote .result) (past-quote-of c .before .before .quote-of .ensures) (past-quote-of c .before .rest-from .ensures) (past-quote-of c .past-quote .ensures)
     (told .e .given .0 .0) (told .e .given .1) (c .before .ended .result) (c .spot-at .result) (c .before .ended .ensures) (c .spot-at .ensures)
 
 returns-2 : tie.Need-returns-2
 returns-2 c =
-    let entry = c .before .before .before .before .before .before .before .before .before in
+    let entry = entry-of (c .before .before .before .before) in
     mend-nowhere (now (entry .args .source)) (entry .args .r) (entry .args .after) (c .before .before .before .before .before .before .quote-of .result) (c .before .before .before .before .before .rest-from .result)
     (c .before .before .before .before .past-quote .result) (c .before .before .before .before .before .before .quote-of .ensures) (c .before .before .before .before .before .rest-from .ensures) (c .before .before .before .before .past-quote .ensures)
     (c .before .before .enum-told .given .1) (c .before .unclosed .result) (c .spot-at2 .result) (c .before .unclosed .ensures) (c .spot-at2 .ensures)

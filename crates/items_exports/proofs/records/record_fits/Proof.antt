@@ -10,6 +10,10 @@ use Rattle.items_exports.proofs.records.record_fits.Lts as lts
 use Rattle.items_exports.proofs.records.lies.Reads as lies-reads
 use Rattle.items_exports.proofs.records.text_fits.Reads as text-fits-reads
 
+-- where `if1` failed, from after `shared-slice-known8`
+abbrev if1-of : tie.After-shared-slice-known8 → tie.Else1
+if1-of c = c .before .before .before .before .before .before .before
+
 -- src/records.rt:108:17
 mul-first : tie.Need-mul-first
 mul-first c = search needs
@@ -123,7 +127,7 @@ text-fits-requires c κs = search needs
 -- src/records.rt:104:1
 returns-3 : tie.Need-returns-3
 unfolding recordFits
-returns-3 c = c .text-fits .ensures ∙ both-yes _ _ (sym (c .before .before .before .before .before .lies2 .ensures) ∙ not-false _ (c .before .before .before .before .if2 .left)) ∙ both-yes _ _ (sym (c .before .before .before .before .before .before .before .before .before .lies .ensures) ∙ not-false _ (c .before .before .before .before .before .before .before .before .if1 .left))
+returns-3 c = c .text-fits .ensures ∙ both-yes _ _ (sym (c .before .before .before .before .before .lies2 .ensures) ∙ not-false _ (c .before .before .before .before .if2 .left)) ∙ both-yes _ _ (sym (if1-of (c .before) .before .lies .ensures) ∙ not-false _ (if1-of (c .before) .if1 .left))
 
 pub record-fits-spec : {M : Type 1} → statement M
 record-fits-spec =

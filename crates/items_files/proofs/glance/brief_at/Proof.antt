@@ -6,6 +6,14 @@ use Rattle.items_files.proofs.LightItems.{brief-one, brief-two, brief-t
 use Rattle.items_files.proofs.glance.brief_at.Statement.{statement}
 use Rattle.items_files.proofs.glance.brief_at.Tie as tie
 
+-- where `if1` failed, from where `if4` failed
+abbrev if1-of : tie.Else4 → tie.Else1
+if1-of c = c .before .before .before .before .before
+
+-- where `if4` failed, from where `if7` held
+abbrev if4-of : tie.Then7 → tie.Else4
+if4-of c = c .before .before .before .before
+
 shared-slice-read-c : tie.Need-shared-slice-read-c
 shared-slice-read-c c = search needs
 
@@ -64,23 +72,23 @@ returns-4 c = search needs
 
 cast-low : tie.Need-cast-low
 cast-low c =
-    let entry = c .before .before .before .before .before .before .before in
-    omega (arith, (c .before .before .before .before .before .before .shared-slice-known .given (entry .args .at) .fits))
+    let entry = if1-of c .before .before in
+    omega (arith, (if1-of c .before .shared-slice-known .given (entry .args .at) .fits))
 
 cast-low-2 : tie.Need-cast-low-2
 cast-low-2 c =
-    let entry = c .before .before .before .before .before .before .before in
-    omega (arith, (c .before .before .before .before .before .before .shared-slice-known .given (entry .args .at + 1) .fits))
+    let entry = if1-of c .before .before in
+    omega (arith, (if1-of c .before .shared-slice-known .given (entry .args .at + 1) .fits))
 
 mul-low : tie.Need-mul-low
 mul-low c =
-    let entry = c .before .before .before .before .before .before .before in
-    omega (arith, (c .before .before .before .before .before .before .shared-slice-known .given (entry .args .at + 1) .fits))
+    let entry = if1-of c .before .before in
+    omega (arith, (if1-of c .before .shared-slice-known .given (entry .args .at + 1) .fits))
 
 add-low : tie.Need-add-low
 add-low c =
-    let entry = c .before .before .before .before .before .before .before in
-    omega (arith, (c .before .before .before .before .before .before .shared-slice-known .given (entry .args .at) .fits), (c .before .before .before .before .before .before .shared-slice-known .given (entry .args .at + 1) .fits))
+    let entry = if1-of c .before .before in
+    omega (arith, (if1-of c .before .shared-slice-known .given (entry .args .at) .fits), (if1-of c .before .shared-slice-known .given (entry .args .at + 1) .fits))
 
 cast-t26 : tie.Need-cast-t26
 cast-t26 c = search needs
@@ -90,16 +98,16 @@ mul-t27 c = search needs
 
 add-t28 : tie.Need-add-t28
 add-t28 c =
-    let entry = c .before .before .before .before .before .before .before .before in
-    omega (arith, (c .before .before .before .before .before .before .before .shared-slice-known .given (entry .args .at) .fits), (c .before .before .before .before .before .before .before .shared-slice-known .given (entry .args .at + 1) .fits))
+    let entry = if1-of (c .before) .before .before in
+    omega (arith, (if1-of (c .before) .before .shared-slice-known .given (entry .args .at) .fits), (if1-of (c .before) .before .shared-slice-known .given (entry .args .at + 1) .fits))
 
 add-t29 : tie.Need-add-t29
 add-t29 c = search needs
 
 returns-5 : tie.Need-returns-5
 returns-5 c =
-    let entry = c .before .before .before .before .before .before .before .before in
-    brief-three (entry .args .file .now) (entry .args .at) (entry .pre) (c .before .before .before .before .before .before .if1 .left) (c .before .before .before .before .before .before .before .shared-slice-known .given (entry .args .at) .fits) (c .before .before .before .if3 .left) (c .before .before .before .before .before .before .before .shared-slice-known .given (entry .args .at + 1) .fits) (c .if5 .taken) (c .before .if4 .left)
+    let entry = if1-of (c .before) .before .before in
+    brief-three (entry .args .file .now) (entry .args .at) (entry .pre) (if1-of (c .before) .if1 .left) (if1-of (c .before) .before .shared-slice-known .given (entry .args .at) .fits) (c .before .before .before .if3 .left) (if1-of (c .before) .before .shared-slice-known .given (entry .args .at + 1) .fits) (c .if5 .taken) (c .before .if4 .left)
 
 add-g : tie.Need-add-g
 add-g c = search needs
@@ -112,17 +120,17 @@ returns-6 c = search needs
 
 cast-t32 : tie.Need-cast-t32
 cast-t32 c =
-    let entry = c .before .before .before .before .before .before .before .before .before .before .before in
-    omega (arith, (c .before .before .before .before .before .before .before .before .before .before .shared-slice-known .given (entry .args .at + 2) .fits))
+    let entry = if1-of (if4-of c) .before .before in
+    omega (arith, (if1-of (if4-of c) .before .shared-slice-known .given (entry .args .at + 2) .fits))
 
 mul-t33 : tie.Need-mul-t33
 mul-t33 c =
-    let entry = c .before .before .before .before .before .before .before .before .before .before .before in
-    omega (arith, (c .before .before .before .before .before .before .before .before .before .before .shared-slice-known .given (entry .args .at + 2) .fits))
+    let entry = if1-of (if4-of c) .before .before in
+    omega (arith, (if1-of (if4-of c) .before .shared-slice-known .given (entry .args .at + 2) .fits))
 
 add-t34 : tie.Need-add-t34
 add-t34 c =
-    let there = c .before .before .before .before .before .before .before .before .before .before in
+    let there = if1-of (if4-of c) .before in
     let entry = there .before in
     omega (arith, (there .shared-slice-known .given (entry .args .at) .fits), (there .shared-slice-known .given (entry .args .at + 1) .fits), (there .shared-slice-known .given (entry .args .at + 2) .fits))
 
@@ -134,7 +142,7 @@ mul-t36 c = search needs
 
 add-t37 : tie.Need-add-t37
 add-t37 c =
-    let there = c .before .before .before .before .before .before .before .before .before .before in
+    let there = if1-of (if4-of c) .before in
     let entry = there .before in
     omega (arith, (there .shared-slice-known .given (entry .args .at) .fits), (there .shared-slice-known .given (entry .args .at + 1) .fits), (there .shared-slice-known .given (entry .args .at + 2) .fits))
 
@@ -143,9 +151,9 @@ add-t38 c = search needs
 
 returns-7 : tie.Need-returns-7
 returns-7 c =
-    let there = c .before .before .before .before .before .before .before .before .before .before in
+    let there = if1-of (if4-of c) .before in
     let entry = there .before in
-    brief-four (entry .args .file .now) (entry .args .at) (entry .pre) (c .before .before .before .before .before .before .before .before .before .if1 .left) (there .shared-slice-known .given (entry .args .at) .fits) (c .before .before .before .before .before .before .if3 .left) (there .shared-slice-known .given (entry .args .at + 1) .fits) (c .before .before .before .if5 .left) (there .shared-slice-known .given (entry .args .at + 2) .fits) (c .if7 .taken) (c .before .if6 .left)
+    brief-four (entry .args .file .now) (entry .args .at) (entry .pre) (if1-of (if4-of c) .if1 .left) (there .shared-slice-known .given (entry .args .at) .fits) (if4-of c .before .before .if3 .left) (there .shared-slice-known .given (entry .args .at + 1) .fits) (c .before .before .before .if5 .left) (there .shared-slice-known .given (entry .args .at + 2) .fits) (c .if7 .taken) (c .before .if6 .left)
 
 returns-8 : tie.Need-returns-8
 returns-8 c = search needs

@@ -6,6 +6,10 @@ use Rattle.items_files.proofs.LightItems.{brief-one, brief-two, brief-t
 use Rattle.items_files.proofs.glance.brief_end.Statement.{statement}
 use Rattle.items_files.proofs.glance.brief_end.Tie as tie
 
+-- where `if1` failed, from where `if4` failed
+abbrev if1-of : tie.Else4 → tie.Else1
+if1-of c = c .before .before .before .before .before
+
 shared-slice-read-if1 : tie.Need-shared-slice-read-if1
 shared-slice-read-if1 c = search needs
 
@@ -48,8 +52,8 @@ add-result-3 c = search needs
 
 returns-5 : tie.Need-returns-5
 returns-5 c =
-    let entry = c .before .before .before .before .before .before .before .before in
-    λ h. record { value = _; number = brief-three (entry .args .file .now) (entry .args .at) (entry .pre) (c .before .before .before .before .before .before .if1 .left) (c .before .before .before .before .before .before .before .shared-slice-known .given (entry .args .at) .fits) (c .before .before .before .if3 .left) (c .before .before .before .before .before .before .before .shared-slice-known .given (entry .args .at + 1) .fits) (c .if5 .taken) (c .before .if4 .left) }
+    let entry = if1-of (c .before) .before .before in
+    λ h. record { value = _; number = brief-three (entry .args .file .now) (entry .args .at) (entry .pre) (if1-of (c .before) .if1 .left) (if1-of (c .before) .before .shared-slice-known .given (entry .args .at) .fits) (c .before .before .before .if3 .left) (if1-of (c .before) .before .shared-slice-known .given (entry .args .at + 1) .fits) (c .if5 .taken) (c .before .if4 .left) }
 
 add-g : tie.Need-add-g
 add-g c = search needs
@@ -65,9 +69,9 @@ add-result-4 c = search needs
 
 returns-7 : tie.Need-returns-7
 returns-7 c =
-    let there = c .before .before .before .before .before .before .before .before .before .before in
+    let there = if1-of (c .before .before .before .before) .before in
     let entry = there .before in
-    λ h. record { value = _; number = brief-four (entry .args .file .now) (entry .args .at) (entry .pre) (c .before .before .before .before .before .before .before .before .before .if1 .left) (there .shared-slice-known .given (entry .args .at) .fits) (c .before .before .before .before .before .before .if3 .left) (there .shared-slice-known .given (entry .args .at + 1) .fits) (c .before .before .before .if5 .left) (there .shared-slice-known .given (entry .args .at + 2) .fits) (c .if7 .taken) (c .before .if6 .left) }
+    λ h. record { value = _; number = brief-four (entry .args .file .now) (entry .args .at) (entry .pre) (if1-of (c .before .before .before .before) .if1 .left) (there .shared-slice-known .given (entry .args .at) .fits) (c .before .before .before .before .before .before .if3 .left) (there .shared-slice-known .given (entry .args .at + 1) .fits) (c .before .before .before .if5 .left) (there .shared-slice-known .given (entry .args .at + 2) .fits) (c .if7 .taken) (c .before .if6 .left) }
 
 returns-8 : tie.Need-returns-8
 returns-8 c = λ h. absurd (omega arith)

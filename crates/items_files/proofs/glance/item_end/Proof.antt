@@ -5,6 +5,14 @@ use Rattle.items_files.proofs.LightItems.{light-to}
 use Rattle.items_files.proofs.glance.item_end.Statement.{statement}
 use Rattle.items_files.proofs.glance.item_end.Tie as tie
 
+-- where the call began, from after `pair-at`
+abbrev entry-of : tie.After-pair-at → tie.Start
+entry-of c = c .before .before .before .before .before .before
+
+-- after `pair-at`, from where `if5` held
+abbrev pair-at-of : tie.Then5 → tie.After-pair-at
+pair-at-of c = c .before .before .before .before .before
+
 light-head-requires : tie.Need-light-head-requires
 light-head-requires c κs = search needs
 
@@ -51,18 +59,18 @@ pair-at-requires-2 c κs =
 
 add-result : tie.Need-add-result
 add-result c =
-    let head = c .before .before .before .before .before .before .before .before .before .light-head .ensures (c .before .before .before .before .before .before .before .before .if1 .taken) in
-    let place = c .before .before .before .before .before .before .before .brief-end .ensures (omega (arith, c .before .before .before .before .before .before .if2 .left)) in
+    let head = pair-at-of c .before .before .before .before .light-head .ensures (pair-at-of c .before .before .before .if1 .taken) in
+    let place = pair-at-of c .before .before .brief-end .ensures (omega (arith, pair-at-of c .before .if2 .left)) in
     let text = c .before .before .before .brief-end2 .ensures (omega (arith, c .before .before .if4 .left)) in
     omega (arith, head .room, place .number .near, text .number .near)
 
 returns-3 : tie.Need-returns-3
 returns-3 c =
-    let head = c .before .before .before .before .before .before .before .before .before .light-head .ensures (c .before .before .before .before .before .before .before .before .if1 .taken) in
-    let place = c .before .before .before .before .before .before .before .brief-end .ensures (omega (arith, c .before .before .before .before .before .before .if2 .left)) in
+    let head = pair-at-of c .before .before .before .before .light-head .ensures (pair-at-of c .before .before .before .if1 .taken) in
+    let place = pair-at-of c .before .before .brief-end .ensures (omega (arith, pair-at-of c .before .if2 .left)) in
     let text = c .before .before .before .brief-end2 .ensures (omega (arith, c .before .before .if4 .left)) in
-    let entry = c .before .before .before .before .before .before .before .before .before .before .before in
-    λ h. light-to (entry .args .file .now) (entry .args .at) (entry .args .b) (record { head = head; place = place .number; place-pair = c .before .before .before .before .before .pair-at .ensures (c .before .before .before .before .if3 .taken); text = text .number; text-pair = c .before .pair-at2 .ensures (c .if5 .taken) })
+    let entry = entry-of (pair-at-of c) in
+    λ h. light-to (entry .args .file .now) (entry .args .at) (entry .args .b) (record { head = head; place = place .number; place-pair = pair-at-of c .pair-at .ensures (c .before .before .before .before .if3 .taken); text = text .number; text-pair = c .before .pair-at2 .ensures (c .if5 .taken) })
 
 returns-4 : tie.Need-returns-4
 returns-4 c = λ h. absurd (omega arith)

@@ -10,6 +10,14 @@ use Rattle.items_files.proofs.LightItems.{or-below}
 use Rattle.items_files.proofs.glance.light_head.Statement.{statement}
 use Rattle.items_files.proofs.glance.light_head.Tie as tie
 
+-- where the call began, from where `if3` failed
+abbrev entry-of : tie.Else3 → tie.Start
+entry-of c = c .before .before .before .before .before
+
+-- where `if3` failed, from after `shared-slice-known4`
+abbrev if3-of : tie.After-shared-slice-known4 → tie.Else3
+if3-of c = c .before .before .before .before .before
+
 returns : tie.Need-returns
 returns c = λ e. no-yes e
 
@@ -48,7 +56,7 @@ shared-slice-read-result-4 c = search needs
 
 returns-5 : tie.Need-returns-5
 returns-5 c =
-    let entry = c .before .before .before .before .before .before .before .before .before .before in
+    let entry = entry-of (if3-of c) in
     let s = entry .args .file .now in
     let at = entry .args .at in
     λ e.
@@ -56,9 +64,9 @@ returns-5 c =
     let three = or-below (bitOr (getD s at 0) (getD s (at + 1) 0)) (getD s (at + 2) 0) (four .0) in
     let two = or-below (getD s at 0) (getD s (at + 1) 0) (three .0) in
     record {
-      which = omega (arith, c .before .before .before .before .before .before .before .before .if1 .left);
-      start = c .before .before .before .before .before .before .if2 .left;
-      room = omega (arith, c .before .before .before .before .before .if3 .left, c .before .before .before .before .if4 .left);
+      which = omega (arith, if3-of c .before .before .before .if1 .left);
+      start = if3-of c .before .if2 .left;
+      room = omega (arith, if3-of c .if3 .left, c .before .before .before .before .if4 .left);
       kind = two .0;
       detail = two .1;
       step = three .1;

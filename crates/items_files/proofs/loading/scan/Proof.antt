@@ -15,6 +15,10 @@ Inv-loop file b₀ n₀ i₀ b n i = Scanning file b n i
 abbrev μ-loop : tie.MeasureT-loop
 μ-loop file b₀ n₀ i₀ b n i = length file - i
 
+-- inside a turn of the loop, from after `known-told`
+abbrev loop-test-of : tie.After-known-told Inv-loop μ-loop → tie.In-loop Inv-loop μ-loop
+loop-test-of c = c .before .before .before .before .before .before
+
 at-first-requires : tie.Need-at-first-requires Inv-loop μ-loop
 at-first-requires c κs = search needs
 
@@ -100,9 +104,9 @@ add-word c = search needs
 
 returns : tie.Need-returns Inv-loop μ-loop
 returns c =
-    let turn = c .before .before .before .before .before .before .before .before .before in
+    let turn = loop-test-of (c .before .before) .before in
     let entry = turn .before .before .before in
-    scanning-over (entry .args .file .now) (turn .loop .b) (turn .loop .n) (turn .loop .i) (turn .loop .inv) (c .before .before .before .before .before .before .before .before .loop-test .taken) (sym (c .before .before .before .number .given .1) ∙ c .before .before .before .before .before .number-at .ensures) (c .before .base-of .ensures) (c .if2 .taken)
+    scanning-over (entry .args .file .now) (turn .loop .b) (turn .loop .n) (turn .loop .i) (turn .loop .inv) (loop-test-of (c .before .before) .loop-test .taken) (sym (c .before .before .before .number .given .1) ∙ c .before .before .before .before .before .number-at .ensures) (c .before .base-of .ensures) (c .if2 .taken)
 
 cast-after-word : tie.Need-cast-after-word Inv-loop μ-loop
 cast-after-word c = search needs
@@ -112,19 +116,19 @@ after-word-requires c κs = search needs
 
 add-n-2 : tie.Need-add-n-2 Inv-loop μ-loop
 add-n-2 c =
-    omega (arith, c .before .before .before .before .before .before .before .before .before .before .loop .inv .few)
+    omega (arith, loop-test-of (c .before .before .before) .before .loop .inv .few)
 
 loop-less-2 : tie.Need-loop-less-2 Inv-loop μ-loop
 loop-less-2 c =
-    let turn = c .before .before .before .before .before .before .before .before .before .before in
+    let turn = loop-test-of (c .before .before .before) .before in
     let entry = turn .before .before .before in
     omega (arith, next-place (entry .args .file .now) (turn .loop .i) _ _ (turn .loop .inv .inside) (sym (c .before .before .before .before .number .given .1) ∙ c .before .before .before .before .before .before .number-at .ensures) .0)
 
 loop-again-2 : tie.Need-loop-again-2 Inv-loop μ-loop
 loop-again-2 c =
-    let turn = c .before .before .before .before .before .before .before .before .before .before in
+    let turn = loop-test-of (c .before .before .before) .before in
     let entry = turn .before .before .before in
-    scanning-word (entry .args .file .now) (turn .loop .b) (turn .loop .n) (turn .loop .i) (turn .loop .inv) (c .before .before .before .before .before .before .before .before .before .loop-test .taken) (sym (c .before .before .before .before .number .given .1) ∙ c .before .before .before .before .before .before .number-at .ensures) (c .before .before .base-of .ensures) (c .before .if2 .left) (c .after-word .ensures)
+    scanning-word (entry .args .file .now) (turn .loop .b) (turn .loop .n) (turn .loop .i) (turn .loop .inv) (loop-test-of (c .before .before .before) .loop-test .taken) (sym (c .before .before .before .before .number .given .1) ∙ c .before .before .before .before .before .before .number-at .ensures) (c .before .before .base-of .ensures) (c .before .if2 .left) (c .after-word .ensures)
 
 enum-told : tie.Need-enum-told Inv-loop μ-loop
 enum-told c = search needs
@@ -147,13 +151,13 @@ returns-3 c =
 returns-4 : tie.Need-returns-4 Inv-loop μ-loop
 returns-4 c =
     let turn = c .before .before .before in
-    let entry = c .before .before .before .before .before .before in
+    let entry = turn .before .before .before in
     scanning-all (entry .args .file .now) (turn .loop .b) (turn .loop .n) (turn .loop .i) (turn .loop .inv) (c .before .before .loop-test .left) (c .if3 .taken)
 
 returns-5 : tie.Need-returns-5 Inv-loop μ-loop
 returns-5 c =
     let turn = c .before .before .before in
-    let entry = c .before .before .before .before .before .before in
+    let entry = turn .before .before .before in
     scanning-short (entry .args .file .now) (turn .loop .b) (turn .loop .n) (turn .loop .i) (turn .loop .inv) (c .before .before .loop-test .left) (c .if3 .left)
 
 pub scan-spec : {M : Type 1} → statement M

@@ -8,6 +8,10 @@ use Rattle.items_telling.proofs.Escaped.{fails-past}
 use Rattle.items_telling.proofs.strings.string_at.Statement.{statement}
 use Rattle.items_telling.proofs.strings.string_at.Tie as tie
 
+-- after `past-string`, from after `is-failing`
+abbrev past-string-of : tie.After-is-failing → tie.After-past-string
+past-string-of c = c .before .before .before .before .before .before .before
+
 add-next : tie.Need-add-next
 add-next c = omega (arith, c .before .before .past-string .ensures .1)
 
@@ -23,7 +27,7 @@ returns-2 c =
 
 returns-5 : tie.Need-returns-5
 returns-5 c =
-    let w = c .before .before .before .before .before .before .before .before in
+    let w = past-string-of (c .before) in
     let f = w .before .before .args in
     let pass = w .past-string .ensures in
     let room = c .before .before .before .before .if3 .left in
@@ -47,4 +51,4 @@ string-at-spec =
     (λ c. search needs)
     (λ c κs. search needs)
     returns-5
-    (λ c. c .before .before .before .before .before .before .before .before .past-string .ensures))
+    (λ c. past-string-of (c .before) .past-string .ensures))

@@ -13,6 +13,10 @@ Inv-loop t mark out₀ n₀ i₀ out n i = Laid mark t out₀ out n i
 abbrev μ-loop : tie.MeasureT-loop
 μ-loop t mark out₀ n₀ i₀ out n i = length t - i
 
+-- where the call began, from after `shared-slice-known2`
+abbrev entry-of : tie.After-shared-slice-known2 Inv-loop μ-loop → tie.Start Inv-loop μ-loop
+entry-of c = c .before .before .before .before .before
+
 loop-holds : tie.Need-loop-holds Inv-loop μ-loop
 loop-holds c = laid-start (c .before .before .args .mark) (c .before .before .args .t .now) _
 
@@ -21,28 +25,28 @@ shared-slice-read-put-byte c = omega arith
 
 sub-put-byte : tie.Need-sub-put-byte Inv-loop μ-loop
 sub-put-byte c =
-    let entry = c .before .before .before .before .before in
+    let entry = entry-of c in
     omega (arith, laid-room (entry .args .mark) (entry .args .t .now) (c .before .before .loop .inv) (entry .pre) (omega arith))
 
 part-put-byte-start : tie.Need-part-put-byte-start Inv-loop μ-loop
 part-put-byte-start c =
-    let entry = c .before .before .before .before .before in
+    let entry = entry-of c in
     omega (arith, laid-room (entry .args .mark) (entry .args .t .now) (c .before .before .loop .inv) (entry .pre) (omega arith))
 
 part-put-byte-end : tie.Need-part-put-byte-end Inv-loop μ-loop
 part-put-byte-end c =
-    let entry = c .before .before .before .before .before in
+    let entry = entry-of c in
     omega (arith, laid-room (entry .args .mark) (entry .args .t .now) (c .before .before .loop .inv) (entry .pre) (omega arith))
 
 put-byte-requires : tie.Need-put-byte-requires Inv-loop μ-loop
 put-byte-requires c κs =
-    let entry = c .before .before .before .before .before .before in
+    let entry = entry-of (c .before) in
     let turn = c .before .before .before .loop in
     omega (arith, length-part (turn .out) (turn .n), laid-room (entry .args .mark) (entry .args .t .now) (turn .inv) (entry .pre) (omega arith))
 
 add-n : tie.Need-add-n Inv-loop μ-loop
 add-n c =
-    let entry = c .before .before .before .before .before .before .before .before .before in
+    let entry = entry-of (c .before .before .before .before) in
     let turn = c .before .before .before .before .before .before .loop in
     omega (
       arith,
@@ -60,7 +64,7 @@ loop-less c = omega arith
 
 loop-again : tie.Need-loop-again Inv-loop μ-loop
 loop-again c =
-    let entry = c .before .before .before .before .before .before .before .before .before in
+    let entry = entry-of (c .before .before .before .before) in
     let turn = c .before .before .before .before .before .before .loop in
     laid-on (entry .args .mark) (entry .args .t .now) (turn .inv) (entry .pre) (omega arith) (c .before .before .put-byte .ensures .1) (c .before .before .put-byte .ensures .0)
 

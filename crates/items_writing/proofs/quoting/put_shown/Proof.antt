@@ -36,9 +36,10 @@ same-length-2 c = search needs
 
 returns-2 : tie.Need-returns-2
 returns-2 c =
-    let entry = c .before .before .before .before .before .before .before .before .before .before in
-    let e = quoted-by (c .before .before .before .before .before .before .form .given .0 .0) (entry .args .t .now) (c .before .before .before .before .closing .ensures) in
-    rw (c .before .before .before .before .before .before .form .given .1) (rw e (c .before .before .put-quoted .ensures))
+    let at-form = c .before .before .before .before .before .before in
+    let entry = at-form .before .before .before .before in
+    let e = quoted-by (at-form .form .given .0 .0) (entry .args .t .now) (c .before .before .before .before .closing .ensures) in
+    rw (at-form .form .given .1) (rw e (c .before .before .put-quoted .ensures))
 
 pub put-shown-spec : {M : Type 1} → statement M
 put-shown-spec =

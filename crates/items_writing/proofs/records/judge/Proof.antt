@@ -16,6 +16,10 @@ Inv-loop records source text count p₀ p = (p ≤ countOf records) × (judged r
 abbrev μ-loop : tie.MeasureT-loop
 μ-loop records source text count p₀ p = countOf records - p
 
+-- where the call began, from after `is-right`
+abbrev entry-of : tie.After-is-right Inv-loop μ-loop → tie.Start Inv-loop μ-loop
+entry-of c = c .before .before .before .before .before .before .before
+
 loop-holds : tie.Need-loop-holds Inv-loop μ-loop
 loop-holds c = (omega arith, refl)
 
@@ -27,7 +31,7 @@ is-right-requires c κs = search needs
 
 returns : tie.Need-returns Inv-loop μ-loop
 returns c =
-    let entry = c .before .before .before .before .before .before .before .before in
+    let entry = entry-of (c .before) in
     let turn = c .before .before .before .before .loop in
     let r = entry .args .records .now in let s = entry .args .source .now in let t = entry .args .text .now in sym (turn .inv .1 ∙ judged-alien r s t (turn .p)
     (omega arith)
@@ -38,7 +42,7 @@ is-left-requires c κs = search needs
 
 returns-2 : tie.Need-returns-2 Inv-loop μ-loop
 returns-2 c =
-    let entry = c .before .before .before .before .before .before .before .before .before .before in
+    let entry = entry-of (c .before .before .before) in
     let turn = c .before .before .before .before .before .before .loop in
     let r = entry .args .records .now in let s = entry .args .source .now in let t = entry .args .text .now in sym (turn .inv .1 ∙ judged-left r s t (turn .p) (omega
     arith) (sym (not-false (c .before .before .before .is-right .result) (c .before .before .if1 .left)) ∙
@@ -53,7 +57,7 @@ loop-less c = omega arith
 
 loop-again : tie.Need-loop-again Inv-loop μ-loop
 loop-again c =
-    let entry = c .before .before .before .before .before .before .before .before .before .before in
+    let entry = entry-of (c .before .before .before) in
     let turn = c .before .before .before .before .before .before .loop in
     let r = entry .args .records .now in let s = entry .args .source .now in let t = entry .args .text .now in (
       omega arith,

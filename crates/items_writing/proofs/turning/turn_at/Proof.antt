@@ -9,6 +9,10 @@ use borrow.Author.Needs.{needs}
 use Rattle.items_writing.proofs.turning.turn_at.Statement.{statement}
 use Rattle.items_writing.proofs.turning.turn_at.Tie as tie
 
+-- where the call began, from after `words-at2`
+abbrev entry-of : tie.After-words-at2 → tie.Start
+entry-of c = c .before .before .before .before .before .before
+
 words-at-requires : tie.Need-words-at-requires
 words-at-requires c κs = c .before .before .before .pre .0
 
@@ -20,7 +24,7 @@ words-at-requires-2 c κs = omega arith
 
 joins-requires : tie.Need-joins-requires
 joins-requires c κs =
-    let entry = c .before .before .before .before .before .before in (
+    let entry = entry-of c in (
       here-right (entry .args .records .now) (entry .args .source .now) (entry .args .text .now) (entry .args .first) (entry .args .p) (entry .pre .0) (entry .pre .1)
           (c .before .before .words-at .ensures),
       ap (isRight (entry .args .source .now) (entry .args .text .now)) (c .words-at2 .ensures) ∙ right-at
@@ -29,27 +33,27 @@ joins-requires c κs =
 
 returns : tie.Need-returns
 returns c =
-    let entry = c .before .before .before .before .before .before .before .before in
+    let entry = entry-of (c .before .before) in
     said-pair (entry .args .records .now) (entry .args .source .now) (entry .args .text .now) (entry .args .first) (entry .args .p) (entry .pre .0) (entry .pre .1)
     (c .before .before .before .before .words-at .ensures) (c .before .before .before .if1 .taken) (c .before .before .words-at2 .ensures) (c .before .joins .ensures)
     (c .if2 .taken)
 
 body-of-requires : tie.Need-body-of-requires
 body-of-requires c κs =
-    let entry = c .before .before .before .before .before .before .before .before in
+    let entry = entry-of (c .before .before) in
     here-right (entry .args .records .now) (entry .args .source .now) (entry .args .text .now) (entry .args .first) (entry .args .p) (entry .pre .0) (entry .pre .1)
     (c .before .before .before .before .words-at .ensures)
 
 form-for-requires : tie.Need-form-for-requires
 form-for-requires c κs =
-    let entry = c .before .before .before .before .before .before .before .before .before in
+    let entry = entry-of (c .before .before .before) in
     ap firstBad (c .body-of .ensures) ∙ body-good (entry .args .source .now) (entry .args .text .now) (c .before .before .before .before .before .words-at .result)
     (here-right (entry .args .records .now) (entry .args .source .now) (entry .args .text .now) (entry .args .first) (entry .args .p) (entry .pre .0) (entry .pre .1)
     (c .before .before .before .before .before .words-at .ensures))
 
 returns-2 : tie.Need-returns-2
 returns-2 c =
-    let entry = c .before .before .before .before .before .before .before .before .before .before in
+    let entry = entry-of (c .before .before .before .before) in
     said-more (entry .args .records .now) (entry .args .source .now) (entry .args .text .now) (entry .args .first) (entry .args .p) (entry .pre .0) (entry .pre .1)
     (c .before .before .before .before .before .before .words-at .ensures) (c .before .before .before .before .before .if1 .taken)
     (c .before .before .before .before .words-at2 .ensures) (c .before .before .before .joins .ensures) (c .before .before .if2 .left) (c .before .body-of .ensures)

@@ -9,6 +9,18 @@ use borrow.Author.Needs.{needs}
 use Rattle.items_writing.proofs.word.reads_bare.Statement.{statement}
 use Rattle.items_writing.proofs.word.reads_bare.Tie as tie
 
+-- where the call began, from where `if1` held
+abbrev entry-of-2 : tie.Then1 → tie.Start
+entry-of-2 c = c .before .before .before .before .before .before .before
+
+-- where `if1` failed, from after `first-phase`
+abbrev if1-of : tie.After-first-phase → tie.Else1
+if1-of c = c .before .before .before
+
+-- after `first-phase`, from after `is-name`
+abbrev first-phase-of : tie.After-is-name → tie.After-first-phase
+first-phase-of c = c .before .before .before .before .before
+
 decode-at-requires : tie.Need-decode-at-requires
 decode-at-requires c κs = search needs
 
@@ -20,10 +32,10 @@ is-blank-requires c κs = search needs
 
 returns : tie.Need-returns
 returns c =
-    let t = now (c .before .before .before .before .before .before .before .args .t) in
-    let first = c .before .before .before .before .before .before .before .args .first in
-    let last = c .before .before .before .before .before .before .before .args .last in
-    let good = c .before .before .before .before .before .before .before .pre in
+    let t = now (entry-of-2 c .args .t) in
+    let first = entry-of-2 c .args .first in
+    let last = entry-of-2 c .args .last in
+    let good = entry-of-2 c .pre in
     let read = c .before .before .before in
     let code = read .code .given .0 .0 in
     let next = read .code .given .0 .1 .0 in
@@ -51,7 +63,7 @@ first-phase-requires c κs = search needs
 
 stand-on-requires : tie.Need-stand-on-requires
 stand-on-requires c κs =
-    let read = c .before .before .before .before .before .before in
+    let read = if1-of c .before .before .before in
     let entry = read .before .before .before .before in
     let t = now (entry .args .t) in
     let first = entry .args .first in
@@ -82,7 +94,7 @@ enum-told-4 c = search needs
 
 returns-3 : tie.Need-returns-3
 returns-3 c =
-    let read = c .before .before .before .before .before .before .before .before .before .before .before in
+    let read = if1-of (first-phase-of c) .before .before .before in
     let entry = read .before .before .before .before in
     let t = now (entry .args .t) in
     let first = entry .args .first in
@@ -92,13 +104,13 @@ returns-3 c =
     let next = read .code .given .0 .1 .0 in
     let k = char-at t 0 code next (sym (read .code .given .1) ∙ read .before .before .decode-at .ensures) (omega arith) in
     bare-ends t good first last code next k
-    (sym (c .before .before .before .before .before .before .before .before .before .is-blank .ensures) ∙ c .before .before .before .before .before .before .before .before .if1 .left)
-    (sym (c .before .before .before .before .before .before .before .opens-line .ensures) ∙ c .before .before .before .before .before .before .if2 .left)
-    (c .before .before .before .before .before .first-phase .ensures) (c .before .before .before .before .stand-on .ensures) (c .before .before .what .given .1) (c .is-name .ensures)
+    (sym (if1-of (first-phase-of c) .before .is-blank .ensures) ∙ if1-of (first-phase-of c) .if1 .left)
+    (sym (first-phase-of c .before .before .opens-line .ensures) ∙ first-phase-of c .before .if2 .left)
+    (first-phase-of c .first-phase .ensures) (c .before .before .before .before .stand-on .ensures) (c .before .before .what .given .1) (c .is-name .ensures)
 
 returns-4 : tie.Need-returns-4
 returns-4 c =
-    let read = c .before .before .before .before .before .before .before .before .before in
+    let read = if1-of (c .before .before .before) .before .before .before in
     let entry = read .before .before .before .before in
     let t = now (entry .args .t) in
     let first = entry .args .first in
@@ -108,7 +120,7 @@ returns-4 c =
     let next = read .code .given .0 .1 .0 in
     let k = char-at t 0 code next (sym (read .code .given .1) ∙ read .before .before .decode-at .ensures) (omega arith) in
     bare-apart t good first last code next k
-    (sym (c .before .before .before .before .before .before .before .is-blank .ensures) ∙ c .before .before .before .before .before .before .if1 .left)
+    (sym (if1-of (c .before .before .before) .before .is-blank .ensures) ∙ if1-of (c .before .before .before) .if1 .left)
     (sym (c .before .before .before .before .before .opens-line .ensures) ∙ c .before .before .before .before .if2 .left)
     (c .before .before .before .first-phase .ensures) (c .before .before .stand-on .ensures) (c .enum-told .given .1)
 

@@ -20,6 +20,10 @@ Inv-loop t from last phase₀ at₀ phase at = (at ≤ length t) × (depthOf pha
 abbrev μ-loop : tie.MeasureT-loop
 μ-loop t from last phase₀ at₀ phase at = length t - at
 
+-- where the call began, from after `ascii-run`
+abbrev entry-of : tie.After-ascii-run Inv-loop μ-loop → tie.Start Inv-loop μ-loop
+entry-of c = c .before .before .before .before
+
 loop-holds : tie.Need-loop-holds Inv-loop μ-loop
 loop-holds c = (search needs, search needs, refl)
 
@@ -36,7 +40,7 @@ slice-aggregate-step : tie.Need-slice-aggregate-step Inv-loop μ-loop
 slice-aggregate-step c =
     let run = c .before .before .before .before .before .ascii-run in
     let turn = c .before .before .before .before .before .before .before .loop in
-    let entry = c .before .before .before .before .before .before .before .before .before in
+    let entry = entry-of (c .before .before .before .before .before) in
     let t = now (entry .args .t) in
     let on = go-run t (entry .args .last) (turn .phase) (turn .at) (run .result) (turn .inv .0) (run .ensures) in
     sym (front-length t (entry .args .last) (run .result) (on .1))
@@ -46,7 +50,7 @@ step-requires c κs =
     let read = c .before .before in
     let run = read .before .before .before .ascii-run in
     let turn = read .before .before .before .before .before .loop in
-    let entry = read .before .before .before .before .before .before .before in
+    let entry = entry-of (read .before .before .before) in
     let t = now (entry .args .t) in
     let on = go-run t (entry .args .last) (turn .phase) (turn .at) (run .result) (turn .inv .0) (run .ensures) in
     let code = read .code .given .0 .0 in
@@ -62,7 +66,7 @@ loop-less c =
     let read = c .before .before .before .before .before .before in
     let run = read .before .before .before .ascii-run in
     let turn = read .before .before .before .before .before .loop in
-    let entry = read .before .before .before .before .before .before .before in
+    let entry = entry-of (read .before .before .before) in
     let t = now (entry .args .t) in
     let on = go-run t (entry .args .last) (turn .phase) (turn .at) (run .result) (turn .inv .0) (run .ensures) in
     let code = read .code .given .0 .0 in
@@ -75,7 +79,7 @@ loop-again c =
     let read = c .before .before .before .before .before .before in
     let run = read .before .before .before .ascii-run in
     let turn = read .before .before .before .before .before .loop in
-    let entry = read .before .before .before .before .before .before .before in
+    let entry = entry-of (read .before .before .before) in
     let t = now (entry .args .t) in
     let on = go-run t (entry .args .last) (turn .phase) (turn .at) (run .result) (turn .inv .0) (run .ensures) in
     let code = read .code .given .0 .0 in
@@ -95,7 +99,7 @@ returns c =
     let read = c .before .before .before .before .before .before in
     let run = read .before .before .before .ascii-run in
     let turn = read .before .before .before .before .before .loop in
-    let entry = read .before .before .before .before .before .before .before in
+    let entry = entry-of (read .before .before .before) in
     let t = now (entry .args .t) in
     let on = go-run t (entry .args .last) (turn .phase) (turn .at) (run .result) (turn .inv .0) (run .ensures) in
     let code = read .code .given .0 .0 in
@@ -111,7 +115,7 @@ slice-aggregate-close : tie.Need-slice-aggregate-close Inv-loop μ-loop
 slice-aggregate-close c =
     let run = c .before .before .before .before .ascii-run in
     let turn = c .before .before .before .before .before .before .loop in
-    let entry = c .before .before .before .before .before .before .before .before in
+    let entry = entry-of (c .before .before .before .before) in
     let t = now (entry .args .t) in
     let on = go-run t (entry .args .last) (turn .phase) (turn .at) (run .result) (turn .inv .0) (run .ensures) in
     sym (front-length t (entry .args .last) (run .result) (on .1))
@@ -120,7 +124,7 @@ close-requires : tie.Need-close-requires Inv-loop μ-loop
 close-requires c κs =
     let run = c .before .before .before .before .ascii-run in
     let turn = c .before .before .before .before .before .before .loop in
-    let entry = c .before .before .before .before .before .before .before .before in
+    let entry = entry-of (c .before .before .before .before) in
     let t = now (entry .args .t) in
     let on = go-run t (entry .args .last) (turn .phase) (turn .at) (run .result) (turn .inv .0) (run .ensures) in
     omega (arith, turn .inv .1, on .0, front-length t (entry .args .last) (run .result) (on .1))
@@ -129,7 +133,7 @@ returns-2 : tie.Need-returns-2 Inv-loop μ-loop
 returns-2 c =
     let run = c .before .before .before .before .before .ascii-run in
     let turn = c .before .before .before .before .before .before .before .loop in
-    let entry = c .before .before .before .before .before .before .before .before .before in
+    let entry = entry-of (c .before .before .before .before .before) in
     let t = now (entry .args .t) in
     let on = go-run t (entry .args .last) (turn .phase) (turn .at) (run .result) (turn .inv .0) (run .ensures) in
     let none = none-bad t (run .result) (sym (c .before .before .enum-told .given .1) ∙ c .before .before .before .before .decode-at .ensures) in
@@ -142,7 +146,7 @@ slice-aggregate-close-2 : tie.Need-slice-aggregate-close-2 Inv-loop μ-loop
 slice-aggregate-close-2 c =
     let run = c .before .before .before .before .ascii-run in
     let turn = c .before .before .before .before .before .before .loop in
-    let entry = c .before .before .before .before .before .before .before .before in
+    let entry = entry-of (c .before .before .before .before) in
     let t = now (entry .args .t) in
     let on = go-run t (entry .args .last) (turn .phase) (turn .at) (run .result) (turn .inv .0) (run .ensures) in
     sym (front-length t (entry .args .last) (run .result) (on .1))
@@ -151,7 +155,7 @@ close-requires-2 : tie.Need-close-requires-2 Inv-loop μ-loop
 close-requires-2 c κs =
     let run = c .before .before .before .before .ascii-run in
     let turn = c .before .before .before .before .before .before .loop in
-    let entry = c .before .before .before .before .before .before .before .before in
+    let entry = entry-of (c .before .before .before .before) in
     let t = now (entry .args .t) in
     let on = go-run t (entry .args .last) (turn .phase) (turn .at) (run .result) (turn .inv .0) (run .ensures) in
     omega (arith, turn .inv .1, on .0, front-length t (entry .args .last) (run .result) (on .1))
@@ -160,7 +164,7 @@ returns-3 : tie.Need-returns-3 Inv-loop μ-loop
 returns-3 c =
     let run = c .before .before .before .before .before .ascii-run in
     let turn = c .before .before .before .before .before .before .before .loop in
-    let entry = c .before .before .before .before .before .before .before .before .before in
+    let entry = entry-of (c .before .before .before .before .before) in
     let t = now (entry .args .t) in
     let on = go-run t (entry .args .last) (turn .phase) (turn .at) (run .result) (turn .inv .0) (run .ensures) in
     let none = none-cut t (run .result) (sym (c .before .before .enum-told2 .given .1) ∙ c .before .before .before .before .decode-at .ensures) in
@@ -173,7 +177,7 @@ slice-aggregate-close-3 : tie.Need-slice-aggregate-close-3 Inv-loop μ-loop
 slice-aggregate-close-3 c =
     let run = c .before .before .before .before .ascii-run in
     let turn = c .before .before .before .before .before .before .loop in
-    let entry = c .before .before .before .before .before .before .before .before in
+    let entry = entry-of (c .before .before .before .before) in
     let t = now (entry .args .t) in
     let on = go-run t (entry .args .last) (turn .phase) (turn .at) (run .result) (turn .inv .0) (run .ensures) in
     sym (front-length t (entry .args .last) (run .result) (on .1))
@@ -182,7 +186,7 @@ close-requires-3 : tie.Need-close-requires-3 Inv-loop μ-loop
 close-requires-3 c κs =
     let run = c .before .before .before .before .ascii-run in
     let turn = c .before .before .before .before .before .before .loop in
-    let entry = c .before .before .before .before .before .before .before .before in
+    let entry = entry-of (c .before .before .before .before) in
     let t = now (entry .args .t) in
     let on = go-run t (entry .args .last) (turn .phase) (turn .at) (run .result) (turn .inv .0) (run .ensures) in
     omega (arith, turn .inv .1, on .0, front-length t (entry .args .last) (run .result) (on .1))
@@ -191,7 +195,7 @@ returns-4 : tie.Need-returns-4 Inv-loop μ-loop
 returns-4 c =
     let run = c .before .before .before .before .before .ascii-run in
     let turn = c .before .before .before .before .before .before .before .loop in
-    let entry = c .before .before .before .before .before .before .before .before .before in
+    let entry = entry-of (c .before .before .before .before .before) in
     let t = now (entry .args .t) in
     let on = go-run t (entry .args .last) (turn .phase) (turn .at) (run .result) (turn .inv .0) (run .ensures) in
     let none = none-end t (run .result) (sym (c .before .before .enum-told3 .given .1) ∙ c .before .before .before .before .decode-at .ensures) in

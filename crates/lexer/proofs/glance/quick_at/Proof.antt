@@ -20,6 +20,10 @@ use Rattle.lexer.proofs.Tells.{single-told}
 use Rattle.lexer.proofs.glance.quick_at.Statement.{statement}
 use Rattle.lexer.proofs.glance.quick_at.Tie as tie
 
+-- where the call began, from where `if4` held
+abbrev entry-of : tie.Then4 → tie.Start
+entry-of c = c .before .before .before .before .before .before .before
+
 shared-slice-read-match : tie.Need-shared-slice-read-match
 shared-slice-read-match c = search needs
 
@@ -102,7 +106,7 @@ quick-run-requires c κs =
 
 quick-word-requires : tie.Need-quick-word-requires
 quick-word-requires c κs =
-    let a = c .before .before .before .before .before .before .before in
+    let a = entry-of c in
     let b = getD (now (a .args .source)) (a .args .at) 0 in
     let other : b ≡ code "`" → ⊥ = c .before .before .before .before .match .rest .0 .0 .0 .1 in
     let low : code "a" ≤ b = omega (arith, c .before .if3 .left) in
@@ -212,7 +216,7 @@ returns-12 : tie.Need-returns-12
 returns-12 c = let a = c .before .before .before .before .before .before in c .quick-run .ensures (a .args .skip)
 
 returns-13 : tie.Need-returns-13
-returns-13 c = let a = c .before .before .before .before .before .before .before .before in c .quick-word .ensures (a .args .report) (a .args .skip)
+returns-13 c = let a = entry-of (c .before) in c .quick-word .ensures (a .args .report) (a .args .skip)
 
 returns-14 : tie.Need-returns-14
 returns-14 c = tt

@@ -22,9 +22,13 @@ use Rattle.lexer.proofs.Skims.{word-skims, run-skims, worded-skims}
 use Rattle.lexer.proofs.glance.skim_at.Statement.{statement}
 use Rattle.lexer.proofs.glance.skim_at.Tie as tie
 
-letter : (c : tie.Then4) → Begins (now (c .before .before .before .before .before .before .before .args .source)) (c .before .before .before .before .before .before .before .args .at) (c .before .before .before .before .before .before .before .args .at + 1) ph.InWord
+-- where the call began, from where `if4` held
+abbrev entry-of : tie.Then4 → tie.Start
+entry-of c = c .before .before .before .before .before .before .before
+
+letter : (c : tie.Then4) → Begins (now (entry-of c .args .source)) (entry-of c .args .at) (entry-of c .args .at + 1) ph.InWord
 letter c =
-    let a = c .before .before .before .before .before .before .before in
+    let a = entry-of c in
     let b = getD (now (a .args .source)) (a .args .at) 0 in
     let other : b ≡ code "`" → ⊥ = c .before .before .before .before .match .rest .0 .0 .0 .1 in
     let low : code "a" ≤ b = omega (arith, c .before .if3 .left) in
@@ -70,7 +74,7 @@ run-ending-requires : tie.Need-run-ending-requires
 run-ending-requires c κs = omega (arith, c .before .before .before .before .before .pre .1)
 
 word-ending-requires : tie.Need-word-ending-requires
-word-ending-requires c κs = omega (arith, c .before .before .before .before .before .before .before .pre .1)
+word-ending-requires c κs = omega (arith, entry-of c .pre .1)
 
 returns : tie.Need-returns
 unfolding firstOf startsRun isBlank
@@ -162,7 +166,7 @@ returns-12 c =
 
 returns-13 : tie.Need-returns-13
 returns-13 c =
-    let a = c .before .before .before .before .before .before .before .before in
+    let a = entry-of (c .before) in
     let w = c .before in
     word-skims (now (a .args .source)) (a .args .report) (a .args .skip) (a .args .at) (a .args .at + 1) (a .pre .0) (letter w) (λ e. omega (arith, e, w .before .if3 .left)) (c .word-ending .result)
     (c .word-ending .ensures (a .args .report))

@@ -6,9 +6,13 @@ use Rattle.lexer.proofs.Stood.{first-stands}
 use Rattle.lexer.proofs.reading.begin_at.Statement.{statement}
 use Rattle.lexer.proofs.reading.begin_at.Tie as tie
 
+-- where the call began, from after `code`
+abbrev entry-of : tie.After-code → tie.Start
+entry-of c = c .before .before .before .before .before .before
+
 returns-2 : tie.Need-returns-2
 returns-2 c =
-    let entry = c .before .before .before .before .before .before .before .before in
+    let entry = entry-of (c .before .before) in
     let told = c .before .before .code .given in
     first-stands (now (entry .args .source)) (entry .args .at) (told .0 .0) (told .0 .1 .0) (told .0 .1 .1 .0) (c .first-phase .result)
     (sym (c .before .before .before .before .consume-whitespace .ensures) ∙ told .1) (c .first-phase .ensures)

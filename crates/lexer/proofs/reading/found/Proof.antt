@@ -11,6 +11,10 @@ use borrow.Author.Needs.{needs}
 use Rattle.lexer.proofs.reading.found.Statement.{statement}
 use Rattle.lexer.proofs.reading.found.Tie as tie
 
+-- where the call began, from after `meaning`
+abbrev entry-of : tie.After-meaning → tie.Start
+entry-of c = c .before .before .before .before
+
 add-end : tie.Need-add-end
 add-end c = search needs
 
@@ -37,7 +41,7 @@ past-requires c κs = search needs
 
 one-requires : tie.Need-one-requires
 one-requires c κs =
-    let entry = c .before .before .before .before .before .before .before .before in
+    let entry = entry-of (c .before .before .before .before) in
     fits-one (entry .args .free) (meaningOf (entry .args .p .report) (entry .args .what)
     (entry .args .start) (entry .args .start + length (now (entry .args .raw))) (now (entry .args .raw))) (c .before .before .m .given .0 .0)
     (sym (ap meant (c .before .before .m .given .1)) ∙ c .before .before .before .before .meaning .ensures) (entry .pre .texts)
@@ -51,7 +55,7 @@ past-requires-2 c κs = search needs
 one-requires-2 : tie.Need-one-requires-2
 one-requires-2 c κs =
     let told = c .before .before .before in
-    let entry = told .before .before .before .before .before .before in
+    let entry = entry-of (told .before .before) in
     fits-two (entry .args .free) (meaningOf (entry .args .p .report)
     (entry .args .what) (entry .args .start) (entry .args .start + length (now (entry .args .raw))) (now (entry .args .raw))) (told .m2 .given .0 .0)
     (told .m2 .given .0 .1 .0) (sym (ap meant (told .m2 .given .1)) ∙ told .before .before .meaning .ensures) (entry .pre .texts) .1
@@ -62,7 +66,7 @@ stand-requires c κs = search needs
 one-requires-3 : tie.Need-one-requires-3
 one-requires-3 c κs =
     let told = c .before .before .before in
-    let entry = told .before .before .before .before .before .before in
+    let entry = entry-of (told .before .before) in
     fits-two (entry .args .free) (meaningOf (entry .args .p .report)
     (entry .args .what) (entry .args .start) (entry .args .start + length (now (entry .args .raw))) (now (entry .args .raw))) (told .m2 .given .0 .0)
     (told .m2 .given .0 .1 .0) (sym (ap meant (told .m2 .given .1)) ∙ told .before .before .meaning .ensures) (entry .pre .texts) .0

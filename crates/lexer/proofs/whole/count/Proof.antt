@@ -22,20 +22,28 @@ Inv-loop source p₀ free₀ n₀ p free n = Counting source p₀ p free n
 abbrev μ-loop : tie.MeasureT-loop
 μ-loop source p₀ free₀ n₀ p free n = sizeOf source p
 
+-- where the call began, from after `spot-past`
+abbrev entry-of : tie.After-spot-past Inv-loop μ-loop → tie.Start Inv-loop μ-loop
+entry-of c = c .before .before .before .before .before .before
+
+-- after `spot-past`, from after `known-told`
+abbrev spot-past-of : tie.After-known-told Inv-loop μ-loop → tie.After-spot-past Inv-loop μ-loop
+spot-past-of c = c .before .before .before .before
+
 -- with what `count_told` counted
 told : (c : tie.After-count-told Inv-loop μ-loop) → Counting (now (c .before .before .before .args .source)) (c .before .before .before .args .spot)
     (toldTo (c .before .loop .p) (c .count-told .result .at) (c .before .loop .n) (c .count-told .result .items)) (c .before .loop .free) (c .count-told .result .items)
 told c = c .count-told .ensures .on (c .before .before .before .args .spot) (c .before .loop .free) (c .before .loop .inv)
 
-stood : (c : tie.After-spot-past Inv-loop μ-loop) → Counting (now (c .before .before .before .before .before .before .args .source)) (c .before .before .before .before .before .before .args .spot)
+stood : (c : tie.After-spot-past Inv-loop μ-loop) → Counting (now (entry-of c .args .source)) (entry-of c .args .spot)
     (c .spot-past .result) (c .before .before .before .before .loop .free) (c .before .before .before .count-told .result .items)
 stood c =
-    let entry = c .before .before .before .before .before .before in
+    let entry = entry-of c in
     subst (λ (q : Spot). Counting (now (entry .args .source)) (entry .args .spot) q (c .before .before .before .before .loop .free) (c .before .before .before .count-told .result .items))
     (sym (c .spot-past .ensures)) (told (c .before .before .before))
 
 one : (c : tie.After-known-told Inv-loop μ-loop) → One (c .before .r .given .0 .0) (c .before .r .given .0 .1 .0)
-    ≡ foundOf (c .before .before .before .before .before .before .before .before .loop .free) (nextAt (now (c .before .before .before .before .before .before .before .before .before .before .args .source)) (c .before .before .before .before .spot-past .result))
+    ≡ foundOf (spot-past-of c .before .before .before .before .loop .free) (nextAt (now (entry-of (spot-past-of c) .args .source)) (c .before .before .before .before .spot-past .result))
 one c = sym (c .before .r .given .1) ∙ c .before .before .before .next-item .ensures
 
 loop-holds : tie.Need-loop-holds Inv-loop μ-loop
@@ -60,14 +68,14 @@ spot-past-requires : tie.Need-spot-past-requires Inv-loop μ-loop
 spot-past-requires c κs = search needs
 
 next-item-requires : tie.Need-next-item-requires Inv-loop μ-loop
-next-item-requires c κs = (c .before .before .before .before .before .before .pre .0, stood c .going .behind)
+next-item-requires c κs = (entry-of c .pre .0, stood c .going .behind)
 
 enum-known-r : tie.Need-enum-known-r Inv-loop μ-loop
 enum-known-r c = search needs
 
 add-n : tie.Need-add-n Inv-loop μ-loop
 add-n c =
-    let entry = c .before .before .before .before .before .before .before .before .before .before in
+    let entry = entry-of (spot-past-of c) in
     let g = stood (c .before .before .before .before) in
     omega (arith, g .going .few, g .count, size-le (now (entry .args .source)) (entry .args .spot), entry .pre .0)
 
@@ -76,24 +84,24 @@ free-after-requires c κs = search needs
 
 loop-less : tie.Need-loop-less Inv-loop μ-loop
 loop-less c =
-    let entry = c .before .before .before .before .before .before .before .before .before .before .before in
+    let entry = entry-of (spot-past-of (c .before)) in
     let item = c .before in
     let g = stood (item .before .before .before .before) in
     omega (
       arith,
-      it-moved (now (entry .args .source)) (entry .args .spot) (item .before .before .before .before .spot-past .result) (c .before .before .before .before .before .before .before .before .before .loop .free) (g .done) (g .going)
+      it-moved (now (entry .args .source)) (entry .args .spot) (item .before .before .before .before .spot-past .result) (spot-past-of item .before .before .before .before .loop .free) (g .done) (g .going)
           (item .before .r .given .0 .0) (item .before .r .given .0 .1 .0) (one item) .smaller,
-      c .before .before .before .before .before .before .before .before .count-told .ensures .ahead,
+      spot-past-of item .before .before .before .count-told .ensures .ahead,
       ap (sizeOf (now (entry .args .source))) (item .before .before .before .before .spot-past .ensures),
     )
 
 loop-again : tie.Need-loop-again Inv-loop μ-loop
 loop-again c =
-    let entry = c .before .before .before .before .before .before .before .before .before .before .before in
+    let entry = entry-of (spot-past-of (c .before)) in
     let item = c .before in
     let s = now (entry .args .source) in
     let p = item .before .before .before .before .spot-past .result in
-    let free = c .before .before .before .before .before .before .before .before .before .loop .free in
+    let free = spot-past-of item .before .before .before .before .loop .free in
     let r = item .before .r .given .0 .0 in
     let q = item .before .r .given .0 .1 .0 in
     let g = stood (item .before .before .before .before) in
@@ -110,7 +118,7 @@ enum-told c = search needs
 
 returns-2 : tie.Need-returns-2 Inv-loop μ-loop
 returns-2 c =
-    let entry = c .before .before .before .before .before .before .before .before .before in
+    let entry = entry-of (c .before .before .before) in
     let g = stood (c .before .before .before) in
     counted (now (entry .args .source)) (entry .args .spot) (c .before .before .before .spot-past .result) (c .before .before .before .before .before .before .before .loop .free) (g .done) (g .going)
     (c .before .before .before .before .before .before .count-told .result .items) (g .count) (sym (c .enum-told .given .1) ∙ c .before .before .next-item .ensures)

@@ -7,6 +7,14 @@ use borrow.Author.Needs.{needs}
 use Rattle.lexer.proofs.whole.deliver.Statement.{statement}
 use Rattle.lexer.proofs.whole.deliver.Tie as tie
 
+-- where the call began, from where `if2` failed
+abbrev entry-of : tie.Else2 → tie.Start
+entry-of c = c .before .before .before .before .before
+
+-- where `if2` failed, from after `slice-known8`
+abbrev if2-of : tie.After-slice-known8 → tie.Else2
+if2-of c = c .before .before .before .before .before .before .before
+
 deliver-counted-requires : tie.Need-deliver-counted-requires
 deliver-counted-requires c κs = search needs
 
@@ -42,12 +50,12 @@ same-length-6 c = search needs
 
 returns-3 : tie.Need-returns-3
 returns-3 c =
-    let entry = c .before .before .before .before .before .before .before .before .before .before .before .before in
+    let entry = entry-of (if2-of c) in
     let f = entry .args in
     let done = c .before .before .before .before .write in
     ample (allItems (now (f .source)) (f .spot)) (now (f .recs)) (now (f .text))
-    (done .result) (done .ensures .0) (now (f .source)) (entry .pre .1) (c .before .before .before .before .before .before .before .before .if1 .left)
-    (c .before .before .before .before .before .before .before .if2 .left) (done .ensures .1 .0) (done .ensures .1 .1)
+    (done .result) (done .ensures .0) (now (f .source)) (entry .pre .1) (if2-of c .before .if1 .left)
+    (if2-of c .if2 .left) (done .ensures .1 .0) (done .ensures .1 .1)
 
 pub deliver-spec : {M : Type 1} → statement M
 deliver-spec =

@@ -11,6 +11,10 @@ use borrow.Author.Needs.{needs}
 use Rattle.lexer.proofs.whole.put_text.Statement.{statement}
 use Rattle.lexer.proofs.whole.put_text.Tie as tie
 
+-- where the call began, from after `struct-known3`
+abbrev entry-of : tie.After-struct-known3 → tie.Start
+entry-of c = c .before .before .before .before .before .before
+
 cast-start : tie.Need-cast-start
 cast-start c = search needs
 
@@ -18,20 +22,20 @@ cast-end : tie.Need-cast-end
 cast-end c = search needs
 
 sub-decode : tie.Need-sub-decode
-sub-decode c = omega (arith, c .before .before .before .before .before .before .pre)
+sub-decode c = omega (arith, entry-of c .pre)
 
 part-decode-start : tie.Need-part-decode-start
-part-decode-start c = omega (arith, c .before .before .before .before .before .before .pre)
+part-decode-start c = omega (arith, entry-of c .pre)
 
 part-decode-end : tie.Need-part-decode-end
-part-decode-end c = omega (arith, c .before .before .before .before .before .before .pre)
+part-decode-end c = omega (arith, entry-of c .pre)
 
 quotes-requires : tie.Need-quotes-requires
 quotes-requires c κs = search needs
 
 decode-requires : tie.Need-decode-requires
 decode-requires c κs =
-    let entry = c .before .before .before .before .before .before .before .before .before in (
+    let entry = entry-of (c .before .before .before) in (
       part-long (now (entry .args .source)) (entry .args .r .start) (entry .args .r .end) (entry .pre .0) (entry .pre .1),
       omega (
         arith,
@@ -47,7 +51,7 @@ same-length c = search needs
 returns : tie.Need-returns
 returns c =
     let at-quotes = c .before .before .before .before in
-    let entry = at-quotes .before .before .before .before .before .before .before .before in
+    let entry = entry-of (at-quotes .before .before) in
     c .before .before .decode .ensures .1 ∙ ap (λ (l : List ℕ). written l (now (entry .args .free))) (sym (decodes (now (entry .args .source))
     (entry .args .r) (at-quotes .quotes .result) (at-quotes .before .before .before .before .if1 .taken) (at-quotes .quotes .ensures)))
 

@@ -25,48 +25,64 @@ Inv-loop source p recs₀ free from deep depth₀ w₀ at₀ recs depth w at = T
 abbrev μ-loop : tie.MeasureT-loop
 μ-loop source p recs₀ free from deep depth₀ w₀ at₀ recs depth w at = sizeOf source (toldTo p at from w)
 
+-- where the turn began in which an item was told
+abbrev item-turn : tie.After-known-told Inv-loop μ-loop → tie.At-loop Inv-loop μ-loop
+item-turn c = c .before .before .before .before .before
+
+-- the same, of a bracket that was told
+abbrev bracket-turn : tie.After-known-told2 Inv-loop μ-loop → tie.At-loop Inv-loop μ-loop
+bracket-turn c = c .before .before .before .before .before
+
+-- where the item was told, from after the blanks behind it
+abbrev item-of : tie.After-past-blanks2 Inv-loop μ-loop → tie.After-known-told Inv-loop μ-loop
+item-of c = c .before .before .before .before .before .before
+
+-- the same, of a bracket
+abbrev bracket-of : tie.After-past-blanks3 Inv-loop μ-loop → tie.After-known-told2 Inv-loop μ-loop
+bracket-of c = c .before .before .before .before .before .before .before
+
 -- where the call began, from where a turn of its loop did
 abbrev entry-of : tie.At-loop Inv-loop μ-loop → tie.Start Inv-loop μ-loop
 entry-of l = l .before .before .before .before
 
-item-told : (c : tie.After-known-told Inv-loop μ-loop) → GlanceAt (now (entry-of (c .before .before .before .before .before) .args .source)) (entry-of (c .before .before .before .before .before) .args .p .report) (entry-of (c .before .before .before .before .before) .args .p .skip)
-    (c .before .before .before .before .before .loop .at) (Item (c .before .m .given .0 .0) (c .before .m .given .0 .1 .0) (c .before .m .given .0 .1 .1 .0))
+item-told : (c : tie.After-known-told Inv-loop μ-loop) → GlanceAt (now (entry-of (item-turn c) .args .source)) (entry-of (item-turn c) .args .p .report) (entry-of (item-turn c) .args .p .skip)
+    (item-turn c .loop .at) (Item (c .before .m .given .0 .0) (c .before .m .given .0 .1 .0) (c .before .m .given .0 .1 .1 .0))
 item-told c =
-    let entry = entry-of (c .before .before .before .before .before) in
-    subst (λ (q : Quick). GlanceAt (now (entry .args .source)) (entry .args .p .report) (entry .args .p .skip) (c .before .before .before .before .before .loop .at) q) (c .before .m .given .1) (c .before .before .before .quick-at .ensures)
+    let entry = entry-of (item-turn c) in
+    subst (λ (q : Quick). GlanceAt (now (entry .args .source)) (entry .args .p .report) (entry .args .p .skip) (item-turn c .loop .at) q) (c .before .m .given .1) (c .before .before .before .quick-at .ensures)
 
-item-room : (c : tie.After-known-told Inv-loop μ-loop) → c .before .before .before .before .before .loop .w + recordWords ≤ length (c .before .before .before .before .before .loop .recs)
+item-room : (c : tie.After-known-told Inv-loop μ-loop) → item-turn c .loop .w + recordWords ≤ length (item-turn c .loop .recs)
 item-room c =
-    let turn = c .before .before .before .before .before in
+    let turn = item-turn c in
     let entry = turn .before .before .before .before in
     let t = item-told c in
     told-room (now (entry .args .source)) (entry .args .p) (now (entry .args .recs)) (entry .args .free) (entry .args .deep) (entry .args .from) (entry .pre .1)
     (turn .loop .at) (turn .loop .inv .1) (c .before .m .given .0 .1 .0) (c .before .m .given .0 .1 .1 .0) (c .before .m .given .0 .0) (t .0, t .1, t .2)
 
-item-same : (c : tie.After-known-told Inv-loop μ-loop) → length (c .before .before .before .before .before .loop .recs) ≡ length (now (entry-of (c .before .before .before .before .before) .args .recs))
+item-same : (c : tie.After-known-told Inv-loop μ-loop) → length (item-turn c .loop .recs) ≡ length (now (entry-of (item-turn c) .args .recs))
 item-same c =
-    let turn = c .before .before .before .before .before in
+    let turn = item-turn c in
     let entry = turn .before .before .before .before in
     told-length (now (entry .args .source)) (entry .args .p) (now (entry .args .recs)) (entry .args .free) (entry .args .deep) (entry .args .from) (entry .pre .1)
     (turn .loop .at) (turn .loop .inv .1)
 
-bracket-told : (c : tie.After-known-told2 Inv-loop μ-loop) → GlanceAt (now (entry-of (c .before .before .before .before .before) .args .source)) (entry-of (c .before .before .before .before .before) .args .p .report) (entry-of (c .before .before .before .before .before) .args .p .skip)
-    (c .before .before .before .before .before .loop .at) (Bracket (c .before .m2 .given .0 .0) (c .before .m2 .given .0 .1 .0) (c .before .m2 .given .0 .1 .1 .0))
+bracket-told : (c : tie.After-known-told2 Inv-loop μ-loop) → GlanceAt (now (entry-of (bracket-turn c) .args .source)) (entry-of (bracket-turn c) .args .p .report) (entry-of (bracket-turn c) .args .p .skip)
+    (bracket-turn c .loop .at) (Bracket (c .before .m2 .given .0 .0) (c .before .m2 .given .0 .1 .0) (c .before .m2 .given .0 .1 .1 .0))
 bracket-told c =
-    let entry = entry-of (c .before .before .before .before .before) in
-    subst (λ (q : Quick). GlanceAt (now (entry .args .source)) (entry .args .p .report) (entry .args .p .skip) (c .before .before .before .before .before .loop .at) q) (c .before .m2 .given .1) (c .before .before .before .quick-at .ensures)
+    let entry = entry-of (bracket-turn c) in
+    subst (λ (q : Quick). GlanceAt (now (entry .args .source)) (entry .args .p .report) (entry .args .p .skip) (bracket-turn c .loop .at) q) (c .before .m2 .given .1) (c .before .before .before .quick-at .ensures)
 
-bracket-room : (c : tie.After-known-told2 Inv-loop μ-loop) → c .before .before .before .before .before .loop .w + recordWords ≤ length (c .before .before .before .before .before .loop .recs)
+bracket-room : (c : tie.After-known-told2 Inv-loop μ-loop) → bracket-turn c .loop .w + recordWords ≤ length (bracket-turn c .loop .recs)
 bracket-room c =
-    let turn = c .before .before .before .before .before in
+    let turn = bracket-turn c in
     let entry = turn .before .before .before .before in
     let t = bracket-told c in
     told-room (now (entry .args .source)) (entry .args .p) (now (entry .args .recs)) (entry .args .free) (entry .args .deep) (entry .args .from) (entry .pre .1)
     (turn .loop .at) (turn .loop .inv .1) (c .before .m2 .given .0 .1 .0) (c .before .m2 .given .0 .1 .1 .0) (c .before .m2 .given .0 .0) (t .0, t .1, t .2)
 
-bracket-same : (c : tie.After-known-told2 Inv-loop μ-loop) → length (c .before .before .before .before .before .loop .recs) ≡ length (now (entry-of (c .before .before .before .before .before) .args .recs))
+bracket-same : (c : tie.After-known-told2 Inv-loop μ-loop) → length (bracket-turn c .loop .recs) ≡ length (now (entry-of (bracket-turn c) .args .recs))
 bracket-same c =
-    let turn = c .before .before .before .before .before in
+    let turn = bracket-turn c in
     let entry = turn .before .before .before .before in
     told-length (now (entry .args .source)) (entry .args .p) (now (entry .args .recs)) (entry .args .free) (entry .args .deep) (entry .args .from) (entry .pre .1)
     (turn .loop .at) (turn .loop .inv .1)
@@ -83,7 +99,7 @@ loop-holds c =
     )
 
 quick-at-requires : tie.Need-quick-at-requires Inv-loop μ-loop
-quick-at-requires c κs = let entry = c .before .before .before .before .before in (entry .pre .0, c .loop-test .taken, entry .pre .2)
+quick-at-requires c κs = let entry = entry-of (c .before) in (entry .pre .0, c .loop-test .taken, entry .pre .2)
 
 enum-known-m : tie.Need-enum-known-m Inv-loop μ-loop
 enum-known-m c = search needs
@@ -110,7 +126,7 @@ record-at-requires c κs =
     (turn .loop .at) (turn .loop .inv .1) (item .m .given .0 .1 .0) (item .m .given .0 .1 .1 .0) (item .m .given .0 .0) (t .0, t .1, t .2) (entry .pre .0)
 
 put-requires : tie.Need-put-requires Inv-loop μ-loop
-put-requires c κs = let l = c .before .before .before .before .before .before .before .loop in omega (arith, item-room (c .before .before), length-part (l .recs) (l .w))
+put-requires c κs = let l = item-turn (c .before .before) .loop in omega (arith, item-room (c .before .before), length-part (l .recs) (l .w))
 
 add-w : tie.Need-add-w Inv-loop μ-loop
 add-w c =
@@ -123,20 +139,20 @@ past-blanks-requires-2 c κs = search needs
 
 loop-less : tie.Need-loop-less Inv-loop μ-loop
 loop-less c =
-    let item = c .before .before .before .before .before .before .before in
+    let item = item-of c .before in
     let turn = item .before .before .before .before in
     let entry = turn .before .before .before .before in
-    let t = item-told (c .before .before .before .before .before .before) in
+    let t = item-told (item-of c) in
     told-smaller (now (entry .args .source)) (entry .args .p) (now (entry .args .recs)) (entry .args .free) (entry .args .deep) (entry .args .from) (entry .pre .1)
     (turn .loop .at) (turn .loop .inv .1) (item .m .given .0 .1 .0) (item .m .given .0 .1 .1 .0) (item .m .given .0 .0) (t .0, t .1, t .2)
     (c .past-blanks2 .result) (c .past-blanks2 .ensures) (turn .loop .inv .0)
 
 loop-again : tie.Need-loop-again Inv-loop μ-loop
 loop-again c =
-    let item = c .before .before .before .before .before .before .before in
+    let item = item-of c .before in
     let turn = item .before .before .before .before in
     let entry = turn .before .before .before .before in
-    let t = item-told (c .before .before .before .before .before .before) in (
+    let t = item-told (item-of c) in (
       omega (arith, turn .loop .inv .0),
       told-on (now (entry .args .source)) (entry .args .p) (now (entry .args .recs)) (entry .args .free) (entry .args .deep) (entry .args .from) (entry .pre .1)
           (turn .loop .at) (turn .loop .inv .1) (item .m .given .0 .1 .0) (item .m .given .0 .1 .1 .0) (item .m .given .0 .0) (t .0, t .1, t .2)
@@ -171,7 +187,7 @@ record-at-requires-2 c κs =
     (turn .loop .at) (turn .loop .inv .1) (item .m2 .given .0 .1 .0) (item .m2 .given .0 .1 .1 .0) (item .m2 .given .0 .0) (t .0, t .1, t .2) (entry .pre .0)
 
 put-requires-2 : tie.Need-put-requires-2 Inv-loop μ-loop
-put-requires-2 c κs = let l = c .before .before .before .before .before .before .before .loop in omega (arith, bracket-room (c .before .before), length-part (l .recs) (l .w))
+put-requires-2 c κs = let l = bracket-turn (c .before .before) .loop in omega (arith, bracket-room (c .before .before), length-part (l .recs) (l .w))
 
 depth-after-requires : tie.Need-depth-after-requires Inv-loop μ-loop
 depth-after-requires c κs = search needs
@@ -187,20 +203,20 @@ past-blanks-requires-3 c κs = search needs
 
 loop-less-2 : tie.Need-loop-less-2 Inv-loop μ-loop
 loop-less-2 c =
-    let item = c .before .before .before .before .before .before .before .before in
+    let item = bracket-of c .before in
     let turn = item .before .before .before .before in
     let entry = turn .before .before .before .before in
-    let t = bracket-told (c .before .before .before .before .before .before .before) in
+    let t = bracket-told (bracket-of c) in
     told-smaller (now (entry .args .source)) (entry .args .p) (now (entry .args .recs)) (entry .args .free) (entry .args .deep) (entry .args .from) (entry .pre .1)
     (turn .loop .at) (turn .loop .inv .1) (item .m2 .given .0 .1 .0) (item .m2 .given .0 .1 .1 .0) (item .m2 .given .0 .0) (t .0, t .1, t .2)
     (c .past-blanks3 .result) (c .past-blanks3 .ensures) (turn .loop .inv .0)
 
 loop-again-2 : tie.Need-loop-again-2 Inv-loop μ-loop
 loop-again-2 c =
-    let item = c .before .before .before .before .before .before .before .before in
+    let item = bracket-of c .before in
     let turn = item .before .before .before .before in
     let entry = turn .before .before .before .before in
-    let t = bracket-told (c .before .before .before .before .before .before .before) in (
+    let t = bracket-told (bracket-of c) in (
       omega (arith, turn .loop .inv .0),
       told-on (now (entry .args .source)) (entry .args .p) (now (entry .args .recs)) (entry .args .free) (entry .args .deep) (entry .args .from) (entry .pre .1)
           (turn .loop .at) (turn .loop .inv .1) (item .m2 .given .0 .1 .0) (item .m2 .given .0 .1 .1 .0) (item .m2 .given .0 .0) (t .0, t .1, t .2)

@@ -9,6 +9,18 @@ use borrow.Author.Needs.{needs}
 use Rattle.lexer.proofs.whole.read.Statement.{statement}
 use Rattle.lexer.proofs.whole.read.Tie as tie
 
+-- where the call began, from after `open`
+abbrev entry-of : tie.After-open → tie.Start
+entry-of c = c .before .before .before .before
+
+-- after `open`, from after `position`
+abbrev open-of : tie.After-position → tie.After-open
+open-of c = c .before .before
+
+-- after `position`, from after `text`
+abbrev position-of : tie.After-text → tie.After-position
+position-of c = c .before .before .before .before .before .before .before
+
 open-requires : tie.Need-open-requires
 open-requires c κs = search needs
 
@@ -17,7 +29,7 @@ enum-known-position c = search needs
 
 deliver-requires : tie.Need-deliver-requires
 deliver-requires c κs =
-    let entry = c .before .before .before .before .before .before .before .before .before in
+    let entry = entry-of (c .before .before .before .before .before) in
     let o = read-opened (now (entry .args .source)) (entry .args .mode) (entry .args .skip) (now (entry .args .recs))
     (now (entry .args .text)) (c .before .before .before .position .given .0 .0)
     (sym (ap openingOf (c .before .before .before .position .given .1)) ∙ c .before .before .before .before .before .«open» .ensures) in (o .0, o .1, o .2)
@@ -39,27 +51,27 @@ same-length-2 c = search needs
 
 returns : tie.Need-returns
 returns c =
-    let told = c .before .before .before .before .before .before .before .before in
-    let entry = told .before .before .before .before .before .before in
+    let told = position-of (c .before) in
+    let entry = entry-of (open-of told) in
     c .before .before .before .before .deliver .ensures
     ∙ sym (read-opened (now (entry .args .source)) (entry .args .mode) (entry .args .skip) (now (entry .args .recs)) (now (entry .args .text))
     (told .position .given .0 .0) (sym (ap openingOf (told .position .given .1)) ∙ told .before .before .«open» .ensures) .3)
 
 returns-2 : tie.Need-returns-2
 returns-2 c =
-    let entry = c .before .before .before .before .before .before .before in
+    let entry = entry-of (c .before .before .before) in
     read-refused (now (entry .args .source)) (entry .args .mode) (entry .args .skip) (now (entry .args .recs)) (now (entry .args .text)) refusal.noMode
     (c .before .m .given .0 .0) (sym (ap openingOf (c .before .m .given .1)) ∙ c .before .before .before .«open» .ensures)
 
 returns-3 : tie.Need-returns-3
 returns-3 c =
-    let entry = c .before .before .before .before .before .before in
+    let entry = entry-of (c .before .before) in
     read-refused (now (entry .args .source)) (entry .args .mode) (entry .args .skip)
     (now (entry .args .recs)) (now (entry .args .text)) refusal.tooLong limit (sym (ap openingOf (c .enum-told .given .1)) ∙ c .before .before .«open» .ensures)
 
 returns-4 : tie.Need-returns-4
 returns-4 c =
-    let entry = c .before .before .before .before .before .before .before in
+    let entry = entry-of (c .before .before .before) in
     read-refused (now (entry .args .source)) (entry .args .mode) (entry .args .skip) (now (entry .args .recs)) (now (entry .args .text)) refusal.notUtf8
     (c .before .at .given .0 .0) (sym (ap openingOf (c .before .at .given .1)) ∙ c .before .before .before .«open» .ensures)
 

@@ -33,6 +33,10 @@ entry-of c = turn-of c .before .before .before .before
 abbrev at-known : tie.After-known-told Inv-loop μ-loop → tie.After-slice-known3 Inv-loop μ-loop
 at-known c = c .before .before .before .before .before .before .before
 
+-- where the item's record was put, from where the depth after it was told
+abbrev put-of : tie.After-depth-after Inv-loop μ-loop → tie.After-put Inv-loop μ-loop
+put-of c = c .before .before .before .before .before .before .before
+
 fit : (c : tie.After-slice-known3 Inv-loop μ-loop) → Roomy (now (entry-of c .args .source))
     (entry-of c .args .spot)
     (now (entry-of c .args .recs))
@@ -166,7 +170,7 @@ depth-after-requires c κs = search needs
 
 add-w : tie.Need-add-w Inv-loop μ-loop
 add-w c =
-    let item = c .before .before .before .before .before .before .before .before .before in
+    let item = put-of c .before .before in
     let good = entry-of (at-known item) .good in
     omega (arith, fits item, same item)
 
@@ -175,7 +179,7 @@ free-after-requires c κs = search needs
 
 loop-less : tie.Need-loop-less Inv-loop μ-loop
 loop-less c =
-    let item = c .before .before .before .before .before .before .before .before .before .before in
+    let item = put-of (c .before) .before .before in
     let entry = entry-of (at-known item) in
     omega (
       arith,
@@ -187,12 +191,12 @@ loop-less c =
 
 loop-again : tie.Need-loop-again Inv-loop μ-loop
 loop-again c =
-    let item = c .before .before .before .before .before .before .before .before .before .before in
+    let item = put-of (c .before) .before .before in
     let entry = entry-of (at-known item) in
     writing-on (now (entry .args .source)) (entry .args .spot) (now (entry .args .recs)) (now (entry .args .text)) (fit (at-known item)) (stood (item .before .before .before .before))
     (item .before .r .given .0 .0) (item .before .r .given .0 .1 .0) (one item)
     (c .free-after .result) (c .before .depth-after .result) (c .free-after .ensures)
-    (c .before .depth-after .ensures) (c .before .before .before .before .before .before .before .before .put .ensures) (c .before .before .before .before .put-text .ensures)
+    (c .before .depth-after .ensures) (put-of (c .before) .put .ensures) (c .before .before .before .before .put-text .ensures)
 
 enum-told : tie.Need-enum-told Inv-loop μ-loop
 enum-told c = search needs

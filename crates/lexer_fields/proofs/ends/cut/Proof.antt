@@ -22,6 +22,10 @@ Inv-loop source ends n i₀ from₀ inside₀ i from inside =
 abbrev μ-loop : tie.MeasureT-loop
 μ-loop source ends n i₀ from₀ inside₀ i from inside = length ends - i
 
+-- where the call began, from where `if2` failed
+abbrev entry-of : tie.Else2 Inv-loop μ-loop → tie.Start Inv-loop μ-loop
+entry-of c = c .before .before .before .before .before .before .before
+
 loop-holds : tie.Need-loop-holds Inv-loop μ-loop
 loop-holds c = (omega arith, refl, refl)
 
@@ -55,7 +59,7 @@ continues-requires : tie.Need-continues-requires Inv-loop μ-loop
 continues-requires c κs = search needs
 
 add-i : tie.Need-add-i Inv-loop μ-loop
-add-i c = omega (arith, c .before .before .before .before .before .before .before .before .before .good)
+add-i c = omega (arith, entry-of (c .before .before) .good)
 
 loop-less : tie.Need-loop-less Inv-loop μ-loop
 loop-less c = omega (arith, c .before .before .before .before .before .loop-test .taken)

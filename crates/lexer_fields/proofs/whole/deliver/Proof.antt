@@ -6,6 +6,10 @@ use borrow.Author.Needs.{needs}
 use Rattle.lexer_fields.proofs.whole.deliver.Statement.{statement}
 use Rattle.lexer_fields.proofs.whole.deliver.Tie as tie
 
+-- where the call began, from where `if2` failed
+abbrev entry-of : tie.Else2 → tie.Start
+entry-of c = c .before .before .before .before .before .before .before
+
 deliver-counted-requires : tie.Need-deliver-counted-requires
 deliver-counted-requires c κs = search needs
 
@@ -54,7 +58,7 @@ returns-3 c = search needs
 write-requires : tie.Need-write-requires
 write-requires c κs =
     let tested = c .before .before .before in
-    let entry = tested .before .before .before .before .before .before .before .before in (
+    let entry = entry-of (tested .before) in (
       entry .pre .0,
       (
         entry .pre .1,
@@ -76,7 +80,7 @@ returns-4 : tie.Need-returns-4
 returns-4 c =
     let wrote = c .before .before .before .before .before .before in
     let tested = wrote .before .before .before .before in
-    let entry = tested .before .before .before .before .before .before .before .before in
+    let entry = entry-of (tested .before) in
     ample (now (entry .args .source)) (now (entry .args .ends)) (entry .args .mode) (entry .args .skip) (now (entry .args .rows)) (now (entry .args .recs)) (now (entry .args .text))
     (entry .pre .0) (tested .before .before .if1 .left) (tested .before .if2 .left) (tested .if3 .left) (wrote .write .result)
     (wrote .write .ensures .0) (wrote .write .ensures .1 .0) (wrote .write .ensures .1 .1 .0) (wrote .write .ensures .1 .1 .1)

@@ -18,11 +18,15 @@ Inv-loop text from place at₀ n₀ at n = (n ≤ at + 1) × (column place n (se
 abbrev μ-loop : tie.MeasureT-loop
 μ-loop text from place at₀ n₀ at n = place - at
 
+-- where the call began, from after `decode-at`
+abbrev entry-of : tie.After-decode-at Inv-loop μ-loop → tie.Start Inv-loop μ-loop
+entry-of c = c .before .before .before .before
+
 -- a character moves the place on
 next : (c : tie.Else1 Inv-loop μ-loop) → c .before .before .before .before .before .before .loop .at < c .before .before .next .given .0 .1 .0
 next c =
     let stepped = c .before .before in
-    further (now (stepped .before .before .before .before .before .before .args .text)) (stepped .before .before .before .before .loop .at)
+    further (now (entry-of (stepped .before .before) .args .text)) (stepped .before .before .before .before .loop .at)
     (stepped .next .given .0 .0) (stepped .next .given .0 .1 .0) (sym (stepped .next .given .1) ∙ stepped .before .before .decode-at .ensures)
 
 loop-holds : tie.Need-loop-holds Inv-loop μ-loop
@@ -35,7 +39,7 @@ enum-known-next : tie.Need-enum-known-next Inv-loop μ-loop
 enum-known-next c = search needs
 
 returns : tie.Need-returns Inv-loop μ-loop
-returns c = let a = c .before .before .before .before .before .before .before .before .args in
+returns c = let a = entry-of (c .before .before .before .before) .args in
     let l = c .before .before .before .before .before .before .loop in
     sym (column-in (now (a .text)) (a .place) (l .n) (l .at) (c .before .before .before .before .before .loop-test .taken)
     (sym (c .before .before .next .given .1) ∙ c .before .before .before .before .decode-at .ensures) (c .if1 .taken)) ∙ l .inv .1
@@ -47,7 +51,7 @@ loop-less : tie.Need-loop-less Inv-loop μ-loop
 loop-less c = omega (arith, next c)
 
 loop-again : tie.Need-loop-again Inv-loop μ-loop
-loop-again c = let a = c .before .before .before .before .before .before .before .before .args in
+loop-again c = let a = entry-of (c .before .before .before .before) .args in
     let l = c .before .before .before .before .before .before .loop in (
       omega (arith, l .inv .0, next c),
       sym (column-on (now (a .text)) (a .place) (l .n) (l .at) (c .before .before .before .before .before .loop-test .taken)
@@ -58,7 +62,7 @@ enum-told : tie.Need-enum-told Inv-loop μ-loop
 enum-told c = search needs
 
 returns-2 : tie.Need-returns-2 Inv-loop μ-loop
-returns-2 c = let a = c .before .before .before .before .before .before .args in
+returns-2 c = let a = entry-of (c .before .before) .args in
     let l = c .before .before .before .before .loop in sym (column-step (now (a .text)) (a .place)
     (l .n) (l .at) (c .before .before .before .loop-test .taken) (sym (c .enum-told .given .1) ∙ c .before .before .decode-at .ensures)) ∙ l .inv .1
 
@@ -66,7 +70,7 @@ enum-told-2 : tie.Need-enum-told-2 Inv-loop μ-loop
 enum-told-2 c = search needs
 
 returns-3 : tie.Need-returns-3 Inv-loop μ-loop
-returns-3 c = let a = c .before .before .before .before .before .before .args in
+returns-3 c = let a = entry-of (c .before .before) .args in
     let l = c .before .before .before .before .loop in sym (column-step (now (a .text)) (a .place)
     (l .n) (l .at) (c .before .before .before .loop-test .taken) (sym (c .enum-told2 .given .1) ∙ c .before .before .decode-at .ensures)) ∙ l .inv .1
 
@@ -74,7 +78,7 @@ enum-told-3 : tie.Need-enum-told-3 Inv-loop μ-loop
 enum-told-3 c = search needs
 
 returns-4 : tie.Need-returns-4 Inv-loop μ-loop
-returns-4 c = let a = c .before .before .before .before .before .before .args in let l = c .before .before .before .before .loop in
+returns-4 c = let a = entry-of (c .before .before) .args in let l = c .before .before .before .before .loop in
     absurd (not-end (now (a .text)) (l .at) (omega arith) (sym (c .enum-told3 .given .1) ∙ c .before .before .decode-at .ensures))
 
 returns-5 : tie.Need-returns-5 Inv-loop μ-loop

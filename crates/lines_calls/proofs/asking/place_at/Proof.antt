@@ -38,17 +38,18 @@ returns-2 : tie.Need-returns-2
 returns-2 c =
     let widened = c .before .before .before .before in
     let a = widened .before .before .before .before .before .before .args in
-    let f = c .before .before .before .before .before .before .line-at in place-found (now (a .text)) (now (a .index))
+    let f = widened .before .before .line-at in place-found (now (a .text)) (now (a .index))
     (a .place) (widened .before .before .before .before .before .before .pre) (f .result) (widened .before .before .before .if1 .left)
     (f .ensures .0) (f .ensures .2) (rw (widened .wide .ensures) at (sym (c .before .before .before .column-at .ensures) ∙ c .before .n .given .1))
 
 returns-3 : tie.Need-returns-3
 returns-3 c =
-    let f = c .before .before .before .before .before .line-at in
-    let entry = c .before .before .before .before .before .before .before .before .before in
+    let at-line-at = c .before .before .before .before .before in
+    let f = at-line-at .line-at in
+    let entry = at-line-at .before .before .before .before in
     let a = entry .args in
     place-found (now (a .text)) (now (a .index)) (a .place) (entry .pre)
-    (f .result) (c .before .before .before .before .before .before .if1 .left) (f .ensures .0)
+    (f .result) (at-line-at .before .if1 .left) (f .ensures .0)
     (f .ensures .2) (rw (c .before .before .before .wide .ensures) at (sym (c .before .before .column-at .ensures) ∙ c .enum-told .given .1))
 
 pub place-at-spec : {M : Type 1} → statement M

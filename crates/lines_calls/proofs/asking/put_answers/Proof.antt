@@ -18,6 +18,10 @@ Inv-loop text index places found₀ at₀ k₀ found at k = (k ≤ length places
 abbrev μ-loop : tie.MeasureT-loop
 μ-loop text index places found₀ at₀ k₀ found at k = length places - k
 
+-- where the call began, from where a turn of the loop began
+abbrev entry-of : tie.At-loop Inv-loop μ-loop → tie.Start Inv-loop μ-loop
+entry-of c = c .before .before .before .before .before
+
 loop-holds : tie.Need-loop-holds Inv-loop μ-loop
 loop-holds c = (omega arith, refl, refl, refl)
 
@@ -31,7 +35,7 @@ wide-requires : tie.Need-wide-requires Inv-loop μ-loop
 wide-requires c κs = search needs
 
 place-at-requires : tie.Need-place-at-requires Inv-loop μ-loop
-place-at-requires c κs = c .before .before .before .before .before .before .before .before .pre .0
+place-at-requires c κs = entry-of (c .before .before .before) .pre .0
 
 line-word-requires : tie.Need-line-word-requires Inv-loop μ-loop
 line-word-requires c κs = search needs
@@ -67,8 +71,9 @@ loop-less c = omega arith
 
 loop-again : tie.Need-loop-again Inv-loop μ-loop
 loop-again c =
-    let l = c .before .before .before .before .before .before .loop in
-    let entry = c .before .before .before .before .before .before .before .before .before .before .before in
+    let turn-2 = c .before .before .before .before .before .before in
+    let l = turn-2 .loop in
+    let entry = turn-2 .before .before .before .before .before in
     let a = entry .args in
     let r = locates (now (a .text)) (now (a .index)) (c .before .before .before .wide .result)
     (entry .pre .0) (c .before .before .place-at .ensures) in (
@@ -86,8 +91,8 @@ same-length : tie.Need-same-length Inv-loop μ-loop
 same-length c = c .before .loop .inv .2
 
 returns : tie.Need-returns Inv-loop μ-loop
-returns c = let a = c .before .before .before .before .before .before .args in let l = c .before .loop in answers-all (now (a .text)) (now (a .index))
-    (now (a .places)) (now (a .found)) (l .k) (l .at) (c .before .before .before .before .before .before .pre .1) (c .loop-test .left) (l .inv .3)
+returns c = let a = entry-of (c .before) .args in let l = c .before .loop in answers-all (now (a .text)) (now (a .index))
+    (now (a .places)) (now (a .found)) (l .k) (l .at) (entry-of (c .before) .pre .1) (c .loop-test .left) (l .inv .3)
 
 pub put-answers-spec : {M : Type 1} → statement M
 put-answers-spec =

@@ -16,6 +16,14 @@ Inv-loop text index j₀ at₀ j at = Comparing text index j at
 abbrev μ-loop : tie.MeasureT-loop
 μ-loop text index j₀ at₀ j at = length text - at
 
+-- where the call began, from where a turn of the loop began
+abbrev entry-of : tie.At-loop Inv-loop μ-loop → tie.Start Inv-loop μ-loop
+entry-of c = c .before .before .before .before .before .before .before
+
+-- where a turn of the loop began, from after `find2`
+abbrev turn-of : tie.After-find2 Inv-loop μ-loop → tie.At-loop Inv-loop μ-loop
+turn-of c = c .before .before .before .before .before .before
+
 returns : tie.Need-returns Inv-loop μ-loop
 returns c = sym (same-out 0 (startsFrom 0 (now (c .before .before .before .args .text))) (now (c .before .before .before .args .index)) 0 (omega arith))
 
@@ -36,7 +44,7 @@ loop-holds c =
     comparing-start (now (entry .args .text)) (now (entry .args .index)) (omega arith) (c .before .if2 .left) (c .find .ensures)
 
 returns-3 : tie.Need-returns-3 Inv-loop μ-loop
-returns-3 c = let a = c .before .before .before .before .before .before .before .before .before .args in let l = c .before .before .loop in
+returns-3 c = let a = entry-of (c .before .before) .args in let l = c .before .before .loop in
     comparing-out (now (a .text)) (now (a .index)) (l .j) (l .at) (l .inv) (c .before .loop-test .taken) (c .if3 .taken)
 
 mul-wide : tie.Need-mul-wide Inv-loop μ-loop
@@ -52,7 +60,7 @@ add-if4 : tie.Need-add-if4 Inv-loop μ-loop
 add-if4 c = omega arith
 
 returns-4 : tie.Need-returns-4 Inv-loop μ-loop
-returns-4 c = let a = c .before .before .before .before .before .before .before .before .before .before .before .before .args in
+returns-4 c = let a = entry-of (c .before .before .before .before .before) .args in
     let l = c .before .before .before .before .before .loop in comparing-other (now (a .text)) (now (a .index)) (l .j) (l .at)
     (l .inv) (c .before .before .before .before .loop-test .taken) (c .before .before .before .if3 .left) (c .before .wide .ensures) (c .if4 .taken)
 
@@ -69,13 +77,13 @@ loop-less : tie.Need-loop-less Inv-loop μ-loop
 loop-less c = omega (arith, c .find2 .ensures)
 
 loop-again : tie.Need-loop-again Inv-loop μ-loop
-loop-again c = let a = c .before .before .before .before .before .before .before .before .before .before .before .before .before .args in
-    let l = c .before .before .before .before .before .before .loop in
+loop-again c = let a = entry-of (turn-of c) .args in
+    let l = turn-of c .loop in
     comparing-next (now (a .text)) (now (a .index)) (l .j) (l .at) (l .inv) (c .before .before .before .before .before .loop-test .taken)
     (c .before .before .before .before .if3 .left) (c .before .before .wide .ensures) (c .before .if4 .left) (c .find2 .ensures)
 
 returns-5 : tie.Need-returns-5 Inv-loop μ-loop
-returns-5 c = let a = c .before .before .before .before .before .before .before .before .args in
+returns-5 c = let a = entry-of (c .before) .args in
     let l = c .before .loop in comparing-end (now (a .text)) (now (a .index)) (l .j) (l .at) (l .inv) (c .loop-test .left)
 
 pub same-starts-spec : {M : Type 1} → statement M

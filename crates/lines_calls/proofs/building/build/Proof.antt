@@ -10,6 +10,10 @@ use Rattle.lines_calls.proofs.Stored.{starts-most}
 use Rattle.lines_calls.proofs.building.build.Statement.{statement}
 use Rattle.lines_calls.proofs.building.build.Tie as tie
 
+-- where the call began, from after `enum-told`
+abbrev entry-of : tie.After-enum-told → tie.Start
+entry-of c = c .before .before .before .before .before .before
+
 returns : tie.Need-returns
 returns c = builds-long (now (c .before .before .before .args .text)) (now (c .before .before .before .args .index)) (c .if1 .taken)
 
@@ -23,7 +27,7 @@ enum-told : tie.Need-enum-told
 enum-told c = search needs
 
 put-requires : tie.Need-put-requires
-put-requires c κs = (c .before .before .before .before .before .if1 .left, starts-most (now (c .before .before .before .before .before .before .before .before .args .text)) (c .before .if2 .taken))
+put-requires c κs = (c .before .before .before .before .before .if1 .left, starts-most (now (entry-of (c .before .before) .args .text)) (c .before .if2 .taken))
 
 same-length : tie.Need-same-length
 same-length c = search needs
@@ -31,7 +35,7 @@ same-length c = search needs
 returns-2 : tie.Need-returns-2
 returns-2 c =
     let written = c .before .before in
-    let a = written .before .before .before .before .before .before .before .before .before .args in
+    let a = entry-of (written .before .before .before) .args in
     let room = starts-most (now (a .text)) (written .before .before .if2 .taken) in
     let fits : written .put .result ≤ length (now (a .index)) = omega (arith, room, written .put .ensures .0) in
     builds-all (now (a .text)) (now (a .index)) (written .before .before .before .before .before .before .if1 .left)
@@ -43,7 +47,7 @@ count-requires c κs = search needs
 
 returns-3 : tie.Need-returns-3
 returns-3 c =
-    let a = c .before .before .before .before .before .before .before .before .before .args in
+    let a = entry-of (c .before .before .before) .args in
     builds-short (now (a .text)) (now (a .index)) (c .before .before .before .before .before .before .if1 .left)
     (sym (c .before .before .before .before .before .first-bad .ensures) ∙ c .before .before .before .enum-told .given .1)
     (c .before .count .ensures) (c .if3 .taken)
@@ -63,7 +67,7 @@ same-length-2 c = search needs
 returns-5 : tie.Need-returns-5
 returns-5 c =
     let branch = c .before .before .before .before in
-    let a = branch .before .before .before .before .before .before .before .before .before .args in
+    let a = entry-of (branch .before .before .before) .args in
     builds-all (now (a .text)) (now (a .index)) (branch .before .before .before .before .before .before .if1 .left)
     (sym (branch .before .before .before .before .before .first-bad .ensures) ∙ branch .before .before .before .enum-told .given .1)
     (branch .before .count .ensures) (branch .if3 .left) (c .before .before .put2 .ensures .1)

@@ -15,6 +15,10 @@ Inv-loop text index₀ n₀ i₀ index n i = (i ≤ length text) × Storing text
 abbrev μ-loop : tie.MeasureT-loop
 μ-loop text index₀ n₀ i₀ index n i = length text - i
 
+-- where the call began, from where a turn of the loop began
+abbrev entry-of : tie.At-loop Inv-loop μ-loop → tie.Start Inv-loop μ-loop
+entry-of c = c .before .before .before
+
 slice-write-index : tie.Need-slice-write-index Inv-loop μ-loop
 slice-write-index c = omega arith
 
@@ -43,7 +47,7 @@ loop-less c = omega arith
 loop-again : tie.Need-loop-again Inv-loop μ-loop
 loop-again c = (
   omega arith,
-  storing-then (now (c .before .before .before .before .before .before .before .before .args .text))
+  storing-then (now (entry-of (c .before .before .before .before .before) .args .text))
       (c .before .before .before .before .before .loop .inv .1) (c .before .before .put-block .ensures),
 )
 
@@ -60,17 +64,17 @@ put-bytes-requires c κs =
 
 same-length : tie.Need-same-length Inv-loop μ-loop
 same-length c = c .before .before .put-bytes .ensures .size ∙ c .before .before .before .before .before .loop .inv .1 .size
-    ∙ length-set (now (c .before .before .before .before .before .before .before .before .args .index)) 0 0
+    ∙ length-set (now (entry-of (c .before .before .before .before .before) .args .index)) 0 0
 
 returns : tie.Need-returns Inv-loop μ-loop
 returns c =
     let written = c .before .before in
-    let a = written .before .before .before .before .before .before .args in
+    let a = entry-of (written .before .before .before) .args in
     let g = storing-then (now (a .text)) (written .before .before .before .loop .inv .1) (written .put-bytes .ensures) in
     let h : length (now (a .text)) ≤ length (now (a .text)) = omega arith in (
       stored-count (now (a .text)) (set (now (a .index)) 0 0) (written .put-bytes .result) (length (now (a .text))) h g,
       stored-all (now (a .text)) (now (a .index))
-          (written .put-bytes .result) (length (now (a .text))) (written .before .before .before .before .before .before .pre .1) h g,
+          (written .put-bytes .result) (length (now (a .text))) (entry-of (written .before .before .before) .pre .1) h g,
     )
 
 pub put-spec : {M : Type 1} → statement M

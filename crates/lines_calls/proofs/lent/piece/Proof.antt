@@ -29,9 +29,10 @@ same-length-2 c = search needs
 returns : tie.Need-returns
 returns c =
     let gone-on = c .before .before .before .before .before .before in
-    let a = gone-on .before .before .before .before .before .before .before .before .before .before .args in
+    let at-is-state = gone-on .before .before .before .before .before in
+    let a = at-is-state .before .before .before .before .before .args in
     feeds (now (a .words)) (now (a .index))
-    (now (a .bytes)) (sym (gone-on .before .before .before .before .before .is-state .ensures) ∙ gone-on .before .before .before .before .if1 .taken)
+    (now (a .bytes)) (sym (at-is-state .is-state .ensures) ∙ gone-on .before .before .before .before .if1 .taken)
     (rw (gone-on .before .before .state-in .ensures) at (gone-on .piece .ensures)) (c .before .before .put-state .ensures)
 
 same-length-3 : tie.Need-same-length-3

@@ -6,6 +6,10 @@ use Rattle.lines_calls.proofs.Words.{state-is}
 use Rattle.lines_calls.proofs.lent.state_in.Statement.{statement}
 use Rattle.lines_calls.proofs.lent.state_in.Tie as tie
 
+-- where the call began, from after `shared-slice-known6`
+abbrev entry-of : tie.After-shared-slice-known6 → tie.Start
+entry-of c = c .before .before .before .before .before .before
+
 shared-slice-read-t4 : tie.Need-shared-slice-read-t4
 shared-slice-read-t4 c = omega (arith, state-is (now (c .before .args .words)) (c .before .pre) .0)
 
@@ -36,17 +40,17 @@ shared-slice-read-t4-2 c =
 
 shared-slice-read-t13-2 : tie.Need-shared-slice-read-t13-2
 shared-slice-read-t13-2 c =
-    let entry = c .before .before .before .before .before .before in
+    let entry = entry-of c in
     omega (arith, state-is (now (entry .args .words)) (entry .pre) .0)
 
 shared-slice-read-t7-2 : tie.Need-shared-slice-read-t7-2
 shared-slice-read-t7-2 c =
-    let entry = c .before .before .before .before .before .before .before in
+    let entry = entry-of (c .before) in
     omega (arith, state-is (now (entry .args .words)) (entry .pre) .0)
 
 shared-slice-read-t10-2 : tie.Need-shared-slice-read-t10-2
 shared-slice-read-t10-2 c =
-    let entry = c .before .before .before .before .before .before .before .before in
+    let entry = entry-of (c .before .before) in
     omega (arith, state-is (now (entry .args .words)) (entry .pre) .0)
 
 returns : tie.Need-returns

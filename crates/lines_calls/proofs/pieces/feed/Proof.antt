@@ -14,6 +14,10 @@ Inv-loop bytes index₀ t₀ i₀ index t i = Feeding t₀ bytes index₀ t inde
 abbrev μ-loop : tie.MeasureT-loop
 μ-loop bytes index₀ t₀ i₀ index t i = length bytes - i
 
+-- where the call began, from after `step`
+abbrev entry-of : tie.After-step Inv-loop μ-loop → tie.Start Inv-loop μ-loop
+entry-of c = c .before .before .before .before .before .before
+
 loop-holds : tie.Need-loop-holds Inv-loop μ-loop
 loop-holds c = let a = c .before .before .args in feeding-start (a .st) (now (a .bytes)) (now (a .index)) (c .before .before .pre)
 
@@ -34,7 +38,7 @@ loop-less c = omega arith
 
 loop-again : tie.Need-loop-again Inv-loop μ-loop
 loop-again c =
-    let a = c .before .before .before .before .before .before .before .before .before .before .args in
+    let a = entry-of (c .before .before .before .before) .args in
     let l = c .before .before .before .before .before .before .before .loop in
     feeding-next (a .st)
     (now (a .bytes)) (now (a .index)) (l .t) (l .index) (l .i) (l .inv) (c .before .before .before .before .before .before .loop-test .taken)

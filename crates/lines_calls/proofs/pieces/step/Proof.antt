@@ -5,6 +5,10 @@ use Rattle.lines.proofs.Feeding.{step-stands, step-full, step-counts, step-did}
 use Rattle.lines_calls.proofs.pieces.step.Statement.{statement}
 use Rattle.lines_calls.proofs.pieces.step.Tie as tie
 
+-- where the call began, from after `struct-known3`
+abbrev entry-of : tie.After-struct-known3 → tie.Start
+entry-of c = c .before .before .before .before .before
+
 returns : tie.Need-returns
 returns c = sym (step-stands (c .before .before .args .t) (c .before .before .args .b) (c .if1 .taken))
 
@@ -24,7 +28,7 @@ stopped-requires-2 c κs = search needs
 
 returns-3 : tie.Need-returns-3
 returns-3 c =
-    let entry = c .before .before .before .before .before .before .before .before in
+    let entry = entry-of (c .before .before .before) in
     c .stopped2 .ensures ∙ sym (step-counts (entry .args .t) (entry .args .b)
     (c .before .before .before .before .before .before .if1 .left) (c .before .before .before .before .if2 .left) (c .before .before .if3 .taken))
 
@@ -61,15 +65,16 @@ stopped-requires-3 c κs = search needs
 returns-4 : tie.Need-returns-4
 returns-4 c =
     let stepped = c .before .before .before .before in
-    let entry = stepped .before .before .before .before .before .before .before .before in
+    let entry = entry-of (stepped .before .before .before) in
     c .moved .ensures ∙ sym (step-did (entry .args .t) (entry .args .b) (stepped .before .before .before .before .before .before .if1 .left)
     (stepped .before .before .before .before .if2 .left)
     (stepped .before .before .if3 .left) (sym (stepped .byte-step .ensures) ∙ c .before .before .u .given .1))
 
 returns-5 : tie.Need-returns-5
 returns-5 c =
+    let at-begun = c .before .before .before .before .before .before in
+    let entry = at-begun .before .before .before .before .before .before .before in
     let stepped = c .before .before .before .before .before in
-    let entry = stepped .before .before .before .before .before .before .before .before in
     (rw (c .before .before .between .ensures) at (c .moved2 .ensures)) ∙ sym (step-did (entry .args .t)
     (entry .args .b) (stepped .before .before .before .before .before .before .if1 .left) (stepped .before .before .before .before .if2 .left)
     (stepped .before .before .if3 .left) (sym (stepped .byte-step .ensures) ∙ c .before .before .before .enum-told .given .1))
@@ -77,7 +82,7 @@ returns-5 c =
 returns-6 : tie.Need-returns-6
 returns-6 c =
     let stepped = c .before .before .before .before in
-    let entry = stepped .before .before .before .before .before .before .before .before in
+    let entry = entry-of (stepped .before .before .before) in
     c .stopped3 .ensures ∙ sym (step-did (entry .args .t) (entry .args .b) (stepped .before .before .before .before .before .before .if1 .left)
     (stepped .before .before .before .before .if2 .left)
     (stepped .before .before .if3 .left) (sym (stepped .byte-step .ensures) ∙ c .before .before .enum-told2 .given .1))

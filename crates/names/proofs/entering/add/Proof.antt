@@ -12,6 +12,14 @@ use Rattle.names.proofs.Laws.{slot-small}
 use Rattle.names.proofs.entering.add.Statement.{statement}
 use Rattle.names.proofs.entering.add.Tie as tie
 
+-- where the call began, from after `word`
+abbrev entry-of : tie.After-word → tie.Start
+entry-of c = c .before .before .before .before .before
+
+-- after `word`, from after `put`
+abbrev word-of : tie.After-put → tie.After-word
+word-of c = c .before .before .before .before .before .before
+
 mul-word : tie.Need-mul-word
 mul-word c = search needs
 
@@ -38,7 +46,7 @@ word-requires-2 c κs = search needs
 
 sub-if2 : tie.Need-sub-if2
 sub-if2 c =
-    let entry = c .before .before .before .before .before .before .before .before in
+    let entry = entry-of (c .before .before .before) in
     omega (
       arith,
       used-of (now (entry .args .words))
@@ -51,7 +59,7 @@ same-length-2 c = search needs
 
 returns-2 : tie.Need-returns-2
 returns-2 c = new-long _ _ _ _ (c .before .before .before .before .word .ensures) (c .before .before .before .if1 .left)
-    (c .before .word2 .ensures) (c .before .before .before .before .before .before .before .before .before .pre .1 .1 .1) (c .if2 .taken)
+    (c .before .word2 .ensures) (entry-of (c .before .before .before .before) .pre .1 .1 .1) (c .if2 .taken)
 
 put-requires : tie.Need-put-requires
 put-requires c κs =
@@ -79,11 +87,11 @@ mul-copy c = search needs
 
 add-copy : tie.Need-add-copy
 add-copy c =
-    let entry = c .before .before .before .before .before .before .before .before .before .before .before .before .before .before in
+    let entry = entry-of (word-of (c .before .before .before)) in
     omega (
       arith,
       used-of (now (entry .args .words)) (now (entry .args .bytes)) (entry .args .party) (now (entry .args .name))
-          (c .before .before .before .before .before .before .before .before .before .word .ensures)
+          (word-of (c .before .before .before) .word .ensures)
           (c .before .before .before .before .before .before .word2 .ensures),
       entry .pre .1 .1 .1,
     )
@@ -91,7 +99,7 @@ add-copy c =
 copy-requires : tie.Need-copy-requires
 copy-requires c κs =
     let branch = c .before .before .before .before .before in
-    let entry = branch .before .before .before .before .before .before .before .before .before in
+    let entry = entry-of (branch .before .before .before .before) in
     let q = entry .pre in
     omega (
       arith,
@@ -121,10 +129,10 @@ same-length-4 c = search needs
 returns-3 : tie.Need-returns-3
 returns-3 c =
     let written = c .before .before .before .before .before .before in
-    let entry = written .before .before .before .before .before .before .before .before .before .before .before in
+    let entry = entry-of (word-of written) in
     let q = entry .pre in
     new-put _ _ _ _
-    (written .before .before .before .before .before .before .word .ensures) (written .before .before .before .before .before .if1 .left)
+    (word-of written .word .ensures) (written .before .before .before .before .before .if1 .left)
     (written .before .before .before .word2 .ensures) (q .1 .1 .1) (written .before .before .if2 .left) (q .0)
     (written .put .ensures
     ∙ ap (λ (t : ℕ). newWords (now (entry .args .words)) (entry .args .party) (entry .args .slot) t (length (now (entry .args .name)))) (q .1 .0))

@@ -52,7 +52,8 @@ enum-told c = search needs
 
 returns-2 : tie.Need-returns-2 Inv-loop μ-loop
 returns-2 c =
-    let entry = c .before .before .before .before .before .before .before .before in
+    let turn = c .before .before .before .before in
+    let entry = turn .before .before .before .before in
     let e = c .before .before .if1 .left in
     let said = c .before .before .before .lookup .ensures in (
       find-own (now (entry .args .words))
@@ -67,7 +68,9 @@ sub-half : tie.Need-sub-half Inv-loop μ-loop
 sub-half c = search needs
 
 loop-less : tie.Need-loop-less Inv-loop μ-loop
-loop-less c = rw (c .before .before .if1 .left) (left-less _ (c .before .before .before .before .before .before .before .before .pre .1 .0 .party))
+loop-less c =
+    let turn = c .before .before .before .before in
+    rw (c .before .before .if1 .left) (left-less _ (turn .before .before .before .before .pre .1 .0 .party))
 
 loop-again : tie.Need-loop-again Inv-loop μ-loop
 loop-again c =

@@ -16,6 +16,10 @@ Inv-loop words bytes party name h tag base s₀ left₀ s left = (s < indexSlots
 abbrev μ-loop : tie.MeasureT-loop
 μ-loop words bytes party name h tag base s₀ left₀ s left = left
 
+-- where the call began, from where a turn of the loop began
+abbrev entry-of : tie.At-loop Inv-loop μ-loop → tie.Start Inv-loop μ-loop
+entry-of c = c .before .before .before .before .before .before
+
 tag-of-requires : tie.Need-tag-of-requires Inv-loop μ-loop
 tag-of-requires c κs = search needs
 
@@ -42,13 +46,13 @@ word-requires c κs = search needs
 returns : tie.Need-returns Inv-loop μ-loop
 returns c =
     let turn = c .before .before .before in
-    let entry = turn .before .before .before .before .before .before in
+    let entry = entry-of turn in
     probe-free (now (entry .args .words)) (now (entry .args .bytes)) (entry .args .party) (now (entry .args .name))
     (turn .loop .left) (turn .loop .s) (c .before .word .ensures) (c .before .before .loop-test .taken) (c .if1 .taken) ∙ turn .loop .inv .2
 
 proposes-requires : tie.Need-proposes-requires Inv-loop μ-loop
 proposes-requires c κs =
-    let entry = c .before .before .before .before .before .before .before .before .before in (
+    let entry = entry-of (c .before .before .before) in (
       c .before .before .before .loop .inv .1,
       (omega (arith, c .if1 .left), entry .pre .1),
     )
@@ -59,7 +63,7 @@ sub-t15 c = omega (arith, c .before .before .if1 .left)
 returns-2 : tie.Need-returns-2 Inv-loop μ-loop
 returns-2 c =
     let turn = c .before .before .before .before .before in
-    let entry = turn .before .before .before .before .before .before in
+    let entry = entry-of turn in
     probe-hit (now (entry .args .words)) (now (entry .args .bytes)) (entry .args .party) (now (entry .args .name))
     (turn .loop .left) (turn .loop .s) (c .before .before .before .word .ensures) (c .before .before .before .before .loop-test .taken)
     (c .before .before .if1 .left) (sym (c .before .proposes .ensures) ∙ c .if2 .taken) ∙ turn .loop .inv .2
@@ -76,7 +80,7 @@ loop-less c = search needs
 loop-again : tie.Need-loop-again Inv-loop μ-loop
 loop-again c =
     let turn = c .before .before .before .before .before in
-    let entry = turn .before .before .before .before .before .before in (
+    let entry = entry-of turn in (
       next-small _,
       turn .loop .inv .1,
       probe-miss (now (entry .args .words)) (now (entry .args .bytes)) (entry .args .party) (now (entry .args .name))
@@ -86,7 +90,7 @@ loop-again c =
 
 returns-3 : tie.Need-returns-3 Inv-loop μ-loop
 returns-3 c =
-    let entry = c .before .before .before .before .before .before .before in
+    let entry = entry-of (c .before) in
     probe-end (now (entry .args .words)) (now (entry .args .bytes))
     (entry .args .party) (now (entry .args .name)) (c .before .loop .left) (c .before .loop .s) (omega arith) ∙ c .before .loop .inv .2
 

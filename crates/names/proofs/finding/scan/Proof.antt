@@ -15,6 +15,10 @@ Inv-loop words bytes party name n k₀ k = (k ≤ n) × (scan (n - k) words byte
 abbrev μ-loop : tie.MeasureT-loop
 μ-loop words bytes party name n k₀ k = n - k
 
+-- where the call began, from where a turn of the loop began
+abbrev entry-of : tie.At-loop Inv-loop μ-loop → tie.Start Inv-loop μ-loop
+entry-of c = c .before .before .before .before .before
+
 mul-word : tie.Need-mul-word Inv-loop μ-loop
 mul-word c = search needs
 
@@ -37,7 +41,7 @@ add-t11 c = omega (arith, c .before .before .before .before .word .ensures)
 
 returns : tie.Need-returns Inv-loop μ-loop
 returns c =
-    let entry = c .before .before .before .before .before .before .before .before in
+    let entry = entry-of (c .before .before .before) in
     scan-hit (now (entry .args .words)) (now (entry .args .bytes))
     (entry .args .party) (now (entry .args .name)) (c .before .before .before .before .word .result) (c .before .before .before .loop .k)
     (c .before .before .loop-test .taken) (sym (c .before .bears .ensures) ∙ c .if1 .taken) ∙ c .before .before .before .loop .inv .1
@@ -50,7 +54,7 @@ loop-less c = search needs
 
 loop-again : tie.Need-loop-again Inv-loop μ-loop
 loop-again c =
-    let entry = c .before .before .before .before .before .before .before .before in (
+    let entry = entry-of (c .before .before .before) in (
       omega arith,
       scan-miss (now (entry .args .words)) (now (entry .args .bytes))
           (entry .args .party) (now (entry .args .name)) (c .before .before .before .before .word .result) (c .before .before .before .loop .k)
@@ -59,7 +63,7 @@ loop-again c =
 
 returns-2 : tie.Need-returns-2 Inv-loop μ-loop
 returns-2 c =
-    let entry = c .before .before .before .before .before .before in
+    let entry = entry-of (c .before) in
     scan-end (now (entry .args .words)) (now (entry .args .bytes)) (entry .args .party)
     (now (entry .args .name)) (c .before .before .word .result) (c .before .loop .k) (c .loop-test .left) ∙ c .before .loop .inv .1
 

@@ -56,7 +56,9 @@ pub slice-aggregate-sequence : (t : ℕ) → datum-lts.Need-slice-aggregate-sequ
 slice-aggregate-sequence t c = search needs
 
 pub sequence-requires : (t : ℕ) → datum-lts.Need-sequence-requires (datum-claims t) (datum-at t) datum.Post
-sequence-requires t c κs = let b = c .before .before .before .before .before .before .before .before in
+sequence-requires t c κs =
+    let at-class = c .before .before .before .before .before in
+    let b = at-class .before .before .before in
     let s = b .args .records .now in let at = b .args .at in let depth = b .args .depth in let w = b .args .w in
     let f = b .args .f in let old = b .args .nodes .now in let in-text : at < countOf s = omega (arith, b .pre .1 .0, b .pre .1 .1) in (
       omega (arith, b .pre .0, in-text),
@@ -78,7 +80,9 @@ pub add-sequence-3 : (t : ℕ) → datum-lts.Need-add-sequence-3 (datum-claims t
 add-sequence-3 t c = search needs
 
 pub sequence-requires-2 : (t : ℕ) → datum-lts.Need-sequence-requires-2 (datum-claims t) (datum-at t) datum.Post
-sequence-requires-2 t c κs = let b = c .before .before .before .before .before .before .before .before in
+sequence-requires-2 t c κs =
+    let at-class = c .before .before .before .before .before in
+    let b = at-class .before .before .before in
     let s = b .args .records .now in let at = b .args .at in let depth = b .args .depth in let w = b .args .w in
     let f = b .args .f in let old = b .args .nodes .now in let in-text : at < countOf s = omega (arith, b .pre .1 .0, b .pre .1 .1) in (
       omega (arith, b .pre .0, in-text),
@@ -90,7 +94,8 @@ sequence-requires-2 t c κs = let b = c .before .before .before .before .before 
 pub took-requires : (t : ℕ) → datum-lts.Need-took-requires (datum-claims t) (datum-at t) datum.Post
 took-requires t c κs =
     let at-sequence = c .before .before .before in
-    let b = at-sequence .before .before .before .before .before .before .before .before .before in
+    let at-class = at-sequence .before .before .before .before .before .before in
+    let b = at-class .before .before .before in
     let s = b .args .records .now in let at = b .args .at in let depth = b .args .depth in let w = b .args .w in let f = b .args .f in
     let old = b .args .nodes .now in let in-text : at < countOf s = omega (arith, b .pre .1 .0, b .pre .1 .1) in above s at (depth + 1) Quoting w old
     (at-sequence .sequence2 .last .1 .1 .1 .1 .1 .0) (at-sequence .sequence2 .result) (opened-sequence s at (depth + 1) Quoting w old
@@ -121,7 +126,9 @@ pub add-simples-2 : (t : ℕ) → datum-lts.Need-add-simples-2 (datum-claims t) 
 add-simples-2 t c = search needs
 
 pub simples-requires : (t : ℕ) → datum-lts.Need-simples-requires (datum-claims t) (datum-at t) datum.Post
-simples-requires t c κs = let b = c .before .before .before .before .before .before .before .before .before in
+simples-requires t c κs =
+    let at-class = c .before .before .before .before .before .before in
+    let b = at-class .before .before .before in
     let s = b .args .records .now in let at = b .args .at in let depth = b .args .depth in let w = b .args .w in let f = b .args .f in
     let old = b .args .nodes .now in let in-text : at < countOf s = omega (arith, b .pre .1 .0, b .pre .1 .1) in
     (b .pre .1 .0, omega (arith, b .pre .1 .1), omega (arith, b .pre .1 .2))
@@ -130,15 +137,21 @@ pub sub-v : (t : ℕ) → datum-lts.Need-sub-v (datum-claims t) (datum-at t) dat
 sub-v t c = omega (arith, c .before .before .simples .ensures .simples .count)
 
 pub add-v : (t : ℕ) → datum-lts.Need-add-v (datum-claims t) (datum-at t) datum.Post
-add-v t c = omega (
-  arith,
-  c .before .before .simples .ensures .simples .count,
-  c .before .before .simples .ensures .simples .inside,
-  c .before .before .before .before .before .before .before .before .before .before .before .before .pre .1 .2,
-)
+add-v t c =
+    let at-simples = c .before .before in
+    let at-class = at-simples .before .before .before .before .before .before .before in
+    omega (
+      arith,
+      at-simples .simples .ensures .simples .count,
+      at-simples .simples .ensures .simples .inside,
+      at-class .before .before .before .pre .1 .2,
+    )
 
 pub closes-at-requires : (t : ℕ) → datum-lts.Need-closes-at-requires (datum-claims t) (datum-at t) datum.Post
-closes-at-requires t c κs = c .before .before .before .before .before .before .before .before .before .before .before .before .pre .1 .0
+closes-at-requires t c κs =
+    let at-simples = c .before .before in
+    let at-class = at-simples .before .before .before .before .before .before .before in
+    at-class .before .before .before .pre .1 .0
 
 pub add-t47 : (t : ℕ) → datum-lts.Need-add-t47 (datum-claims t) (datum-at t) datum.Post
 add-t47 t c = omega (arith, c .before .before .closes-at .ensures (c .before .if2 .taken) .0)
@@ -150,7 +163,7 @@ pub took-requires-2 : (t : ℕ) → datum-lts.Need-took-requires-2 (datum-claims
 took-requires-2 t c κs = omega (arith, c .before .before .before .before .before .before .simples .ensures .simples .count)
 
 pub same-length : (t : ℕ) → datum-lts.Need-same-length (datum-claims t) (datum-at t) datum.Post
-same-length t c = c .before .before .took2 .kept .0 ∙ c .before .before .before .before .before .before .before .before .before .simples .kept .1 .1 .1 .0
+same-length t c = let at-took = c .before .before in at-took .took2 .kept .0 ∙ at-took .before .before .before .before .before .before .before .simples .kept .1 .1 .1 .0
 
 pub returns-2 : (t : ℕ) → datum-lts.Need-returns-2 (datum-claims t) (datum-at t) datum.Post
 returns-2 t c =
@@ -243,10 +256,12 @@ returns-4 t c = let b = c .before .before .before .before .before .before .befor
     (b .pre .1 .2) Fails f refusal.errorItem (sym (c .enum-told2 .given .1) ∙ c .before .before .before .before .class-at .ensures) refl (λ q. omega arith)
 
 pub returns-5 : (t : ℕ) → datum-lts.Need-returns-5 (datum-claims t) (datum-at t) datum.Post
-returns-5 t c = let b = c .before .before .before .before .before .before .before .before in let s = b .args .records .now in
+returns-5 t c =
+    let at-class = c .before .before .before .before .before in
+    let b = at-class .before .before .before in let s = b .args .records .now in
     let at = b .args .at in let depth = b .args .depth in let w = b .args .w in let f = b .args .f in let old = b .args .nodes .now in
     let in-text : at < countOf s = omega (arith, b .pre .1 .0, b .pre .1 .1) in rw (c .same .ensures) (pass-said s at depth w old in-text
-    (b .pre .1 .2) f (sym (c .before .enum-told3 .given .1) ∙ c .before .before .before .before .before .class-at .ensures))
+    (b .pre .1 .2) f (sym (c .before .enum-told3 .given .1) ∙ at-class .class-at .ensures))
 
 pub returns-6 : (t : ℕ) → datum-lts.Need-returns-6 (datum-claims t) (datum-at t) datum.Post
 returns-6 t c =
@@ -293,8 +308,9 @@ returns-8 t c =
     (rw (told .k .given .1) at (sym (told .before .before .before .wrong-at .ensures) ∙ told .before .before .if1 .left)))
 
 pub same-length-4 : (t : ℕ) → datum-lts.Need-same-length-4 (datum-claims t) (datum-at t) datum.Post
-same-length-4 t c = c .before .before .took3 .kept .0 ∙ c .before .before .before .before .before .before .sequence3 .kept .1 .1 .1 .1 .1 .0
-    ∙ c .before .before .before .before .before .before .before .before .before .before .before .before .before .simples .kept .1 .1 .1 .0
+same-length-4 t c =
+    let at-sequence = c .before .before .before .before .before .before in
+    c .before .before .took3 .kept .0 ∙ at-sequence .sequence3 .kept .1 .1 .1 .1 .1 .0 ∙ at-sequence .before .before .before .before .before .before .before .simples .kept .1 .1 .1 .0
 
 pub returns-9 : (t : ℕ) → datum-lts.Need-returns-9 (datum-claims t) (datum-at t) datum.Post
 returns-9 t c =
@@ -318,16 +334,20 @@ returns-9 t c =
     (at-took .took3 .ensures) (rw (told .k2 .given .1) at (sym (told .before .before .before .wrong-at .ensures) ∙ told .before .before .if1 .left))
 
 pub returns-10 : (t : ℕ) → datum-lts.Need-returns-10 (datum-claims t) (datum-at t) datum.Post
-returns-10 t c = let b = c .before .before .before .before .before .before .before .before in
+returns-10 t c =
+    let at-class = c .before .before .before .before .before in
+    let b = at-class .before .before .before in
     let s = b .args .records .now in let at = b .args .at in let depth = b .args .depth in let w = b .args .w in let f = b .args .f in
     let old = b .args .nodes .now in let in-text : at < countOf s = omega (arith, b .pre .1 .0, b .pre .1 .1) in close-said s at depth w old in-text
-    (b .pre .1 .2) (c .before .k3 .given .0 .0) f (sym (c .before .k3 .given .1) ∙ c .before .before .before .before .before .class-at .ensures)
+    (b .pre .1 .2) (c .before .k3 .given .0 .0) f (sym (c .before .k3 .given .1) ∙ at-class .class-at .ensures)
     (rw (c .before .k3 .given .1) at (sym (c .before .before .before .before .wrong-at .ensures) ∙ c .before .before .before .if1 .left))
 
 pub returns-11 : (t : ℕ) → datum-lts.Need-returns-11 (datum-claims t) (datum-at t) datum.Post
-returns-11 t c = let b = c .before .before .before .before .before .before .before .before in
+returns-11 t c =
+    let at-class = c .before .before .before .before .before in
+    let b = at-class .before .before .before in
     let s = b .args .records .now in let at = b .args .at in let depth = b .args .depth in let w = b .args .w in let f = b .args .f in
     let old = b .args .nodes .now in let in-text : at < countOf s = omega (arith, b .pre .1 .0, b .pre .1 .1) in dot-said s at depth w old in-text
-    (b .pre .1 .2) f (c .pointed-at .result) (sym (c .before .enum-told6 .given .1) ∙ c .before .before .before .before .before .class-at .ensures)
+    (b .pre .1 .2) f (c .pointed-at .result) (sym (c .before .enum-told6 .given .1) ∙ at-class .class-at .ensures)
     (rw (c .before .enum-told6 .given .1) at (sym (c .before .before .before .before .wrong-at .ensures) ∙ c .before .before .before .if1 .left))
     (c .pointed-at .ensures)

@@ -7,6 +7,14 @@ use Rattle.numbers.proofs.AfterPlus.{pair-none, pair-first, pair-second
 use Rattle.numbers.proofs.plus.plus_pair.Statement.{statement}
 use Rattle.numbers.proofs.plus.plus_pair.Tie as tie
 
+-- where the call began, from after `plus-real`
+abbrev entry-of : tie.After-plus-real → tie.Start
+entry-of c = c .before .before .before .before .before
+
+-- after `plus-real`, from after `is-real`
+abbrev plus-real-of : tie.After-is-real → tie.After-plus-real
+plus-real-of c = c .before .before .before .before
+
 ends-i-requires : tie.Need-ends-i-requires
 ends-i-requires c κs = search needs
 
@@ -30,9 +38,9 @@ is-real-requires c κs = search needs
 
 returns : tie.Need-returns
 returns c =
-    pair-second _ _ (sym (c .before .before .before .before .before .before .if1 .taken) ∙
-    c .before .before .before .before .before .before .before .ends-i .ensures) (c .before .before .before .before .plus-real .ensures)
-    (c .before .before .before .if2 .taken) (c .before .before .before .before .before .before .before .before .before .pre) (c .before .imaginary-at .ensures)
+    pair-second _ _ (sym (plus-real-of c .before .before .if1 .taken) ∙
+    plus-real-of c .before .before .before .ends-i .ensures) (c .before .before .before .before .plus-real .ensures)
+    (c .before .before .before .if2 .taken) (entry-of (plus-real-of c) .pre) (c .before .imaginary-at .ensures)
     (c .is-real .ensures)
 
 returns-2 : tie.Need-returns-2

@@ -10,6 +10,10 @@ use Rattle.pieces_calls.proofs.Replies.{reply-yes, reply-no}
 use Rattle.pieces_calls.proofs.calls.end_call.Statement.{statement}
 use Rattle.pieces_calls.proofs.calls.end_call.Tie as tie
 
+-- where the call began, from after `buf`
+abbrev entry-of : tie.After-buf → tie.Start
+entry-of c = c .before .before .before .before .before .before .before
+
 refuse-requires : tie.Need-refuse-requires
 refuse-requires c κs = search needs
 
@@ -30,7 +34,7 @@ same-length-2 c = search needs
 
 returns-2 : tie.Need-returns-2
 returns-2 c =
-    let entry = c .before .before .before .before .before .before .before .before .before .before in
+    let entry = entry-of (c .before .before .before) in
     reply-yes (now (entry .args .text)) (eqb (length (now (entry .args .buf))) longest) _ _
     (eq-eqb _ _ (c .before .before .before .before .before .before .before .if1 .left)) (c .before .before .before .before .read-end .ensures)
 

@@ -13,6 +13,10 @@ use Rattle.pieces_turns.proofs.Sounds.{finish-fits}
 use Rattle.pieces_calls.proofs.calls.end_item.Statement.{statement}
 use Rattle.pieces_calls.proofs.calls.end_item.Tie as tie
 
+-- where the call began, from after `finish`
+abbrev entry-of : tie.After-finish → tie.Start
+entry-of c = c .before .before .before .before .before .before
+
 stop-requires : tie.Need-stop-requires
 stop-requires c κs = search needs
 
@@ -38,7 +42,7 @@ finish-requires c κs = search needs
 
 ends-requires : tie.Need-ends-requires
 ends-requires c κs =
-    let entry = c .before .before .before .before .before .before .before .before in (
+    let entry = entry-of (c .before .before) in (
       entry .pre .0,
       subst OutcomeFits (sym (c .before .before .finish .ensures)) (finish-fits (stateOf (entry .args .m) (now (entry .args .buf)))
           (entry .pre .0 .full) (entry .pre .0 .small) (entry .pre .0 .some) (entry .args .phase) (entry .pre .1)),
@@ -56,8 +60,9 @@ same-length-2 c = search needs
 
 returns-2 : tie.Need-returns-2
 returns-2 c =
+    let at-ends-arg = c .before .before .before .before .before .before .before in
+    let entry = at-ends-arg .before .before .before .before .before .before .before in
     let ended = c .before .before .before .before .before in
-    let entry = ended .before .before .before .before .before .before .before .before .before in
     reply-yes (now (entry .args .text))
     (eqb (entry .args .m .part .count) 0) _ _ (eq-eqb _ _ (ended .before .before .before .before .before .if1 .left))
     (let g = rw (ended .before .before .before .finish .ensures) at (ended .ends .ensures) in

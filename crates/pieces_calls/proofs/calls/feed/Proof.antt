@@ -26,6 +26,22 @@ Inv-loop buf₀ piece text₀ marks₀ i₀ buf text marks i =
 abbrev μ-loop : tie.MeasureT-loop
 μ-loop buf₀ piece text₀ marks₀ i₀ buf text marks i = length piece - i
 
+-- where the call began, from after `ahead`
+abbrev entry-of : tie.After-ahead Inv-loop μ-loop → tie.Start Inv-loop μ-loop
+entry-of c = c .before .before .before .before .before .before
+
+-- after `ahead`, from after `buf`
+abbrev ahead-of : tie.After-buf Inv-loop μ-loop → tie.After-ahead Inv-loop μ-loop
+ahead-of c = c .before .before .before .before
+
+-- after `buf`, from after `turn`
+abbrev buf-of : tie.After-turn Inv-loop μ-loop → tie.After-buf Inv-loop μ-loop
+buf-of c = c .before .before .before .before .before .before
+
+-- after `turn`, from after `is-more`
+abbrev turn-of : tie.After-is-more Inv-loop μ-loop → tie.After-turn Inv-loop μ-loop
+turn-of c = c .before .before .before .before .before .before
+
 loop-holds : tie.Need-loop-holds Inv-loop μ-loop
 loop-holds c = (omega arith, c .before .before .before .pre, refl, refl)
 
@@ -86,12 +102,12 @@ same-length : tie.Need-same-length Inv-loop μ-loop
 same-length c = search needs
 
 same-length-2 : tie.Need-same-length-2 Inv-loop μ-loop
-same-length-2 c = ap length (c .before .before .before .before .before .before .before .before .loop .inv .2)
+same-length-2 c = ap length (ahead-of (c .before .before) .before .before .loop .inv .2)
 
 returns : tie.Need-returns Inv-loop μ-loop
 returns c =
-    let looked = c .before .before .before .before .before .before in
-    let entry = looked .before .before .before .before .before .before in
+    let looked = ahead-of (c .before .before) in
+    let entry = entry-of looked in
     let l = looked .before .before .loop in
     let there = passes (l .marks) (l .buf) (l .text)
     (now (entry .args .piece)) (l .i) (looked .ahead .result) (l .inv .1) (looked .ahead .ensures) _ _ (c .before .before .before .pass .ensures) in
@@ -99,7 +115,7 @@ returns c =
 
 add-taken : tie.Need-add-taken Inv-loop μ-loop
 add-taken c =
-    let looked = c .before .before .before .before .before .before in
+    let looked = ahead-of (c .before .before) in
     let turn = looked .before .before in
     omega (
       arith,
@@ -109,7 +125,7 @@ add-taken c =
 
 shared-slice-read-turn : tie.Need-shared-slice-read-turn Inv-loop μ-loop
 shared-slice-read-turn c =
-    let looked = c .before .before .before .before .before .before .before .before .before in
+    let looked = ahead-of (c .before .before .before .before .before) in
     let turn = looked .before .before in
     omega (
       arith,
@@ -119,9 +135,9 @@ shared-slice-read-turn c =
 
 turn-requires : tie.Need-turn-requires Inv-loop μ-loop
 turn-requires c κs =
-    let looked = c .before .before .before .before .before .before .before .before .before in
+    let looked = ahead-of (c .before .before .before .before .before) in
     let l = looked .before .before .loop in
-    let there = passes (l .marks) (l .buf) (l .text) (now (looked .before .before .before .before .before .before .args .piece))
+    let there = passes (l .marks) (l .buf) (l .text) (now (entry-of looked .args .piece))
     (l .i) (looked .ahead .result) (l .inv .1) (looked .ahead .ensures) _ _ (c .before .before .before .before .before .before .pass .ensures) in
     there .0
 
@@ -130,24 +146,24 @@ is-more-requires c κs = search needs
 
 same-length-3 : tie.Need-same-length-3 Inv-loop μ-loop
 same-length-3 c =
-    let turned = c .before .before .before .before .before .before .before in
-    let passed = turned .before .before .before .before .before .before .before in
+    let turned = turn-of (c .before) in
+    let passed = buf-of turned .before in
     turned .turn .kept .1 .0 ∙ passed .pass .kept .1 .0 ∙ passed .before .before .before .before .before .loop .inv .1 .full
-    ∙ sym (passed .before .before .before .before .before .before .before .before .before .pre .full)
+    ∙ sym (entry-of (passed .before .before .before) .pre .full)
 
 same-length-4 : tie.Need-same-length-4 Inv-loop μ-loop
-same-length-4 c = c .before .before .before .before .before .before .before .turn .kept .1 .1 .0 ∙ ap length
-    (c .before .before .before .before .before .before .before .before .before .before .before .before .before .before .before .before .before .before .before .loop .inv .2)
+same-length-4 c = turn-of (c .before) .turn .kept .1 .1 .0 ∙ ap length
+    (ahead-of (buf-of (turn-of (c .before))) .before .before .loop .inv .2)
 
 returns-2 : tie.Need-returns-2 Inv-loop μ-loop
 returns-2 c =
-    let turned = c .before .before .before .before .before .before .before in
-    let looked = turned .before .before .before .before .before .before .before .before .before .before in
+    let turned = turn-of (c .before) in
+    let looked = ahead-of (buf-of turned) in
     let turn = looked .before .before in
     let entry = turn .before .before .before .before in
     let l = turn .loop in
     let there = passes (l .marks) (l .buf) (l .text) (now (entry .args .piece)) (l .i) (looked .ahead .result)
-    (l .inv .1) (looked .ahead .ensures) _ _ (turned .before .before .before .before .before .before .before .pass .ensures) in
+    (l .inv .1) (looked .ahead .ensures) _ _ (buf-of turned .before .pass .ensures) in
     let inside = run-within (kept (turn .loop .marks .stage))
     (now (entry .args .piece)) (turn .loop .i) (looked .ahead .result) (turn .loop .inv .0) (looked .ahead .ensures .0) in
     let f = fed-off _ (now (entry .args .piece)) (l .i + looked .ahead .result) (omega arith) _ _ _ (l .text) (turned .turn .result .got)
@@ -157,7 +173,7 @@ returns-2 c =
 loop-less : tie.Need-loop-less Inv-loop μ-loop
 loop-less c =
     let looked =
-    c .before .before .before .before .before .before .before .before .before .before .before .before .before .before .before .before .before in
+    ahead-of (buf-of (turn-of (c .before))) in
     let turn = looked .before .before in
     omega (
       arith,
@@ -167,13 +183,13 @@ loop-less c =
 
 loop-again : tie.Need-loop-again Inv-loop μ-loop
 loop-again c =
-    let turned = c .before .before .before .before .before .before .before in
-    let looked = turned .before .before .before .before .before .before .before .before .before .before in
+    let turned = turn-of (c .before) in
+    let looked = ahead-of (buf-of turned) in
     let turn = looked .before .before in
     let entry = turn .before .before .before .before in
     let l = turn .loop in
     let there = passes (l .marks) (l .buf) (l .text) (now (entry .args .piece)) (l .i) (looked .ahead .result)
-    (l .inv .1) (looked .ahead .ensures) _ _ (turned .before .before .before .before .before .before .before .pass .ensures) in
+    (l .inv .1) (looked .ahead .ensures) _ _ (buf-of turned .before .pass .ensures) in
     let inside = run-within (kept (turn .loop .marks .stage))
     (now (entry .args .piece)) (turn .loop .i) (looked .ahead .result) (turn .loop .inv .0) (looked .ahead .ensures .0) in
     let f = fed-on _ (now (entry .args .piece)) (l .i + looked .ahead .result) (omega arith) _ _ _ (l .text) (turned .turn .result .got)

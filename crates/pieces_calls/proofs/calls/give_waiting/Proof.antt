@@ -5,6 +5,10 @@ use Rattle.pieces_calls.proofs.Replies.{reply-both}
 use Rattle.pieces_calls.proofs.calls.give_waiting.Statement.{statement}
 use Rattle.pieces_calls.proofs.calls.give_waiting.Tie as tie
 
+-- where the call began, from after `text`
+abbrev entry-of : tie.After-text → tie.Start
+entry-of c = c .before .before .before .before .before .before
+
 give-second-requires : tie.Need-give-second-requires
 give-second-requires c κs = c .before .before .before .before .pre .0
 
@@ -13,7 +17,7 @@ extent-requires c κs = (omega arith, omega arith)
 
 beyond-requires : tie.Need-beyond-requires
 beyond-requires c κs =
-    let entry = c .before .before .before .before .before .before .before .before .before in
+    let entry = entry-of (c .before .before .before) in
     (entry .pre .0 .full, entry .pre .1)
 
 same-length : tie.Need-same-length

@@ -14,6 +14,10 @@ use Rattle.pieces_calls.proofs.Replies.{reply-yes, reply-no, piece-stag
 use Rattle.pieces_calls.proofs.calls.read_piece.Statement.{statement}
 use Rattle.pieces_calls.proofs.calls.read_piece.Tie as tie
 
+-- where the call began, from where `if2` failed
+abbrev entry-of : tie.Else2 → tie.Start
+entry-of c = c .before .before .before .before .before .before
+
 in-bounds-requires : tie.Need-in-bounds-requires
 in-bounds-requires c κs = search needs
 
@@ -45,7 +49,7 @@ enum-told c = search needs
 piece-on-requires : tie.Need-piece-on-requires
 piece-on-requires c κs =
     let branch = c .before .before .before .before in
-    let entry = branch .before .before .before .before .before .before in
+    let entry = entry-of branch in
     record {
       bounded = (sym (branch .before .before .in-bounds .ensures (now (entry .args .buf))) ∙ not-false _ (branch .before .if1 .left));
       calm = ap readsOn (c .before .before .enum-told .given .1);
@@ -59,7 +63,7 @@ enum-told-2 c = search needs
 piece-on-requires-2 : tie.Need-piece-on-requires-2
 piece-on-requires-2 c κs =
     let branch = c .before .before .before .before in
-    let entry = branch .before .before .before .before .before .before in
+    let entry = entry-of branch in
     record {
       bounded = (sym (branch .before .before .in-bounds .ensures (now (entry .args .buf))) ∙ not-false _ (branch .before .if1 .left));
       calm = ap readsOn (c .before .before .enum-told2 .given .1);
@@ -73,7 +77,7 @@ enum-told-3 c = search needs
 piece-on-requires-3 : tie.Need-piece-on-requires-3
 piece-on-requires-3 c κs =
     let branch = c .before .before .before .before in
-    let entry = branch .before .before .before .before .before .before in
+    let entry = entry-of branch in
     record {
       bounded = (sym (branch .before .before .in-bounds .ensures (now (entry .args .buf))) ∙ not-false _ (branch .before .if1 .left));
       calm = ap readsOn (c .before .before .enum-told3 .given .1);
@@ -87,7 +91,7 @@ enum-told-4 c = search needs
 piece-on-requires-4 : tie.Need-piece-on-requires-4
 piece-on-requires-4 c κs =
     let branch = c .before .before .before .before in
-    let entry = branch .before .before .before .before .before .before in
+    let entry = entry-of branch in
     record {
       bounded = (sym (branch .before .before .in-bounds .ensures (now (entry .args .buf))) ∙ not-false _ (branch .before .if1 .left));
       calm = ap readsOn (c .before .before .enum-told4 .given .1);
@@ -101,7 +105,7 @@ enum-known-stage c = search needs
 piece-on-requires-5 : tie.Need-piece-on-requires-5
 piece-on-requires-5 c κs =
     let branch = c .before .before .before .before .before in
-    let entry = branch .before .before .before .before .before .before in
+    let entry = entry-of branch in
     record {
       bounded = (sym (branch .before .before .in-bounds .ensures (now (entry .args .buf))) ∙ not-false _ (branch .before .if1 .left));
       calm = ap readsOn (c .before .before .before .stage .given .1);
@@ -115,7 +119,7 @@ enum-known-stage-2 c = search needs
 piece-waiting-requires : tie.Need-piece-waiting-requires
 piece-waiting-requires c κs =
     let branch = c .before .before .before .before .before in
-    let entry = branch .before .before .before .before .before .before in
+    let entry = entry-of branch in
     held-waiting (stateOf (entry .args .m) (now (entry .args .buf)))
     (now (entry .args .text)) (sym (branch .before .before .in-bounds .ensures (now (entry .args .buf))) ∙ not-false _ (branch .before .if1 .left))
     (entry .pre) (branch .if2 .left) _ _ (c .before .before .before .stage2 .given .1)
@@ -137,7 +141,7 @@ unfolding pieceOf
 returns-3 c =
     let gone-on = c .before .before .before .before in
     let branch = gone-on .before .before .before .before .before in
-    let entry = branch .before .before .before .before .before .before in
+    let entry = entry-of branch in
     reply-yes (now (entry .args .text)) (inBounds (stateOf (entry .args .m) (now (entry .args .buf)))) _ _
     (sym (branch .before .before .in-bounds .ensures (now (entry .args .buf))) ∙ not-false _ (branch .before .if1 .left))
     (reply-no (now (entry .args .text)) (ltb (length (now (entry .args .text))) longest) _ _
@@ -155,7 +159,7 @@ unfolding pieceOf
 returns-4 c =
     let gone-on = c .before .before .before .before in
     let branch = gone-on .before .before .before .before .before in
-    let entry = branch .before .before .before .before .before .before in
+    let entry = entry-of branch in
     reply-yes (now (entry .args .text)) (inBounds (stateOf (entry .args .m) (now (entry .args .buf)))) _ _
     (sym (branch .before .before .in-bounds .ensures (now (entry .args .buf))) ∙ not-false _ (branch .before .if1 .left))
     (reply-no (now (entry .args .text)) (ltb (length (now (entry .args .text))) longest) _ _
@@ -173,7 +177,7 @@ unfolding pieceOf
 returns-5 c =
     let gone-on = c .before .before .before .before in
     let branch = gone-on .before .before .before .before .before in
-    let entry = branch .before .before .before .before .before .before in
+    let entry = entry-of branch in
     reply-yes (now (entry .args .text)) (inBounds (stateOf (entry .args .m) (now (entry .args .buf)))) _ _
     (sym (branch .before .before .in-bounds .ensures (now (entry .args .buf))) ∙ not-false _ (branch .before .if1 .left))
     (reply-no (now (entry .args .text)) (ltb (length (now (entry .args .text))) longest) _ _
@@ -191,7 +195,7 @@ unfolding pieceOf
 returns-6 c =
     let gone-on = c .before .before .before .before in
     let branch = gone-on .before .before .before .before .before in
-    let entry = branch .before .before .before .before .before .before in
+    let entry = entry-of branch in
     reply-yes (now (entry .args .text)) (inBounds (stateOf (entry .args .m) (now (entry .args .buf)))) _ _
     (sym (branch .before .before .in-bounds .ensures (now (entry .args .buf))) ∙ not-false _ (branch .before .if1 .left))
     (reply-no (now (entry .args .text)) (ltb (length (now (entry .args .text))) longest) _ _
@@ -209,7 +213,7 @@ unfolding pieceOf
 returns-7 c =
     let gone-on = c .before .before .before .before in
     let staged = gone-on .before .before .before .before in
-    let entry = staged .before .before .before .before .before .before .before .before in
+    let entry = entry-of (staged .before .before) in
     reply-yes (now (entry .args .text)) (inBounds (stateOf (entry .args .m) (now (entry .args .buf)))) _ _
     (sym (staged .before .before .before .before .in-bounds .ensures (now (entry .args .buf))) ∙ not-false _
     (staged .before .before .before .if1 .left)) (reply-no (now (entry .args .text)) (ltb (length (now (entry .args .text))) longest) _ _
@@ -227,7 +231,7 @@ unfolding pieceOf
 returns-8 c =
     let waited = c .before .before .before .before in
     let staged = waited .before .before .before .before in
-    let entry = staged .before .before .before .before .before .before .before .before in
+    let entry = entry-of (staged .before .before) in
     reply-yes (now (entry .args .text)) (inBounds (stateOf (entry .args .m) (now (entry .args .buf)))) _ _
     (sym (staged .before .before .before .before .in-bounds .ensures (now (entry .args .buf))) ∙ not-false _
     (staged .before .before .before .if1 .left)) (reply-no (now (entry .args .text)) (ltb (length (now (entry .args .text))) longest) _ _

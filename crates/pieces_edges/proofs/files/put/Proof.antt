@@ -29,8 +29,9 @@ same-length c = search needs
 
 returns-2 : tie.Need-returns-2
 returns-2 c =
-    let a = c .before .before .before .before .before .before .before .before .args in
-    let fits = c .before .before .before .before .before .if1 .left in (
+    let branch = c .before .before .before .before .before in
+    let a = branch .before .before .before .args in
+    let fits = branch .if1 .left in (
       rw (le-ltb _ _ fits) (c .wrapping-add-usize .ensures),
       rw (le-ltb _ _ fits) (copied-in (a .at) (now (a .bytes)) (now (a .source)) (c .before .before .before .copy .ensures)),
     )

@@ -12,6 +12,10 @@ use Rattle.meaning.specs.Meant.{meant}
 use Rattle.pieces_giving.proofs.ends.ends.Statement.{statement}
 use Rattle.pieces_giving.proofs.ends.ends.Tie as tie
 
+-- where the call began, from after `struct-known`
+abbrev entry-of : tie.After-struct-known → tie.Start
+entry-of c = c .before .before .before .before .before .before .before
+
 slice-reshare-prefix-shown-after : tie.Need-slice-reshare-prefix-shown-after
 slice-reshare-prefix-shown-after c = omega arith
 
@@ -51,12 +55,12 @@ slice-reshare-prefix-meaning c = omega arith
 
 slice-aggregate-meaning : tie.Need-slice-aggregate-meaning
 slice-aggregate-meaning c =
-    let entry = c .before .before .before .before .before .before .before .before in
+    let entry = entry-of (c .before) in
     sym (length-take-le (entry .args .m .len) (now (entry .args .buf)) (omega arith))
 
 meaning-requires : tie.Need-meaning-requires
 meaning-requires c κs =
-    let entry = c .before .before .before .before .before .before .before .before in
+    let entry = entry-of (c .before) in
     let l = length-take-le (entry .args .m .len) (now (entry .args .buf)) (omega arith) in (omega (arith, l), omega (arith, l), entry .pre .1 .number)
 
 enum-known-one : tie.Need-enum-known-one
@@ -64,14 +68,14 @@ enum-known-one c = search needs
 
 give-one-requires : tie.Need-give-one-requires
 give-one-requires c κs =
-    let entry = c .before .before .before .before .before .before .before .before .before .before .before .before .before .before in
+    let entry = entry-of (c .before .before .before .before .before .before .before) in
     (entry .pre .0, entry .pre .2)
 
 enum-known-one-2 : tie.Need-enum-known-one-2
 enum-known-one-2 c = search needs
 
 give-pair-requires : tie.Need-give-pair-requires
-give-pair-requires c κs = c .before .before .before .before .before .before .before .before .before .before .before .before .before .before .pre .0
+give-pair-requires c κs = entry-of (c .before .before .before .before .before .before .before) .pre .0
 
 same-length : tie.Need-same-length
 same-length c = search needs
@@ -82,11 +86,13 @@ same-length-2 c = search needs
 returns : tie.Need-returns
 returns c =
     let handed = c .before .before .before .before in
+    let at-meaning = handed .before .before .before .before .before .before in
+    let at-shown-after = at-meaning .before .before .before .before .before in
     let told = handed .before .before .before .before in
-    let entry = told .before .before .before .before .before .before .before .before .before .before .before in
+    let entry = at-shown-after .before .before .before .before in
     let g = rw (
       told .before .before .before .before .before .last-after .ensures,
-      told .before .before .before .before .before .before .before .shown-after .ensures,
+      at-shown-after .shown-after .ensures,
     ) at (handed .give-one .ensures) in let e = ends-one (stateOf (entry .args .m) (now (entry .args .buf)))
     (entry .args .start) (entry .args .what) (entry .args .b) _ (ends-at (entry .args .m) (now (entry .args .buf)) _ _ (entry .pre .0)) _
     (sym (ap meant (told .one .given .1)) ∙ told .before .before .meaning .ensures) in
@@ -101,11 +107,13 @@ same-length-4 c = search needs
 returns-2 : tie.Need-returns-2
 returns-2 c =
     let handed = c .before .before .before .before in
+    let at-meaning = handed .before .before .before .before .before .before in
+    let at-shown-after = at-meaning .before .before .before .before .before in
     let told = handed .before .before .before .before in
-    let entry = told .before .before .before .before .before .before .before .before .before .before .before in
+    let entry = at-shown-after .before .before .before .before in
     let g = rw (
       told .before .before .before .before .before .last-after .ensures,
-      told .before .before .before .before .before .before .before .shown-after .ensures,
+      at-shown-after .shown-after .ensures,
     ) at (handed .give-pair .ensures) in let e = ends-pair (stateOf (entry .args .m) (now (entry .args .buf)))
     (entry .args .start) (entry .args .what) (entry .args .b) _ (ends-at (entry .args .m) (now (entry .args .buf)) _ _ (entry .pre .0)) _ _
     (sym (ap meant (told .one2 .given .1)) ∙ told .before .before .meaning .ensures) in

@@ -9,6 +9,10 @@ use Rattle.pieces_giving.proofs.Steps.{off-both}
 use Rattle.pieces_giving.proofs.ends.give_one.Statement.{statement}
 use Rattle.pieces_giving.proofs.ends.give_one.Tie as tie
 
+-- where the call began, from after `extent`
+abbrev entry-of : tie.After-extent → tie.Start
+entry-of c = c .before .before .before .before .before .before
+
 skips-requires : tie.Need-skips-requires
 skips-requires c κs = search needs
 
@@ -37,12 +41,12 @@ slice-reshare-prefix-give c = omega arith
 
 slice-aggregate-give : tie.Need-slice-aggregate-give
 slice-aggregate-give c =
-    let entry = c .before .before .before .before .before .before .before in
+    let entry = entry-of (c .before) in
     sym (length-take-le (entry .args .m .len) (now (entry .args .buf)) (omega arith))
 
 give-requires : tie.Need-give-requires
 give-requires c κs =
-    let entry = c .before .before .before .before .before .before .before .before in
+    let entry = entry-of (c .before .before) in
     let l = length-take-le (entry .args .m .len) (now (entry .args .buf)) (omega arith) in (omega (arith, l), omega (arith, l), omega arith)
 
 counted-requires : tie.Need-counted-requires
@@ -50,7 +54,8 @@ counted-requires c κs = search needs
 
 beyond-requires-2 : tie.Need-beyond-requires-2
 beyond-requires-2 c κs =
-    let entry = c .before .before .before .before .before .before .before .before .before .before .before .before .before in
+    let at-extent = c .before .before .before .before .before .before .before in
+    let entry = at-extent .before .before .before .before .before .before in
     (entry .pre .0 .full, rw (c .before .counted .ensures) (entry .pre .1))
 
 same-length-2 : tie.Need-same-length-2

@@ -11,6 +11,10 @@ use Rattle.laws.specs.Lent.{written}
 use Rattle.pieces_giving.proofs.give.copy_part.Statement.{statement}
 use Rattle.pieces_giving.proofs.give.copy_part.Tie as tie
 
+-- where the call began, from where `if1` failed
+abbrev entry-of : tie.Else1 → tie.Start
+entry-of c = c .before .before .before .before
+
 past-requires : tie.Need-past-requires
 past-requires c κs = search needs
 
@@ -31,7 +35,7 @@ part-copy-all-end c = omega (arith, c .before .before .past .ensures)
 
 copy-all-requires : tie.Need-copy-all-requires
 copy-all-requires c κs =
-    let entry = c .before .before .before .before .before .before .before in
+    let entry = entry-of (c .before .before .before) in
     omega (
       arith,
       length-take (length (now (entry .args .raw)) - entry .args .from) (drop (entry .args .from) (now (entry .args .raw))),
@@ -65,7 +69,7 @@ part-copy-all-end-2 c = omega (arith, c .before .before .past .ensures)
 
 copy-all-requires-2 : tie.Need-copy-all-requires-2
 copy-all-requires-2 c κs =
-    let entry = c .before .before .before .before .before .before .before in
+    let entry = entry-of (c .before .before .before) in
     omega (
       arith,
       length-take (entry .args .from + entry .args .count - entry .args .from) (drop (entry .args .from) (now (entry .args .raw))),
@@ -77,7 +81,7 @@ same-length-2 c = search needs
 
 returns-3 : tie.Need-returns-3
 returns-3 c =
-    let entry = c .before .before .before .before .before .before .before .before .before .before in (
+    let entry = entry-of (c .before .before .before .before .before .before) in (
       length-full (now (entry .args .raw))
           (entry .args .from) (entry .args .count) (omega (arith, c .before .before .before .before .before .before .before .past .ensures)),
       c .before .before .copy-all2 .ensures

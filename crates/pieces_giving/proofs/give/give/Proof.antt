@@ -8,6 +8,10 @@ use Rattle.meaning.specs.Places.{placeIn}
 use Rattle.pieces_giving.proofs.give.give.Statement.{statement}
 use Rattle.pieces_giving.proofs.give.give.Tie as tie
 
+-- where the call began, from after `copy-text`
+abbrev entry-of : tie.After-copy-text → tie.Start
+entry-of c = c .before .before .before .before .before
+
 cast-copy-text : tie.Need-cast-copy-text
 cast-copy-text c = search needs
 
@@ -22,7 +26,7 @@ has-text-requires c κs = search needs
 
 cast-record-with : tie.Need-cast-record-with
 cast-record-with c =
-    let entry = c .before .before .before .before .before .before .before .before .before .before in
+    let entry = entry-of (c .before .before .before .before .before) in
     omega (
       arith,
       c .before .before .before .before .before .copy-text .ensures .0,
@@ -38,7 +42,7 @@ same-length c = search needs
 returns : tie.Need-returns
 returns c =
     let copied = c .before .before .before .before .before .before in
-    let entry = copied .before .before .before .before .before in (
+    let entry = entry-of copied in (
       given-with (entry .args .depth) (entry .args .report)
           (entry .args .m) (placeIn (entry .args .last)) (entry .args .extent .from) (entry .args .extent .to) (now (entry .args .raw))
           (now (entry .args .text)) _ _ _ (c .before .before .before .place .ensures) (copied .copy-text .ensures .1) _
@@ -55,7 +59,7 @@ same-length-2 c = search needs
 returns-2 : tie.Need-returns-2
 returns-2 c =
     let copied = c .before .before .before .before .before .before in
-    let entry = copied .before .before .before .before .before in (
+    let entry = entry-of copied in (
       given-without (entry .args .depth) (entry .args .report) (entry .args .m) (placeIn (entry .args .last)) (entry .args .extent .from)
           (entry .args .extent .to) (now (entry .args .raw)) (now (entry .args .text)) _ _ _ (c .before .before .before .place .ensures)
           (copied .copy-text .ensures .1) (sym (c .before .before .has-text .ensures) ∙ c .before .if1 .left) (c .record-with2 .ensures),

@@ -7,6 +7,10 @@ use Rattle.laws.proofs.Choice.{no-yes}
 use Rattle.pieces_last.proofs.closing.is_known.Statement.{statement}
 use Rattle.pieces_last.proofs.closing.is_known.Tie as tie
 
+-- where `if3` failed, from after `struct-known4`
+abbrev if3-of : tie.After-struct-known4 → tie.Else3
+if3-of c = c .before .before .before .before .before
+
 returns : tie.Need-returns
 returns c = no-yes
 
@@ -35,12 +39,12 @@ returns-6 : tie.Need-returns-6
 returns-6 c = λ e.
     let stays = c .is-resting .ensures e (omega (arith, c .before .if6 .taken)) in
     let within = c .before .before .before .before .is-within .ensures (not-false _ (c .before .before .before .if5 .left)) in
-    let quiet = c .before .before .before .before .before .before .before .before .before .before .is-quiet .ensures (not-false _ (c .before .before .before .before .before .before .before .before .before .if2 .left)) in
+    let quiet = if3-of (c .before .before) .before .before .before .is-quiet .ensures (not-false _ (if3-of (c .before .before) .before .before .if2 .left)) in
     record {
-      ended = omega (arith, c .before .before .before .before .before .before .before .before .before .before .before .if1 .left);
+      ended = omega (arith, if3-of (c .before .before) .before .before .before .before .if1 .left);
       ready =
           record {
-            mode = omega (arith, c .before .before .before .before .before .before .before .if3 .left);
+            mode = omega (arith, if3-of (c .before .before) .if3 .left);
             skip = omega (arith, c .before .before .before .before .before .if4 .left);
             ended = refl;
             one = quiet .e1;
@@ -67,12 +71,12 @@ returns-7 : tie.Need-returns-7
 returns-7 c = λ e.
     let stands = c .is-item .ensures e in
     let within = c .before .before .before .before .is-within .ensures (not-false _ (c .before .before .before .if5 .left)) in
-    let quiet = c .before .before .before .before .before .before .before .before .before .before .is-quiet .ensures (not-false _ (c .before .before .before .before .before .before .before .before .before .if2 .left)) in
+    let quiet = if3-of (c .before .before) .before .before .before .is-quiet .ensures (not-false _ (if3-of (c .before .before) .before .before .if2 .left)) in
     record {
-      ended = omega (arith, c .before .before .before .before .before .before .before .before .before .before .before .if1 .left);
+      ended = omega (arith, if3-of (c .before .before) .before .before .before .before .if1 .left);
       ready =
           record {
-            mode = omega (arith, c .before .before .before .before .before .before .before .if3 .left);
+            mode = omega (arith, if3-of (c .before .before) .if3 .left);
             skip = omega (arith, c .before .before .before .before .before .if4 .left);
             ended = refl;
             one = quiet .e1;

@@ -6,6 +6,10 @@ use Rattle.pieces_last.proofs.Lasts as lasts
 use Rattle.pieces_last.proofs.tells.tell_last.Statement.{statement}
 use Rattle.pieces_last.proofs.tells.tell_last.Tie as tie
 
+-- where the call began, from where `if4` failed
+abbrev entry-of : tie.Else4 → tie.Start
+entry-of c = c .before .before .before .before
+
 bare-requires : tie.Need-bare-requires
 bare-requires c κs = search needs
 
@@ -40,7 +44,7 @@ tell-word-requires c κs = search needs
 
 returns-5 : tie.Need-returns-5
 returns-5 c =
-    let a = c .before .before .before .before .before .before .args in
+    let a = entry-of (c .before .before) .args in
     lasts.word-lasts (a .stage) (a .which) (a .detail) (a .at) (now (a .raw)) (omega arith) (c .tell-word .result) (c .tell-word .ensures)
 
 tell-run-requires : tie.Need-tell-run-requires
@@ -48,7 +52,7 @@ tell-run-requires c κs = search needs
 
 returns-6 : tie.Need-returns-6
 returns-6 c =
-    let a = c .before .before .before .before .before .before .before .args in
+    let a = entry-of (c .before .before .before) .args in
     lasts.run-lasts (a .stage) (a .which) (a .detail) (a .at) (now (a .raw)) (omega arith) (c .tell-run .result) (c .tell-run .ensures)
 
 tell-boolean-requires : tie.Need-tell-boolean-requires
@@ -56,7 +60,7 @@ tell-boolean-requires c κs = search needs
 
 returns-7 : tie.Need-returns-7
 returns-7 c =
-    let a = c .before .before .before .before .before .before .before .before .args in
+    let a = entry-of (c .before .before .before .before) .args in
     lasts.boolean-lasts (a .stage) (a .which) (a .detail) (a .at) (now (a .raw)) (omega arith) (c .tell-boolean .result) (c .tell-boolean .ensures)
 
 returns-8 : tie.Need-returns-8

@@ -9,6 +9,10 @@ use borrow.Author.Needs.{needs}
 use Rattle.pieces_lent.proofs.calls.end_words.Statement.{statement}
 use Rattle.pieces_lent.proofs.calls.end_words.Tie as tie
 
+-- where the call began, from after `seen`
+abbrev entry-of : tie.After-seen → tie.Start
+entry-of c = c .before .before .before .before .before
+
 decode-requires : tie.Need-decode-requires
 decode-requires c κs = search needs
 
@@ -37,7 +41,7 @@ returns : tie.Need-returns
 unfolding endFor
 returns c =
     let ended = c .before .before .before .before .before in
-    let entry = ended .before .before .before .before .before .before .before .before .before in
+    let entry = entry-of (ended .before .before .before .before) in
     served (lent (entry .args .words) (now (entry .args .buf))) (λ m. endIn m (now (entry .args .buf)) (length (now (entry .args .text))))
     (now (entry .args .text)) (sym (ended .before .before .before .before .before .before .decode .ensures)
     ∙ ended .before .before .before .before .seen .given .1) (c .worded .ensures) (ended .end-call .ensures)

@@ -6,6 +6,10 @@ use borrow.Author.Needs.{needs}
 use Rattle.pieces_lent.proofs.calls.open_words.Statement.{statement}
 use Rattle.pieces_lent.proofs.calls.open_words.Tie as tie
 
+-- where the call began, from after `buf`
+abbrev entry-of : tie.After-buf → tie.Start
+entry-of c = c .before .before .before .before .before
+
 fresh-words-requires : tie.Need-fresh-words-requires
 fresh-words-requires c κs = search needs
 
@@ -32,7 +36,7 @@ same-length c = search needs
 
 returns-2 : tie.Need-returns-2
 returns-2 c =
-    let entry = c .before .before .before .before .before .before .before .before .before in
+    let entry = entry-of (c .before .before .before .before) in
     opens-no-mode (entry .args .mode) (entry .args .skip) (now (entry .args .buf))
     (c .before .before .before .before .before .before .before .if1 .left) (c .before .before .before .before .before .clear .ensures)
     (c .before .before .if2 .taken) (c .before .fresh-words2 .ensures) (c .refuse2 .ensures)
@@ -45,7 +49,7 @@ same-length-2 c = search needs
 
 returns-3 : tie.Need-returns-3
 returns-3 c =
-    let entry = c .before .before .before .before .before .before .before .before in
+    let entry = entry-of (c .before .before .before) in
     opens (entry .args .mode) (entry .args .skip) (now (entry .args .buf)) (c .before .before .before .before .before .before .if1 .left)
     (c .before .before .before .before .clear .ensures) (omega arith) (c .fresh-words3 .ensures)
 

@@ -13,6 +13,14 @@ use borrow.Author.Needs.{needs}
 use Rattle.pieces_lent.proofs.calls.piece_stood.Statement.{statement}
 use Rattle.pieces_lent.proofs.calls.piece_stood.Tie as tie
 
+-- where the call began, from after `piece-on`
+abbrev entry-of : tie.After-piece-on → tie.Start
+entry-of c = c .before .before .before .before .before .before .before
+
+-- after `piece-on`, from after `worded`
+abbrev piece-on-of : tie.After-worded → tie.After-piece-on
+piece-on-of c = c .before .before .before .before .before
+
 stand-requires : tie.Need-stand-requires
 stand-requires c κs = code-narrow _ (c .before .before .before .pre .code)
 
@@ -33,12 +41,12 @@ same-length-2 c = search needs
 returns : tie.Need-returns
 unfolding pieceFor
 returns c =
-    let entry = c .before .before .before .before .before .before .before .before .before .before .before .before in
+    let entry = entry-of (piece-on-of c) in
     let buf = now (entry .args .buf) in
     let piece = now (entry .args .piece) in
     let text = now (entry .args .text) in
-    let stood = c .before .before .before .before .before .before .before .before .stand in
-    let called = c .before .before .before .before .before .piece-on in
+    let stood = piece-on-of c .before .before .before .stand in
+    let called = piece-on-of c .piece-on in
     let sound = subst (λ (m : Marks). Sound m buf text) (sym (stood .ensures)) (entry .pre .sound) in
     served (lent (entry .args .words) buf) (λ m. pieceIn m buf piece (length text)) text
     (code-seen (entry .args .words) (entry .pre .code) ∙ ap Standing (sym (stood .ensures)))

@@ -9,6 +9,10 @@ use borrow.Author.Needs.{needs}
 use Rattle.pieces_lent.proofs.calls.piece_words.Statement.{statement}
 use Rattle.pieces_lent.proofs.calls.piece_words.Tie as tie
 
+-- where the call began, from after `decode`
+abbrev entry-of : tie.After-decode → tie.Start
+entry-of c = c .before .before .before .before
+
 decode-requires : tie.Need-decode-requires
 decode-requires c κs = search needs
 
@@ -37,7 +41,7 @@ returns : tie.Need-returns
 unfolding pieceFor
 returns c =
     let called = c .before .before .before .before .before in
-    let entry = called .before .before .before .before .before .before .before .before .before .before in
+    let entry = entry-of (called .before .before .before .before .before .before) in
     served (lent (entry .args .words) (now (entry .args .buf)))
     (λ m. pieceIn m (now (entry .args .buf)) (now (entry .args .piece)) (length (now (entry .args .text)))) (now (entry .args .text))
     (sym (called .before .before .before .before .before .before .decode .ensures) ∙ called .before .before .before .before .seen .given .1)
@@ -46,7 +50,7 @@ returns c =
 returns-2 : tie.Need-returns-2
 unfolding pieceFor
 returns-2 c =
-    let entry = c .before .before .before .before .before .before .before in
+    let entry = entry-of (c .before .before .before) in
     unserved (lent (entry .args .words) (now (entry .args .buf)))
     (λ m. pieceIn m (now (entry .args .buf)) (now (entry .args .piece)) (length (now (entry .args .text))))
     (now (entry .args .text)) (sym (c .before .before .before .decode .ensures) ∙ c .before .enum-told .given .1) (c .refuse .ensures)

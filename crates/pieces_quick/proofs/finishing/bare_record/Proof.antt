@@ -8,6 +8,10 @@ use Rattle.pieces_quick.proofs.Giving.{number-copied, nothing-copied}
 use Rattle.pieces_quick.proofs.finishing.bare_record.Statement.{statement}
 use Rattle.pieces_quick.proofs.finishing.bare_record.Tie as tie
 
+-- where the call began, from after `text`
+abbrev entry-of : tie.After-text → tie.Start
+entry-of c = c .before .before .before .before .before .before .before
+
 copy-all-requires : tie.Need-copy-all-requires
 copy-all-requires c κs = search needs
 
@@ -22,7 +26,7 @@ same-length c = search needs
 
 returns : tie.Need-returns
 returns c =
-    let a = c .before .before .before .before .before .before .before .before .before in
+    let a = entry-of (c .before .before) in
     number-copied (a .args .depth) (a .args .m) (a .args .s) (now (a .args .raw)) (now (a .args .text)) _ (c .record-of .result) (a .pre .0 .fine) (a .pre .1)
     (eq-eqb _ _ (c .before .before .before .before .before .if1 .taken)) (c .before .before .before .copy-all .ensures) (c .record-of .ensures)
 

@@ -10,6 +10,14 @@ use Rattle.pieces_spots.specs.Spots.{TellsAt}
 use Rattle.pieces_quick.proofs.finishing.finish.Statement.{statement}
 use Rattle.pieces_quick.proofs.finishing.finish.Tie as tie
 
+-- where the call began, from where `if2` failed
+abbrev entry-of : tie.Else2 → tie.Start
+entry-of c = c .before .before .before .before .before .before
+
+-- where `if2` failed, from after `given-arg2`
+abbrev if2-of : tie.After-given-arg2 → tie.Else2
+if2-of c = c .before .before .before .before .before .before .before
+
 returns : tie.Need-returns
 returns c = search needs
 
@@ -24,12 +32,12 @@ slice-reshare-prefix-tell c = search needs
 
 slice-aggregate-tell : tie.Need-slice-aggregate-tell
 slice-aggregate-tell c =
-    let a = c .before .before .before .before .before .before .before in
+    let a = entry-of (c .before) in
     sym (length-take-le (a .args .s .len) (now (a .args .buf)) (omega (arith, a .pre .small, a .pre .sound .full)))
 
 tell-requires : tie.Need-tell-requires
 tell-requires c κs =
-    let a = c .before .before .before .before .before .before .before in
+    let a = entry-of (c .before) in
     let k = a .pre .held (omega (arith, c .before .before .before .if1 .left)) in
     let l = length-take-le (a .args .s .len) (now (a .args .buf)) (omega (arith, a .pre .small, a .pre .sound .full)) in
     (omega (arith, l, k .1), omega (arith, l, k .0), a .pre .which, a .pre .detail)
@@ -39,17 +47,17 @@ enum-known-told c = search needs
 
 given-requires : tie.Need-given-requires
 given-requires c κs =
-    let a = c .before .before .before .before .before .before .before .before .before .before .before .before .before in
+    let a = entry-of (if2-of c) in
     let s = a .args .s in
-    let k = a .pre .held (omega (arith, c .before .before .before .before .before .before .before .before .before .if1 .left)) in (
+    let k = a .pre .held (omega (arith, if2-of c .before .before .if1 .left)) in (
       a .pre,
       record {
         held = k .0;
         some = k .1;
         ended = subst (λ (q : Quick). TellsAt (s .stage) (s .which) (s .detail) (a .args .b) (s .start) (take (s .len) (now (a .args .buf))) q)
             (c .before .before .before .told .given .1) (c .before .before .before .before .before .tell .ensures);
-        firsts = c .before .before .before .before .before .before .before .before .first .ensures;
-        told = omega (arith, c .before .before .before .before .before .before .before .if2 .left);
+        firsts = if2-of c .before .first .ensures;
+        told = omega (arith, if2-of c .if2 .left);
       },
     )
 

@@ -16,6 +16,10 @@ use Rattle.pieces_quick.proofs.Giving.{decoded-ends, gives-item}
 use Rattle.pieces_quick.proofs.finishing.finish_decoded.Statement.{statement}
 use Rattle.pieces_quick.proofs.finishing.finish_decoded.Tie as tie
 
+-- where the call began, from after `first`
+abbrev entry-of : tie.After-first → tie.Start
+entry-of c = c .before .before .before .before .before .before
+
 slice-reshare-prefix-is-escaped : tie.Need-slice-reshare-prefix-is-escaped
 slice-reshare-prefix-is-escaped c = search needs
 
@@ -50,12 +54,12 @@ slice-reshare-prefix-decoded-record c = search needs
 
 slice-aggregate-decoded-record : tie.Need-slice-aggregate-decoded-record
 slice-aggregate-decoded-record c =
-    let a = c .before .before .before .before .before .before .before .before .before in
+    let a = entry-of (c .before .before .before) in
     sym (length-take-le (a .args .s .len) (now (a .args .buf)) (omega (arith, a .pre .small, a .pre .sound .full)))
 
 decoded-record-requires : tie.Need-decoded-record-requires
 decoded-record-requires c κs =
-    let a = c .before .before .before .before .before .before .before .before .before .before in
+    let a = entry-of (c .before .before .before .before) in
     let string = c .before .before .before .before .before .before .is-escaped .ensures (not-false _ (c .before .before .before .before .before .if1 .left)) in
     let k = a .pre .held (omega (arith, string .0)) in
     let l = length-take-le (a .args .s .len) (now (a .args .buf)) (omega (arith, a .pre .small, a .pre .sound .full)) in
@@ -79,22 +83,23 @@ same-length-4 c = search needs
 
 returns-3 : tie.Need-returns-3
 returns-3 c =
+    let at-decoded-record = c .before .before .before .before .before .before in
     let next = c .before .before .after in
-    let there = c .before .before .before .before .before .before .before .before .before .before .before in
+    let there = at-decoded-record .before .before .before .before .before in
     let a = there .before .before .before .before .before .before in
     let w = a .args .w in
     let s = a .args .s in
     let raw = take (s .len) (now (a .args .buf)) in
     let string = there .before .before .is-escaped .ensures (not-false _ (there .before .if1 .left)) in
     let k = a .pre .held (omega (arith, string .0)) in
-    let gave = c .before .before .before .before .before .before .decoded-record .ensures (inReport (w .mode)) (range (w .from) (w .to)) in
+    let gave = at-decoded-record .decoded-record .ensures (inReport (w .mode)) (range (w .from) (w .to)) in
     gives-item w s (now (a .args .buf)) (now (a .args .text)) (a .pre) (a .args .b) (there .first .result) (decodedMeans raw)
     (record {
       held = k .0;
       some = k .1;
       ended = decoded-ends (s .stage) (s .which) (s .detail) (a .args .b) (s .start) raw (string .0) (string .1) (string .2);
       firsts = there .first .ensures;
-      told = omega (arith, c .before .before .before .before .before .before .before .before .before .before .if2 .left);
+      told = omega (arith, at-decoded-record .before .before .before .before .if2 .left);
     })
     (by-bool (eqb (w .skip) 1) (λ e. rw e) (λ e. rw e))
     (range (w .from) (w .to)) _ _ (gave .0) (gave .1) (next .result) _ _ (next .ensures .0)

@@ -21,6 +21,14 @@ use Rattle.pieces_quick.proofs.Giving.{nothing-copied, gives-item}
 use Rattle.pieces_quick.proofs.finishing.give_comment.Statement.{statement}
 use Rattle.pieces_quick.proofs.finishing.give_comment.Tie as tie
 
+-- where the call began, from where `if2` failed
+abbrev entry-of : tie.Else2 → tie.Start
+entry-of c = c .before .before .before .before .before .before
+
+-- where `if2` failed, from after `slice-known2`
+abbrev if2-of : tie.After-slice-known2 → tie.Else2
+if2-of c = c .before .before .before .before .before .before
+
 first-requires : tie.Need-first-requires
 first-requires c κs = search needs
 
@@ -35,7 +43,7 @@ cast-depth c = search needs
 
 record-of-requires : tie.Need-record-of-requires
 record-of-requires c κs =
-    let a = c .before .before .before .before .before .before .before in
+    let a = entry-of (c .before) in
     let k = a .pre .0 .held (omega (arith, a .pre .1)) in
     (omega (arith, k .0, a .pre .0 .far), omega (arith, a .pre .0 .far))
 
@@ -47,11 +55,11 @@ same-length c = search needs
 
 returns-3 : tie.Need-returns-3
 returns-3 c =
-    let a = c .before .before .before .before .before .before .before .before .before .before .before .before in
+    let a = entry-of (if2-of c) in
     let w = a .args .w in
     let s = a .args .s in
     let buf = now (a .args .buf) in
-    let f = c .before .before .before .before .before .before .before .before .before .first .result in
+    let f = if2-of c .before .before .before .first .result in
     let m : Means = means kind.Comment 0 Nowhere in
     let k = a .pre .0 .held (omega (arith, a .pre .1)) in
     let is : means (s .which) (s .detail) Nowhere ≡ m =
@@ -63,11 +71,11 @@ returns-3 c =
       held = k .0;
       some = k .1;
       ended = ended;
-      firsts = c .before .before .before .before .before .before .before .before .before .first .ensures;
-      told = omega (arith, c .before .before .before .before .before .before .before .before .if1 .left);
+      firsts = if2-of c .before .before .before .first .ensures;
+      told = omega (arith, if2-of c .before .before .if1 .left);
     } in
     let kept : (eqb (w .skip) 1 && eqb kind.Comment kind.Comment) ≡ false =
-    ap (λ (x : Bool). x && eqb kind.Comment kind.Comment) (ne-eqb (w .skip) 1 (c .before .before .before .before .before .before .if2 .left)) in
+    ap (λ (x : Bool). x && eqb kind.Comment kind.Comment) (ne-eqb (w .skip) 1 (if2-of c .if2 .left)) in
     let text = now (a .args .text) in
     let gave = nothing-copied (w .depth) m s (take (s .len) buf) text text (c .before .before .before .before .record-of .result) (ended .fine) refl refl refl (c .before .before .before .before .record-of .ensures)
     (inReport (w .mode)) (range (w .from) (w .to)) in

@@ -13,6 +13,14 @@ use Rattle.pieces_quick.proofs.Giving.{gives-item}
 use Rattle.pieces_quick.proofs.finishing.given.Statement.{statement}
 use Rattle.pieces_quick.proofs.finishing.given.Tie as tie
 
+-- where the call began, from after `copied-arg`
+abbrev entry-of : tie.After-copied-arg → tie.Start
+entry-of c = c .before .before .before .before .before .before
+
+-- after `r`, from after `depth-after`
+abbrev r-of : tie.After-depth-after → tie.After-r
+r-of c = c .before .before .before .before .before .before
+
 skips-requires : tie.Need-skips-requires
 skips-requires c κs = search needs
 
@@ -27,12 +35,12 @@ slice-reshare-prefix-copied c = search needs
 
 slice-aggregate-copied : tie.Need-slice-aggregate-copied
 slice-aggregate-copied c =
-    let a = c .before .before .before .before .before .before in
+    let a = entry-of c in
     sym (length-take-le (a .args .s .len) (now (a .args .buf)) (omega (arith, a .pre .0 .small, a .pre .0 .sound .full)))
 
 copied-requires : tie.Need-copied-requires
 copied-requires c κs =
-    let a = c .before .before .before .before .before .before .before in
+    let a = entry-of (c .before) in
     let l = length-take-le (a .args .s .len) (now (a .args .buf)) (omega (arith, a .pre .0 .small, a .pre .0 .sound .full)) in
     record {
       held = omega (arith, l, a .pre .1 .held);
@@ -67,12 +75,12 @@ same-length-2 c = search needs
 returns-2 : tie.Need-returns-2
 returns-2 c =
     let next = c .before .before .before .after in
-    let there = c .before .before .before .before .before .before .before .before .before .before in
-    let a = there .before .before .before .before .before .before .before .before in
+    let there = r-of c .before .before .before .before in
+    let a = entry-of (there .before .before) in
     let w = a .args .w in
     let s = a .args .s in
     let kept = sym (there .before .before .before .before .before .skips .ensures) ∙ there .before .before .before .before .if1 .left in
-    let k = subst (λ (q : Gift). Copied s (a .args .m) (w .depth) (take (s .len) (now (a .args .buf))) (now (a .args .text)) (there .copied .last .1 .1 .1 .1 .0) q) (c .before .before .before .before .before .before .r .given .1) (there .copied .ensures) (inReport (w .mode)) (range (w .from) (w .to)) in
+    let k = subst (λ (q : Gift). Copied s (a .args .m) (w .depth) (take (s .len) (now (a .args .buf))) (now (a .args .text)) (there .copied .last .1 .1 .1 .1 .0) q) (r-of c .r .given .1) (there .copied .ensures) (inReport (w .mode)) (range (w .from) (w .to)) in
     gives-item w s (now (a .args .buf)) (now (a .args .text)) (a .pre .0) (a .args .b) (a .args .f) (a .args .m) (a .pre .1) kept
     (range (w .from) (w .to)) _ _ (k .0) (k .1) (next .result) _ _ (next .ensures .0)
     (next .ensures .1 w (a .pre .0 .left) (a .args .m .kind) _ (a .pre .0 .ready) (omega arith))
@@ -85,7 +93,7 @@ same-length-4 c = search needs
 
 returns-3 : tie.Need-returns-3
 returns-3 c =
-    let a = c .before .before .before .before .before .before .before .before .before .before .before .before in
+    let a = entry-of (c .before .before .before .before .before .before) in
     let s = a .args .s in (
       refl,
       subst (λ (q : Gift). Copied s (a .args .m) (a .args .w .depth) (take (s .len) (now (a .args .buf))) (now (a .args .text)) (c .before .before .before .before .copied .last .1 .1 .1 .1 .0) q) (c .enum-told .given .1) (c .before .before .before .before .copied .ensures),

@@ -6,6 +6,14 @@ use Rattle.pieces_quick.proofs.Giving.{part-copied}
 use Rattle.pieces_quick.proofs.finishing.part_record.Statement.{statement}
 use Rattle.pieces_quick.proofs.finishing.part_record.Tie as tie
 
+-- where the call began, from where `if3` failed
+abbrev entry-of : tie.Else3 → tie.Start
+entry-of c = c .before .before .before .before .before .before
+
+-- where `if3` failed, from after `record-of`
+abbrev if3-of : tie.After-record-of → tie.Else3
+if3-of c = c .before .before .before .before .before .before
+
 returns : tie.Need-returns
 returns c = search needs
 
@@ -41,9 +49,9 @@ same-length c = search needs
 
 returns-4 : tie.Need-returns-4
 returns-4 c =
-    let a = c .before .before .before .before .before .before .before .before .before .before .before .before in
+    let a = entry-of (if3-of c) in
     part-copied (a .args .depth) (a .args .m) (a .args .s) (now (a .args .raw)) (now (a .args .text)) _ (c .record-of .result) (a .pre .0 .fine)
-    (a .args .from) (a .args .to) (a .pre .1) (omega (arith, c .before .before .before .before .before .before .before .before .before .if1 .left)) (omega (arith, c .before .before .before .before .before .before .before .before .if2 .left)) (omega (arith, c .before .before .before .before .before .before .if3 .left, a .pre .0 .held))
+    (a .args .from) (a .args .to) (a .pre .1) (omega (arith, if3-of c .before .before .before .if1 .left)) (omega (arith, if3-of c .before .before .if2 .left)) (omega (arith, if3-of c .if3 .left, a .pre .0 .held))
     (c .before .before .before .copy-all .ensures) (c .record-of .ensures)
 
 pub part-record-spec : {M : Type 1} → statement M

@@ -7,6 +7,10 @@ use Rattle.pieces_quick.proofs.Knows.{idle-stands}
 use Rattle.pieces_quick.proofs.ready.is_ready.Statement.{statement}
 use Rattle.pieces_quick.proofs.ready.is_ready.Tie as tie
 
+-- where `if2` failed, from after `struct-known3`
+abbrev if2-of : tie.After-struct-known3 → tie.Else2
+if2-of c = c .before .before .before .before .before
+
 is-quiet-requires : tie.Need-is-quiet-requires
 is-quiet-requires c κs = search needs
 
@@ -32,9 +36,9 @@ returns-5 : tie.Need-returns-5
 returns-5 c = λ e.
     let stands = idle-stands _ (c .is-unheld .ensures e) (c .before .if5 .taken) in
     let within = c .before .before .before .before .is-within .ensures (not-false _ (c .before .before .before .if4 .left)) in
-    let quiet = c .before .before .before .before .before .before .before .before .before .before .is-quiet .ensures (not-false _ (c .before .before .before .before .before .before .before .before .before .if1 .left)) in
+    let quiet = if2-of (c .before .before) .before .before .before .is-quiet .ensures (not-false _ (if2-of (c .before .before) .before .before .if1 .left)) in
     record {
-      mode = omega (arith, c .before .before .before .before .before .before .before .if2 .left);
+      mode = omega (arith, if2-of (c .before .before) .if2 .left);
       skip = omega (arith, c .before .before .before .before .before .if3 .left);
       ended = quiet .e0;
       one = quiet .e1;
@@ -59,9 +63,9 @@ returns-6 : tie.Need-returns-6
 returns-6 c = λ e.
     let stands = c .is-item .ensures e in
     let within = c .before .before .before .before .is-within .ensures (not-false _ (c .before .before .before .if4 .left)) in
-    let quiet = c .before .before .before .before .before .before .before .before .before .before .is-quiet .ensures (not-false _ (c .before .before .before .before .before .before .before .before .before .if1 .left)) in
+    let quiet = if2-of (c .before .before) .before .before .before .is-quiet .ensures (not-false _ (if2-of (c .before .before) .before .before .if1 .left)) in
     record {
-      mode = omega (arith, c .before .before .before .before .before .before .before .if2 .left);
+      mode = omega (arith, if2-of (c .before .before) .if2 .left);
       skip = omega (arith, c .before .before .before .before .before .if3 .left);
       ended = quiet .e0;
       one = quiet .e1;

@@ -4,6 +4,10 @@ use Rattle.laws.proofs.Choice.{no-yes}
 use Rattle.pieces_quick.proofs.ready.is_unheld.Statement.{statement}
 use Rattle.pieces_quick.proofs.ready.is_unheld.Tie as tie
 
+-- where the call began, from where `if3` failed
+abbrev entry-of : tie.Else3 → tie.Start
+entry-of c = c .before .before .before .before .before .before
+
 returns : tie.Need-returns
 returns c = no-yes
 
@@ -18,7 +22,7 @@ returns-4 c = no-yes
 
 returns-5 : tie.Need-returns-5
 returns-5 c = λ e.
-    let w = c .before .before .before .before .before .before .before .before .before .args .w in
+    let w = entry-of (c .before .before .before) .args .w in
     record {
       start = c .before .before .before .before .before .before .before .if1 .left;
       which = c .before .before .before .before .before .if2 .left;

@@ -13,6 +13,10 @@ use Rattle.byte_runs.specs.Runs.{block}
 use Rattle.pieces_spots.proofs.comments.copy_block.Statement.{statement}
 use Rattle.pieces_spots.proofs.comments.copy_block.Tie as tie
 
+-- where the call began, from after `block3`
+abbrev entry-of : tie.After-block3 → tie.Start
+entry-of c = c .before .before .before .before .before .before .before
+
 slice-aggregate-copy-all : tie.Need-slice-aggregate-copy-all
 slice-aggregate-copy-all c = let a = c .before .before .before in sym (length-take-le block (now (a .args .raw)) (a .pre .0))
 
@@ -33,7 +37,7 @@ same-length c = search needs
 
 returns : tie.Need-returns
 returns c =
-    let a = c .before .before .before .before .before .before .before .before .before .before .before in
+    let a = entry-of (c .before .before .before .before) in
     c .before .before .copy-all2 .ensures
     ∙ ap (λ (x : List ℕ). written x (now (a .args .text))) (through-block (now (a .args .raw)) _ _ (c .before .before .before .before .before .before .copy-all .ensures) refl (a .pre .0))
 

@@ -20,12 +20,20 @@ Inv-loop raw text₀ i₀ text i = (length text ≡ length text₀) × (i ≤ le
 abbrev μ-loop : tie.MeasureT-loop
 μ-loop raw text₀ i₀ text i = length raw - i
 
+-- where the call began, from where `if1` held
+abbrev entry-of : tie.Then1 Inv-loop μ-loop → tie.Start Inv-loop μ-loop
+entry-of c = c .before .before .before .before .before
+
+-- where `if1` held, from after `slice-known2`
+abbrev if1-of : tie.After-slice-known2 Inv-loop μ-loop → tie.Then1 Inv-loop μ-loop
+if1-of c = c .before .before .before .before .before
+
 loop-holds : tie.Need-loop-holds Inv-loop μ-loop
 loop-holds c = (refl, omega arith, record { inside = omega arith; run = omega arith; whole = λ h. absurd (omega arith); wrote = refl })
 
 -- a block that passed its test is within the line
-room : (c : tie.Then1 Inv-loop μ-loop) → c .before .before .loop .i + block ≤ length (now (c .before .before .before .before .before .args .raw))
-room c = block-room ofLine (now (c .before .before .before .before .before .args .raw)) (c .before .before .loop .i) block (c .before .line-block .ensures) (c .if1 .taken) (omega arith)
+room : (c : tie.Then1 Inv-loop μ-loop) → c .before .before .loop .i + block ≤ length (now (entry-of c .args .raw))
+room c = block-room ofLine (now (entry-of c .args .raw)) (c .before .before .loop .i) block (c .before .line-block .ensures) (c .if1 .taken) (omega arith)
 
 line-block-requires : tie.Need-line-block-requires Inv-loop μ-loop
 line-block-requires c κs = search needs
@@ -40,17 +48,17 @@ part-copy-block-end : tie.Need-part-copy-block-end Inv-loop μ-loop
 part-copy-block-end c = search needs
 
 sub-copy-block-2 : tie.Need-sub-copy-block-2 Inv-loop μ-loop
-sub-copy-block-2 c = omega (arith, c .before .before .before .loop .inv .0, c .before .before .before .loop .inv .1, c .before .before .before .before .before .before .pre)
+sub-copy-block-2 c = omega (arith, c .before .before .before .loop .inv .0, c .before .before .before .loop .inv .1, entry-of (c .before) .pre)
 
 part-copy-block-start-2 : tie.Need-part-copy-block-start-2 Inv-loop μ-loop
-part-copy-block-start-2 c = omega (arith, c .before .before .before .loop .inv .0, c .before .before .before .loop .inv .1, c .before .before .before .before .before .before .pre)
+part-copy-block-start-2 c = omega (arith, c .before .before .before .loop .inv .0, c .before .before .before .loop .inv .1, entry-of (c .before) .pre)
 
 part-copy-block-end-2 : tie.Need-part-copy-block-end-2 Inv-loop μ-loop
 part-copy-block-end-2 c = search needs
 
 copy-block-requires : tie.Need-copy-block-requires Inv-loop μ-loop
 copy-block-requires c κs =
-    let e = c .before .before .before .before .before .before .before in
+    let e = entry-of (c .before .before) in
     let l = c .before .before .before .before .loop in
     let r = room (c .before .before) in (
       omega (arith, r, length-part (now (e .args .raw)) (l .i)),
@@ -58,16 +66,16 @@ copy-block-requires c κs =
     )
 
 add-i : tie.Need-add-i Inv-loop μ-loop
-add-i c = omega (arith, room (c .before .before .before .before .before))
+add-i c = omega (arith, room (if1-of c))
 
 loop-less : tie.Need-loop-less Inv-loop μ-loop
-loop-less c = omega (arith, room (c .before .before .before .before .before))
+loop-less c = omega (arith, room (if1-of c))
 
 loop-again : tie.Need-loop-again Inv-loop μ-loop
 loop-again c =
-    let e = c .before .before .before .before .before .before .before .before .before .before in
-    let l = c .before .before .before .before .before .before .before .loop in
-    let r = room (c .before .before .before .before .before) in
+    let e = entry-of (if1-of c) in
+    let l = if1-of c .before .before .loop in
+    let r = room (if1-of c) in
     let raw = now (e .args .raw) in
     let old = now (e .args .text) in
     let wrote = block-over raw old (l .i) (l .i) (e .pre) r (omega arith) (omega arith) (l .inv .2 .wrote) (c .before .before .copy-block .ensures) in (
@@ -75,7 +83,7 @@ loop-again c =
       r,
       record {
         inside = r;
-        run = block-on ofLine raw (l .i) block (c .before .before .before .before .before .before .line-block .ensures) (c .before .before .before .before .before .if1 .taken) ∙ l .inv .2 .run;
+        run = block-on ofLine raw (l .i) block (if1-of c .before .line-block .ensures) (if1-of c .if1 .taken) ∙ l .inv .2 .run;
         whole = λ h. omega arith;
         wrote = wrote;
       },

@@ -10,6 +10,10 @@ use Rattle.pieces_spots.proofs.Ends as ends
 use Rattle.pieces_spots.proofs.ending.tell.Statement.{statement}
 use Rattle.pieces_spots.proofs.ending.tell.Tie as tie
 
+-- where the call began, from after `is-stop`
+abbrev entry-of : tie.After-is-stop → tie.Start
+entry-of c = c .before .before .before .before .before
+
 returns : tie.Need-returns
 returns c = search needs
 
@@ -58,7 +62,7 @@ tell-run-requires c κs = search needs
 
 returns-7 : tie.Need-returns-7
 returns-7 c =
-    let a = c .before .before .before .before .before .before .before .before .args in
+    let a = entry-of (c .before .before .before) .args in
     ends.run-ends (a .stage) (a .which) (a .detail) (a .b) (a .at) (now (a .raw)) (omega arith) (c .before .before .before .is-stop .ensures (not-false _ (c .before .before .if6 .left))) (c .tell-run .result) (c .tell-run .ensures)
 
 tell-boolean-requires : tie.Need-tell-boolean-requires
@@ -66,7 +70,7 @@ tell-boolean-requires c κs = search needs
 
 returns-8 : tie.Need-returns-8
 returns-8 c =
-    let a = c .before .before .before .before .before .before .before .before .before .args in
+    let a = entry-of (c .before .before .before .before) .args in
     ends.boolean-ends (a .stage) (a .which) (a .detail) (a .b) (a .at) (now (a .raw)) (omega arith) (c .before .before .before .before .is-stop .ensures (not-false _ (c .before .before .before .if6 .left))) (c .tell-boolean .result) (c .tell-boolean .ensures)
 
 returns-9 : tie.Need-returns-9

@@ -6,6 +6,10 @@ use Rattle.pieces_spots.proofs.Moves.{begun-fits, begun-on}
 use Rattle.pieces_spots.proofs.moving.begin.Statement.{statement}
 use Rattle.pieces_spots.proofs.moving.begin.Tie as tie
 
+-- where the call began, from after `begun-by`
+abbrev entry-of : tie.After-begun-by → tie.Start
+entry-of c = c .before .before .before .before .before .before .before
+
 returns : tie.Need-returns
 returns c = search needs
 
@@ -41,7 +45,7 @@ same-length-2 c = search needs
 
 returns-4 : tie.Need-returns-4
 returns-4 c =
-    let a = c .before .before .before .before .before .before .before .before .before in
+    let a = entry-of (c .before .before) in
     let told = c .before .before .begun-by .ensures in
     let solid = told .begins (omega arith) in (
       begun-fits (a .args .s) (now (a .args .buf)) (now (a .args .piece)) (a .pre) (omega arith) (c .before .before .begun-by .result) (omega arith) solid (told .few),

@@ -8,6 +8,10 @@ use Rattle.pieces_spots.proofs.Moves.{closed-fits, closed-on}
 use Rattle.pieces_spots.proofs.moving.close.Statement.{statement}
 use Rattle.pieces_spots.proofs.moving.close.Tie as tie
 
+-- where the call began, from after `closes-arg`
+abbrev entry-of : tie.After-closes-arg → tie.Start
+entry-of c = c .before .before .before .before .before .before
+
 returns : tie.Need-returns
 returns c = search needs
 
@@ -22,7 +26,7 @@ slice-reshare-prefix-closes c = search needs
 
 slice-aggregate-closes : tie.Need-slice-aggregate-closes
 slice-aggregate-closes c =
-    let a = c .before .before .before .before .before .before in
+    let a = entry-of c in
     sym (length-take-le (a .args .s .len) (now (a .args .buf)) (omega (arith, a .pre .small, a .pre .full)))
 
 closes-requires : tie.Need-closes-requires
@@ -51,7 +55,7 @@ same-length-2 c = search needs
 
 returns-4 : tie.Need-returns-4
 returns-4 c =
-    let a = c .before .before .before .before .before .before .before .before .before in
+    let a = entry-of (c .before .before .before) in
     let told = c .before .before .closes .ensures (omega arith) in (
       closed-fits (a .args .s) (now (a .args .buf)) (now (a .args .piece)) (a .pre) (c .before .before .closes .result) (omega arith) (omega arith) told,
       closed-on (a .args .s) (now (a .args .buf)) (now (a .args .piece)) (a .pre) (c .before .before .closes .result) (omega arith) (omega arith) told,

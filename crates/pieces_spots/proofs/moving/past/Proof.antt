@@ -12,6 +12,10 @@ use Rattle.pieces_spots.proofs.Moves.{past-fits, past-on}
 use Rattle.pieces_spots.proofs.moving.past.Statement.{statement}
 use Rattle.pieces_spots.proofs.moving.past.Tie as tie
 
+-- where the call began, from where `if3` failed
+abbrev entry-of : tie.Else3 → tie.Start
+entry-of c = c .before .before .before .before .before .before .before
+
 returns : tie.Need-returns
 returns c = search needs
 
@@ -50,7 +54,7 @@ blank-end-requires c κs = search needs
 
 add-t17 : tie.Need-add-t17
 add-t17 c =
-    let a = c .before .before .before .before .before .before .before .before .before .before .before .before .before in
+    let a = entry-of (c .before .before .before .before .before .before) in
     let n = c .before .blank-end .result in
     let f = looked (a .args .s .i) (c .before .before .before .fewer .result) n (now (a .args .piece)) (a .pre .inside)
     (omega (arith, c .before .blank-end .ensures, span-le blank (take (a .args .s .i + c .before .before .before .fewer .result - a .args .s .i) (drop (a .args .s .i) (now (a .args .piece)))))) in
@@ -58,7 +62,7 @@ add-t17 c =
 
 add-t12 : tie.Need-add-t12
 add-t12 c =
-    let a = c .before .before .before .before .before .before .before .before .before .before .before .before .before in
+    let a = entry-of (c .before .before .before .before .before .before) in
     let n = c .before .blank-end .result in
     let f = looked (a .args .s .i) (c .before .before .before .fewer .result) n (now (a .args .piece)) (a .pre .inside)
     (omega (arith, c .before .blank-end .ensures, span-le blank (take (a .args .s .i + c .before .before .before .fewer .result - a .args .s .i) (drop (a .args .s .i) (now (a .args .piece)))))) in
@@ -66,7 +70,7 @@ add-t12 c =
 
 returns-5 : tie.Need-returns-5
 returns-5 c =
-    let a = c .before .before .before .before .before .before .before .before .before .before .before .before .before in
+    let a = entry-of (c .before .before .before .before .before .before) in
     let n = c .before .blank-end .result in
     let i = a .args .s .i in
     let part = run-part blank (now (a .args .piece)) i (i + c .before .before .before .fewer .result - i) n (omega (arith, c .before .blank-end .ensures)) in (

@@ -12,6 +12,14 @@ use Rattle.pieces_spots.proofs.Moves.{ran-fits, ran-on}
 use Rattle.pieces_spots.proofs.moving.run.Statement.{statement}
 use Rattle.pieces_spots.proofs.moving.run.Tie as tie
 
+-- where the call began, from after `kept-count`
+abbrev entry-of : tie.After-kept-count → tie.Start
+entry-of c = c .before .before .before .before .before
+
+-- after `kept-count`, from after `struct-known`
+abbrev kept-count-of : tie.After-struct-known → tie.After-kept-count
+kept-count-of c = c .before .before .before .before .before .before .before
+
 sub-fewer : tie.Need-sub-fewer
 sub-fewer c = search needs
 
@@ -41,7 +49,7 @@ returns c = search needs
 
 add-to : tie.Need-add-to
 add-to c =
-    let a = c .before .before .before .before .before .before in
+    let a = entry-of (c .before) in
     let n = c .before .kept-count .result in
     let f = looked (a .args .s .i) (c .before .before .before .fewer .result) n (now (a .args .piece)) (a .pre .inside) (c .before .kept-count .ensures .0) in
     omega (arith, f .1)
@@ -54,7 +62,7 @@ part-copy-all-start c = search needs
 
 part-copy-all-end : tie.Need-part-copy-all-end
 part-copy-all-end c =
-    let a = c .before .before .before .before .before .before in
+    let a = entry-of (c .before) in
     let n = c .before .kept-count .result in
     let f = looked (a .args .s .i) (c .before .before .before .fewer .result) n (now (a .args .piece)) (a .pre .inside) (c .before .kept-count .ensures .0) in
     f .1
@@ -71,7 +79,7 @@ part-copy-all-end-2 c = search needs
 copy-all-requires : tie.Need-copy-all-requires
 copy-all-requires c κs =
     let n = c .before .before .before .kept-count .result in
-    let a = c .before .before .before .before .before .before .before .before in
+    let a = entry-of (c .before .before .before) in
     let f = looked (a .args .s .i) (c .before .before .before .before .before .fewer .result) n (now (a .args .piece)) (a .pre .inside) (c .before .before .before .kept-count .ensures .0) in
     omega (
       arith,
@@ -85,17 +93,17 @@ copy-all-requires c κs =
 
 add-t25 : tie.Need-add-t25
 add-t25 c =
-    let n = c .before .before .before .before .before .before .before .kept-count .result in
-    let a = c .before .before .before .before .before .before .before .before .before .before .before .before in
-    let f = looked (a .args .s .i) (c .before .before .before .before .before .before .before .before .before .fewer .result) n (now (a .args .piece)) (a .pre .inside) (c .before .before .before .before .before .before .before .kept-count .ensures .0) in
+    let n = kept-count-of c .kept-count .result in
+    let a = entry-of (kept-count-of c) in
+    let f = looked (a .args .s .i) (kept-count-of c .before .before .fewer .result) n (now (a .args .piece)) (a .pre .inside) (kept-count-of c .kept-count .ensures .0) in
     omega (arith, f .1, a .pre .far)
 
 add-t9 : tie.Need-add-t9
 add-t9 c =
-    let n = c .before .before .before .before .before .before .before .kept-count .result in
-    let there = c .before .before .before .before .before .before .before .before .before in
+    let n = kept-count-of c .kept-count .result in
+    let there = kept-count-of c .before .before in
     let a = there .before .before .before in
-    let f = looked (a .args .s .i) (there .fewer .result) n (now (a .args .piece)) (a .pre .inside) (c .before .before .before .before .before .before .before .kept-count .ensures .0) in
+    let f = looked (a .args .s .i) (there .fewer .result) n (now (a .args .piece)) (a .pre .inside) (kept-count-of c .kept-count .ensures .0) in
     omega (arith, f .0, a .pre .small, there .fewer .ensures)
 
 same-length : tie.Need-same-length
@@ -103,13 +111,13 @@ same-length c = search needs
 
 returns-2 : tie.Need-returns-2
 returns-2 c =
-    let n = c .before .before .before .before .before .before .before .kept-count .result in
-    let there = c .before .before .before .before .before .before .before .before .before in
+    let n = kept-count-of c .kept-count .result in
+    let there = kept-count-of c .before .before in
     let a = there .before .before .before in
-    let f = looked (a .args .s .i) (there .fewer .result) n (now (a .args .piece)) (a .pre .inside) (c .before .before .before .before .before .before .before .kept-count .ensures .0) in
+    let f = looked (a .args .s .i) (there .fewer .result) n (now (a .args .piece)) (a .pre .inside) (kept-count-of c .kept-count .ensures .0) in
     let i = a .args .s .i in
     let k : ℕ = there .fewer .result in
-    let told = c .before .before .before .before .before .before .before .kept-count .ensures .1 (omega arith) in
+    let told = kept-count-of c .kept-count .ensures .1 (omega arith) in
     let j : i + n - i ≡ n = omega arith in
     let laid = part-laid (a .args .s .len) (take (i + n - i) (drop i (now (a .args .piece)))) (now (a .args .buf)) (c .before .before .before .copy-all .ensures)
     ∙ ap (λ (x : ℕ). laidAt (a .args .s .len) (take x (drop i (now (a .args .piece)))) (now (a .args .buf))) j in (

@@ -9,6 +9,10 @@ use Rattle.pieces_spots.proofs.TwoBytes.{first-fits, first-on}
 use Rattle.pieces_spots.proofs.pairs.begin_letter.Statement.{statement}
 use Rattle.pieces_spots.proofs.pairs.begin_letter.Tie as tie
 
+-- where the call began, from after `is-letter`
+abbrev entry-of : tie.After-is-letter → tie.Start
+entry-of c = c .before .before .before .before .before .before
+
 sub-if1 : tie.Need-sub-if1
 sub-if1 c = search needs
 
@@ -56,7 +60,7 @@ same-length c = search needs
 
 returns-3 : tie.Need-returns-3
 returns-3 c =
-    let a = c .before .before .before .before .before .before .before .before .before .before in
+    let a = entry-of (c .before .before .before .before) in
     let found = c .before .before .before .before .is-letter .ensures (not-false _ (c .before .before .before .if2 .left)) in
     let inside : a .args .s .i + 2 ≤ length (now (a .args .piece)) = omega (arith, c .before .before .before .before .before .before .before .if1 .left) in (
       first-fits (a .args .s) (now (a .args .buf)) (now (a .args .piece)) (a .pre .0) (a .pre .1) inside found,

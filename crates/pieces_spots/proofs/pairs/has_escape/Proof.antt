@@ -7,6 +7,10 @@ use Rattle.pieces_spots.proofs.TwoBytes.{escape-on}
 use Rattle.pieces_spots.proofs.pairs.has_escape.Statement.{statement}
 use Rattle.pieces_spots.proofs.pairs.has_escape.Tie as tie
 
+-- where the call began, from where `if3` failed
+abbrev entry-of : tie.Else3 → tie.Start
+entry-of c = c .before .before .before .before .before .before
+
 shared-slice-read-if1 : tie.Need-shared-slice-read-if1
 shared-slice-read-if1 c = search needs
 
@@ -36,7 +40,7 @@ is-escape-requires c κs = search needs
 
 returns-4 : tie.Need-returns-4
 returns-4 c = λ e.
-    let a = c .before .before .before .before .before .before .before .before .args in
+    let a = entry-of (c .before .before) .args in
     let s = a .s in
     record {
       inside = omega (arith, c .before .before .before .before .if2 .left);

@@ -8,6 +8,10 @@ use Rattle.pieces_spots.proofs.TwoBytes.{letter-on}
 use Rattle.pieces_spots.proofs.pairs.has_letter.Statement.{statement}
 use Rattle.pieces_spots.proofs.pairs.has_letter.Tie as tie
 
+-- where `if1` failed, from after `carries`
+abbrev if1-of : tie.After-carries → tie.Else1
+if1-of c = c .before .before .before .before .before .before .before
+
 sub-if1 : tie.Need-sub-if1
 sub-if1 c = search needs
 
@@ -40,13 +44,13 @@ carries-requires c κs = search needs
 
 returns-4 : tie.Need-returns-4
 returns-4 c = λ e.
-    let a = c .before .before .before .before .before .before .before .before .before .args in
+    let a = if1-of c .before .before .args in
     let s = a .s in
     let letter = c .before .before .before .before .is-letter .ensures (not-false _ (c .before .before .before .if2 .left)) in
     record {
-      inside = omega (arith, c .before .before .before .before .before .before .before .if1 .left);
+      inside = omega (arith, if1-of c .if1 .left);
       room = omega (arith, c .before .if3 .left);
-      on = λ buf fits. letter-on s buf (now (a .piece)) fits (omega (arith, c .before .before .before .before .before .before .before .if1 .left)) (omega (arith, c .before .if3 .left)) letter (c .carries .ensures e (s .which));
+      on = λ buf fits. letter-on s buf (now (a .piece)) fits (omega (arith, if1-of c .if1 .left)) (omega (arith, c .before .if3 .left)) letter (c .carries .ensures e (s .which));
     }
 
 pub has-letter-spec : {M : Type 1} → statement M

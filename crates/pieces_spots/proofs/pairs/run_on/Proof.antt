@@ -16,6 +16,14 @@ Inv-loop buf₀ piece t₀ buf t = Fits t buf piece × Onward t₀ buf₀ t buf 
 abbrev μ-loop : tie.MeasureT-loop
 μ-loop buf₀ piece t₀ buf t = length piece - t .i
 
+-- where the call began, from after `run`
+abbrev entry-of : tie.After-run Inv-loop μ-loop → tie.Start Inv-loop μ-loop
+entry-of c = c .before .before .before .before .before
+
+-- after `run`, from after `has-pair`
+abbrev run-of : tie.After-has-pair Inv-loop μ-loop → tie.After-run Inv-loop μ-loop
+run-of c = c .before .before .before .before .before
+
 loop-holds : tie.Need-loop-holds Inv-loop μ-loop
 loop-holds c = let a = c .before .before in (a .pre, stay (a .args .s) (now (a .args .buf)) (now (a .args .piece)))
 
@@ -23,30 +31,30 @@ run-requires : tie.Need-run-requires Inv-loop μ-loop
 run-requires c κs = c .before .loop .inv .0
 
 same-length : tie.Need-same-length Inv-loop μ-loop
-same-length c = c .before .before .before .before .run .ensures .0 .full ∙ sym (c .before .before .before .before .before .before .before .before .before .pre .full)
+same-length c = c .before .before .before .before .run .ensures .0 .full ∙ sym (entry-of (c .before .before .before .before) .pre .full)
 
 returns : tie.Need-returns Inv-loop μ-loop
-returns c = (c .before .before .before .before .run .ensures .0, along (now (c .before .before .before .before .before .before .before .before .before .args .piece)) _ _ _ _ _ _ (c .before .before .before .before .before .before .loop .inv .1) (c .before .before .before .before .run .ensures .1))
+returns c = (c .before .before .before .before .run .ensures .0, along (now (entry-of (c .before .before .before .before) .args .piece)) _ _ _ _ _ _ (c .before .before .before .before .before .before .loop .inv .1) (c .before .before .before .before .run .ensures .1))
 
 has-pair-requires : tie.Need-has-pair-requires Inv-loop μ-loop
 has-pair-requires c κs = c .before .before .before .before .run .ensures .0 .inside
 
 same-length-2 : tie.Need-same-length-2 Inv-loop μ-loop
-same-length-2 c = c .before .before .before .before .before .before .run .ensures .0 .full ∙ sym (c .before .before .before .before .before .before .before .before .before .before .before .pre .full)
+same-length-2 c = run-of (c .before) .run .ensures .0 .full ∙ sym (entry-of (run-of (c .before)) .pre .full)
 
 returns-2 : tie.Need-returns-2 Inv-loop μ-loop
-returns-2 c = (c .before .before .before .before .before .before .run .ensures .0, along (now (c .before .before .before .before .before .before .before .before .before .before .before .args .piece)) _ _ _ _ _ _ (c .before .before .before .before .before .before .before .before .loop .inv .1) (c .before .before .before .before .before .before .run .ensures .1))
+returns-2 c = (run-of (c .before) .run .ensures .0, along (now (entry-of (run-of (c .before)) .args .piece)) _ _ _ _ _ _ (run-of (c .before) .before .before .loop .inv .1) (run-of (c .before) .run .ensures .1))
 
 pass-pair-requires : tie.Need-pass-pair-requires Inv-loop μ-loop
-pass-pair-requires c κs = (c .before .before .before .before .before .before .before .run .ensures .0, c .before .before .has-pair .ensures (not-false _ (c .before .if2 .left)))
+pass-pair-requires c κs = (run-of (c .before .before) .run .ensures .0, c .before .before .has-pair .ensures (not-false _ (c .before .if2 .left)))
 
 loop-less : tie.Need-loop-less Inv-loop μ-loop
-loop-less c = omega (arith, c .before .before .before .before .before .before .before .before .before .before .run .ensures .2, c .before .before .pass-pair .ensures .2, c .before .before .before .before .before .has-pair .ensures (not-false _ (c .before .before .before .before .if2 .left)) .inside)
+loop-less c = omega (arith, run-of (c .before .before .before .before .before) .run .ensures .2, c .before .before .pass-pair .ensures .2, c .before .before .before .before .before .has-pair .ensures (not-false _ (c .before .before .before .before .if2 .left)) .inside)
 
 loop-again : tie.Need-loop-again Inv-loop μ-loop
 loop-again c =
-    let piece = now (c .before .before .before .before .before .before .before .before .before .before .before .before .before .before .before .args .piece) in
-    let ran = along piece _ _ _ _ _ _ (c .before .before .before .before .before .before .before .before .before .before .before .before .loop .inv .1) (c .before .before .before .before .before .before .before .before .before .before .run .ensures .1) in
+    let piece = now (entry-of (run-of (c .before .before .before .before .before)) .args .piece) in
+    let ran = along piece _ _ _ _ _ _ (run-of (c .before .before .before .before .before) .before .before .loop .inv .1) (run-of (c .before .before .before .before .before) .run .ensures .1) in
     let last = c .before .before .pass-pair in
     (last .ensures .0, along piece _ _ _ _ _ _ ran (last .ensures .1))
 

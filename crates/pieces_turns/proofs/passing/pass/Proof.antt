@@ -12,6 +12,10 @@ use Rattle.pieces_turns.proofs.Passes.{passed-none, passed-some}
 use Rattle.pieces_turns.proofs.passing.pass.Statement.{statement}
 use Rattle.pieces_turns.proofs.passing.pass.Tie as tie
 
+-- where the call began, from after `copy-all-arg`
+abbrev entry-of : tie.After-copy-all-arg → tie.Start
+entry-of c = c .before .before .before .before .before .before .before
+
 state-both : {m n : Marks} {b d : List ℕ} → m ≡ n → b ≡ d → stateOf m b ≡ stateOf n d
 state-both e f = cc
 
@@ -101,7 +105,7 @@ same-length c = search needs
 
 returns-6 : tie.Need-returns-6
 returns-6 c =
-    let f = c .before .before .before .before .before .before .before .before .before .before .before .before .args in
+    let f = entry-of (c .before .before .before .before .before) .args in
     state-both (c .marks-at3 .ensures) (part-laid (f .m .len) (now (f .run)) (now (f .buf)) (c .before .before .before .before .copy-all .ensures))
     ∙ passed-some (stateOf (f .m) (now (f .buf))) (now (f .run)) (omega arith) _ (c .before .before .before .before .before .before .before .stage .given .1)
 

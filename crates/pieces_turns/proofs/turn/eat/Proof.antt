@@ -8,6 +8,10 @@ use Rattle.chars.proofs.Width.{width-le}
 use Rattle.pieces_turns.proofs.turn.eat.Statement.{statement}
 use Rattle.pieces_turns.proofs.turn.eat.Tie as tie
 
+-- where the call began, from after `buf`
+abbrev entry-of : tie.After-buf → tie.Start
+entry-of c = c .before .before .before .before .before .before
+
 char-width-requires : tie.Need-char-width-requires
 char-width-requires c κs = search needs
 
@@ -28,10 +32,10 @@ lay-requires c κs =
     (entry .pre .0, omega (arith, c .before .before .char-width .ensures), entry .pre .2 .small)
 
 add-marks-at : tie.Need-add-marks-at
-add-marks-at c = omega (arith, c .before .before .before .before .before .before .char-width .ensures, width-le (c .before .before .before .before .before .before .before .before .args .c))
+add-marks-at c = omega (arith, c .before .before .before .before .before .before .char-width .ensures, width-le (entry-of (c .before .before) .args .c))
 
 add-marks-at-2 : tie.Need-add-marks-at-2
-add-marks-at-2 c = omega (arith, c .before .before .before .before .before .before .char-width .ensures, width-le (c .before .before .before .before .before .before .before .before .args .c))
+add-marks-at-2 c = omega (arith, c .before .before .before .before .before .before .char-width .ensures, width-le (entry-of (c .before .before) .args .c))
 
 marks-at-requires : tie.Need-marks-at-requires
 marks-at-requires c κs = search needs
@@ -44,14 +48,15 @@ same-length c = search needs
 
 returns-2 : tie.Need-returns-2
 returns-2 c =
-    let there = c .before .before .before .before .before .before .before .before in
+    let at-lay = c .before .before .before .before .before in
+    let there = at-lay .before .before .before in
     λ text. simp (
       le-ltb 4096 (there .before .before .args .m .len
           + width (there .before .before .args .c))
           (omega (arith, there .char-width .ensures)),
       c .go-on .ensures,
       c .before .marks-at .ensures,
-      c .before .before .before .before .before .lay .ensures,
+      at-lay .lay .ensures,
       there .char-width .ensures,
     )
 

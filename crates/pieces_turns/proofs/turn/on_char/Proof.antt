@@ -10,6 +10,18 @@ use Rattle.pieces_turns.proofs.Stands.{on-stage}
 use Rattle.pieces_turns.proofs.turn.on_char.Statement.{statement}
 use Rattle.pieces_turns.proofs.turn.on_char.Tie as tie
 
+-- where the call began, from after `stage`
+abbrev entry-of : tie.After-stage → tie.Start
+entry-of c = c .before .before .before .before
+
+-- where the call began, from after `on-pound-arg2`
+abbrev entry-of-2 : tie.After-on-pound-arg2 → tie.Start
+entry-of-2 c = c .before .before .before .before .before .before
+
+-- after `stage`, from after `text2`
+abbrev stage-of : tie.After-text2 → tie.After-stage
+stage-of c = c .before .before .before .before .before .before .before
+
 enum-told : tie.Need-enum-told
 enum-told c = search needs
 
@@ -26,7 +38,7 @@ enum-told-2 c = search needs
 
 on-pound-requires : tie.Need-on-pound-requires
 on-pound-requires c κs =
-    let entry = c .before .before .before .before .before .before in (
+    let entry = entry-of-2 c in (
       held-pound (stateOf (entry .args .m) (now (entry .args .buf))) (now (entry .args .text)) (entry .pre .0 .full)
           (entry .pre .0 .room) (sane (stateOf (entry .args .m) (now (entry .args .buf))) (entry .pre .0 .bounded) (entry .pre .0 .calm))
           (c .before .before .enum-told2 .given .1),
@@ -60,7 +72,7 @@ enum-known-stage c = search needs
 
 on-item-requires : tie.Need-on-item-requires
 on-item-requires c κs =
-    let entry = c .before .before .before .before .before .before .before in
+    let entry = entry-of (c .before .before .before) in
     let h = held-busy (stateOf (entry .args .m) (now (entry .args .buf))) (now (entry .args .text)) (entry .pre .0 .full)
     (entry .pre .0 .room) (sane (stateOf (entry .args .m) (now (entry .args .buf))) (entry .pre .0 .bounded) (entry .pre .0 .calm)) _ _
     (c .before .before .before .stage .given .1) in (h .0, entry .pre .1, h .1)
@@ -82,9 +94,10 @@ same-length c = search needs
 
 returns : tie.Need-returns
 returns c =
-    let entry = c .before .before .before .before .before .before .before .before .before in
+    let at-enum-told = c .before .before .before .before .before in
+    let entry = at-enum-told .before .before .before .before in
     on-stage (stateOf (entry .args .m) (now (entry .args .buf))) (entry .args .c) (now (entry .args .text)) (entry .args .m .stage) _
-    (c .before .before .before .before .before .enum-told .given .1) (rw (c .go-on .ensures) (c .before .before .before .on-first .ensures, refl))
+    (at-enum-told .enum-told .given .1) (rw (c .go-on .ensures) (c .before .before .before .on-first .ensures, refl))
 
 same-length-2 : tie.Need-same-length-2
 same-length-2 c = search needs
@@ -94,7 +107,7 @@ same-length-3 c = search needs
 
 returns-2 : tie.Need-returns-2
 returns-2 c =
-    let entry = c .before .before .before .before .before .before .before .before .before .before .before in
+    let entry = entry-of-2 (c .before .before .before .before .before) in
     on-stage (stateOf (entry .args .m) (now (entry .args .buf))) (entry .args .c) (now (entry .args .text)) (entry .args .m .stage) _
     (c .before .before .before .before .before .before .before .enum-told2 .given .1) (c .before .before .before .before .on-pound .ensures)
 
@@ -103,18 +116,20 @@ same-length-4 c = search needs
 
 returns-3 : tie.Need-returns-3
 returns-3 c =
-    let entry = c .before .before .before .before .before .before .before .before .before in
+    let at-enum-told3 = c .before .before .before .before .before in
+    let entry = at-enum-told3 .before .before .before .before in
     on-stage (stateOf (entry .args .m) (now (entry .args .buf))) (entry .args .c) (now (entry .args .text)) (entry .args .m .stage) _
-    (c .before .before .before .before .before .enum-told3 .given .1) (rw (c .go-on2 .ensures) (c .before .before .before .on-line .ensures, refl))
+    (at-enum-told3 .enum-told3 .given .1) (rw (c .go-on2 .ensures) (c .before .before .before .on-line .ensures, refl))
 
 same-length-5 : tie.Need-same-length-5
 same-length-5 c = search needs
 
 returns-4 : tie.Need-returns-4
 returns-4 c =
-    let entry = c .before .before .before .before .before .before .before .before .before in
+    let at-enum-told4 = c .before .before .before .before .before in
+    let entry = at-enum-told4 .before .before .before .before in
     on-stage (stateOf (entry .args .m) (now (entry .args .buf)))
-    (entry .args .c) (now (entry .args .text)) (entry .args .m .stage) _ (c .before .before .before .before .before .enum-told4 .given .1)
+    (entry .args .c) (now (entry .args .text)) (entry .args .m .stage) _ (at-enum-told4 .enum-told4 .given .1)
     (rw (c .go-on3 .ensures) (ap on (c .before .before .before .begin .ensures), refl))
 
 same-length-6 : tie.Need-same-length-6
@@ -125,9 +140,9 @@ same-length-7 c = search needs
 
 returns-5 : tie.Need-returns-5
 returns-5 c =
-    let entry = c .before .before .before .before .before .before .before .before .before .before .before .before in
+    let entry = entry-of (stage-of (c .before)) in
     on-stage (stateOf (entry .args .m) (now (entry .args .buf))) (entry .args .c) (now (entry .args .text)) (entry .args .m .stage) _
-    (c .before .before .before .before .before .before .before .before .stage .given .1) (c .before .before .before .before .on-item .ensures)
+    (stage-of (c .before) .stage .given .1) (c .before .before .before .before .on-item .ensures)
 
 returns-6 : tie.Need-returns-6
 returns-6 c =

@@ -11,6 +11,10 @@ use Rattle.pieces_turns.proofs.Stands.{eat-quiet}
 use Rattle.pieces_turns.proofs.turn.on_item.Statement.{statement}
 use Rattle.pieces_turns.proofs.turn.on_item.Tie as tie
 
+-- where the call began, from after `step`
+abbrev entry-of : tie.After-step → tie.Start
+entry-of c = c .before .before .before .before .before
+
 slice-reshare-prefix-step : tie.Need-slice-reshare-prefix-step
 slice-reshare-prefix-step c = omega arith
 
@@ -33,7 +37,7 @@ enum-known-then c = search needs
 
 eat-requires : tie.Need-eat-requires
 eat-requires c κs =
-    let entry = c .before .before .before .before .before .before .before .before .before in
+    let entry = entry-of (c .before .before .before .before) in
     (entry .pre .0 .full, entry .pre .0 .small, entry .pre .1)
 
 enum-known-what : tie.Need-enum-known-what
@@ -41,7 +45,7 @@ enum-known-what c = search needs
 
 ends-requires : tie.Need-ends-requires
 ends-requires c κs =
-    let entry = c .before .before .before .before .before .before .before .before .before .before in (
+    let entry = entry-of (c .before .before .before .before .before) in (
       entry .pre .0,
       stop-fits (stateOf (entry .args .m) (now (entry .args .buf))) (entry .pre .0 .full) (entry .pre .0 .small) (entry .pre .0 .some)
           (entry .args .phase) (entry .pre .2) (entry .args .c) (omega (arith, entry .pre .0 .ends))
@@ -54,8 +58,9 @@ same-length c = search needs
 
 returns : tie.Need-returns
 returns c =
-    let entry = c .before .before .before .before .before .before .before .before .before .before .before .before in
-    rw (sym (c .before .before .before .before .before .before .before .step .ensures) ∙ c .before .before .before .before .before .then .given .1) (
+    let at-step = c .before .before .before .before .before .before .before in
+    let entry = at-step .before .before .before .before .before in
+    rw (sym (at-step .step .ensures) ∙ c .before .before .before .before .before .then .given .1) (
       c .before .before .eat .ensures (now (entry .args .text)),
       sym (eat-quiet (stateOf (entry .args .m) (now (entry .args .buf))) (entry .args .start) (entry .args .c) _ (now (entry .args .text))),
     )

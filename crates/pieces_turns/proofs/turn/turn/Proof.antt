@@ -12,6 +12,10 @@ use Rattle.pieces_turns.proofs.Told.{sane}
 use Rattle.pieces_turns.proofs.turn.turn.Statement.{statement}
 use Rattle.pieces_turns.proofs.turn.turn.Tie as tie
 
+-- where the call began, from after `byte-step`
+abbrev entry-of : tie.After-byte-step → tie.Start
+entry-of c = c .before .before .before .before .before .before .before
+
 add-if1 : tie.Need-add-if1
 add-if1 c =
     let entry = c .before .before .before .before .before in
@@ -34,7 +38,7 @@ enum-known-state c = search needs
 
 add-t13 : tie.Need-add-t13
 add-t13 c =
-    let entry = c .before .before .before .before .before .before .before .before .before .before .before in
+    let entry = entry-of (c .before .before .before .before) in
     omega (arith, (sane (stateOf (entry .args .m) (now (entry .args .buf))) (entry .pre .bounded) (entry .pre .calm)) .numbers .far)
 
 with-part-requires : tie.Need-with-part-requires
@@ -48,7 +52,7 @@ enum-known-c c = search needs
 
 on-char-requires : tie.Need-on-char-requires
 on-char-requires c κs =
-    let entry = c .before .before .before .before .before .before .before .before .before .before .before .before in (
+    let entry = entry-of (c .before .before .before .before .before) in (
       entry .pre,
       char-fits (stateOf (entry .args .m) (now (entry .args .buf))) (sane (stateOf (entry .args .m) (now (entry .args .buf)))
           (entry .pre .bounded) (entry .pre .calm)) (entry .args .b) _ (c .before .before .before .before .before .before .if1 .left)
@@ -64,8 +68,10 @@ stop-requires-2 c κs = search needs
 returns-2 : tie.Need-returns-2
 unfolding turnOf
 returns-2 c =
+    let at-match = c .before .before .before .before .before in
+    let at-part = at-match .before .before .before .before .before in
     let told = c .before .before .before .before in
-    let entry = told .before .before .before .before .before .before .before .before .before in
+    let entry = at-part .before .before .before in
     rw (
       lt-leb 4294967295 (entry .args .m .at + entry .args .m .part .count) (told .before .before .before .if1 .left),
       sym (told .before .before .byte-step .ensures) ∙ told .state .given .1,
@@ -82,9 +88,11 @@ same-length-2 c = search needs
 returns-3 : tie.Need-returns-3
 unfolding turnOf
 returns-3 c =
+    let at-known-told2 = c .before .before .before .before .before .before .before in
+    let at-part = at-known-told2 .before .before .before .before .before .before .before in
     let turned = c .before .before .before .before in
     let told = turned .before .before .before .before in
-    let entry = told .before .before .before .before .before .before .before .before .before in
+    let entry = at-part .before .before .before in
     rw (
       lt-leb 4294967295 (entry .args .m .at + entry .args .m .part .count) (told .before .before .before .if1 .left),
       sym (told .before .before .byte-step .ensures) ∙ told .c .given .1,
@@ -93,7 +101,8 @@ returns-3 c =
 returns-4 : tie.Need-returns-4
 unfolding turnOf
 returns-4 c =
-    let entry = c .before .before .before .before .before .before .before .before .before .before in
+    let at-part = c .before .before .before .before .before .before .before in
+    let entry = at-part .before .before .before in
     rw (
       lt-leb 4294967295 (entry .args .m .at + entry .args .m .part .count) (c .before .before .before .before .if1 .left),
       sym (c .before .before .before .byte-step .ensures) ∙ c .before .enum-told .given .1,

@@ -46,8 +46,10 @@ returns-2 c = search needs
 
 add-n : tie.Need-add-n Inv-loop μ-loop
 add-n c =
-    let branch = c .before .before .before .before .before .before .before .before in
-    omega (arith, branch .if1 .left, branch .before .loop-test .taken, branch .before .before .before .before .before .before .before .before .before .fits)
+    let midway = c .before .before .before .before in
+    let branch = midway .before .before .before .before in
+    let turn = branch .before .before in
+    omega (arith, branch .if1 .left, branch .before .loop-test .taken, turn .before .before .before .before .before .before .before .fits)
 
 loop-less : tie.Need-loop-less Inv-loop μ-loop
 loop-less c = search needs

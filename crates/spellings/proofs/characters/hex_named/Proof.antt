@@ -6,6 +6,10 @@ use borrow.Author.Needs.{needs}
 use Rattle.spellings.proofs.characters.hex_named.Statement.{statement}
 use Rattle.spellings.proofs.characters.hex_named.Tie as tie
 
+-- where the call began, from after `shared-slice-known4`
+abbrev entry-of : tie.After-shared-slice-known4 → tie.Start
+entry-of c = c .before .before .before .before .before .before
+
 shared-slice-read-if1 : tie.Need-shared-slice-read-if1
 shared-slice-read-if1 c = search needs
 
@@ -34,15 +38,15 @@ cast-t11 : tie.Need-cast-t11
 cast-t11 c = search needs
 
 returns-3 : tie.Need-returns-3
-returns-3 c = hex-unclosed (c .before .before .before .before .before .before .before .args .t .now) (c .before .before .before .before .if1 .left) (c .before .before .if2 .left) (c .if3 .taken)
+returns-3 c = hex-unclosed (entry-of (c .before) .args .t .now) (c .before .before .before .before .if1 .left) (c .before .before .if2 .left) (c .if3 .taken)
 
 hex-part-requires-3 : tie.Need-hex-part-requires-3
 hex-part-requires-3 c κs =
-    let entry = c .before .before .before .before .before .before .before in
+    let entry = entry-of (c .before) in
     (hex-room (entry .args .t .now) (c .before .before .before .before .if1 .left) (c .before .before .if2 .left) (c .if3 .left) (entry .pre), omega arith)
 
 returns-4 : tie.Need-returns-4
-returns-4 c = c .hex-part3 .ensures ∙ hex-braces (c .before .before .before .before .before .before .before .before .args .t .now)
+returns-4 c = c .hex-part3 .ensures ∙ hex-braces (entry-of (c .before .before) .args .t .now)
     (c .before .before .before .before .before .if1 .left) (c .before .before .before .if2 .left) (c .before .if3 .left)
 
 pub hex-named-spec : {M : Type 1} → statement M

@@ -16,13 +16,21 @@ use Rattle.steps.proofs.Sought.{kept-line, rest-first}
 use Rattle.steps.proofs.here.past_line.Statement.{statement}
 use Rattle.steps.proofs.here.past_line.Tie as tie
 
+-- where the call began, from after `line`
+abbrev entry-of : tie.After-line → tie.Start
+entry-of c = c .before .before .before .before .before .before .before
+
+-- after `line`, from after `chars-end`
+abbrev line-of : tie.After-chars-end → tie.After-line
+line-of c = c .before .before .before .before
+
 slice-aggregate-line : tie.Need-slice-aggregate-line
 slice-aggregate-line c = sym (length-take-le _ _ (c .before .before .kept-end .ensures .0))
 
 delimiter-end-requires : tie.Need-delimiter-end-requires
 delimiter-end-requires c κs =
-    let f = c .before .before .before .before .before .before .before .before .before .args in
-    let p = c .before .before .before .before .before .before .before .before .before .pre in
+    let f = entry-of (c .before .before) .args in
+    let p = entry-of (c .before .before) .pre in
     let whole = part (now (f .s)) (f .start + 3) (f .newline) in
     let first = c .before .before .before .before .before .before .kept-start in
     let rest = take (length whole - first .result) (drop (first .result) whole) in
@@ -37,13 +45,13 @@ delimiter-end-requires c κs =
 
 returns-2 : tie.Need-returns-2
 returns-2 c =
-    let f = c .before .before .before .before .before .before .before .before .before .before .before .args in
-    let p = c .before .before .before .before .before .before .before .before .before .before .before .pre in
+    let f = entry-of (line-of c) .args in
+    let p = entry-of (line-of c) .pre in
     let s = now (f .s) in
     let whole = part s (f .start + 3) (f .newline) in
-    let first = c .before .before .before .before .before .before .before .before .kept-start in
+    let first = line-of c .before .before .before .before .kept-start in
     let rest = take (length whole - first .result) (drop (first .result) whole) in
-    let last = c .before .before .before .before .before .before .kept-end in
+    let last = line-of c .before .before .kept-end in
     let line = take (last .result) rest in
     let kept : unreturned line ≡ unreturned whole = last .ensures .1 ∙ ap unreturned (part-rest whole (first .result)) ∙ first .ensures .1 in
     let n = c .before .before .before .unreturned-length in

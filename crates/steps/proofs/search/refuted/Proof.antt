@@ -9,6 +9,10 @@ use Rattle.steps.proofs.Sought.{missed, byte-at, known-missed}
 use Rattle.steps.proofs.search.refuted.Statement.{statement}
 use Rattle.steps.proofs.search.refuted.Tie as tie
 
+-- where the call began, from after `differs`
+abbrev entry-of : tie.After-differs → tie.Start
+entry-of c = c .before .before .before .before .before .before
+
 returns : tie.Need-returns
 returns c h =
     let f = c .before .before .before .before .before .args in
@@ -18,15 +22,15 @@ returns c h =
 
 returns-2 : tie.Need-returns-2
 returns-2 c h =
-    let f = c .before .before .before .before .before .before .before .args in
+    let f = entry-of (c .before) .args in
     let d = c .before .differs .ensures (c .if2 .taken) in
-    known-missed (now (f .line)) (now (f .s)) (f .known .at) (f .i) (f .known .count) (f .known .read) (f .known .off) (c .before .before .before .before .before .before .before .pre .2 .begun) (d .0) (d .1)
+    known-missed (now (f .line)) (now (f .s)) (f .known .at) (f .i) (f .known .count) (f .known .read) (f .known .off) (entry-of (c .before) .pre .2 .begun) (d .0) (d .1)
 
 returns-4 : tie.Need-returns-4
 returns-4 c h =
-    let f = c .before .before .before .before .before .before .before .before .before .before .before .args in
+    let f = entry-of (c .before .before .before .before .before) .args in
     let d = c .differs2 .ensures h in
-    known-missed (now (f .line)) (now (f .s)) (f .known .at) (f .i) (f .known .count) (f .known .read) (f .known .odd - f .i) (c .before .before .before .before .before .before .before .before .before .before .before .pre .2 .begun) (d .0) (d .1)
+    known-missed (now (f .line)) (now (f .s)) (f .known .at) (f .i) (f .known .count) (f .known .read) (f .known .odd - f .i) (entry-of (c .before .before .before .before .before) .pre .2 .begun) (d .0) (d .1)
 
 pub refuted-spec : {M : Type 1} → statement M
 refuted-spec =
@@ -39,5 +43,5 @@ refuted-spec =
     (λ c κs. let p = c .before .before .before .before .before .pre in (omega (arith, p .0, p .1), p .2 .begun .room))
     returns-2
     (λ c. no-yes)
-    (λ c κs. let p = c .before .before .before .before .before .before .before .before .before .before .pre in (omega (arith, p .0, p .1), p .2 .begun .room))
+    (λ c κs. let p = entry-of (c .before .before .before .before) .pre in (omega (arith, p .0, p .1), p .2 .begun .room))
     returns-4)
