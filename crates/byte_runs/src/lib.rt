@@ -11,6 +11,7 @@ mod search;
 
 pub use apart::apart_end;
 pub use pairs::pairs_at;
+pub use runs::ASCII_END;
 pub use runs::BLOCK;
 pub use runs::HALF;
 pub use runs::QUARTER;

@@ -15,11 +15,7 @@ pub const HALF: usize = BLOCK / 2;
 pub const QUARTER: usize = HALF / 2;
 
 // Below it a byte is a character of ASCII.
-const ASCII_END: u8 = 0x80;
-
-const TAB: u8 = 0x09;
-
-const CARRIAGE_RETURN: u8 = 0x0D;
+pub const ASCII_END: u8 = 0x80;
 
 // Whether both hold.
 pub(crate) fn both(x: bool, y: bool) -> bool
@@ -176,7 +172,7 @@ fn is_blank(c: u8) -> bool
     if c == b' ' {
         return true;
     }
-    both(TAB <= c, c <= CARRIAGE_RETURN)
+    both(b'\t' <= c, c <= b'\r')
 }
 
 // Whether the block at a place is blank.

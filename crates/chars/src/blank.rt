@@ -2,10 +2,10 @@
 ghost use mathlib.Core.Path.{_≡_};
 ghost use Rattle.chars.specs.Blank.{isBlank};
 
-const ROWS: usize = 25;
+const BLANK_ROWS: usize = 25;
 
 // White_Space as Unicode's PropList.txt lists it, in its order.
-const BLANKS: [u32; ROWS] = [
+const BLANKS: [u32; BLANK_ROWS] = [
     0x0009, // tab
     0x000A, // line feed
     0x000B, // line tabulation
@@ -39,7 +39,7 @@ pub fn is_blank(c: u32) -> bool
 {
     let table = BLANKS;
     let mut row = 0;
-    while row < ROWS {
+    while row < BLANK_ROWS {
         if table[row] == c {
             return true;
         }

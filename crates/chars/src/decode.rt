@@ -3,7 +3,10 @@ use crate::Begun;
 use crate::Decoded;
 use crate::Step;
 use crate::Utf8;
+use crate::encode;
 use crate::letters::wide_end;
+use byte_runs::ASCII_END;
+use byte_runs::BLOCK;
 use byte_runs::pairs_at;
 ghost use mathlib.Core.Path.{_≡_};
 ghost use Prim.Native.Nat.{_+_};
@@ -15,26 +18,21 @@ ghost use Rattle.chars.specs.Machine.{step};
 ghost use Rattle.chars.specs.Wide.{Passed};
 
 // UTF8-tail, and the six bits that it holds.
-pub(crate) const TAIL_LOW: u8 = 0x80;
+pub const TAIL_LOW: u8 = 0x80;
 
-pub(crate) const TAIL_HIGH: u8 = 0xBF;
+pub const TAIL_HIGH: u8 = 0xBF;
 
-const SIX_BITS: u8 = 64;
+const SIX_BITS: u8 = encode::SIX_BITS as u8;
 
-// The marks of a first byte: 110xxxxx, 1110xxxx and 11110xxx. Below ASCII_END a byte is a character.
-pub(crate) const ASCII_END: u8 = 0x80;
+// The marks of a first byte: 110xxxxx, 1110xxxx and 11110xxx.
+const MARK_TWO: u8 = encode::MARK_TWO as u8;
 
-const MARK_TWO: u8 = 0xC0;
+const MARK_THREE: u8 = encode::MARK_THREE as u8;
 
-const MARK_THREE: u8 = 0xE0;
-
-const MARK_FOUR: u8 = 0xF0;
+const MARK_FOUR: u8 = encode::MARK_FOUR as u8;
 
 // With six bits more, a code past this is past every character.
 const CODE_TOP: u32 = 0x7FFF;
-
-// How many bytes of ASCII are tested at once.
-const BLOCK: usize = 16;
 
 // `need` bytes are to follow, the next of them in low..high.
 fn more(need: u8, low: u8, high: u8, code: u8) -> Step

@@ -1,8 +1,8 @@
 // Characters past ASCII by direct tests of their bytes, without the byte machine. The bytes written out are those of the table of RFC 3629,
 // section 4.
-use crate::decode::ASCII_END;
 use crate::decode::TAIL_HIGH;
 use crate::decode::TAIL_LOW;
+use byte_runs::ASCII_END;
 use byte_runs::plain_end;
 ghost use mathlib.Core.Path.{_≡_};
 ghost use Prim.Native.Nat.{_≤_, _<_};

@@ -44,6 +44,8 @@ pub mod encode;
 mod letters;
 
 pub use blank::is_blank;
+pub use decode::TAIL_HIGH;
+pub use decode::TAIL_LOW;
 pub use decode::byte_step;
 pub use decode::decode_at;
 pub use decode::first_bad;

@@ -1,6 +1,6 @@
 -- Theorems that stand in the docs
 -- `only`
-pub mod Only
+pub mod OneAnswer
 -- `none-nearer`
 pub mod Nearer
 -- `value-means`, `means-value`, `outside-exactly`, `means-not-outside`

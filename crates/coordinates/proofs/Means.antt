@@ -24,7 +24,7 @@ use Rattle.coordinates.specs.Nearest.{Nearest}
 use Rattle.coordinates.specs.Means.{Means}
 use Rattle.coordinates.proofs.Floats.{ten-pos}
 use Rattle.coordinates.proofs.Rounding.{up-nearest, down-nearest}
-use Rattle.coordinates.proofs.Only.{only}
+use Rattle.coordinates.proofs.OneAnswer.{only}
 
 scaled-near : (neg : Bool) (m : ℕ) (t : ℤ) → m ≤ mostDigits → inRange t ≡ true
     → Nearest neg (numerator m t) (denominator t) (round binary64 neg (numerator m t) (denominator t))

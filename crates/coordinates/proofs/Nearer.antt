@@ -10,7 +10,7 @@ use lib.Dec.{ltb}
 use lib.Ieee.{Float}
 use borrow.Author.Tests.{ltb-true, ltb-false}
 use Rattle.coordinates.specs.Nearest.{distance, Rounded, NoneNearer}
-use Rattle.coordinates.proofs.Only.{At, at-of, raised, distance-mul}
+use Rattle.coordinates.proofs.OneAnswer.{At, at-of, raised, distance-mul}
 
 -- among the multiples of the unit
 apart-low : (n u a b : ℕ) → b + u ≤ a → distance n a * 2 ≤ u → distance n a ≤ distance n b

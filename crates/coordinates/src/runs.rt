@@ -1,4 +1,5 @@
 // The value of a run of decimal digits, in one pass with its end: exact in a short text, else counted no further than just past 2^53.
+use digits::DECIMAL_RADIX;
 use digits::Run;
 use digits::SHORT;
 use std::num::wrapping_sub_u64;
@@ -8,16 +9,13 @@ ghost use lib.ListN.{length, drop};
 ghost use Rattle.digits.specs.Digits.{digits, runValue, short};
 ghost use Rattle.coordinates.specs.Inner.{capped, Held};
 
-// The radix of a decimal.
-const DECIMAL: u64 = 10;
-
 // The digit 0 as a character, and the largest digit.
-const ZERO: u64 = 48;
+const ZERO: u64 = b'0' as u64;
 
 const LAST_DIGIT: u64 = 9;
 
 // The largest whole number up to which a float has every one: 2^53.
-pub(crate) const MOST_DIGITS: u64 = 9_007_199_254_740_992;
+pub(crate) const MOST_EXACT: u64 = 9_007_199_254_740_992;
 
 // What stands for every larger one.
 const BEYOND: u64 = 9_007_199_254_740_993;
@@ -26,7 +24,7 @@ const BEYOND: u64 = 9_007_199_254_740_993;
 fn capped(v: u64) -> u64
     ensures { λ r. ⌜ r ≡ capped v ⌝ }
 {
-    if MOST_DIGITS < v {
+    if MOST_EXACT < v {
         return BEYOND;
     }
     v
@@ -42,7 +40,7 @@ pub(crate) fn long_run(t: &[u8], from: usize, before: u64) -> Run
     while i < t.len() {
         let c = t[i];
         if chars::between(b'0', b'9', c) {
-            v = capped(v * DECIMAL + (c - b'0') as u64);
+            v = capped(v * DECIMAL_RADIX + (c - b'0') as u64);
             i += 1;
         } else {
             return Run { end: i, value: v };
@@ -64,7 +62,7 @@ fn short_run(t: &[u8], from: usize, before: u64) -> Run
         if LAST_DIGIT < d {
             return Run { end: i, value: v };
         }
-        v = v * DECIMAL + d;
+        v = v * DECIMAL_RADIX + d;
         i += 1;
     }
     Run { end: i, value: v }

@@ -1,6 +1,6 @@
 // A whole number times or by a power of ten, as a float: both operands are exact, so the one operation is the one rounding.
 use crate::CoordinateAnswer;
-use crate::runs::MOST_DIGITS;
+use crate::runs::MOST_EXACT;
 ghost use mathlib.Core.Path.{_≡_};
 ghost use Prim.Native.Nat.{_^_, _≤_, _<_};
 ghost use lib.IntN.{pos, negℤ, _-ℤ_};
@@ -61,7 +61,7 @@ fn float(neg: bool, m: u64) -> f64
 pub(crate) fn multiplied(neg: bool, m: u64, k: u64) -> CoordinateAnswer
     ensures { λ r. ⌜ answered r ≡ weighed neg m (pos k) ⌝ }
 {
-    if MOST_DIGITS < m {
+    if MOST_EXACT < m {
         return CoordinateAnswer::NoCoordinate;
     }
     if MOST_SCALE < k {
@@ -74,7 +74,7 @@ pub(crate) fn multiplied(neg: bool, m: u64, k: u64) -> CoordinateAnswer
 pub(crate) fn divided(neg: bool, m: u64, k: u64) -> CoordinateAnswer
     ensures { λ r. ⌜ answered r ≡ weighed neg m (negℤ (pos k)) ⌝ }
 {
-    if MOST_DIGITS < m {
+    if MOST_EXACT < m {
         return CoordinateAnswer::NoCoordinate;
     }
     if MOST_SCALE < k {

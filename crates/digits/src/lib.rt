@@ -53,7 +53,7 @@ const NO_DIGIT: u64 = 16;
 const LETTER: u64 = 10;
 
 // The radix of a text that names none.
-const DECIMAL: u64 = 10;
+pub const DECIMAL_RADIX: u64 = 10;
 
 // The decimal digits of a text of so many bytes, whatever they are, have a value within signed 64 bits.
 pub const SHORT: usize = 18;
@@ -129,7 +129,7 @@ pub fn decimal_run(t: &[u8], from: usize, before: u64) -> Run
     while i < t.len() {
         let c = t[i];
         if within(b'0', b'9', c) {
-            v = v * DECIMAL + (c - b'0') as u64;
+            v = v * DECIMAL_RADIX + (c - b'0') as u64;
             i += 1;
         } else {
             return Run { end: i, value: v };

@@ -15,7 +15,7 @@ use Rattle.laws.proofs.Choice.{by-bool}
 use Rattle.items.specs.declared.Quotes.{Quotes}
 use Rattle.items.specs.Classes.{delimOf, inQuotes, ends, escapes, plain, afterBackslash, simple, hexX, hexU, blank, newline, invalid}
 use Rattle.items.specs.Meaning.{escaped, unescape, unescapeNext, unescapeBrace, unescapeHex}
-use Rattle.escapes.specs.declared.Given.the-variants.{Nothing, Byte}
+use Rattle.escapes.specs.declared.ElementValue.the-variants.{Nothing, Byte}
 use Rattle.escapes.specs.declared.Element.{Element}
 use Rattle.escapes.specs.Elements.{element, GoesOn, Unescapes}
 

@@ -19,7 +19,7 @@ use Rattle.items.specs.Readers.{scalarOf}
 use Rattle.items.specs.Meaning.{unescapeBrace, unescapeHex}
 use Rattle.items.proofs.Cases.{by-hex, by-value}
 use Rattle.items.proofs.Shorter.{scalar-is}
-use Rattle.escapes.specs.declared.Given.the-variants.{Nothing}
+use Rattle.escapes.specs.declared.ElementValue.the-variants.{Nothing}
 use Rattle.escapes.specs.Elements.{element, closedHex, Unescapes}
 use Rattle.escapes.proofs.Cases.{over}
 

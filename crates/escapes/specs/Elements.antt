@@ -12,20 +12,20 @@ use Rattle.items.specs.declared.Quotes.{Quotes}
 use Rattle.items.specs.declared.CharValue.{CharValue}
 use Rattle.items.specs.declared.CharValue.the-variants.{Scalar, Wrong, WrongAt}
 use Rattle.items.specs.Meaning.{unescape, unescapeTrim}
-use Rattle.escapes.specs.declared.Given.{Given}
-use Rattle.escapes.specs.declared.Given.the-variants.{Nothing, Byte, Code}
+use Rattle.escapes.specs.declared.ElementValue.{ElementValue}
+use Rattle.escapes.specs.declared.ElementValue.the-variants.{Nothing, Byte, Code}
 use Rattle.escapes.specs.declared.Element.{Element}
 
-abbrev pub element : Given → ℕ → Element
+abbrev pub element : ElementValue → ℕ → Element
 element g n = record { given = g; next = n }
 
-abbrev pub bytesGiven : Given → List ℕ
+abbrev pub bytesGiven : ElementValue → List ℕ
 bytesGiven Nothing = []
 bytesGiven (Byte b) = b ∷ []
 bytesGiven (Code c) = encode c
 
 -- a code given is a character's
-abbrev pub sound : Given → Bool
+abbrev pub sound : ElementValue → Bool
 sound Nothing = true
 sound (Byte b) = true
 sound (Code c) = isScalar c

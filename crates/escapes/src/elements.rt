@@ -11,7 +11,7 @@ ghost use Rattle.items.specs.Readers.{scalarOf};
 ghost use Rattle.items.specs.Meaning.{unescape, unescapeNext, unescapeBrace, unescapeHex};
 ghost use Rattle.escapes.specs.Elements.{element, closedHex, isSpace, GoesOn, Unescapes};
 use crate::Element;
-use crate::Given;
+use crate::ElementValue;
 use byte_runs::starts_at;
 use digits::hex_value;
 use items::CharValue;
@@ -24,7 +24,7 @@ const BACKSPACE: u8 = 0x08;
 
 const NULL: u8 = 0x00;
 
-fn give(given: Given, next: usize) -> Element
+fn give(given: ElementValue, next: usize) -> Element
     ensures { λ r. ⌜ r ≡ element given next ⌝ }
 {
     Element { given, next }
@@ -63,9 +63,9 @@ fn closed_hex(digits: &[u8], next: usize, end: usize) -> Element
     ensures { λ r. ⌜ r ≡ closedHex (scalarOf (hexValue (now (digits .entry)))) next end ⌝ }
 {
     match scalar_of(hex_value(digits)) {
-        CharValue::Scalar(c) => give(Given::Code(c), next),
-        CharValue::Wrong(_, _) => give(Given::Nothing, end),
-        CharValue::WrongAt(_, _, _) => give(Given::Nothing, end),
+        CharValue::Scalar(c) => give(ElementValue::Code(c), next),
+        CharValue::Wrong(_, _) => give(ElementValue::Nothing, end),
+        CharValue::WrongAt(_, _, _) => give(ElementValue::Nothing, end),
     }
 }
 
@@ -81,14 +81,14 @@ fn read_hex(raw: &[u8], from: usize, closer: u8, k: Quotes) -> Element
             return closed_hex(&raw[from..i], i + 1, raw.len());
         }
         if stops_hex(b) {
-            return give(Given::Nothing, raw.len());
+            return give(ElementValue::Nothing, raw.len());
         }
         if b == delimiter(k) {
-            return give(Given::Nothing, raw.len());
+            return give(ElementValue::Nothing, raw.len());
         }
         i += 1;
     }
-    give(Given::Nothing, raw.len())
+    give(ElementValue::Nothing, raw.len())
 }
 
 // A hex escape from after its `\u` on.
@@ -144,25 +144,25 @@ fn read_string_escape(raw: &[u8], from: usize, k: Quotes) -> Element
     ensures { λ r. ⌜ Unescapes k (now (raw .entry)) (unescapeNext k (drop from (now (raw .entry)))) from r ⌝ }
 {
     if raw.len() <= from {
-        return give(Given::Nothing, raw.len());
+        return give(ElementValue::Nothing, raw.len());
     }
     let next = from + 1;
     match raw[from] {
-        b'"' => give(Given::Byte(b'"'), next),
-        b'a' => give(Given::Byte(ALARM), next),
-        b'b' => give(Given::Byte(BACKSPACE), next),
-        b'\\' => give(Given::Byte(b'\\'), next),
-        b'|' => give(Given::Byte(b'|'), next),
-        b't' => give(Given::Byte(b'\t'), next),
-        b'n' => give(Given::Byte(b'\n'), next),
-        b'r' => give(Given::Byte(b'\r'), next),
-        b'0' => give(Given::Byte(NULL), next),
+        b'"' => give(ElementValue::Byte(b'"'), next),
+        b'a' => give(ElementValue::Byte(ALARM), next),
+        b'b' => give(ElementValue::Byte(BACKSPACE), next),
+        b'\\' => give(ElementValue::Byte(b'\\'), next),
+        b'|' => give(ElementValue::Byte(b'|'), next),
+        b't' => give(ElementValue::Byte(b'\t'), next),
+        b'n' => give(ElementValue::Byte(b'\n'), next),
+        b'r' => give(ElementValue::Byte(b'\r'), next),
+        b'0' => give(ElementValue::Byte(NULL), next),
         b'x' => read_hex(raw, next, b';', k),
         b'u' => read_brace(raw, next, k),
-        b' ' => give(Given::Nothing, next_line(raw, next)),
-        b'\t' => give(Given::Nothing, next_line(raw, next)),
-        b'\n' => give(Given::Nothing, spaces_end(raw, next)),
-        _ => give(Given::Nothing, raw.len()),
+        b' ' => give(ElementValue::Nothing, next_line(raw, next)),
+        b'\t' => give(ElementValue::Nothing, next_line(raw, next)),
+        b'\n' => give(ElementValue::Nothing, spaces_end(raw, next)),
+        _ => give(ElementValue::Nothing, raw.len()),
     }
 }
 
@@ -173,10 +173,10 @@ pub fn read_element(raw: &[u8], at: usize, k: Quotes) -> Element
 {
     let b = raw[at];
     if b == delimiter(k) {
-        return give(Given::Nothing, raw.len());
+        return give(ElementValue::Nothing, raw.len());
     }
     if b == b'\\' {
         return read_string_escape(raw, at + 1, k);
     }
-    give(Given::Byte(b), at + 1)
+    give(ElementValue::Byte(b), at + 1)
 }

@@ -25,7 +25,7 @@ use chars::put_char;
 use items::Quotes;
 
 // What an element of a text gives.
-pub enum Given {
+pub enum ElementValue {
     // nothing: a line that goes on
     Nothing,
     // a byte: a, or `\n`
@@ -36,7 +36,7 @@ pub enum Given {
 
 // What an element gives, and the place past it. At the end of the text, and where an escape is wrong, that is nothing and the end of all.
 pub struct Element {
-    pub given: Given,
+    pub given: ElementValue,
     pub next: usize,
 }
 
@@ -48,29 +48,29 @@ pub fn has_escape(raw: &[u8]) -> bool
 }
 
 // What an element gave, at the start of the free text memory, and how many bytes that is.
-fn put_given(given: Given, free: &mut [u8]) -> usize
+fn put_given(given: ElementValue, free: &mut [u8]) -> usize
     requires { ⌜ length (bytesGiven given) ≤ length (now free) ⌝ }
     ensures { λ r. ⌜ (r ≡ length (bytesGiven given)) × (now (free .exit) ≡ written (bytesGiven given) (now (free .entry))) ⌝ }
 {
     match given {
-        Given::Nothing => 0,
-        Given::Byte(b) => {
+        ElementValue::Nothing => 0,
+        ElementValue::Byte(b) => {
             free[0] = b;
             1
         }
-        Given::Code(c) => put_char(c, free),
+        ElementValue::Code(c) => put_char(c, free),
     }
 }
 
 // How many bytes an element gave.
-fn given_length(given: Given) -> usize
+fn given_length(given: ElementValue) -> usize
     requires { ⌜ sound given ≡ true ⌝ }
     ensures { λ r. ⌜ r ≡ length (bytesGiven given) ⌝ }
 {
     match given {
-        Given::Nothing => 0,
-        Given::Byte(_) => 1,
-        Given::Code(c) => char_width(c),
+        ElementValue::Nothing => 0,
+        ElementValue::Byte(_) => 1,
+        ElementValue::Code(c) => char_width(c),
     }
 }
 

@@ -51,7 +51,7 @@ const STATE_BYTES: usize = LONGEST;
 
 const STATE_WORDS: usize = 19;
 
-// What a call needs at most of records: refusal 22 comes with it.
+// How many records one item needs: refusal 22 comes with it.
 const ONE_RECORD: u64 = 1;
 
 // Whether there are as many bytes and words as a state has.

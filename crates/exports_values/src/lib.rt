@@ -4,6 +4,12 @@ ghost use mathlib.Core.Path.{_≡_};
 ghost use mathlib.Core.List.{[], _∷_};
 ghost use Rattle.chars.specs.Encode.{lay};
 
+// An answer: its number and its value.
+pub struct NumberAndValue {
+    pub number: u32,
+    pub value: u64,
+}
+
 // How many values `put_value` writes, and how many `put_values` does.
 const ONE_VALUE: usize = 1;
 

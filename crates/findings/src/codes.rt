@@ -3,6 +3,7 @@
 // How many words a finding has.
 pub const FINDING_WORDS: usize = 7;
 
+// Severities.
 pub const WARNING: u32 = 1;
 
 pub const ERROR: u32 = 2;
@@ -31,7 +32,7 @@ pub const MODES_DIFFER: u32 = 7;
 // ---- details
 
 // most findings have none
-pub const NO_DETAIL: u32 = 0;
+pub const NO_FINDING_DETAIL: u32 = 0;
 
 // E41: nothing is open; another bracket is
 pub const STRAY: u32 = 0;

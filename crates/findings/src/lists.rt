@@ -5,7 +5,7 @@ use crate::codes::AT_DOT;
 use crate::codes::BEHIND_DOT;
 use crate::codes::CLOSES_ANOTHER;
 use crate::codes::ERROR;
-use crate::codes::NO_DETAIL;
+use crate::codes::NO_FINDING_DETAIL;
 use crate::codes::NOWHERE;
 use crate::codes::STRAY;
 use crate::misfits;
@@ -202,7 +202,12 @@ fn mark_waits(rows: &[u32], p: usize) -> ListTold
     ensures { λ r. ⌜ r ≡ markWaits (now (rows .entry)) p ⌝ }
 {
     let depth = rows::depth_at(rows, p);
-    at_row(rows, MARK_WAITS, NO_DETAIL, last_waiting(rows, depth, p))
+    at_row(
+        rows,
+        MARK_WAITS,
+        NO_FINDING_DETAIL,
+        last_waiting(rows, depth, p),
+    )
 }
 
 // The innermost bracket that is open at the end.
@@ -266,7 +271,7 @@ fn refused_list(source: &[u8], rows: &[u32], n: u32, p: usize) -> ListTold
         return mark_waits(rows, p);
     }
     if n == TOO_DEEP {
-        return at_row(rows, TOO_DEEP, NO_DETAIL, p);
+        return at_row(rows, TOO_DEEP, NO_FINDING_DETAIL, p);
     }
     ListTold::Silent
 }

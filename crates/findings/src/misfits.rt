@@ -18,7 +18,7 @@ ghost use Rattle.findings.specs.Misfits.{noted, misfitBy};
 // How many depths are kept, and the deepest bracket that a misfit may lie in one more of.
 const DEPTHS: usize = 65;
 
-const DEEPEST: u32 = 64;
+const DEEPEST_KEPT: u32 = 64;
 
 // What is kept of a depth, 0 past the last one.
 fn kept_at(kept: &[usize], depth: u32) -> usize
@@ -65,7 +65,7 @@ fn is_misfit(source: &[u8], row: Row, line: usize, starts: &[usize], offsets: &[
     if row.depth == 0 {
         return false;
     }
-    if DEEPEST < row.depth {
+    if DEEPEST_KEPT < row.depth {
         return false;
     }
     let outer = kept_at(starts, row.depth - 1);

@@ -4,7 +4,7 @@ use crate::FindAnswer;
 use crate::Finding;
 use crate::RowTold;
 use crate::codes::ERROR;
-use crate::codes::NO_DETAIL;
+use crate::codes::NO_FINDING_DETAIL;
 use crate::codes::NOWHERE;
 use crate::laying;
 use crate::rows;
@@ -76,7 +76,7 @@ pub fn find(source: &[u8], rows: &mut [u32], findings: &mut [u32]) -> FindAnswer
         let f = Finding {
             severity: ERROR,
             code: TOO_LONG,
-            detail: NO_DETAIL,
+            detail: NO_FINDING_DETAIL,
             start: 0,
             end: 0,
             also: NOWHERE,

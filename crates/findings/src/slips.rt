@@ -3,7 +3,7 @@ use crate::Finding;
 use crate::RowTold;
 use crate::codes::COMMA_NUMBER;
 use crate::codes::INVISIBLE;
-use crate::codes::NO_DETAIL;
+use crate::codes::NO_FINDING_DETAIL;
 use crate::codes::NOWHERE;
 use crate::codes::NUMBER_NAME;
 use crate::codes::TYPOGRAPHIC_DASH;
@@ -276,7 +276,7 @@ fn number_slip(source: &[u8], rows: &[u32], p: usize) -> RowTold
                 rest.end,
             );
         }
-        return warn(NUMBER_NAME, NO_DETAIL, row.start, row.end);
+        return warn(NUMBER_NAME, NO_FINDING_DETAIL, row.start, row.end);
     }
     RowTold::Nothing
 }

@@ -6,7 +6,7 @@ use crate::Row;
 use crate::RowTold;
 use crate::codes::ERROR;
 use crate::codes::MODES_DIFFER;
-use crate::codes::NO_DETAIL;
+use crate::codes::NO_FINDING_DETAIL;
 use crate::codes::NOWHERE;
 use crate::codes::SWALLOWING;
 use crate::laying;
@@ -108,14 +108,14 @@ fn swallow_told(left: bool, a: u32, b: u32) -> RowTold
         return RowTold::One(Finding {
             severity: ERROR,
             code: kinds::INCOMPLETE_STRING,
-            detail: NO_DETAIL,
+            detail: NO_FINDING_DETAIL,
             start: a,
             end: rows::bytes_on(1, a),
             also: b,
             past: rows::bytes_on(1, b),
         });
     }
-    slips::warn(SWALLOWING, NO_DETAIL, a, rows::bytes_on(1, a))
+    slips::warn(SWALLOWING, NO_FINDING_DETAIL, a, rows::bytes_on(1, a))
 }
 
 // W06 or E02.

@@ -8,6 +8,7 @@ use findings_render_messages::code_of;
 use findings_render_messages::is_told;
 use findings_render_messages::put_text;
 use findings_render_parts::Seen;
+use findings_render_parts::characters::AS_BYTE;
 use findings_render_parts::characters::part;
 use findings_render_parts::characters::seen_at;
 use findings_render_parts::laying::put;
@@ -19,8 +20,6 @@ ghost use mathlib.Core.Bool.{false};
 ghost use Rattle.findings_render_parts.specs.Laid.{Laid};
 ghost use Rattle.findings_render_parts.specs.Spots.{IsPlace};
 ghost use Rattle.findings_render.specs.Json.{nameOne, nameString, spotFields, byteFields, placeFields, wordFields, helpField, seeField, json};
-
-const AS_BYTE: u32 = 5;
 
 const CONTROL_END: u32 = 0x20;
 

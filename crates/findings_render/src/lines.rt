@@ -5,6 +5,7 @@ use findings_render_messages::HELP;
 use findings_render_messages::MESSAGE;
 use findings_render_messages::NOTE;
 use findings_render_messages::ToldFinding;
+use findings_render_messages::WARNING;
 use findings_render_messages::code_of;
 use findings_render_messages::is_told;
 use findings_render_messages::put_text;
@@ -18,8 +19,6 @@ ghost use Rattle.laws.specs.Choice.{if_then_else_};
 ghost use Rattle.findings_render_parts.specs.Laid.{Laid};
 ghost use Rattle.findings_render_parts.specs.Spots.{IsPlace};
 ghost use Rattle.findings_render.specs.Rendered.{onlyIf, isError, red, magenta, spot, severityWord, severity, headline, help, note, body, lines, picture};
-
-const WARNING: u32 = 1;
 
 // `NAME:LINE:COLUMN: `
 fn put_spot(out: &mut [u8], at: usize, name: &[u8], s: &[u8], p: usize) -> usize

@@ -1,4 +1,5 @@
 // The last lines of a file.
+use crate::JSON;
 use crate::picture::differ;
 use crate::picture::put_if;
 use findings_render_parts::laying::put;
@@ -8,9 +9,6 @@ ghost use mathlib.Core.Path.{_≡_};
 ghost use mathlib.Core.Bool.{false};
 ghost use Rattle.findings_render_parts.specs.Laid.{Laid, counted, over};
 ghost use Rattle.findings_render.specs.Summed.{countOf, counts, more, last, summed};
-
-// The first style that has no last lines.
-const JSON: u32 = 2;
 
 // `1 error`, `2 errors`
 fn put_count(out: &mut [u8], at: usize, n: usize, word: &[u8]) -> usize
@@ -65,6 +63,7 @@ pub fn summary(
     ensures { λ r. ⌜ (r ≡ counted (summed (now (name .entry)) findings errors told style))
         × (now (out .exit) ≡ over (summed (now (name .entry)) findings errors told style) (now (out .entry))) ⌝ }
 {
+    // JSON is the first style that has no last lines.
     if JSON <= style {
         return 0;
     }

@@ -98,7 +98,8 @@ pub const HELP: u8 = b'?';
 
 pub const NOTE: u8 = b'!';
 
-const WARNING: u32 = 1;
+// Severities.
+pub const WARNING: u32 = 1;
 
 const ERROR: u32 = 2;
 

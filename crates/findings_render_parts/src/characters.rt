@@ -20,18 +20,18 @@ const ONE_COLUMN: u32 = 1;
 
 const TWO_COLUMNS: u32 = 2;
 
-const TAB: u32 = 3;
+const AS_TAB: u32 = 3;
 
 const BY_NUMBER: u32 = 4;
 
-const AS_BYTE: u32 = 5;
+pub const AS_BYTE: u32 = 5;
 
-const ROWS: usize = 33;
+const RANGE_ROWS: usize = 33;
 
 // The characters that are not one column wide: from, to, and how they are shown.
-const RANGES: [[u32; 3]; ROWS] = [
+const RANGES: [[u32; 3]; RANGE_ROWS] = [
     [0x0000, 0x0008, BY_NUMBER],
-    [0x0009, 0x0009, TAB],
+    [0x0009, 0x0009, AS_TAB],
     [0x000A, 0x001F, BY_NUMBER],
     [0x007F, 0x009F, BY_NUMBER],
     [0x00AD, 0x00AD, BY_NUMBER], // soft hyphen
@@ -86,7 +86,7 @@ fn kind_of(c: u32) -> u32
     ensures { λ r. ⌜ r ≡ kindOf c ⌝ }
 {
     let mut k = 0;
-    while k < ROWS {
+    while k < RANGE_ROWS {
         let row = range_row(k);
         if is_within(c, row[0], row[1]) {
             return row[2];
@@ -194,7 +194,7 @@ fn columns_of(u: Seen) -> usize
     if u.kind == AS_BYTE {
         return 4;
     }
-    if u.kind == TAB {
+    if u.kind == AS_TAB {
         return 1;
     }
     u.kind as usize
@@ -205,7 +205,7 @@ fn is_copied(mark: u8, kind: u32) -> bool
     ensures { λ r. ⌜ r ≡ isCopied mark kind ⌝ }
 {
     if mark == b' ' {
-        return kind == TAB;
+        return kind == AS_TAB;
     }
     false
 }

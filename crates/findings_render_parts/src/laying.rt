@@ -6,7 +6,7 @@ ghost use lib.ListN.{set, replicate};
 ghost use Rattle.laws.specs.Quoted.{oneOf};
 ghost use Rattle.findings_render_parts.specs.Laid.{beyond, special, isMarked, letter, Laid};
 
-const TOP: usize = 18446744073709551615;
+const GREATEST_USIZE: usize = 18446744073709551615;
 
 // One byte, as it is.
 fn put_raw(out: &mut [u8], at: usize, b: u8) -> usize
@@ -16,7 +16,7 @@ fn put_raw(out: &mut [u8], at: usize, b: u8) -> usize
         out[at] = b;
         return at + 1;
     }
-    if at < TOP {
+    if at < GREATEST_USIZE {
         return at + 1;
     }
     at

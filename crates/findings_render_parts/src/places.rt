@@ -1,19 +1,14 @@
 // Lines and columns, counted from a text's start, and the part of a line that is shown.
 use crate::Window;
 use byte_runs::find;
+use chars::TAIL_HIGH;
+use chars::TAIL_LOW;
 ghost use mathlib.Core.Path.{_≡_};
 ghost use Prim.Native.Nat.{_+_, _-_, _≤_};
 ghost use lib.ListN.{length};
 ghost use Rattle.laws.specs.Choice.{if_then_else_};
 ghost use Rattle.laws.specs.Quoted.{within};
 ghost use Rattle.findings_render_parts.specs.Spots.{IsPlace, countIn, startOf, lineNumber, columnNumber, cutReturn, endOf, later, nextCharacter, shownFrom, shownTo, windowOf};
-
-const CARRIAGE_RETURN: u8 = b'\r';
-
-// UTF8-tail.
-const LATER_LOW: u8 = 0x80;
-
-const LATER_HIGH: u8 = 0xBF;
 
 // How many bytes of a line are shown, and of a longer one how many before the place.
 const SHOWN: usize = 160;
@@ -81,7 +76,7 @@ pub fn column_number(s: &[u8], at: usize) -> usize
     ensures { λ r. ⌜ r ≡ columnNumber (now (s .entry)) at ⌝ }
 {
     let start = line_start(s, at);
-    1 + (at - start - count(s, start, at - start, LATER_LOW, LATER_HIGH))
+    1 + (at - start - count(s, start, at - start, TAIL_LOW, TAIL_HIGH))
 }
 
 // A line's end without its carriage return.
@@ -90,7 +85,7 @@ fn cut_return(s: &[u8], start: usize, end: usize) -> usize
     ensures { λ r. ⌜ r ≡ cutReturn (now (s .entry)) start end ⌝ }
 {
     if start < end {
-        if s[end - 1] == CARRIAGE_RETURN {
+        if s[end - 1] == b'\r' {
             return end - 1;
         }
     }
@@ -111,7 +106,7 @@ fn next_character(s: &[u8], at: usize) -> usize
 {
     let mut i = at;
     while i < s.len() {
-        if is_byte_within(s[i], LATER_LOW, LATER_HIGH) {
+        if is_byte_within(s[i], TAIL_LOW, TAIL_HIGH) {
             i += 1;
         } else {
             return i;

@@ -38,8 +38,8 @@ pub enum Closing {
     Nowhere,
 }
 
-// No error, no error's detail, and the word that a row leaves at 0.
-const NONE: u32 = 0;
+// No error, and no error's detail.
+const NO_ERROR: u32 = 0;
 
 // No decoded text is kept, so each starts at the first byte.
 const FREE: usize = 0;
@@ -73,9 +73,9 @@ fn row_of(r: Nine, depth: u32) -> Record
                 end: r.end,
                 from: r.from,
                 to: r.to,
-                source: NONE,
-                first: NONE,
-                past: NONE,
+                source: NO_ERROR,
+                first: NO_ERROR,
+                past: 0,
             },
             depth: depth,
         };
@@ -90,7 +90,7 @@ fn row_of(r: Nine, depth: u32) -> Record
             to: r.to,
             source: r.kind - FIRST_ERROR,
             first: r.detail,
-            past: NONE,
+            past: 0,
         },
         depth: depth,
     }

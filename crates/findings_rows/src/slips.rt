@@ -10,6 +10,7 @@ use items::kinds::INVALID_HEX_ESCAPE_LITERAL;
 use items::kinds::INVALID_STRING_ESCAPE;
 use items::kinds::INVALID_WHITESPACE;
 use items::kinds::NO_DETAIL;
+use items::kinds::NO_TEXT;
 use items::kinds::UNCLOSED_HEX_ESCAPE;
 use lexer::Found;
 use lexer::Spot;
@@ -21,15 +22,6 @@ ghost use Rattle.laws.specs.Quoted.{oneOf};
 ghost use Rattle.items.specs.Whole.{limit};
 ghost use Rattle.findings_rows.specs.Mended.{escapeErrors, characterAt, slips, quoteOf, closing, restFrom, spotAt, unclosedKind};
 ghost use Rattle.findings_rows.specs.Inner.{endedNine, unclosedNine, mendNine};
-
-const DOUBLE: u8 = b'"';
-
-const LINE: u8 = b'|';
-
-const BACKSLASH: u8 = b'\\';
-
-// No text.
-const NONE: u32 = 0;
 
 // Whether a kind is that of an error that an escape may be.
 fn is_escape_error(kind: u32) -> bool
@@ -60,7 +52,7 @@ fn character_at(source: &[u8], at: usize) -> bool
     ensures { λ r. ⌜ r ≡ characterAt (now (source .entry)) at ⌝ }
 {
     if starts_at(source, at, b'#') {
-        return starts_at(source, at + 1, BACKSLASH);
+        return starts_at(source, at + 1, b'\\');
     }
     false
 }
@@ -80,10 +72,10 @@ pub fn is_slip(source: &[u8], kind: u32, start: usize) -> bool
 fn quote_of(source: &[u8], start: usize) -> u8
     ensures { λ r. ⌜ r ≡ quoteOf (now (source .entry)) start ⌝ }
 {
-    if starts_at(source, start, DOUBLE) {
-        return DOUBLE;
+    if starts_at(source, start, b'"') {
+        return b'"';
     }
-    LINE
+    b'|'
 }
 
 // Behind the first quote from a place on; a backslash takes the next byte with it.
@@ -101,7 +93,7 @@ fn past_quote(source: &[u8], quote: u8, from: usize) -> Closing
             if b == quote {
                 return Closing::Behind(at);
             }
-            escaped = b == BACKSLASH;
+            escaped = b == b'\\';
         }
     }
     Closing::Nowhere
@@ -155,7 +147,7 @@ fn ended(r: Nine, end: u32) -> Nine
 fn unclosed_kind(quote: u8) -> u32
     ensures { λ r. ⌜ r ≡ unclosedKind quote ⌝ }
 {
-    if quote == DOUBLE {
+    if quote == b'"' {
         return FIRST_ERROR + INCOMPLETE_STRING;
     }
     FIRST_ERROR + INCOMPLETE_IDENTIFIER
@@ -172,9 +164,9 @@ fn unclosed(quote: u8, start: u32, end: u32) -> Nine
         end: end,
         from: start,
         to: end,
-        source: NONE,
-        first: NONE,
-        past: NONE,
+        source: NO_TEXT,
+        first: 0,
+        past: 0,
     }
 }
 

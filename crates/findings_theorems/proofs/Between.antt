@@ -30,7 +30,7 @@ use Rattle.meaning.specs.Places.{placeIn}
 use Rattle.lexer.specs.Opening.{lineEnd, afterHash, startOf}
 use Rattle.lexer.specs.Reading.{Turn, gives, ends, moved, pick, turnAt, turnFrom, turn, keep, nextFrom, nextAt, sizeOf}
 use Rattle.lexer.specs.declared.Spot.{Spot}
-use Rattle.lexer.proofs.Here.{Here, char-here}
+use Rattle.lexer.proofs.CharacterAt.{Here, char-here}
 use Rattle.lexer.proofs.Moves.{extent-ends}
 use Rattle.items_coverage.proofs.Bytes.{passed}
 use Rattle.items_coverage.proofs.Located.{itemsThere}

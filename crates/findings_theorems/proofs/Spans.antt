@@ -37,7 +37,7 @@ use Rattle.items.proofs.Splits.{read-at, read-forward, read-end}
 use Rattle.meaning.specs.Places.{placeIn}
 use Rattle.lexer.specs.Reading.{moved, pick, turnAt, turnFrom, turn}
 use Rattle.lexer.specs.declared.Spot.{Spot}
-use Rattle.lexer.proofs.Here.{room}
+use Rattle.lexer.proofs.CharacterAt.{room}
 use Rattle.lines_theorems.proofs.Along.{along}
 use Rattle.lines_theorems.proofs.Outcomes.{Second, Known, read-known}
 use Rattle.findings_theorems.proofs.Turns.{Given}

@@ -18,7 +18,7 @@ use Rattle.items.specs.Whole.{limit}
 use Rattle.items.proofs.Every.{Every, every-then}
 use Rattle.lexer.specs.Reading.{Turn, gives, ends, nextAt, sizeOf, allFrom, allItems}
 use Rattle.lexer.specs.declared.Spot.{Spot}
-use Rattle.lexer.proofs.All.{all-gives, all-ends}
+use Rattle.lexer.proofs.AllItems.{all-gives, all-ends}
 use Rattle.lexer.proofs.Opens.{reads-all}
 use Rattle.findings_rows.specs.declared.Closing.{Closing}
 use Rattle.findings_rows.specs.declared.Closing.the-variants.{Behind, Nowhere}

@@ -1,5 +1,5 @@
-// The numbers of document 01, "An item": kinds in the order of `TokenType`, errors by their table, details. Each kind and each error has
-// the smallest text that makes it.
+// The numbers of document 01, "An item": kinds in the order of `TokenType`, errors by their table, details, text sources. Each kind and
+// each error has the smallest text that makes it.
 
 // (
 pub const OPEN_PAREN: u32 = 0;
@@ -144,6 +144,9 @@ pub const INVALID_CHAR_DELIMITER: u32 = 13;
 // no error has a greater number
 pub const LAST_ERROR: u32 = INVALID_CHAR_DELIMITER;
 
+// the kind of the last error that there is
+pub const LAST_ERROR_KIND: u32 = FIRST_ERROR + LAST_ERROR;
+
 // ---- details
 
 // of every item that 01 gives no other
@@ -172,3 +175,14 @@ pub const BYTES: u32 = 6;
 
 // of error 11, where there are no digits: "\u;
 pub const NO_DIGITS: u32 = 1;
+
+// ---- text sources
+
+// no text: (
+pub const NO_TEXT: u32 = 0;
+
+// a part of the source: a
+pub const IN_SOURCE: u32 = 1;
+
+// a part of the text memory: "\n"
+pub const IN_MEMORY: u32 = 2;

@@ -3,7 +3,8 @@
 // The definition of the items of a text, which is what a reviewer must believe, stands in specs/: Kinds, Classes, Readers, Meaning, Items,
 // Whole, with 01's examples in Examples. The machine, in specs/Machine and specs/Run, is a means of proof: of public contracts only those
 // of the piece calls cite it, for states that no call made. proofs/ shows that it gives exactly the definition's items, however a text is
-// cut. The code of its steps is in crate `steps`. `kinds` has the numbers of kinds, errors and details for all code, `modes` has the modes.
+// cut. The code of its steps is in crate `steps`. `kinds` has the numbers of kinds, errors, details and text sources for all code, `modes`
+// has the modes.
 
 pub mod kinds;
 pub mod modes;
@@ -13,6 +14,9 @@ pub const RECORD_WORDS: usize = 10;
 
 // How many bytes what opens or closes quotes is.
 pub const QUOTE_LENGTH: usize = 1;
+
+// How many bytes a boolean of one letter is.
+pub const BOOLEAN_LENGTH: usize = 2;
 
 // What stands between quotes.
 pub enum Quotes {

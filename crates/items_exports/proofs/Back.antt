@@ -7,7 +7,7 @@ use native.Mathlib.Omega.{arith}
 use native.Mathlib.Numerals.{unary-clauses}
 use Rattle.laws.proofs.Choice.{if-yes, if-no}
 use Rattle.items_exports.specs.Records.{opensInside, openBefore, inside, recordFits, firstFit}
-use Rattle.items_exports.proofs.Both.{both-no, both-yes}
+use Rattle.items_exports.proofs.BothTests.{both-no, both-yes}
 
 module _ (s : List ℕ) (d none : ℕ) where
   pub open-here : (l : ℕ) → 0 < l → opensInside s d (l - 1) ≡ true → l - 1 ≡ openBefore s d none l

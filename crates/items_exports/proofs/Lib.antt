@@ -1,2 +1,2 @@
-pub mod Both
+pub mod BothTests
 pub mod Back

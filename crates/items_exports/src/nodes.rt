@@ -3,9 +3,10 @@ ghost use mathlib.Core.Path.{_≡_};
 ghost use Prim.Native.Nat.{_+_, _*_, _<_, _≤_};
 ghost use Rattle.items_exports.specs.Nodes.{nodesOf, pastOf, boundOf, childOf, siblingOf};
 
-// How many words a node has, and which of them says how many nodes lie beneath it.
+// How many words a node has: its kind, its item, how many nodes lie beneath it.
 const NODE_WORDS: usize = 3;
 
+// The last of them.
 const BENEATH: usize = 2;
 
 // The node past a node and all that lies beneath it, or past the last one.

@@ -1,5 +1,8 @@
 // Questions about records.
 use items::RECORD_WORDS;
+use items::kinds::IN_MEMORY;
+use items::kinds::IN_SOURCE;
+use items::kinds::NO_TEXT;
 use items::kinds::OPEN_PAREN;
 ghost use mathlib.Core.Path.{_≡_};
 ghost use mathlib.Core.Bool.{_&&_};
@@ -8,9 +11,10 @@ ghost use lib.ListN.{length, getD};
 ghost use lib.Dec.{leb};
 ghost use Rattle.items_exports.specs.Records.{countOf, opensInside, openBefore, openerOf, textFits, recordFits, recordsFit};
 
-const START: usize = 2;
+// The words of a record by what they hold.
+const EXTENT_START: usize = 2;
 
-const END: usize = 3;
+const EXTENT_END: usize = 3;
 
 const PLACE_START: usize = 4;
 
@@ -22,14 +26,7 @@ const TEXT_START: usize = 7;
 
 const TEXT_END: usize = 8;
 
-const DEPTH: usize = 9;
-
-// Where a text lies: nowhere, in the source, in the text memory.
-const NO_TEXT: u32 = 0;
-
-const IN_SOURCE: u32 = 1;
-
-const IN_MEMORY: u32 = 2;
+const RECORD_DEPTH: usize = 9;
 
 // Whether a record opens a bracket inside so many others.
 fn opens_inside(records: &[u32], p: usize, depth: u32) -> bool
@@ -38,7 +35,7 @@ fn opens_inside(records: &[u32], p: usize, depth: u32) -> bool
 {
     let first = p * RECORD_WORDS;
     if records[first] == OPEN_PAREN {
-        return records[first + DEPTH] == depth;
+        return records[first + RECORD_DEPTH] == depth;
     }
     false
 }
@@ -68,7 +65,7 @@ pub extern "C" fn mihadrena_opener(records: &[u32], at: usize) -> usize
     if count <= at {
         return count;
     }
-    let depth = records[at * RECORD_WORDS + DEPTH];
+    let depth = records[at * RECORD_WORDS + RECORD_DEPTH];
     if depth == 0 {
         return count;
     }
@@ -104,7 +101,11 @@ fn record_fits(records: &[u32], p: usize, source: usize, text: usize) -> bool
     ensures { λ r. ⌜ r ≡ recordFits (now (records .entry)) source text p ⌝ }
 {
     let first = p * RECORD_WORDS;
-    if !lies(records[first + START], records[first + END], source) {
+    if !lies(
+        records[first + EXTENT_START],
+        records[first + EXTENT_END],
+        source,
+    ) {
         return false;
     }
     if !lies(

@@ -2,24 +2,24 @@
 use Prim.Native.Nat.{ℕ}
 use mathlib.Core.List.{List}
 use Rattle.refusal.specs.Refusals as refusal
-use Rattle.items_files.specs.declared.WriteAnswer.{WriteAnswer}
-use Rattle.items_files.specs.declared.WriteAnswer.the-variants as writes
-use Rattle.items_files.specs.declared.ReadAnswer.{ReadAnswer}
-use Rattle.items_files.specs.declared.ReadAnswer.the-variants as reads
-use Rattle.items_files.specs.declared.Scanned.{Scanned}
-use Rattle.items_files.specs.declared.Scanned.the-variants as scans
+use Rattle.items_files.specs.declared.StoreAnswer.{StoreAnswer}
+use Rattle.items_files.specs.declared.StoreAnswer.the-variants as writes
+use Rattle.items_files.specs.declared.LoadAnswer.{LoadAnswer}
+use Rattle.items_files.specs.declared.LoadAnswer.the-variants as reads
+use Rattle.items_files.specs.declared.FirstPass.{FirstPass}
+use Rattle.items_files.specs.declared.FirstPass.the-variants as scans
 
 -- served with the bytes written or the items read, or a refusal by its number with what it comes with
 pub data Answer : Type 0 where
   served : ℕ → Answer
   refused : ℕ → ℕ → Answer
 
-abbrev pub wrote : WriteAnswer → Answer
+abbrev pub wrote : StoreAnswer → Answer
 wrote (writes.Stored bytes) = served bytes
 wrote (writes.Back item) = refused refusal.goesBack item
 wrote (writes.TooFew bytes) = refused refusal.tooFew bytes
 
-abbrev pub got : ReadAnswer → Answer
+abbrev pub got : LoadAnswer → Answer
 got (reads.Loaded items) = served items
 got (reads.Cut at) = refused refusal.cutShort at
 got (reads.Wrong at) = refused refusal.wrongNumber at
@@ -27,7 +27,7 @@ got (reads.Over at) = refused refusal.overSum at
 got (reads.TooFew items) = refused refusal.tooFew items
 
 -- the reader's first pass: the words, or what it refuses
-abbrev pub counted : Scanned → Answer
+abbrev pub counted : FirstPass → Answer
 counted (scans.Words n) = served n
 counted (scans.Cut at) = refused refusal.cutShort at
 counted (scans.Wrong at) = refused refusal.wrongNumber at

@@ -48,7 +48,7 @@ pub enum Measured {
 
 // What the reader's first pass finds: the words of the records, or the first number that fails: cut short, wrong in itself, or of a
 // word over 32 bits.
-pub enum Scanned {
+pub enum FirstPass {
     Words(usize),
     Cut(usize),
     Wrong(usize),
@@ -56,7 +56,7 @@ pub enum Scanned {
 }
 
 // What the writer answers: specs/Answers gives the number and what comes with it for each case.
-pub enum WriteAnswer {
+pub enum StoreAnswer {
     // 0, with the bytes written
     Stored(usize),
     // 32, with the record
@@ -66,7 +66,7 @@ pub enum WriteAnswer {
 }
 
 // What the reader answers.
-pub enum ReadAnswer {
+pub enum LoadAnswer {
     // 0, with the items read
     Loaded(usize),
     // 29, 30 and 31, with the number in the file
@@ -78,40 +78,40 @@ pub enum ReadAnswer {
 }
 
 // Stores the records as an item file.
-pub fn write(records: &[u32], out: &mut [u8]) -> WriteAnswer
+pub fn write(records: &[u32], out: &mut [u8]) -> StoreAnswer
     ensures { λ r. ⌜ outcome (wrote r) (now (out .exit)) ≡ writeOf (now (records .entry)) (now (out .entry)) ⌝ }
 {
     let n = records.len() / RECORD_WORDS * RECORD_WORDS;
     let words = &records[..n];
     let seen = storing::measure(words);
     match seen {
-        Measured::Back(item) => WriteAnswer::Back(item),
+        Measured::Back(item) => StoreAnswer::Back(item),
         Measured::Bytes(bytes) => {
             if out.len() < bytes {
-                return WriteAnswer::TooFew(bytes);
+                return StoreAnswer::TooFew(bytes);
             }
             storing::put_words(words, out);
-            WriteAnswer::Stored(bytes)
+            StoreAnswer::Stored(bytes)
         }
     }
 }
 
 // Reads an item file into records.
-pub fn read(file: &[u8], records: &mut [u32]) -> ReadAnswer
+pub fn read(file: &[u8], records: &mut [u32]) -> LoadAnswer
     ensures { λ r. ⌜ outcome (got r) (now (records .exit)) ≡ readOf (now (file .entry)) (now (records .entry)) ⌝ }
 {
     let seen = loading::scan(file);
     match seen {
-        Scanned::Cut(at) => ReadAnswer::Cut(at),
-        Scanned::Wrong(at) => ReadAnswer::Wrong(at),
-        Scanned::Over(at) => ReadAnswer::Over(at),
-        Scanned::Words(words) => {
+        FirstPass::Cut(at) => LoadAnswer::Cut(at),
+        FirstPass::Wrong(at) => LoadAnswer::Wrong(at),
+        FirstPass::Over(at) => LoadAnswer::Over(at),
+        FirstPass::Words(words) => {
             let items = words / RECORD_WORDS;
             if records.len() / RECORD_WORDS < items {
-                return ReadAnswer::TooFew(items);
+                return LoadAnswer::TooFew(items);
             }
             loading::fill(file, records);
-            ReadAnswer::Loaded(items)
+            LoadAnswer::Loaded(items)
         }
     }
 }

@@ -1,7 +1,7 @@
 // The reader's two passes: the first looks at every number and writes nothing, the second writes the words.
+use crate::FirstPass;
 use crate::Light;
 use crate::Number;
-use crate::Scanned;
 use crate::glance;
 use crate::layout;
 use items::RECORD_WORDS;
@@ -66,7 +66,7 @@ fn number_at(file: &[u8], at: usize) -> Number
 }
 
 // The words of a file, or the first number that fails.
-pub fn scan(file: &[u8]) -> Scanned
+pub fn scan(file: &[u8]) -> FirstPass
     ensures { λ r. ⌜ counted r ≡ sizes (readFrom opening 0 (now (file .entry))) ⌝ }
 {
     let mut b = layout::at_first();
@@ -84,25 +84,25 @@ pub fn scan(file: &[u8]) -> Scanned
                 Number::Whole(value, next) => {
                     let word = layout::base_of(b) as u64 + value as u64;
                     if LARGEST_NUMBER < word {
-                        return Scanned::Over(n);
+                        return FirstPass::Over(n);
                     }
                     b = layout::after_word(b, word as u32);
                     n += 1;
                     i = next;
                 }
                 Number::Wrong => {
-                    return Scanned::Wrong(n);
+                    return FirstPass::Wrong(n);
                 }
                 Number::Cut => {
-                    return Scanned::Cut(n);
+                    return FirstPass::Cut(n);
                 }
             }
         }
     }
     if b.which == 0 {
-        return Scanned::Words(n);
+        return FirstPass::Words(n);
     }
-    Scanned::Cut(n)
+    FirstPass::Cut(n)
 }
 
 // The words of a file that has no number that fails, from the start of the memory on.

@@ -1,7 +1,8 @@
 // The calls of the crate `items_files` for programs in C and Rust: each answer as a number and one value.
+use exports_values::NumberAndValue;
 use exports_values::put_value;
-use items_files::ReadAnswer;
-use items_files::WriteAnswer;
+use items_files::LoadAnswer;
+use items_files::StoreAnswer;
 use refusal::CUT_SHORT;
 use refusal::GOES_BACK;
 use refusal::OVER_SUM;
@@ -16,12 +17,6 @@ ghost use Rattle.items_files.specs.Write.{writeOf};
 ghost use Rattle.items_files.specs.Read.{readOf};
 ghost use Rattle.items_files_exports.specs.Told.{numberOf, valueOf};
 
-// An answer: its number and its value.
-struct NumberAndValue {
-    number: u32,
-    value: u64,
-}
-
 // An answer of a number and a value.
 fn tell(number: u32, value: usize) -> NumberAndValue
     ensures { λ r. ⌜ (r .number ≡ number) × (r .value ≡ value) ⌝ }
@@ -33,26 +28,26 @@ fn tell(number: u32, value: usize) -> NumberAndValue
 }
 
 // The writer's answer by its number and its value.
-fn tell_write(a: WriteAnswer) -> NumberAndValue
+fn tell_write(a: StoreAnswer) -> NumberAndValue
     ensures { λ r. ⌜ (r .number ≡ numberOf (wrote a)) × (r .value ≡ valueOf (wrote a)) ⌝ }
 {
     match a {
-        WriteAnswer::Stored(bytes) => tell(SERVED, bytes),
-        WriteAnswer::Back(record) => tell(GOES_BACK, record),
-        WriteAnswer::TooFew(bytes) => tell(TOO_FEW, bytes),
+        StoreAnswer::Stored(bytes) => tell(SERVED, bytes),
+        StoreAnswer::Back(record) => tell(GOES_BACK, record),
+        StoreAnswer::TooFew(bytes) => tell(TOO_FEW, bytes),
     }
 }
 
 // The reader's answer by its number and its value.
-fn tell_read(a: ReadAnswer) -> NumberAndValue
+fn tell_read(a: LoadAnswer) -> NumberAndValue
     ensures { λ r. ⌜ (r .number ≡ numberOf (got a)) × (r .value ≡ valueOf (got a)) ⌝ }
 {
     match a {
-        ReadAnswer::Loaded(items) => tell(SERVED, items),
-        ReadAnswer::Cut(number) => tell(CUT_SHORT, number),
-        ReadAnswer::Wrong(number) => tell(WRONG_NUMBER, number),
-        ReadAnswer::Over(number) => tell(OVER_SUM, number),
-        ReadAnswer::TooFew(items) => tell(TOO_FEW, items),
+        LoadAnswer::Loaded(items) => tell(SERVED, items),
+        LoadAnswer::Cut(number) => tell(CUT_SHORT, number),
+        LoadAnswer::Wrong(number) => tell(WRONG_NUMBER, number),
+        LoadAnswer::Over(number) => tell(OVER_SUM, number),
+        LoadAnswer::TooFew(items) => tell(TOO_FEW, items),
     }
 }
 

@@ -34,7 +34,7 @@ pub mod Character
 pub mod Identifier
 pub mod Lined
 pub mod Number
-pub mod Below
+pub mod BelowBound
 pub mod Back
 pub mod Inside
 pub mod Example

@@ -27,14 +27,14 @@ use Rattle.numbers_difference.proofs.Runs.{all, all-head, all-tail, all-cons, a
 use Rattle.numbers_difference.proofs.Derived.{plain, plain-sign, plain-ureal, Head, head-ureal}
 use Rattle.numbers_difference.proofs.Walk.{other, radix-le}
 use Rattle.numbers_difference.proofs.Whole.{prefix-radix, Seen, seen}
-use Rattle.numbers_difference.proofs.Low.{complex-low}
+use Rattle.numbers_difference.proofs.LowerCase.{complex-low}
 use Rattle.items.specs.Classes.{startsRun, staysRun}
 use Rattle.items.specs.Kinds as kind
 use Rattle.items_r7rs.specs.Delimiter.{numberDelimiters, Ends}
 use Rattle.items_r7rs.specs.Reading.{nothing, ReadAs}
 use Rattle.items_r7rs.specs.Repeated.{Many, done, more}
 use Rattle.items_r7rs.specs.Written.{Written, written}
-use Rattle.items_r7rs.proofs.Below.{allBelow, below-all}
+use Rattle.items_r7rs.proofs.BelowBound.{allBelow, below-all}
 use Rattle.items_r7rs.proofs.Bytes.{bytes-ascii}
 use Rattle.items_r7rs.proofs.Classes.{at-one-of}
 use Rattle.items_r7rs.proofs.Number.{Stays, number-run, prefixed-run}

@@ -17,7 +17,7 @@ use Rattle.items_r7rs.specs.Identifier.{letters, specialInitials, explicitSigns
 use Rattle.items_r7rs.specs.Identifier.{plain, SignSubsequent, DotSubsequent, sign, dot-again, alone, signed, signed-dot, dotted}
 use Rattle.items_r7rs.specs.Identifier as id
 use Rattle.items_r7rs.specs.Repeated.{Many, done, more}
-use Rattle.items_r7rs.proofs.Below.{allBelow, below-all}
+use Rattle.items_r7rs.proofs.BelowBound.{allBelow, below-all}
 use Rattle.items_r7rs.proofs.Classes.{at-one-of}
 use Rattle.items_r7rs_names.specs.Names.{Odd, mark, control, Name}
 use Rattle.items_r7rs_names.specs.Names as foreign

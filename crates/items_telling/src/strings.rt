@@ -1,6 +1,7 @@
 // Strings by their bytes: escapes of two bytes are passed together with the runs between them, and an escape that is none ends a string
 // as an error.
 use crate::Strung;
+use byte_runs::ASCII_END;
 use byte_runs::plain_end;
 use chars::wide_end;
 ghost use mathlib.Core.Path.{_≡_};
@@ -14,17 +15,8 @@ ghost use Rattle.items.specs.declared.Quotes.the-variants.{Double};
 ghost use Rattle.steps.specs.Scan.{Passes};
 ghost use Rattle.items_telling.specs.Strings.{Short, StrungAs};
 
-// Below it a byte is a character of ASCII.
-const ASCII_END: u8 = 0x80;
-
-// What closes a string.
-const QUOTE: u8 = b'"';
-
-// What an escape begins with.
-const BACKSLASH: u8 = b'\\';
-
 // How many bytes an escape has at least.
-const ESCAPE: usize = 2;
+const ESCAPE_LENGTH: usize = 2;
 
 // Whether a backslash and this byte are an escape.
 fn is_short(c: u8) -> bool
@@ -61,11 +53,11 @@ fn past_escape(s: &[u8], at: usize) -> usize
     requires { ⌜ (at < length (now s)) × (getD (now s) at 0 ≡ code "\\") ⌝ }
     ensures { λ r. ⌜ Passes (now (s .entry)) (Quoted Double) at r ⌝ }
 {
-    if s.len() - at < ESCAPE {
+    if s.len() - at < ESCAPE_LENGTH {
         return at;
     }
     if is_short(s[at + 1]) {
-        return at + ESCAPE;
+        return at + ESCAPE_LENGTH;
     }
     at
 }
@@ -79,16 +71,16 @@ fn past_part(s: &[u8], at: usize) -> usize
         return at;
     }
     let b = s[at];
-    if b == QUOTE {
+    if b == b'"' {
         return at;
     }
-    if b == BACKSLASH {
+    if b == b'\\' {
         return past_escape(s, at);
     }
     if ASCII_END <= b {
         return wide_end(s, at);
     }
-    plain_end(s, at, QUOTE, BACKSLASH)
+    plain_end(s, at, b'"', b'\\')
 }
 
 // Past the characters of a string and its escapes of two bytes, from a place on.
@@ -117,13 +109,13 @@ pub fn string_at(s: &[u8], from: usize) -> Strung
     }
     let b = s[at];
     let next = at + 1;
-    if b == QUOTE {
+    if b == b'"' {
         return Strung::Whole(next);
     }
     if s.len() <= next {
         return Strung::On(at);
     }
-    if b != BACKSLASH {
+    if b != b'\\' {
         return Strung::On(at);
     }
     if is_failing(s[next]) {

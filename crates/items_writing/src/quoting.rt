@@ -10,8 +10,6 @@ ghost use Rattle.refusal.specs.Refusals as refusal;
 ghost use Rattle.items.specs.Classes.{delimOf};
 ghost use Rattle.items_writing.specs.Pieces.{isMarked, escapedByte, escapedBy, quotedBy, lone, shown};
 
-const BACKSLASH: u8 = b'\\';
-
 fn closing(k: Quotes) -> u8
     ensures { λ r. ⌜ r ≡ delimOf k ⌝ }
 {
@@ -28,7 +26,7 @@ fn is_marked(b: u8, mark: u8) -> bool
     if b == mark {
         return true;
     }
-    b == BACKSLASH
+    b == b'\\'
 }
 
 // How many bytes a byte takes.
@@ -47,7 +45,7 @@ fn put_byte(b: u8, mark: u8, out: &mut [u8]) -> usize
     ensures { λ r. ⌜ (r ≡ length (escapedByte mark b)) × (now (out .exit) ≡ written (escapedByte mark b) (now (out .entry))) ⌝ }
 {
     if is_marked(b, mark) {
-        out[0] = BACKSLASH;
+        out[0] = b'\\';
         out[1] = b;
         return 2;
     }

@@ -5,22 +5,15 @@ use crate::whole::is_inside;
 use crate::whole::is_whole;
 use items::RECORD_WORDS;
 use items::kinds;
+use items::kinds::IN_MEMORY;
+use items::kinds::IN_SOURCE;
+use items::kinds::NO_TEXT;
 ghost use mathlib.Core.Path.{_≡_};
 ghost use mathlib.Core.Bool.{true};
 ghost use Prim.Native.Nat.{_<_};
 ghost use Rattle.items_writing.specs.Written.{part};
 ghost use Rattle.items_writing.specs.Records.{countOf, wordsAt, recordsIn, isWhole, isKind, hasText, textRight, isRight, isLeft, judge, textOf, entryOf};
 ghost use Rattle.items_writing.specs.Pieces.{bodyOf, isExtent};
-
-// Text sources.
-const NO_TEXT: u32 = 0;
-
-const IN_SOURCE: u32 = 1;
-
-const IN_MEMORY: u32 = 2;
-
-// The kind of the last error that there is.
-const LAST_ERROR: u32 = kinds::FIRST_ERROR + kinds::LAST_ERROR;
 
 // The record at a place.
 pub fn words_at(records: &[u32], p: usize) -> WriteWords
@@ -47,7 +40,7 @@ fn is_kind(k: u32) -> bool
     if k <= kinds::FIRST_ERROR {
         return false;
     }
-    k <= LAST_ERROR
+    k <= kinds::LAST_ERROR_KIND
 }
 
 fn has_text(k: u32) -> bool

@@ -28,8 +28,6 @@ ghost use Rattle.items_writing.specs.Written.{joined};
 ghost use Rattle.items_writing.specs.Records.{countOf, recordsIn, isRight, entryOf};
 ghost use Rattle.items_writing.specs.Pieces.{formFor, piece, AllRight, TurnSaid};
 
-const SPACE: u8 = b' ';
-
 // The form of an item of a kind, whose word is made of t.
 fn form_for(k: u32, t: &[u8], first: bool, last: bool) -> Form
     requires { ⌜ firstBad (now t) ≡ Good ⌝ }
@@ -111,7 +109,7 @@ pub fn piece_length(t: &[u8], turn: WriteTurn, first: bool) -> usize
     ensures { λ r. ⌜ r ≡ length (piece first (turn .pair) (turn .form) (now (t .entry))) ⌝ }
 {
     let form = turn.form;
-    lone_length(!first, SPACE) + lone_length(turn.pair, b'+') + shown_length(t, form)
+    lone_length(!first, b' ') + lone_length(turn.pair, b'+') + shown_length(t, form)
 }
 
 // A piece, from the memory's start on.
@@ -120,7 +118,7 @@ pub fn put_piece(t: &[u8], turn: WriteTurn, first: bool, out: &mut [u8]) -> usiz
     ensures { λ r. ⌜ (r ≡ length (piece first (turn .pair) (turn .form) (now (t .entry)))) × (now (out .exit) ≡ written (piece first (turn .pair) (turn .form) (now (t .entry))) (now (out .entry))) ⌝ }
 {
     let form = turn.form;
-    let gap = put_lone(!first, SPACE, out);
+    let gap = put_lone(!first, b' ', out);
     let plus = gap + put_lone(turn.pair, b'+', &mut out[gap..]);
     plus + put_shown(t, form, &mut out[plus..])
 }

@@ -1,5 +1,8 @@
 // Whether parts of what is lent are whole characters. Most items are a few bytes long: their characters are told one after another, and by
 // blocks only those of longer ones.
+use byte_runs::ASCII_END;
+use chars::TAIL_HIGH;
+use chars::TAIL_LOW;
 use chars::Utf8;
 use chars::first_bad;
 use chars::wide_end;
@@ -11,16 +14,8 @@ ghost use Rattle.chars.specs.Utf8.{firstBad};
 ghost use Rattle.chars.specs.Wide.{Passed};
 ghost use Rattle.items_writing.specs.Records.{isGood, isWhole};
 
-// Below it a byte is a character of ASCII.
-const ASCII_END: u8 = 0x80;
-
-// The bytes inside a character, UTF8-tail.
-const TAIL_LOW: u8 = 0x80;
-
-const TAIL_HIGH: u8 = 0xBF;
-
-// The longest text that is short.
-const SHORT: usize = 16;
+// A part of so many bytes is short.
+const SHORT_PART: usize = 16;
 
 // Past the ASCII from a place on.
 fn ascii_end(t: &[u8], from: usize) -> usize
@@ -55,7 +50,7 @@ fn good_end(t: &[u8]) -> usize
 fn is_good(t: &[u8]) -> bool
     ensures { λ r. ⌜ r ≡ isGood (firstBad (now (t .entry))) ⌝ }
 {
-    if t.len() <= SHORT {
+    if t.len() <= SHORT_PART {
         if t.len() <= good_end(t) {
             return true;
         }

@@ -17,6 +17,7 @@ use spellings::words::word_kind;
 use steps::ascii_run;
 use steps::finish;
 use steps::first_phase;
+use steps::signs::SPACE;
 use steps::step;
 ghost use mathlib.Core.Path.{_≡_};
 ghost use Prim.Native.Nat.{_+_, _<_, _≤_};
@@ -31,10 +32,6 @@ ghost use Rattle.laws.specs.Texts.{begins};
 ghost use mathlib.Core.List.{_∷_};
 ghost use Rattle.items_writing.specs.Written.{bare, splits};
 ghost use Rattle.items_writing.specs.Decide.{closeOf, standFrom, nameWord, isName, isPairOf, isLined, linesAs};
-
-const SPACE: u32 = 0x20;
-
-const VERTICAL: u8 = b'|';
 
 // A word that was read to its end in a phase: at the end of the text, or before a space, which is one step more.
 fn close_step(t: &[u8], phase: Phase, last: bool) -> Stand
@@ -195,7 +192,7 @@ pub fn reads_pair(t: &[u8]) -> bool
     ensures { λ r. ⌜ r ≡ splits (code "+" ∷ now (t .entry)) ⌝ }
 {
     let k = ascii_run(t, 0, Phase::InRun);
-    if starts_at(t, k, VERTICAL) {
+    if starts_at(t, k, b'|') {
         if plus_number(&t[..k]) {
             return false;
         }

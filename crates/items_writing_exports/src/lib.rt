@@ -1,4 +1,5 @@
 // The call of the crate `items_writing` for programs in C and Rust: its answer as a number and one value.
+use exports_values::NumberAndValue;
 use exports_values::put_value;
 use items_writing::WriteAnswer;
 use refusal::ALIEN;
@@ -10,12 +11,6 @@ use refusal::UNWRITTEN;
 ghost use mathlib.Core.Path.{_≡_};
 ghost use Rattle.items_writing.specs.Call.{writeOf, answered};
 ghost use Rattle.items_writing_exports.specs.Write.{numberOf, valueOf, sees, seen};
-
-// An answer: its number and its value.
-struct NumberAndValue {
-    number: u32,
-    value: u64,
-}
 
 // An answer of a number and a value.
 fn tell(number: u32, value: u64) -> NumberAndValue

@@ -37,7 +37,7 @@ use Rattle.items_writing.proofs.OutcomeTells.{Known}
 use Rattle.items_writing.proofs.ReadsBack.{kindIn}
 use Rattle.items_writing_theorems.proofs.Characters.{Texty, quoted-texty}
 use Rattle.items_writing_theorems.proofs.Between.{between-texty}
-use Rattle.items_writing_theorems.proofs.Here.{here-body, not-shorter}
+use Rattle.items_writing_theorems.proofs.HereBodies.{here-body, not-shorter}
 use Rattle.items_writing_theorems.proofs.Sound.{Sound, name, string}
 use Rattle.items_writing_theorems.proofs.Reread.{Other}
 use Rattle.items_writing.proofs.WordTable.{word-no-string}

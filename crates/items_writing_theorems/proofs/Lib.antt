@@ -17,9 +17,9 @@ pub mod Quotes
 pub mod Parts
 pub mod Characters
 pub mod Fronts
-pub mod Here
+pub mod HereBodies
 pub mod Between
 pub mod Stops
 pub mod Reread
 pub mod Extents
-pub mod Others
+pub mod OwnExtents

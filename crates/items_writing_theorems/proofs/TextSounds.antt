@@ -36,7 +36,7 @@ use Rattle.items_writing.proofs.Trace.{Traced, traced}
 use Rattle.items_writing.proofs.ReadsBack.{kindIn}
 use Rattle.items_writing_theorems.proofs.Sound.{Sounds, more, one as one-sound}
 use Rattle.items_writing_theorems.proofs.Extents.{AllSound, Right, extent-sounds}
-use Rattle.items_writing_theorems.proofs.Others.{other-sound}
+use Rattle.items_writing_theorems.proofs.OwnExtents.{other-sound}
 use Rattle.items_writing_theorems.proofs.Reread.{reread}
 
 -- ---- an extent has one item, or the two of a word that begins with a plus

@@ -15,7 +15,7 @@ use Rattle.meaning.specs.Meant.{sizedText, errorOf, lastError}
 use Rattle.meaning.specs.Places.{reach, reachFrom}
 use Rattle.meaning.specs.Records.{TextFits}
 use Rattle.lexer.specs.Inner.{TextsFit, ExtentFits}
-use Rattle.lexer.proofs.Here.{char-inside}
+use Rattle.lexer.proofs.CharacterAt.{char-inside}
 use Rattle.lexer.proofs.Left.{ReadTo, left-here}
 use Prim.Native.Nat.{ℕ, _+_, _^_, _≤_, _<_}
 use mathlib.Core.Path.{_≡_, subst}

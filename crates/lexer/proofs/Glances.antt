@@ -33,7 +33,7 @@ use Rattle.lexer.specs.declared.Spot.{Spot}
 use Rattle.lexer.specs.declared.FirstChar.the-variants.{At}
 use Rattle.lexer.specs.declared.Found.{Found}
 use Rattle.lexer.specs.declared.Found.the-variants.{One}
-use Rattle.lexer.proofs.Here.{char-found}
+use Rattle.lexer.proofs.CharacterAt.{char-found}
 use Rattle.lexer.proofs.Turns.{Started, started, turn-started}
 use Rattle.lexer.proofs.Scans.{end-inside, scan-fits, found-is}
 use Rattle.lexer.proofs.Gives.{fits-one, found-one}

@@ -8,7 +8,7 @@ use Rattle.items.specs.Machine.{stepOf, onFirst, scanOf}
 use Rattle.items.specs.declared.Phase.{Phase}
 use Rattle.items.proofs.Cases.{by-next}
 use Rattle.items.proofs.Same.{item-same}
-use Rattle.lexer.proofs.Here.{Here, char-here}
+use Rattle.lexer.proofs.CharacterAt.{Here, char-here}
 use Prim.Native.Nat.{ℕ, _+_, _-_, _≤_}
 use mathlib.Core.Path.{_≡_, sym, ap, _∙_}
 use mathlib.Core.Bool.{Bool}

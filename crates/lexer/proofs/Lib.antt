@@ -6,7 +6,7 @@ pub mod ReadsOn
 -- `never-27`, `text-right`
 pub mod Placed
 -- What they stand on, and what other crates cite
-pub mod Here
+pub mod CharacterAt
 pub mod Left
 pub mod Turns
 pub mod Extents
@@ -23,7 +23,7 @@ pub mod Strung
 pub mod Tells
 pub mod Sharps
 pub mod Skims
-pub mod All
+pub mod AllItems
 pub mod Memory
 pub mod ReadingOn
 pub mod Writing

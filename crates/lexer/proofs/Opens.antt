@@ -18,9 +18,9 @@ use Rattle.lexer.specs.Opening.{lineEnd, afterHash, startOf, opening, op
 use Rattle.lexer.specs.Reading.{allItems}
 use Rattle.lexer.specs.Inner.{Few}
 use Rattle.lexer.specs.declared.Position.{Position}
-use Rattle.lexer.proofs.Here.{Here, char-here, char-found, room}
+use Rattle.lexer.proofs.CharacterAt.{Here, char-here, char-found, room}
 use Rattle.lexer.proofs.Turns.{itemsOn}
-use Rattle.lexer.proofs.All.{all-read}
+use Rattle.lexer.proofs.AllItems.{all-read}
 use Prim.Native.Nat.{ℕ, _+_, _≤_, _<_}
 use mathlib.Core.Path.{_≡_, refl, sym, ap, _∙_, subst}
 use mathlib.Core.Bool.{Bool, true, false}

@@ -10,7 +10,7 @@ use Rattle.items.proofs.Order as order
 use Rattle.items.proofs.Meanings.{Inside}
 use Rattle.items.proofs.Skipped.{kept-every}
 use Rattle.lexer.specs.Text.{textIn, textMark}
-use Rattle.lexer.proofs.Here.{room}
+use Rattle.lexer.proofs.CharacterAt.{room}
 use Rattle.lexer.proofs.Memory.{texts-join}
 use Prim.Native.Nat.{ℕ, _+_, _-_, _≤_}
 use mathlib.Core.Path.{_≡_, refl, sym, ap, _∙_, subst}

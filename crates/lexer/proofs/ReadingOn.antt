@@ -8,7 +8,7 @@ use Rattle.lexer.specs.Writing.{Going}
 use Rattle.lexer.specs.declared.Spot.{Spot}
 use Rattle.lexer.specs.declared.Needed.{Needed}
 use Rattle.lexer.specs.declared.Found.the-variants.{One, End}
-use Rattle.lexer.proofs.All.{all-gives, all-ends, next-all}
+use Rattle.lexer.proofs.AllItems.{all-gives, all-ends, next-all}
 use Rattle.lexer.proofs.Moves.{Moved}
 use Rattle.lexer.proofs.Nexts.{found-gives, found-ends, next-moved}
 use Rattle.lexer.proofs.Memory.{free-packed, texts-more}

@@ -7,7 +7,7 @@ use Rattle.lexer.specs.Answers.{Reply, item, finished, positionAt, giveO
 use Rattle.lexer.specs.ReadOn.{follow, readFrom, readOn, recordEach}
 use Rattle.lexer.specs.declared.Spot.{Spot}
 use Rattle.lexer.specs.declared.Position.{Position}
-use Rattle.lexer.proofs.All.{all-gives, all-ends}
+use Rattle.lexer.proofs.AllItems.{all-gives, all-ends}
 use Rattle.lexer.proofs.Moves.{Moved}
 use Rattle.lexer.proofs.Nexts.{next-moved}
 use Rattle.lexer.proofs.Opens.{reads-all}

@@ -14,7 +14,7 @@ use Rattle.lexer.specs.Inner.{ExtentFits}
 use Rattle.lexer.specs.Reading.{turnOf, turnAt, foundOf}
 use Rattle.lexer.specs.declared.Spot.{Spot}
 use Rattle.lexer.specs.declared.Found.{Found}
-use Rattle.lexer.proofs.Here.{Here, char-here}
+use Rattle.lexer.proofs.CharacterAt.{Here, char-here}
 use Rattle.lexer.proofs.Left.{ReadTo, left-here, part}
 use Rattle.lexer.proofs.Extents.{extent-fits}
 use Prim.Native.Nat.{ℕ, _+_, _-_, _^_, _≤_, _<_}

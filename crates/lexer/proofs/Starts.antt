@@ -11,7 +11,7 @@ use Rattle.byte_runs.specs.Runs.{blank}
 use Rattle.steps.proofs.Kept.{ascii-found, blank-ascii}
 use Rattle.lexer.specs.Reading.{startFrom}
 use Rattle.lexer.specs.declared.FirstChar.the-variants.{At, Nothing}
-use Rattle.lexer.proofs.Here.{char-found}
+use Rattle.lexer.proofs.CharacterAt.{char-found}
 use Prim.Native.Nat.{ℕ, zero, suc, _+_, _≤_, _<_}
 use mathlib.Core.Path.{_≡_, sym, ap, _∙_}
 use mathlib.Core.Bool.{Bool, true, false}

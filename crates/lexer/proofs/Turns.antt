@@ -12,7 +12,7 @@ use Rattle.lexer.specs.Reading.{ends, moved, turnAt, turnFrom, turn, sta
 use Rattle.lexer.specs.declared.Spot.{Spot}
 use Rattle.lexer.specs.declared.FirstChar.{FirstChar}
 use Rattle.lexer.specs.declared.FirstChar.the-variants.{At, Nothing}
-use Rattle.lexer.proofs.Here.{Here, char-here}
+use Rattle.lexer.proofs.CharacterAt.{Here, char-here}
 use Prim.Native.Nat.{ℕ, _+_, _≤_}
 use mathlib.Core.Path.{_≡_, refl, sym, ap, _∙_}
 use mathlib.Core.Bool.{Bool, false}

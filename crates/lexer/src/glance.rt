@@ -1,8 +1,10 @@
 // Items that one look tells: a bracket, a quote mark, and a word, a number, a string or a comment that the next bytes show to be no more
 // than that. Any other is for `next_item`, which reads them all. The text is good UTF-8, so that in quotes and in comments no character is
 // looked at but what may end them.
+use byte_runs::ASCII_END;
 use chars::letter_at;
 use escapes::has_escape;
+use items::BOOLEAN_LENGTH;
 use items::kinds;
 use items_telling::Quick;
 use items_telling::bare;
@@ -31,14 +33,8 @@ ghost use Rattle.meaning.specs.declared.Text.the-variants.{Nowhere};
 ghost use Rattle.items_telling.specs.declared.Quick.the-variants.{Bracket};
 ghost use Rattle.lexer.specs.Glance.{Begins, Rare, Worded, WordedTo, Sharp, Spells, GlanceAt, SkimAt};
 
-// Below it a byte is a character of ASCII.
-const ASCII_END: u8 = 0x80;
-
 // From it on bytes begin characters past ASCII; so does C2, but that begins blanks.
 const WIDE_FIRST: u8 = 0xC3;
-
-// How many bytes a boolean of one letter is.
-const BOOLEAN: usize = 2;
 
 // A bracket.
 fn bracket(kind: u32, detail: u32, at: usize, end: usize) -> Quick
@@ -117,7 +113,7 @@ fn quick_boolean(source: &[u8], value: u32, at: usize) -> Quick
     requires { ⌜ (length (now source) ≤ limit) × Spells (now source) at value ⌝ }
     ensures { λ r. ⌜ ((report skip : Bool) → GlanceAt (now (source .entry)) report skip at r) ⌝ }
 {
-    let end = at + BOOLEAN;
+    let end = at + BOOLEAN_LENGTH;
     if source.len() <= end {
         return Quick::Other;
     }

@@ -15,6 +15,8 @@ mod strings;
 mod text;
 mod whole;
 
+pub use opening::OUTSIDE;
+pub use opening::UNSET;
 pub use opening::open;
 pub use opening::start as begin;
 pub use reader::next_at;
@@ -62,7 +64,7 @@ pub enum Found {
 }
 
 // How far counting got: the place, and the items before it.
-pub struct Counted {
+pub struct CountedTo {
     pub at: usize,
     pub items: usize,
 }

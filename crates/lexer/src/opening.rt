@@ -9,20 +9,17 @@ use chars::first_bad;
 use items::modes::REPORT;
 use meaning::Range;
 use refusal::LIMIT;
+use steps::signs::BANG;
+use steps::signs::HASH;
+use steps::signs::NEWLINE;
 ghost use mathlib.Core.Path.{_≡_};
 ghost use lib.ListN.{drop};
 ghost use Rattle.chars.specs.Utf8.{chars};
 ghost use Rattle.items.specs.Whole.{inReport};
 ghost use Rattle.lexer.specs.Opening.{lineEnd, afterHash, startOf, opening, openingOf, openOf};
 
-const HASH: u32 = b'#' as u32;
-
-const BANG: u32 = b'!' as u32;
-
-const NEWLINE: u32 = b'\n' as u32;
-
 // No error range was set yet.
-const UNSET: u32 = 0;
+pub const UNSET: u32 = 0;
 
 // The depth where no bracket is open.
 pub const OUTSIDE: u32 = 0;

@@ -41,11 +41,6 @@ ghost use Rattle.lexer.specs.Reading.{moved, turnOf, turn, nextAt, start
 ghost use Rattle.lexer.specs.Inner.{ExtentFits};
 ghost use Rattle.lexer.specs.Begun.{Stands, BegunAs};
 
-// The blanks of ASCII are the space and those from the tab to the carriage return.
-const TAB: u8 = 0x09;
-
-const CARRIAGE_RETURN: u8 = 0x0D;
-
 // How many blanks are passed byte by byte.
 const FEW: usize = 8;
 
@@ -70,10 +65,10 @@ fn blank_at(source: &[u8], at: usize) -> bool
         return false;
     }
     let b = source[at];
-    if CARRIAGE_RETURN < b {
+    if b'\r' < b {
         return b == b' ';
     }
-    TAB <= b
+    b'\t' <= b
 }
 
 // Past the blanks of ASCII from a place on: the first few byte by byte, since most runs are short, and the rest by blocks.

@@ -1,13 +1,13 @@
 // The text call: the text of a record, handed back as a part of the source or of the text memory.
-use meaning::records::IN_MEMORY;
-use meaning::records::IN_SOURCE;
+use items::kinds::IN_MEMORY;
+use items::kinds::IN_SOURCE;
 use refusal::OUT_OF_BOUNDS;
 ghost use mathlib.Core.Path.{_≡_};
 ghost use Rattle.refusal.specs.Refusals as refusal;
 ghost use Rattle.lexer.specs.Text.{partOf, within, textIn, textMark};
 
 // The mark of a text that is there.
-const MARK: u32 = 0;
+const TEXT_THERE: u32 = 0;
 
 // The part of a slice between two places, or an empty part.
 fn part(s: &[u8], from: usize, to: usize) -> &[u8]
@@ -31,7 +31,7 @@ fn part_mark(s: &[u8], from: usize, to: usize) -> u32
     if s.len() < to {
         return OUT_OF_BOUNDS;
     }
-    MARK
+    TEXT_THERE
 }
 
 // The text of a record, by its three words for it (origin is its text source word, 1 the source and 2 the text memory): a part of one of

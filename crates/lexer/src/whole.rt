@@ -1,5 +1,5 @@
 // The whole-text call: all items of a source, counted first where they might not fit, then written.
-use crate::Counted;
+use crate::CountedTo;
 use crate::Found;
 use crate::Needed;
 use crate::OpenAnswer;
@@ -20,11 +20,11 @@ use items::QUOTE_LENGTH;
 use items::Quotes;
 use items::RECORD_WORDS;
 use items::Record;
+use items::kinds::IN_MEMORY;
 use items::kinds::STRING_LITERAL;
 use items_telling::Quick;
 use meaning::Means;
 use meaning::Range;
-use meaning::records::IN_MEMORY;
 use meaning::records::depth_after;
 use meaning::records::nine_of;
 use meaning::records::put;
@@ -78,7 +78,7 @@ pub fn put_text(source: &[u8], r: Nine, free: &mut [u8])
 
 // Counts the items from a spot on, behind those counted before, as far as one look tells where each ends: none has a decoded text. Where it
 // stops there is no blank of ASCII.
-fn count_told(source: &[u8], p: Spot, from: usize) -> Counted
+fn count_told(source: &[u8], p: Spot, from: usize) -> CountedTo
     requires { ⌜ (length (now source) ≤ limit) × Counts (now source) p from × (firstBad (now source) ≡ Good) ⌝ }
     ensures { λ r. ⌜ Further (now (source .entry)) p from (toldTo p (r .at) from (r .items)) (r .items) ⌝ }
 {
@@ -91,11 +91,11 @@ fn count_told(source: &[u8], p: Spot, from: usize) -> Counted
                 at = past_blanks(source, end);
             }
             Ending::Unknown => {
-                return Counted { at: at, items: n };
+                return CountedTo { at: at, items: n };
             }
         }
     }
-    Counted { at: at, items: n }
+    CountedTo { at: at, items: n }
 }
 
 // The spot that a counting or a writing got to from another one, by the place and by what was counted or written before and now.

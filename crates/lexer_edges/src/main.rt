@@ -6,6 +6,7 @@ use items::modes::PLAIN;
 use items::modes::REPORT;
 use lexer::ReadAnswer;
 use lexer::read;
+use libc::STDOUT_FILENO;
 use refusal::LIMIT_VALUE;
 use refusal::NO_MODE;
 use refusal::NOT_UTF8;
@@ -16,25 +17,23 @@ ghost use Prim.Native.Nat.{_*_, _≤_};
 ghost use lib.ListN.{length};
 ghost use Rattle.items.specs.Items.{recordWords};
 
-const OUT: i32 = 1;
-
 // What both memories hold before a call.
 const MARK_WORD: u32 = 7;
 
 const MARK_BYTE: u8 = 7;
 
 // How many words and bytes each memory has: two records, and the bytes of one long text. A call is lent a first part of them.
-const ROOM: usize = 2 * RECORD_WORDS;
+const RECORD_ROOM: usize = 2 * RECORD_WORDS;
 
-const BYTES: usize = 6;
+const BYTE_ROOM: usize = 6;
 
 fn number(n: u64) {
-    io::print_decimal(OUT, n);
-    io::write_all(OUT, b" ");
+    io::print_decimal(STDOUT_FILENO, n);
+    io::write_all(STDOUT_FILENO, b" ");
 }
 
 fn end_line() {
-    io::write_all(OUT, b"\n");
+    io::write_all(STDOUT_FILENO, b"\n");
 }
 
 fn show_words(words: &[u32]) {
@@ -101,32 +100,32 @@ fn call(
 fn case(source: &[u8], mode: u32, skip: bool, words: usize, bytes: usize)
     requires { ⌜ (words ≤ 2 * recordWords) × (bytes ≤ 6) ⌝ }
 {
-    let mut records = [MARK_WORD; ROOM];
-    let mut text = [MARK_BYTE; BYTES];
+    let mut records = [MARK_WORD; RECORD_ROOM];
+    let mut text = [MARK_BYTE; BYTE_ROOM];
     call(source, mode, skip, &mut records, &mut text, words, bytes);
 }
 
 fn main() {
     // an empty text, and one blank
     case(b"", PLAIN, false, 0, 0);
-    case(b" ", PLAIN, false, ROOM, 6);
+    case(b" ", PLAIN, false, RECORD_ROOM, 6);
     // the last character, and past it
-    case(b"\"\\x10FFFF;\"", PLAIN, false, ROOM, 6);
-    case(b"\"\\x110000;\"", PLAIN, false, ROOM, 6);
+    case(b"\"\\x10FFFF;\"", PLAIN, false, RECORD_ROOM, 6);
+    case(b"\"\\x110000;\"", PLAIN, false, RECORD_ROOM, 6);
     // records: one word short, and exactly enough
-    case(b"(a", PLAIN, false, ROOM - 1, 6);
-    case(b"(a", PLAIN, false, ROOM, 6);
+    case(b"(a", PLAIN, false, RECORD_ROOM - 1, 6);
+    case(b"(a", PLAIN, false, RECORD_ROOM, 6);
     // text memory: one byte short, and exactly enough
-    case(b"\"\\n\"\"\\t\"", PLAIN, false, ROOM, 1);
-    case(b"\"\\n\"\"\\t\"", PLAIN, false, ROOM, 2);
+    case(b"\"\\n\"\"\\t\"", PLAIN, false, RECORD_ROOM, 1);
+    case(b"\"\\n\"\"\\t\"", PLAIN, false, RECORD_ROOM, 2);
     // no such mode, before anything else; no UTF-8
     case(b"\xFF", 2, false, 0, 0);
     case(b"a\xFF", PLAIN, false, 0, 0);
     // E8 in both modes, and with comments skipped
-    case(b"14.7;gps", PLAIN, false, ROOM, 0);
-    case(b"14.7;gps", REPORT, false, ROOM, 0);
-    case(b"14.7;gps", PLAIN, true, ROOM, 0);
+    case(b"14.7;gps", PLAIN, false, RECORD_ROOM, 0);
+    case(b"14.7;gps", REPORT, false, RECORD_ROOM, 0);
+    case(b"14.7;gps", PLAIN, true, RECORD_ROOM, 0);
     // the depth: a close with none open, and a skipped comment
-    case(b")(", PLAIN, false, ROOM, 0);
-    case(b"(;a\nb", PLAIN, true, ROOM, 0);
+    case(b")(", PLAIN, false, RECORD_ROOM, 0);
+    case(b"(;a\nb", PLAIN, true, RECORD_ROOM, 0);
 }

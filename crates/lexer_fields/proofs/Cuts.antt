@@ -10,8 +10,8 @@ use Rattle.laws.proofs.Places.{here, past}
 use Rattle.items.specs.Whole.{itemsIn}
 use Rattle.lexer_fields.specs.Fields.{Field, fieldBy, fieldOf, fieldsOn, fieldsIn, parts, inOrder}
 use Rattle.lexer_fields.specs.Answers.{continues, between, cuttingOf, wellCut, Known, Unmarked, AllKnown}
-use Rattle.lexer_fields.specs.declared.Cutting.{Cutting}
-use Rattle.lexer_fields.specs.declared.Cutting.the-variants as cutting
+use Rattle.lexer_fields.specs.declared.EndsCutting.{EndsCutting}
+use Rattle.lexer_fields.specs.declared.EndsCutting.the-variants as cutting
 use Rattle.lexer_fields.proofs.Parts.{in-order}
 use Rattle.lexer_fields.proofs.Progress.{Progress, rest, part, this, e}
 use Prim.Native.Nat.{ℕ, zero, suc, _+_, _-_, _≤_, _<_}
@@ -118,7 +118,7 @@ module _ (s ends : List ℕ) (i : ℕ) where
 -- ---- what a cutting says
 
 module _ (ordered clean : Bool) where
-  abbrev pub Says : Cutting → Type 0
+  abbrev pub Says : EndsCutting → Type 0
   Says cutting.Disordered = ordered ≡ false
   Says cutting.Inside = (ordered ≡ true) × (false ≡ clean)
   Says cutting.Between = (ordered ≡ true) × (true ≡ clean)

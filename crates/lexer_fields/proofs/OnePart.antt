@@ -19,7 +19,7 @@ use Rattle.lexer.specs.declared.Needed.{Needed}
 use Rattle.lexer.proofs.Opens.{reads-all}
 use Rattle.lexer_fields.specs.Fields.{Field, field, fieldBy, fieldOf}
 use Rattle.lexer_fields.specs.Answers.{partOf, spotAt}
-use Rattle.lexer_fields.specs.declared.Part.{Part}
+use Rattle.lexer_fields.specs.declared.PartAnswer.{PartAnswer}
 use Rattle.lexer_fields.proofs.Parts.{first-bad-ahead}
 use Prim.Native.Nat.{ℕ, _*_, _≤_}
 use mathlib.Core.Path.{_≡_, refl, sym, ap, _∙_}
@@ -30,7 +30,7 @@ use lib.Dec.{eqb}
 use native.Mathlib.Omega.{arith}
 use borrow.Author.Tests.{eqb-true}
 
-abbrev pub part : ℕ → ℕ → ℕ → ℕ → Part
+abbrev pub part : ℕ → ℕ → ℕ → ℕ → PartAnswer
 part m p n t = record { mark = m; place = p; items = n; text = t }
 
 -- ---- where reading starts
@@ -67,7 +67,7 @@ module _ (s : List ℕ) (mode : ℕ) (skip : Bool) where
     pub good-items : fieldOf mode skip s .items ≡ allItems s p
     good-items = ap (λ (f : Field). f .items) is-good
 
-    pub good-part : (n : Needed) (r : Part) → n ≡ neededOf (allItems s p) → r ≡ part 0 0 (n .items) (n .text) → r ≡ partOf (fieldOf mode skip s)
+    pub good-part : (n : Needed) (r : PartAnswer) → n ≡ neededOf (allItems s p) → r ≡ part 0 0 (n .items) (n .text) → r ≡ partOf (fieldOf mode skip s)
     good-part n r q h = h ∙ ap (λ (x : Needed). part 0 0 (x .items) (x .text)) q ∙ ap partOf (sym is-good)
 
     pub good-records : (old : List ℕ) {new : List ℕ} → new ≡ written (records 0 0 (allItems s p)) old → new ≡ written (records 0 0 (fieldOf mode skip s .items)) old
@@ -88,7 +88,7 @@ module _ (s : List ℕ) (mode : ℕ) (skip : Bool) where
     unfolding fieldOf
     is-bad = ap (λ (u : Utf8). fieldBy u (itemsIn s mode skip)) (sym e)
 
-    pub bad-part : (r : Part) → r ≡ part refusal.notUtf8 at 0 0 → r ≡ partOf (fieldOf mode skip s)
+    pub bad-part : (r : PartAnswer) → r ≡ part refusal.notUtf8 at 0 0 → r ≡ partOf (fieldOf mode skip s)
     unfolding texts
     bad-part r h = h ∙ ap partOf (sym is-bad)
 

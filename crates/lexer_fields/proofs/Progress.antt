@@ -4,7 +4,7 @@ use Rattle.items.specs.Items.{recordWords, texts}
 use Rattle.items.specs.Whole.{limit}
 use Rattle.lexer_fields.specs.Fields.{Field, fieldOf, fieldsOn, fieldsIn, parts, inOrder, itemCount, textsIn}
 use Rattle.lexer_fields.specs.Answers.{partOf, totalOf, Fine}
-use Rattle.lexer_fields.specs.declared.Part.{Part}
+use Rattle.lexer_fields.specs.declared.PartAnswer.{PartAnswer}
 use Rattle.lexer_fields.specs.declared.Total.{Total}
 use Rattle.lexer_fields.proofs.Parts.{few-fields, fields-length, in-order, count-append, texts-append, part-length}
 use Prim.Native.Nat.{ℕ, _+_, _-_, _*_, _≤_, _<_}
@@ -88,15 +88,15 @@ module _ {s ends : List ℕ} {mode : ℕ} {skip : Bool} {i from n free : ℕ} {d
     )
 
     -- the counts with this part fit their words
-    pub sums : Fine s ends mode → (p : Part) → p ≡ partOf this → (n + p .items ≤ limit) × (free + p .text ≤ limit)
+    pub sums : Fine s ends mode → (p : PartAnswer) → p ≡ partOf this → (n + p .items ≤ limit) × (free + p .text ≤ limit)
     sums fine p q =
         let y = few s ends mode skip fine in
-        (omega (arith, fits .0, y .0, fine .2, ap (λ (x : Part). x .items) q), omega (arith, fits .1, y .1, fine .2, ap (λ (x : Part). x .text) q))
+        (omega (arith, fits .0, y .0, fine .2, ap (λ (x : PartAnswer). x .items) q), omega (arith, fits .1, y .1, fine .2, ap (λ (x : PartAnswer). x .text) q))
 
     pub short : Fine s ends mode → length part ≤ limit
     short fine = omega (arith, part-length s from e (bounds .1), bounds .1, fine .2)
 
-    pub moves-on : (p : Part) → p ≡ partOf this → Progress s ends mode skip (i + 1) e (n + p .items) (free + p .text) (done ++ (this ∷ []))
+    pub moves-on : (p : PartAnswer) → p ≡ partOf this → Progress s ends mode skip (i + 1) e (n + p .items) (free + p .text) (done ++ (this ∷ []))
     unfolding itemCount textsIn
     moves-on p q = record {
       some = omega arith;
@@ -104,7 +104,7 @@ module _ {s ends : List ℕ} {mode : ℕ} {skip : Bool} {i from n free : ℕ} {d
       order = bounds .2;
       all = g .all ∙ ap (λ (l : List Field). done ++ l) rest ∙ sym (append-assoc done (this ∷ []) later);
       count = length-append done (this ∷ []) ∙ omega (arith, g .count);
-      items = count-append done (this ∷ []) ∙ omega (arith, g .items, ap (λ (x : Part). x .items) q);
+      items = count-append done (this ∷ []) ∙ omega (arith, g .items, ap (λ (x : PartAnswer). x .items) q);
       bytes = ap length (texts-append done (this ∷ [])) ∙ length-append (textsIn done) (textsIn (this ∷ []))
-          ∙ omega (arith, g .bytes, ap (λ (x : Part). x .text) q, length-append (texts (this .items)) []);
+          ∙ omega (arith, g .bytes, ap (λ (x : PartAnswer). x .text) q, length-append (texts (this .items)) []);
     }

@@ -6,7 +6,7 @@ use Rattle.items.specs.Whole.{limit}
 use Rattle.items.proofs.Fit.{records-length}
 use Rattle.lexer_fields.specs.Fields.{Field, rowWords, itemCount, recordsIn, textsIn, rowOf, rowsFrom, fieldsIn}
 use Rattle.lexer_fields.specs.Answers.{partOf, totalOf, Fine, Room}
-use Rattle.lexer_fields.specs.declared.Part.{Part}
+use Rattle.lexer_fields.specs.declared.PartAnswer.{PartAnswer}
 use Rattle.lexer_fields.proofs.Parts.{count-append, texts-append, records-append, rows-after, records-in-length, rows-length, fields-length}
 use Rattle.lexer_fields.proofs.Progress.{Progress, at-start, moves-on, fits, few, left, all-done, this}
 use Prim.Native.Nat.{ℕ, _+_, _-_, _*_, _≤_, _<_}
@@ -77,7 +77,7 @@ module _ {s ends : List ℕ} {mode : ℕ} {skip : Bool} {rows₀ recs₀ text₀
           )
 
       -- a turn: a part's records, its texts and its row into what is left of each memory
-      pub writing-on : (p : Part) → p ≡ partOf f → {x y z : List ℕ} → x ≡ written (records 0 0 (f .items)) (take (length recs - w) (drop w recs))
+      pub writing-on : (p : PartAnswer) → p ≡ partOf f → {x y z : List ℕ} → x ≡ written (records 0 0 (f .items)) (take (length recs - w) (drop w recs))
           → y ≡ written (texts (f .items)) (take (length text - free) (drop free text))
           → z ≡ written (n ∷ free ∷ p .mark ∷ p .place ∷ []) (take (length rows - i * rowWords) (drop (i * rowWords) rows))
           → Writing s ends mode skip rows₀ recs₀ text₀ (putMid (i * rowWords) (length rows - i * rowWords) rows z) (putMid w (length recs - w) recs x) (putMid free (length text - free) text y)
@@ -90,7 +90,7 @@ module _ {s ends : List ℕ} {mode : ℕ} {skip : Bool} {rows₀ recs₀ text₀
           rows-after (g .done) (f ∷ [])
           ∙ ap (λ (k : ℕ). rowsFrom 0 0 (g .done) ++ rowOf k (length (textsIn (g .done))) f) (g .at .items)
           ∙ ap (λ (k : ℕ). rowsFrom 0 0 (g .done) ++ rowOf n k f) (g .at .bytes)
-          ∙ ap (λ (u : Part). rowsFrom 0 0 (g .done) ++ (n ∷ free ∷ u .mark ∷ u .place ∷ [])) (sym q) in
+          ∙ ap (λ (u : PartAnswer). rowsFrom 0 0 (g .done) ++ (n ∷ free ∷ u .mark ∷ u .place ∷ [])) (sym q) in
           let more-recs : recordsIn (g .done ++ (f ∷ [])) ≡ recordsIn (g .done) ++ records 0 0 (f .items) =
           records-append (g .done) (f ∷ []) ∙ ap (λ (l : List ℕ). recordsIn (g .done) ++ l) (append-nil (records 0 0 (f .items))) in
           let more-text : textsIn (g .done ++ (f ∷ [])) ≡ textsIn (g .done) ++ texts (f .items) =

@@ -14,9 +14,9 @@ use Rattle.items.specs.Items.{recordWords, texts}
 use Rattle.items.specs.Whole.{Answer, served, refused, limit, isMode, inReport}
 use Rattle.lexer.specs.declared.Spot.{Spot}
 use Rattle.lexer_fields.specs.Fields.{Field, inOrder, rowWords, itemCount, textsIn, fieldsIn}
-use Rattle.lexer_fields.specs.declared.Cutting.{Cutting}
-use Rattle.lexer_fields.specs.declared.Cutting.the-variants as cutting
-use Rattle.lexer_fields.specs.declared.Part.{Part}
+use Rattle.lexer_fields.specs.declared.EndsCutting.{EndsCutting}
+use Rattle.lexer_fields.specs.declared.EndsCutting.the-variants as cutting
+use Rattle.lexer_fields.specs.declared.PartAnswer.{PartAnswer}
 use Rattle.lexer_fields.specs.declared.Total.{Total}
 use Rattle.lexer_fields.specs.declared.FieldsAnswer.{FieldsAnswer}
 use Rattle.lexer_fields.specs.declared.FieldsAnswer.the-variants as told
@@ -30,7 +30,7 @@ answerOf told.TooLong = refused refusal.tooLong limit 0
 answerOf (told.NoRoom items text) = refused refusal.tooFew items text
 
 -- a part, by its mark, its place and its counts
-abbrev pub partOf : Field → Part
+abbrev pub partOf : Field → PartAnswer
 partOf f = record { mark = f .mark; place = f .place; items = length (f .items); text = length (texts (f .items)) }
 
 abbrev pub totalOf : List Field → Total
@@ -64,7 +64,7 @@ between source (e ∷ ends) = let more = between source ends in if continues sou
 abbrev pub IsCut : Bool → List ℕ → List ℕ → ℕ → Type 0
 IsCut clean source ends mode = (isMode mode ≡ true) × (inOrder (length source) 0 ends ≡ true) × (clean ≡ between source ends)
 
-abbrev pub cuttingOf : Bool → Bool → Cutting
+abbrev pub cuttingOf : Bool → Bool → EndsCutting
 cuttingOf ordered clean = if ordered then (if clean then cutting.Between else cutting.Inside) else cutting.Disordered
 
 abbrev pub wellCut : Utf8 → Bool → Bool

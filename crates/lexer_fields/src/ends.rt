@@ -1,5 +1,7 @@
 // The end places.
-use crate::Cutting;
+use crate::EndsCutting;
+use chars::TAIL_HIGH;
+use chars::TAIL_LOW;
 use chars::Utf8;
 use chars::first_bad;
 ghost use mathlib.Core.Path.{_≡_};
@@ -7,11 +9,6 @@ ghost use lib.ListN.{length};
 ghost use Rattle.chars.specs.Utf8.{firstBad};
 ghost use Rattle.lexer_fields.specs.Fields.{inOrder};
 ghost use Rattle.lexer_fields.specs.Answers.{continues, between, cuttingOf, wellCut};
-
-// The bytes that go on with a character.
-const TAIL: u8 = 0x80;
-
-const TAIL_LAST: u8 = 0xBF;
 
 // Whether the byte at a place goes on with a character.
 fn continues(source: &[u8], at: usize) -> bool
@@ -21,14 +18,14 @@ fn continues(source: &[u8], at: usize) -> bool
         return false;
     }
     let b = source[at];
-    if b < TAIL {
+    if b < TAIL_LOW {
         return false;
     }
-    b <= TAIL_LAST
+    b <= TAIL_HIGH
 }
 
 // How the ends cut a source.
-pub fn cut(source: &[u8], ends: &[u32]) -> Cutting
+pub fn cut(source: &[u8], ends: &[u32]) -> EndsCutting
     ensures { λ r. ⌜ r ≡ cuttingOf (inOrder (length (now (source .entry))) 0 (now (ends .entry))) (between (now (source .entry)) (now (ends .entry))) ⌝ }
 {
     let n = source.len();
@@ -38,10 +35,10 @@ pub fn cut(source: &[u8], ends: &[u32]) -> Cutting
     while i < ends.len() {
         let end = ends[i] as usize;
         if end < from {
-            return Cutting::Disordered;
+            return EndsCutting::Disordered;
         }
         if n < end {
-            return Cutting::Disordered;
+            return EndsCutting::Disordered;
         }
         if continues(source, end) {
             inside = true;
@@ -50,9 +47,9 @@ pub fn cut(source: &[u8], ends: &[u32]) -> Cutting
         i += 1;
     }
     if inside {
-        return Cutting::Inside;
+        return EndsCutting::Inside;
     }
-    Cutting::Between
+    EndsCutting::Between
 }
 
 // Whether all parts are known to be UTF-8: the source is, and its ends are clean, none inside a character.

@@ -1,9 +1,10 @@
 // One part, read as a text of its own.
-use crate::Part;
+use crate::PartAnswer;
 use chars::Utf8;
 use chars::first_bad;
 use items::modes::REPORT;
 use lexer::Spot;
+use lexer::UNSET;
 use lexer::begin;
 use lexer::count;
 use lexer::write;
@@ -24,17 +25,14 @@ ghost use Rattle.items.specs.Whole.{limit};
 ghost use Rattle.lexer_fields.specs.Fields.{fieldOf};
 ghost use Rattle.lexer_fields.specs.Answers.{partOf, spotAt, Known};
 
-// No error range was set yet.
-const UNSET: u32 = 0;
-
 // The mark of a part that is UTF-8, and its place.
 const NO_MARK: u32 = 0;
 
 // A part with so many items and bytes of decoded text.
-fn read_well(items: usize, text: usize) -> Part
+fn read_well(items: usize, text: usize) -> PartAnswer
     ensures { λ r. ⌜ r ≡ record { mark = 0; place = 0; items = items; text = text } ⌝ }
 {
-    Part {
+    PartAnswer {
         mark: NO_MARK,
         place: NO_MARK,
         items: items,
@@ -43,11 +41,11 @@ fn read_well(items: usize, text: usize) -> Part
 }
 
 // A part that is not UTF-8.
-fn not_utf8(at: usize) -> Part
+fn not_utf8(at: usize) -> PartAnswer
     requires { ⌜ at ≤ limit ⌝ }
     ensures { λ r. ⌜ r ≡ record { mark = refusals.notUtf8; place = at; items = 0; text = 0 } ⌝ }
 {
-    Part {
+    PartAnswer {
         mark: NOT_UTF8,
         place: at as u32,
         items: 0,
@@ -106,7 +104,7 @@ fn spot_at(at: usize, mode: u32, skip: bool) -> Spot
 }
 
 // What a part gives; nothing is written.
-pub fn count_part(part: &[u8], known: bool, mode: u32, skip: bool) -> Part
+pub fn count_part(part: &[u8], known: bool, mode: u32, skip: bool) -> PartAnswer
     requires { ⌜ (length (now part) ≤ limit) × Known known (now part) ⌝ }
     ensures { λ r. ⌜ r ≡ partOf (fieldOf mode skip (now (part .entry))) ⌝ }
 {
@@ -128,7 +126,7 @@ pub fn write_part(
     skip: bool,
     recs: &mut [u32],
     text: &mut [u8],
-) -> Part
+) -> PartAnswer
     requires { ⌜ (length (now part) ≤ limit) × Known known (now part) ⌝ }
     requires { ⌜ recordWords * length (fieldOf mode skip (now part) .items) ≤ length (now recs) ⌝ }
     requires { ⌜ length (texts (fieldOf mode skip (now part) .items)) ≤ length (now text) ⌝ }

@@ -1,5 +1,5 @@
 // The call: the parts are counted first where their items might not fit, then written.
-use crate::Cutting;
+use crate::EndsCutting;
 use crate::FieldsAnswer;
 use crate::Total;
 use crate::ends::all_known;
@@ -183,8 +183,8 @@ pub fn read_fields(
         return FieldsAnswer::NoMode(mode);
     }
     match cut(source, ends) {
-        Cutting::Disordered => FieldsAnswer::BadEnds,
-        Cutting::Inside => deliver_cut(source, ends, false, mode, skip, rows, recs, text),
-        Cutting::Between => deliver_cut(source, ends, true, mode, skip, rows, recs, text),
+        EndsCutting::Disordered => FieldsAnswer::BadEnds,
+        EndsCutting::Inside => deliver_cut(source, ends, false, mode, skip, rows, recs, text),
+        EndsCutting::Between => deliver_cut(source, ends, true, mode, skip, rows, recs, text),
     }
 }

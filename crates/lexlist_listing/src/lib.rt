@@ -4,6 +4,7 @@
 use items::Nine;
 use items::kinds;
 use items::modes::PLAIN;
+use libc::STDOUT_FILENO;
 use pieces::Answer;
 use pieces::Got;
 use pieces::LONGEST;
@@ -16,8 +17,6 @@ ghost use Prim.Native.Nat.{_≤_};
 ghost use lib.ListN.{length};
 ghost use Rattle.lexlist_listing.specs.declared.Heard.the-variants.{Refused};
 ghost use Rattle.lexlist_listing.specs.Counted.{heed, isOver, PieceListed, EndListed};
-
-const OUT: i32 = 1;
 
 // How many bytes are read at once. A piece may have any length: this one keeps the program small.
 const PIECE: usize = 512;
@@ -40,15 +39,15 @@ struct Listing {
 }
 
 fn number(n: u64) {
-    io::print_decimal(OUT, n);
+    io::print_decimal(STDOUT_FILENO, n);
 }
 
 fn space() {
-    io::write_all(OUT, b" ");
+    io::write_all(STDOUT_FILENO, b" ");
 }
 
 fn end_line() {
-    io::write_all(OUT, b"\n");
+    io::write_all(STDOUT_FILENO, b"\n");
 }
 
 fn list_item(r: Nine) {
@@ -67,7 +66,7 @@ fn list_item(r: Nine) {
 }
 
 fn list_refusal(refusal: u32, place: usize) {
-    io::write_all(OUT, b"refused ");
+    io::write_all(STDOUT_FILENO, b"refused ");
     number(refusal as u64);
     space();
     number(place as u64);
@@ -75,7 +74,7 @@ fn list_refusal(refusal: u32, place: usize) {
 }
 
 fn list_count(items: u64) {
-    io::write_all(OUT, b"end ");
+    io::write_all(STDOUT_FILENO, b"end ");
     number(items);
     end_line();
 }
@@ -272,7 +271,7 @@ pub fn list(fd: i32) {
         &mut text,
     );
     if listed.unread {
-        io::write_all(OUT, b"unread\n");
+        io::write_all(STDOUT_FILENO, b"unread\n");
         return;
     }
     let all = listed.listing;

@@ -11,8 +11,8 @@ use Rattle.chars.specs.Utf8.{firstBad}
 use Rattle.chars.specs.declared.Utf8.{Utf8}
 use Rattle.chars.specs.declared.Utf8.the-variants.{Good, Bad}
 use Rattle.refusal.specs.Refusals.{limit}
-use Rattle.lines.specs.declared.Answer.{Answer}
-use Rattle.lines.specs.declared.Answer.the-variants as answer
+use Rattle.lines.specs.declared.LinesAnswer.{LinesAnswer}
+use Rattle.lines.specs.declared.LinesAnswer.the-variants as answer
 
 -- U+000A, which UTF-8 writes as this byte and uses in no other character
 abbrev pub newline : ℕ
@@ -33,7 +33,7 @@ pub data Told : Type 0 where
   Refused : ℕ → ℕ → Told
 
 -- what each answer of the calls means
-abbrev pub toldOf : Answer → Told
+abbrev pub toldOf : LinesAnswer → Told
 toldOf (answer.Served n) = Served n
 toldOf (answer.Refused number value) = Refused number value
 

@@ -6,7 +6,7 @@
 use chars::Begun;
 
 // Served with a count, or refused with document 01's number and what comes with it.
-pub enum Answer {
+pub enum LinesAnswer {
     // how many line starts the index has, or how many places were answered
     Served(usize),
     Refused(u32, usize),

@@ -2,8 +2,8 @@
 use byte_runs::find;
 use chars::Decoded;
 use chars::Utf8;
-use lines::Answer;
 use lines::Column;
+use lines::LinesAnswer;
 use lines::Located;
 use refusal::ALIEN;
 use refusal::LIMIT;
@@ -176,16 +176,16 @@ fn put_answers(text: &[u8], index: &[u32], places: &[u32], found: &mut [usize])
 
 // Line and column of many places, in any order, with one look at the text's index: two numbers for each, as `line_word` and
 // `column_word` have them.
-pub fn locate_all(text: &[u8], index: &[u32], places: &[u32], found: &mut [usize]) -> Answer
+pub fn locate_all(text: &[u8], index: &[u32], places: &[u32], found: &mut [usize]) -> LinesAnswer
     ensures { λ r. ⌜ outcome (toldOf r) (now (found .exit)) ≡ locateAllOf (now (text .entry)) (now (index .entry)) (now (places .entry)) (now (found .entry)) ⌝ }
 {
     if is_index(text, index) {
         let n = places.len();
         if found.len() < 2 * n {
-            return Answer::Refused(LINES_NO_ROOM, 2 * n);
+            return LinesAnswer::Refused(LINES_NO_ROOM, 2 * n);
         }
         put_answers(text, index, places, found);
-        return Answer::Served(n);
+        return LinesAnswer::Served(n);
     }
-    Answer::Refused(ALIEN, 0)
+    LinesAnswer::Refused(ALIEN, 0)
 }

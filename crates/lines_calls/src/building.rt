@@ -1,6 +1,6 @@
 // Builds the index of a whole text: counts its line starts, then stores them, a block of bytes at a time.
 use chars::Utf8;
-use lines::Answer;
+use lines::LinesAnswer;
 use refusal::LIMIT;
 use refusal::LINES_NO_ROOM;
 use refusal::NOT_UTF8;
@@ -17,7 +17,7 @@ ghost use Rattle.lines.specs.Starts.{newline, starts, toldOf, outcome, buildOf}
 ghost use Rattle.lines_calls.specs.Left.{left, Storing, block, wide};
 
 // How many bytes are stored of at once.
-const BLOCK: usize = 16;
+const STORED_AT_ONCE: usize = 16;
 
 // How many bytes are counted at once, in a byte.
 const WIDE: usize = 192;
@@ -66,7 +66,7 @@ fn has_newline(text: &[u8], at: usize) -> bool
 {
     let mut found = false;
     let mut j: usize = 0;
-    while j < BLOCK {
+    while j < STORED_AT_ONCE {
         if text[at + j] == b'\n' {
             found = true;
         }
@@ -100,7 +100,7 @@ fn put_block(text: &[u8], at: usize, index: &mut [u32], n: usize) -> usize
     ensures { λ r. ⌜ Storing (now (text .entry)) (now (index .entry)) n at (now (index .exit)) r (at + block) ⌝ }
 {
     if has_newline(text, at) {
-        return put_bytes(text, at, at + BLOCK, index, n);
+        return put_bytes(text, at, at + STORED_AT_ONCE, index, n);
     }
     n
 }
@@ -113,32 +113,32 @@ fn put(text: &[u8], index: &mut [u32]) -> usize
     index[0] = 0;
     let mut n: usize = 1;
     let mut i: usize = 0;
-    while BLOCK <= text.len() - i {
+    while STORED_AT_ONCE <= text.len() - i {
         n = put_block(text, i, index, n);
-        i += BLOCK;
+        i += STORED_AT_ONCE;
     }
     put_bytes(text, i, text.len(), index, n)
 }
 
 // Builds the index of a whole text.
-pub fn build(text: &[u8], index: &mut [u32]) -> Answer
+pub fn build(text: &[u8], index: &mut [u32]) -> LinesAnswer
     ensures { λ r. ⌜ outcome (toldOf r) (now (index .exit)) ≡ buildOf (now (text .entry)) (now (index .entry)) ⌝ }
 {
     if LIMIT < text.len() {
-        return Answer::Refused(TOO_LONG, LIMIT);
+        return LinesAnswer::Refused(TOO_LONG, LIMIT);
     }
     match chars::first_bad(text) {
-        Utf8::Bad(at) => Answer::Refused(NOT_UTF8, at),
+        Utf8::Bad(at) => LinesAnswer::Refused(NOT_UTF8, at),
         Utf8::Good => {
             if text.len() < index.len() {
-                return Answer::Served(put(text, index));
+                return LinesAnswer::Served(put(text, index));
             }
             let n = count(text);
             if index.len() < n {
-                return Answer::Refused(LINES_NO_ROOM, n);
+                return LinesAnswer::Refused(LINES_NO_ROOM, n);
             }
             put(text, index);
-            Answer::Served(n)
+            LinesAnswer::Served(n)
         }
     }
 }

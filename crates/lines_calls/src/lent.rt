@@ -4,8 +4,8 @@
 // The crate lines, specs/Words, says which words stand for which state and what the calls leave; docs/STATE.md lists the words.
 use crate::pieces;
 use chars::Begun;
-use lines::Answer;
 use lines::LineState;
+use lines::LinesAnswer;
 use refusal::OUT_OF_BOUNDS;
 ghost use mathlib.Core.Path.{_≡_};
 ghost use mathlib.Core.Bool.{true};
@@ -94,11 +94,11 @@ pub fn piece(words: &mut [u32], bytes: &[u8], index: &mut [u32])
 }
 
 // The declared end: the index is built, or why not.
-pub fn end(words: &[u32], index: &[u32]) -> Answer
+pub fn end(words: &[u32], index: &[u32]) -> LinesAnswer
     ensures { λ r. ⌜ toldOf r ≡ endFor (now (words .entry)) (length (now (index .entry))) ⌝ }
 {
     if is_state(words) {
         return pieces::end(state_in(words), index);
     }
-    Answer::Refused(OUT_OF_BOUNDS, 0)
+    LinesAnswer::Refused(OUT_OF_BOUNDS, 0)
 }

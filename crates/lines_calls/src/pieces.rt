@@ -2,8 +2,8 @@
 // every refusal comes with the declared end. What the calls do is the crate lines, specs/Pieces.
 use chars::Begun;
 use chars::Step;
-use lines::Answer;
 use lines::LineState;
+use lines::LinesAnswer;
 use refusal::LIMIT;
 use refusal::LINES_NO_ROOM;
 use refusal::NOT_UTF8;
@@ -21,8 +21,8 @@ ghost use Rattle.lines.specs.Pieces.{fed, openOf, movedOf, stoppedOf, stepOf, f
 // The last place that there is: the end of the longest text.
 const LAST_PLACE: u32 = LIMIT as u32;
 
-// No refusal was shown.
-const NONE: u32 = 0;
+// No refusal.
+const NO_REFUSAL: u32 = 0;
 
 // Between two characters.
 fn between() -> Begun
@@ -65,7 +65,7 @@ pub fn open(index: &mut [u32]) -> LineState
         from: 0,
         at: 0,
         lines: 0,
-        stop: NONE,
+        stop: NO_REFUSAL,
     }
 }
 
@@ -81,7 +81,7 @@ fn moved(t: LineState, b: u8, begun: Begun, from: u32) -> LineState
             from,
             at,
             lines: t.lines + 1,
-            stop: NONE,
+            stop: NO_REFUSAL,
         };
     }
     LineState {
@@ -89,7 +89,7 @@ fn moved(t: LineState, b: u8, begun: Begun, from: u32) -> LineState
         from,
         at,
         lines: t.lines,
-        stop: NONE,
+        stop: NO_REFUSAL,
     }
 }
 
@@ -156,25 +156,25 @@ pub fn piece(st: LineState, bytes: &[u8], index: &mut [u32]) -> LineState
 }
 
 // The declared end: the index is built, or why not.
-pub fn end(st: LineState, index: &[u32]) -> Answer
+pub fn end(st: LineState, index: &[u32]) -> LinesAnswer
     ensures { λ r. ⌜ toldOf r ≡ endOf st (length (now (index .entry))) ⌝ }
 {
     if st.at < st.lines {
-        return Answer::Refused(OUT_OF_BOUNDS, 0);
+        return LinesAnswer::Refused(OUT_OF_BOUNDS, 0);
     }
     if st.stop == TOO_LONG {
-        return Answer::Refused(TOO_LONG, LAST_PLACE as usize);
+        return LinesAnswer::Refused(TOO_LONG, LAST_PLACE as usize);
     }
     if st.stop == NOT_UTF8 {
-        return Answer::Refused(NOT_UTF8, st.from as usize);
+        return LinesAnswer::Refused(NOT_UTF8, st.from as usize);
     }
     let begun = st.begun;
     if begun.need != 0 {
-        return Answer::Refused(NOT_UTF8, st.from as usize);
+        return LinesAnswer::Refused(NOT_UTF8, st.from as usize);
     }
     let n = st.lines as usize + 1;
     if index.len() < n {
-        return Answer::Refused(LINES_NO_ROOM, n);
+        return LinesAnswer::Refused(LINES_NO_ROOM, n);
     }
-    Answer::Served(n)
+    LinesAnswer::Served(n)
 }

@@ -2,7 +2,7 @@
 // refusal's, and two values in lent memory: the count, or line and column, or what the refusal comes with, and 0 where there is no second.
 // Where there is no room for two values, they are left as they were. What the calls answer is the crate lines.
 use exports_values::put_values;
-use lines::Answer;
+use lines::LinesAnswer;
 use lines::Located;
 use refusal::SERVED;
 ghost use mathlib.Core.Path.{_≡_};
@@ -16,22 +16,22 @@ ghost use Rattle.lines.specs.Numbers.{answerNumber, answerValue, locatedNumber,
 ghost use Rattle.lines.specs.Words.{contents, openLeft, pieceLeft, endFor};
 
 // An answer's number.
-fn number(a: Answer) -> u32
+fn number(a: LinesAnswer) -> u32
     ensures { λ r. ⌜ r ≡ answerNumber (toldOf a) ⌝ }
 {
     match a {
-        Answer::Served(_) => SERVED,
-        Answer::Refused(number, _) => number,
+        LinesAnswer::Served(_) => SERVED,
+        LinesAnswer::Refused(number, _) => number,
     }
 }
 
 // What an answer comes with.
-fn value(a: Answer) -> u64
+fn value(a: LinesAnswer) -> u64
     ensures { λ r. ⌜ r ≡ answerValue (toldOf a) ⌝ }
 {
     match a {
-        Answer::Served(n) => n as u64,
-        Answer::Refused(_, value) => value as u64,
+        LinesAnswer::Served(n) => n as u64,
+        LinesAnswer::Refused(_, value) => value as u64,
     }
 }
 
@@ -64,7 +64,7 @@ fn located_second(r: Located) -> u64
 }
 
 // An answer told: its value goes to the lent memory, and its number back.
-fn tell(a: Answer, values: &mut [u64]) -> u32
+fn tell(a: LinesAnswer, values: &mut [u64]) -> u32
     ensures { λ r. ⌜ (r ≡ answerNumber (toldOf a)) × (now (values .exit) ≡ lay (answerValue (toldOf a) ∷ 0 ∷ []) (now (values .entry))) ⌝ }
 {
     put_values(values, value(a), 0);

@@ -3,6 +3,7 @@
 // "An item"; crate `items` defines them (specs/Meaning and specs/Items). The whole-text call and the pieces both call these functions,
 // which are internal to the reader.
 use items::Outcome;
+use items::kinds::NO_DETAIL;
 use numbers::Parsed;
 use numbers::is_plain;
 use numbers::parse_number;
@@ -35,8 +36,6 @@ use quoted::lined_text;
 use quoted::string_text;
 use spellings::characters::character;
 use spellings::failing::rest;
-
-const NO_DETAIL: u32 = 0;
 
 // How many bytes stand before a character's name: #\
 pub(crate) const CHARACTER_MARK: usize = 2;

@@ -6,6 +6,9 @@ use items::Nine;
 use items::RECORD_WORDS;
 use items::Record;
 use items::kinds;
+use items::kinds::IN_MEMORY;
+use items::kinds::IN_SOURCE;
+use items::kinds::NO_TEXT;
 ghost use mathlib.Core.Path.{_≡_};
 ghost use mathlib.Core.Bool.{_&&_};
 ghost use mathlib.Core.List.{[], _∷_};
@@ -19,13 +22,6 @@ ghost use Rattle.meaning.specs.Records.{nineWith, nineFor, TextFits};
 
 // How many open brackets a word can tell.
 const MOST_OPEN: u32 = 0xFFFF_FFFF;
-
-// Text sources.
-const NO_TEXT: u32 = 0;
-
-pub const IN_SOURCE: u32 = 1;
-
-pub const IN_MEMORY: u32 = 2;
 
 fn with_text(m: Means, extent: Range, place: Range, source: u32, start: u32, end: u32) -> Nine
     ensures { λ r. ⌜ r ≡ nineWith (m .kind ∷ m .detail ∷ extent .from ∷ extent .to ∷ place .from ∷ place .to ∷ source ∷ start ∷ end ∷ []) ⌝ }

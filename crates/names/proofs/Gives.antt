@@ -15,8 +15,8 @@ use Rattle.names.specs.Call.{numbered, freeOf, Outcome, outcome, newOf, 
 use Rattle.names.specs.Answers.{Number, Refused}
 use Rattle.names.specs.declared.Proposal.{Proposal}
 use Rattle.names.specs.declared.Proposal.the-variants.{Entry, Free, Full}
-use Rattle.names.specs.declared.Found.{Found}
-use Rattle.names.specs.declared.Found.the-variants.{At, Nothing}
+use Rattle.names.specs.declared.NameFound.{NameFound}
+use Rattle.names.specs.declared.NameFound.the-variants.{At, Nothing}
 use Rattle.names.proofs.Laws.{next-small, bears-in, probe-free, probe-hit, probe-miss, probe-end, probe-in}
 
 -- a number is that of an entry that bears the name
@@ -32,15 +32,15 @@ by-proposal (Entry k) f g h = f k refl
 by-proposal (Free s) f g h = g s refl
 by-proposal Full f g h = h refl
 
-pub by-found : {P : Type 0} (x : Found) → ((n : ℕ) → x ≡ At n → P) → (x ≡ Nothing → P) → P
+pub by-found : {P : Type 0} (x : NameFound) → ((n : ℕ) → x ≡ At n → P) → (x ≡ Nothing → P) → P
 by-found (At n) f g = f n refl
 by-found Nothing f g = g refl
 
-or-in : {P : Type 0} (f g : Found) {n : ℕ} → (f ≡ At n → P) → (g ≡ At n → P) → orElse f g ≡ At n → P
+or-in : {P : Type 0} (f g : NameFound) {n : ℕ} → (f ≡ At n → P) → (g ≡ At n → P) → orElse f g ≡ At n → P
 or-in (At m) g F G e = F e
 or-in Nothing g F G e = G e
 
-pub or-none : (f g : Found) → orElse f g ≡ Nothing → (f ≡ Nothing) × (g ≡ Nothing)
+pub or-none : (f g : NameFound) → orElse f g ≡ Nothing → (f ≡ Nothing) × (g ≡ Nothing)
 or-none (At m) g e = impossible cc
 or-none Nothing g e = (refl, e)
 
@@ -106,15 +106,15 @@ module _ (w b : List ℕ) (p : ℕ) (name : List ℕ) where
   unfolding lookupOf
   lookup-free s e = rw e
 
-  pub lookup-full : {x : Found} → probeOf w b p name ≡ Full → x ≡ scanned w b p name → x ≡ lookupOf w b p name
+  pub lookup-full : {x : NameFound} → probeOf w b p name ≡ Full → x ≡ scanned w b p name → x ≡ lookupOf w b p name
   unfolding lookupOf
   lookup-full e f = rw e f
 
-  pub find-own : {x : Found} {n : ℕ} → x ≡ At n → x ≡ lookupOf w b p name → x ≡ findOf w b p name
+  pub find-own : {x : NameFound} {n : ℕ} → x ≡ At n → x ≡ lookupOf w b p name → x ≡ findOf w b p name
   unfolding findOf
   find-own e f = rw (← f, e)
 
-  pub find-other : {x : Found} → lookupOf w b p name ≡ Nothing → x ≡ lookupOf w b (1 - p) name → x ≡ findOf w b p name
+  pub find-other : {x : NameFound} → lookupOf w b p name ≡ Nothing → x ≡ lookupOf w b (1 - p) name → x ≡ findOf w b p name
   unfolding findOf
   find-other e f = rw e f
 

@@ -18,8 +18,8 @@ use Rattle.names.specs.Call.{openMark, openWords, enterOf, markOf, nameO
 use Rattle.names.specs.Book.{Name, Book, book, half, place, size, numberIn, added, Reply, reply, ask, markIn, nameIn, Call, namesOf, bookOf}
 use Rattle.names.specs.Isolation.{present, seen, room, newAnswer, toldOr, answerOf, ownAfter, answersTo, answersIn, callsOf, strangers}
 use Rattle.names.specs.Answers.{Told, Number, Refused}
-use Rattle.names.specs.declared.Found.{Found}
-use Rattle.names.specs.declared.Found.the-variants.{At, Nothing}
+use Rattle.names.specs.declared.NameFound.{NameFound}
+use Rattle.names.specs.declared.NameFound.the-variants.{At, Nothing}
 use Rattle.names.proofs.Parts.{same-refl}
 use Rattle.names.proofs.Laws.{party-of, halves}
 use Rattle.names.proofs.Sound.{Sound}
@@ -94,14 +94,14 @@ module _ (b : Book) (p : ℕ) (n : Name) (two : p < 2) where
       → view b p n (reply (Number ((1 - p) * halfNames + place n (half b (1 - p)))) b)
   view-other t u =
       record {
-        answers = if-no _ _ _ t (ap (λ (f : Found). toldOr f (newAnswer p (half b p) n)) (if-yes _ _ _ u refl));
+        answers = if-no _ _ _ t (ap (λ (f : NameFound). toldOr f (newAnswer p (half b p) n)) (if-yes _ _ _ u refl));
         keeps = if-no _ _ _ t (if-yes _ _ _ u refl);
         leaves = refl;
       }
 
   module _ (t : present (half b p) n ≡ false) (u : present (half b (1 - p)) n ≡ false) where
     new-answer : {a : Told} → a ≡ newAnswer p (half b p) n → a ≡ answerOf p (half b p) (seen (1 - p) (half b (1 - p)) n) n
-    new-answer e = if-no _ _ _ t (e ∙ ap (λ (f : Found). toldOr f (newAnswer p (half b p) n)) (if-no _ _ _ u refl))
+    new-answer e = if-no _ _ _ t (e ∙ ap (λ (f : NameFound). toldOr f (newAnswer p (half b p) n)) (if-no _ _ _ u refl))
 
     view-new : room (half b p) n ≡ true → view b p n (reply (Number (p * halfNames + length (half b p))) (added b p n))
     view-new r =
@@ -227,7 +227,7 @@ no-names : (l : List Name) (n : Name) → l ≡ [] → present l n ≡ false
 unfolding place
 no-names l n e = rw e
 
-answer-alone : (p : ℕ) (own : List Name) (other : Found) (n : Name) → other ≡ Nothing → answerOf p own other n ≡ answerOf p own Nothing n
+answer-alone : (p : ℕ) (own : List Name) (other : NameFound) (n : Name) → other ≡ Nothing → answerOf p own other n ≡ answerOf p own Nothing n
 answer-alone p own other n e = rw e
 
 module _ (p : ℕ) (two : p < 2) where

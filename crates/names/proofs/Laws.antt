@@ -22,7 +22,7 @@ use Rattle.names.specs.Call.{factor, hashes, hashesASlot, turn, four, re
 use Rattle.names.specs.Call.{probe, scan, scanned, laid, newWords, markOf, nameOf, openOf, opening, placeOf}
 use Rattle.names.specs.declared.Place.{Place}
 use Rattle.names.specs.declared.Proposal.the-variants.{Entry, Free, Full}
-use Rattle.names.specs.declared.Found.the-variants.{At, Nothing}
+use Rattle.names.specs.declared.NameFound.the-variants.{At, Nothing}
 
 -- the hash
 pub rest-more : (h : ℕ) (s : List ℕ) (i : ℕ) → i < length s → rest h (drop i s) ≡ rest (turn h (getD s i 0)) (drop (i + 1) s)

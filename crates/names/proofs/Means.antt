@@ -15,7 +15,7 @@ use Rattle.laws.proofs.Compared.{same-is}
 use Rattle.names.specs.Layout.{count, bound, used, nameAt, bears, halfNames, halfBytes, indexSlots, tableWords}
 use Rattle.names.specs.Call.{lookupOf, findOf, probeOf, slotOf, tagOf, freeOf, newWords, laid, Outcome, newOf, enterOf, looks}
 use Rattle.names.specs.Book.{Name, half, place, size, numberIn, added, Reply, newIn, ask, firstNames, namesOf, bookOf}
-use Rattle.names.specs.declared.Found.the-variants.{At, Nothing}
+use Rattle.names.specs.declared.NameFound.the-variants.{At, Nothing}
 use Rattle.names.proofs.Laws.{slot-small, bears-in, bears-same, bounds, halves}
 use Rattle.names.proofs.Gives.{by-found, by-proposal, lookup-entry, lookup-full, find-in, find-none, scan-none, free-small, enter-there, enter-new, enter-party}
 use Rattle.names.proofs.Parts.{same-refl, new-count, other-count}

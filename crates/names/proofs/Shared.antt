@@ -14,7 +14,7 @@ use Rattle.refusal.specs.Refusals.{noParty, noRoom}
 use Rattle.names.specs.Book.{Name, Book, half, place, size, numberIn, added, Reply, reply, newIn, ask, markIn, nameIn, Call, asks}
 use Rattle.names.specs.Layout.{halfNames, halfBytes, tableNames}
 use Rattle.names.specs.Answers.{Number, Refused}
-use Rattle.names.specs.declared.Found.the-variants.{At, Nothing}
+use Rattle.names.specs.declared.NameFound.the-variants.{At, Nothing}
 use Rattle.names.proofs.Gives.{by-found}
 use Rattle.names.proofs.Parts.{same-refl}
 use Rattle.names.proofs.Means.{place-name}

@@ -16,7 +16,7 @@ use Rattle.names.specs.Call.{findOf, probeOf, slotOf, tagOf, freeOf, new
 use Rattle.names.specs.Call.{openWords, markOf, nameOf, looks, Opening}
 use Rattle.names.specs.Book.{Name, Book, book, half, place, size, numberIn, Reply, ask, markIn, nameIn, Call, asks, firstNames, namesOf, bookOf, Memory, memory, calls}
 use Rattle.names.specs.Answers.{Told, Number, Refused}
-use Rattle.names.specs.declared.Found.the-variants.{At}
+use Rattle.names.specs.declared.NameFound.the-variants.{At}
 use Rattle.names.proofs.Laws.{slot-small, Bounds, bounds, cleared, length-cleared, party-of, open-few, open-short, open-all}
 use Rattle.names.proofs.Laws.{name-none, name-there, mark-outside, mark-far, mark-none, mark-there}
 use Rattle.names.proofs.Gives.{by-found, free-small, enter-outside, enter-party, enter-there, enter-new}

@@ -9,8 +9,8 @@ use Rattle.refusal.specs.Refusals.{noParty, noRoom, noName}
 use Rattle.names.specs.Layout.{halfNames, halfBytes, tableNames, count, nameAt}
 use Rattle.names.specs.Call.{enterOf}
 use Rattle.names.specs.Answers.{Told, Number, Refused}
-use Rattle.names.specs.declared.Found.{Found}
-use Rattle.names.specs.declared.Found.the-variants.{At, Nothing}
+use Rattle.names.specs.declared.NameFound.{NameFound}
+use Rattle.names.specs.declared.NameFound.the-variants.{At, Nothing}
 
 abbrev pub Name : Type 0
 Name = List ℕ
@@ -37,7 +37,7 @@ size [] = 0
 size (x ∷ xs) = length x + size xs
 
 -- a name's number, whoever asks: its place, plus 512 in the half of party 1
-unfoldable pub numberIn : Book → Name → Found
+unfoldable pub numberIn : Book → Name → NameFound
 numberIn b n =
     if ltb (place n (b .planner)) (length (b .planner))
     then At (place n (b .planner))
@@ -63,7 +63,7 @@ newIn b p n =
     else reply (Refused noRoom) b)
     else reply (Refused noRoom) b
 
-abbrev pub answered : Found → Book → ℕ → Name → Reply
+abbrev pub answered : NameFound → Book → ℕ → Name → Reply
 answered (At k) b p n = reply (Number k) b
 answered Nothing b p n = newIn b p n
 

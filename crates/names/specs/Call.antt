@@ -13,8 +13,8 @@ use Rattle.names.specs.declared.Place.{Place}
 use Rattle.names.specs.Answers.{Told, Number, Refused}
 use Rattle.names.specs.declared.Proposal.{Proposal}
 use Rattle.names.specs.declared.Proposal.the-variants.{Entry, Free, Full}
-use Rattle.names.specs.declared.Found.{Found}
-use Rattle.names.specs.declared.Found.the-variants.{At, Nothing}
+use Rattle.names.specs.declared.NameFound.{NameFound}
+use Rattle.names.specs.declared.NameFound.the-variants.{At, Nothing}
 
 -- A name's hash: a product hash in 32 bits, four bytes a turn and the last ones one by one. Its top ten bits are the slot at which the
 -- search for the name begins, the other 22 its tag. Nothing that is promised rests on its being a good one.
@@ -83,29 +83,29 @@ abbrev pub probeOf : List ℕ → List ℕ → ℕ → List ℕ → Proposal
 probeOf w b p name = probe looks w b p name (slotOf name)
 
 -- the number of the first of n entries from k on that bears the name
-unfoldable pub scan : ℕ → List ℕ → List ℕ → ℕ → List ℕ → ℕ → Found
+unfoldable pub scan : ℕ → List ℕ → List ℕ → ℕ → List ℕ → ℕ → NameFound
 scan zero w b p name k = Nothing
 scan (suc n) w b p name k = let more = scan n w b p name (k + 1) in if bears w b p name k then At (p * halfNames + k) else more
 
-abbrev pub scanned : List ℕ → List ℕ → ℕ → List ℕ → Found
+abbrev pub scanned : List ℕ → List ℕ → ℕ → List ℕ → NameFound
 scanned w b p name = scan (count w p) w b p name 0
 
 -- an entry's number is its place in its half, plus that of the half
-abbrev pub numbered : ℕ → Proposal → Found → Found
+abbrev pub numbered : ℕ → Proposal → NameFound → NameFound
 numbered p (Entry k) read = At (p * halfNames + k)
 numbered p (Free s) read = Nothing
 numbered p Full read = read
 
 -- the number of a name that is in a half: by the index, and by reading the names where the index gives neither entry nor empty slot
-unfoldable pub lookupOf : List ℕ → List ℕ → ℕ → List ℕ → Found
+unfoldable pub lookupOf : List ℕ → List ℕ → ℕ → List ℕ → NameFound
 lookupOf w b p name = numbered p (probeOf w b p name) (scanned w b p name)
 
-abbrev pub orElse : Found → Found → Found
+abbrev pub orElse : NameFound → NameFound → NameFound
 orElse (At n) f = At n
 orElse Nothing f = f
 
 -- the number of a name that is there, whoever entered it
-unfoldable pub findOf : List ℕ → List ℕ → ℕ → List ℕ → Found
+unfoldable pub findOf : List ℕ → List ℕ → ℕ → List ℕ → NameFound
 findOf w b p name = orElse (lookupOf w b p name) (lookupOf w b (1 - p) name)
 
 -- what a call gives: its answer, and the final contents of the lent memory
@@ -146,7 +146,7 @@ newOf w b p name =
     else outcome (Refused noRoom) w b)
     else outcome (Refused noRoom) w b
 
-abbrev pub given : Found → List ℕ → List ℕ → ℕ → List ℕ → Outcome
+abbrev pub given : NameFound → List ℕ → List ℕ → ℕ → List ℕ → Outcome
 given (At n) w b p name = outcome (Number n) w b
 given Nothing w b p name = newOf w b p name
 

@@ -10,15 +10,15 @@ use Rattle.names.specs.Layout.{halfNames, halfBytes}
 use Rattle.names.specs.Call.{enterOf}
 use Rattle.names.specs.Book.{Name, Book, half, place, size, ask, Call}
 use Rattle.names.specs.Answers.{Told, Number, Refused}
-use Rattle.names.specs.declared.Found.{Found}
-use Rattle.names.specs.declared.Found.the-variants.{At, Nothing}
+use Rattle.names.specs.declared.NameFound.{NameFound}
+use Rattle.names.specs.declared.NameFound.the-variants.{At, Nothing}
 
 -- whether a name is one of a half's names
 abbrev pub present : List Name → Name → Bool
 present l n = ltb (place n l) (length l)
 
 -- the number that a name has among the names of party q, if it is one of them: all that party p is told of the other's names
-abbrev pub seen : ℕ → List Name → Name → Found
+abbrev pub seen : ℕ → List Name → Name → NameFound
 seen q l n = if present l n then At (q * halfNames + place n l) else Nothing
 
 -- whether a half has an entry and the bytes for a name
@@ -29,13 +29,13 @@ room own n = if ltb (length own) halfNames then leb (size own + length n) halfBy
 abbrev pub newAnswer : ℕ → List Name → Name → Told
 newAnswer p own n = if room own n then Number (p * halfNames + length own) else Refused noRoom
 
-abbrev pub toldOr : Found → Told → Told
+abbrev pub toldOr : NameFound → Told → Told
 toldOr (At k) a = Number k
 toldOr Nothing a = a
 
 -- the answer to party p: by its own names alone where the name is one of them; else the number that the name has among the other's names;
 -- else by the own names alone again
-abbrev pub answerOf : ℕ → List Name → Found → Name → Told
+abbrev pub answerOf : ℕ → List Name → NameFound → Name → Told
 answerOf p own other n = if present own n then Number (p * halfNames + place n own) else toldOr other (newAnswer p own n)
 
 -- the own names after the call: of the other's names it matters only whether the name is one of them

@@ -1,6 +1,6 @@
 // The calls that write: opening a table, and asking for a name's number.
 use crate::Entered;
-use crate::Found;
+use crate::NameFound;
 use crate::finding::find;
 use crate::finding::hash;
 use crate::finding::tag_of;
@@ -102,8 +102,8 @@ pub fn enter(words: &mut [u32], bytes: &mut [u8], party: u32, name: &[u8]) -> En
     let number = found.number;
     let free = found.free;
     match number {
-        Found::At(n) => Entered::Number(n as u32),
-        Found::Nothing => add(words, bytes, p, name, free, tag_of(h)),
+        NameFound::At(n) => Entered::Number(n as u32),
+        NameFound::Nothing => add(words, bytes, p, name, free, tag_of(h)),
     }
 }
 

@@ -1,5 +1,5 @@
 // Which entry bears a name: a half's index is asked first, and its names are read only where the index answers neither yes nor no.
-use crate::Found;
+use crate::NameFound;
 use crate::Proposal;
 use crate::Sought;
 use crate::blocks::FOUR;
@@ -117,7 +117,7 @@ fn probe(words: &[u32], bytes: &[u8], party: usize, name: &[u8], h: u64) -> Prop
 }
 
 // The first entry of a half that bears the name.
-fn scan(words: &[u32], bytes: &[u8], party: usize, name: &[u8]) -> Found
+fn scan(words: &[u32], bytes: &[u8], party: usize, name: &[u8]) -> NameFound
     requires { ⌜ Readable (now words) (now bytes) party ⌝ }
     ensures { λ r. ⌜ r ≡ scanned (now (words .entry)) (now (bytes .entry)) party (now (name .entry)) ⌝ }
 {
@@ -125,11 +125,11 @@ fn scan(words: &[u32], bytes: &[u8], party: usize, name: &[u8]) -> Found
     let mut k = 0;
     while k < n {
         if bears(words, bytes, party, name, k) {
-            return Found::At(party * HALF_NAMES + k);
+            return NameFound::At(party * HALF_NAMES + k);
         }
         k += 1;
     }
-    Found::Nothing
+    NameFound::Nothing
 }
 
 // The slot at which an entry is proposed: the empty one that was found, else the one that is never asked.
@@ -144,14 +144,14 @@ fn free_of(x: Proposal) -> usize
 }
 
 // The number of a name that is in a half, by what its index says: the names are read where that is neither yes nor no.
-fn number_by(words: &[u32], bytes: &[u8], party: usize, name: &[u8], x: Proposal) -> Found
+fn number_by(words: &[u32], bytes: &[u8], party: usize, name: &[u8], x: Proposal) -> NameFound
     requires { ⌜ x ≡ probeOf (now words) (now bytes) party (now name) ⌝ }
     requires { ⌜ Readable (now words) (now bytes) party ⌝ }
     ensures { λ r. ⌜ r ≡ lookupOf (now (words .entry)) (now (bytes .entry)) party (now (name .entry)) ⌝ }
 {
     match x {
-        Proposal::Entry(k) => Found::At(party * HALF_NAMES + k),
-        Proposal::Free(_) => Found::Nothing,
+        Proposal::Entry(k) => NameFound::At(party * HALF_NAMES + k),
+        Proposal::Free(_) => NameFound::Nothing,
         Proposal::Full => scan(words, bytes, party, name),
     }
 }
@@ -186,8 +186,8 @@ pub fn find(words: &[u32], bytes: &[u8], party: usize, name: &[u8], h: u64) -> S
         }
         free = said.free;
         match number {
-            Found::At(_) => return Sought { number, free },
-            Found::Nothing => half = 1 - party,
+            NameFound::At(_) => return Sought { number, free },
+            NameFound::Nothing => half = 1 - party,
         }
     }
 }

@@ -40,7 +40,7 @@ pub enum Proposal {
 }
 
 // The number of a name, if it is there.
-pub enum Found {
+pub enum NameFound {
     At(usize),
     Nothing,
 }
@@ -48,7 +48,7 @@ pub enum Found {
 // What a half, or both, answer for a name.
 pub struct Sought {
     // its number, if it is there
-    pub number: Found,
+    pub number: NameFound,
     // the slot of the index at which it goes if it is entered
     pub free: usize,
 }

@@ -13,10 +13,7 @@ ghost use Rattle.nested.specs.Items.{hasDetail, sortOf, classOf, classAt
 ghost use Rattle.nested.specs.Said.{PlainSaid, SimpleSaid, SimpleAt, IsSimple, ClosesSaid};
 
 // The node's kind that no simple datum has.
-pub const NO_SIMPLE: u32 = nodes::MARK + 1;
-
-// The kind of the last error that there is.
-const LAST_ERROR: u32 = kinds::FIRST_ERROR + kinds::LAST_ERROR;
+pub const NO_SIMPLE: u32 = nodes::NODE_MARK + 1;
 
 // Whether a kind has this detail in the layout.
 fn has_detail(k: u32, d: u32) -> bool
@@ -54,10 +51,10 @@ fn sort(k: u32, d: u32) -> Class
         return Class::Marks;
     }
     if k <= kinds::REQUIRE {
-        return Class::Simple(nodes::SYMBOL);
+        return Class::Simple(nodes::NODE_SYMBOL);
     }
     if k == kinds::CHARACTER_LITERAL {
-        return Class::Simple(nodes::CHARACTER);
+        return Class::Simple(nodes::NODE_CHARACTER);
     }
     if k == kinds::DATUM_COMMENT {
         return Class::Drops;
@@ -66,16 +63,16 @@ fn sort(k: u32, d: u32) -> Class
         return Class::Passes;
     }
     if k == kinds::BOOLEAN_LITERAL {
-        return Class::Simple(nodes::BOOLEAN);
+        return Class::Simple(nodes::NODE_BOOLEAN);
     }
     if k <= kinds::KEYWORD {
-        return Class::Simple(nodes::SYMBOL);
+        return Class::Simple(nodes::NODE_SYMBOL);
     }
     if k == kinds::NUMBER {
-        return Class::Simple(nodes::NUMBER);
+        return Class::Simple(nodes::NODE_NUMBER);
     }
     if k == kinds::STRING_LITERAL {
-        return Class::Simple(nodes::STRING);
+        return Class::Simple(nodes::NODE_STRING);
     }
     Class::Dots
 }
@@ -97,11 +94,11 @@ fn rare_kind(k: u32, d: u32) -> u32
     ensures { λ r. ⌜ SimpleSaid k d r ⌝ }
 {
     if k == kinds::STRING_LITERAL {
-        return plain_kind(nodes::STRING, d);
+        return plain_kind(nodes::NODE_STRING, d);
     }
     if k == kinds::BOOLEAN_LITERAL {
         if d <= kinds::TRUE {
-            return nodes::BOOLEAN;
+            return nodes::NODE_BOOLEAN;
         }
         return NO_SIMPLE;
     }
@@ -110,11 +107,11 @@ fn rare_kind(k: u32, d: u32) -> u32
     }
     if k == kinds::CHARACTER_LITERAL {
         if is_scalar(d) {
-            return nodes::CHARACTER;
+            return nodes::NODE_CHARACTER;
         }
         return NO_SIMPLE;
     }
-    plain_kind(nodes::SYMBOL, d)
+    plain_kind(nodes::NODE_SYMBOL, d)
 }
 
 // The node's kind of a simple datum; NO_SIMPLE of any other record. What ends most runs of simple data is tried first.
@@ -125,11 +122,11 @@ fn simple_kind(k: u32, d: u32) -> u32
         return NO_SIMPLE;
     }
     if k == kinds::NUMBER {
-        return plain_kind(nodes::NUMBER, d);
+        return plain_kind(nodes::NODE_NUMBER, d);
     }
     if kinds::BOOLEAN_LITERAL < k {
         if k <= kinds::KEYWORD {
-            return plain_kind(nodes::SYMBOL, d);
+            return plain_kind(nodes::NODE_SYMBOL, d);
         }
     }
     rare_kind(k, d)
@@ -161,7 +158,7 @@ fn table_class(k: u32, d: u32) -> Class
         return Class::Alien;
     }
     if kinds::FIRST_ERROR < k {
-        if k <= LAST_ERROR {
+        if k <= kinds::LAST_ERROR_KIND {
             return Class::Fails;
         }
         return Class::Alien;

@@ -64,12 +64,12 @@ pub fn shape_kind(s: u64) -> u32
     ensures { λ r. ⌜ r ≡ kindOf s ⌝ }
 {
     if s < VECTOR {
-        return nodes::LIST;
+        return nodes::NODE_LIST;
     }
     if s == VECTOR {
-        return nodes::VECTOR;
+        return nodes::NODE_VECTOR;
     }
-    nodes::BYTE_LIST
+    nodes::NODE_BYTE_LIST
 }
 
 // A frame's place among the frames, in their order.
@@ -108,13 +108,13 @@ pub fn node_kind(f: Frame) -> u32
 {
     let g = stage_of(f);
     if HOLDS < g {
-        return nodes::DOTTED_LIST;
+        return nodes::NODE_DOTTED_LIST;
     }
     if FRESH <= g {
         return shape_kind(bracket_of(f));
     }
     if g == QUOTING {
-        return nodes::MARK;
+        return nodes::NODE_MARK;
     }
     nodes::NO_KIND
 }

@@ -189,7 +189,7 @@ fn datum(
 {
     let k = class_at(records, at);
     let n = wrong_at(k, f, depth);
-    if n != refusals::NONE {
+    if n != refusals::NO_REFUSAL {
         return Turn::Stop(n, at);
     }
     let inner = depth + 1;
@@ -258,7 +258,7 @@ fn sequence(
         }
     }
     let n = ending_at(g);
-    if n == refusals::NONE {
+    if n == refusals::NO_REFUSAL {
         return Read::Got(count, v, node_kind(g));
     }
     Read::Failed(n, count)

@@ -14,8 +14,8 @@ ghost use mathlib.Core.Path.{_≡_};
 ghost use Rattle.nested.specs.Grammar;
 ghost use Rattle.nested.specs.Reader.{tailed, starting, closing, dotting, ending, wrong};
 
-// no refusal
-pub const NONE: u32 = 0;
+// No refusal.
+pub const NO_REFUSAL: u32 = 0;
 
 // How many levels may lie inside one another.
 const DEEPEST: usize = 64;
@@ -31,7 +31,11 @@ pub fn closer_of(s: u64) -> u64
 fn deep_at(depth: usize) -> u32
     ensures { λ r. ⌜ r ≡ Rattle.nested.specs.Reader.deep depth ⌝ }
 {
-    if depth < DEEPEST { NONE } else { TOO_DEEP }
+    if depth < DEEPEST {
+        NO_REFUSAL
+    } else {
+        TOO_DEEP
+    }
 }
 
 // A datum starts: refused if it is the second one after a dot.
@@ -39,12 +43,12 @@ fn tailed_at(f: Frame) -> u32
     ensures { λ r. ⌜ r ≡ tailed f ⌝ }
 {
     match f {
-        Frame::Plan => NONE,
-        Frame::Quoting => NONE,
-        Frame::Dropping => NONE,
-        Frame::Fresh(_s) => NONE,
-        Frame::Holds(_s) => NONE,
-        Frame::Dotted(_s) => NONE,
+        Frame::Plan => NO_REFUSAL,
+        Frame::Quoting => NO_REFUSAL,
+        Frame::Dropping => NO_REFUSAL,
+        Frame::Fresh(_s) => NO_REFUSAL,
+        Frame::Holds(_s) => NO_REFUSAL,
+        Frame::Dotted(_s) => NO_REFUSAL,
         Frame::Tailed(_s) => MISPLACED_DOT,
     }
 }
@@ -54,14 +58,18 @@ fn starting_at(f: Frame, depth: usize) -> u32
     ensures { λ r. ⌜ r ≡ starting f depth ⌝ }
 {
     let n = tailed_at(f);
-    if n == NONE { deep_at(depth) } else { n }
+    if n == NO_REFUSAL { deep_at(depth) } else { n }
 }
 
 // A close in an open bracket.
 fn fits_close(b: u64, s: u64) -> u32
     ensures { λ r. ⌜ r ≡ closing b (Frame.Fresh s) ⌝ }
 {
-    if b == closer_of(s) { NONE } else { WRONG_CLOSE }
+    if b == closer_of(s) {
+        NO_REFUSAL
+    } else {
+        WRONG_CLOSE
+    }
 }
 
 // A close in any frame.
@@ -84,7 +92,7 @@ fn first_dot(s: u64) -> u32
     ensures { λ r. ⌜ r ≡ dotting (Frame.Holds s) ⌝ }
 {
     if s < frames::VECTOR {
-        NONE
+        NO_REFUSAL
     } else {
         MISPLACED_DOT
     }
@@ -110,7 +118,7 @@ pub fn ending_at(f: Frame) -> u32
     ensures { λ r. ⌜ r ≡ ending f ⌝ }
 {
     match f {
-        Frame::Plan => NONE,
+        Frame::Plan => NO_REFUSAL,
         Frame::Quoting => MARK_WAITS,
         Frame::Dropping => MARK_WAITS,
         Frame::Fresh(_s) => BRACKET_OPEN,
@@ -120,14 +128,14 @@ pub fn ending_at(f: Frame) -> u32
     }
 }
 
-// The refusal of a record of class k in the frame f with so many levels around it; NONE if there is none.
+// The refusal of a record of class k in the frame f with so many levels around it; NO_REFUSAL if there is none.
 pub fn wrong_at(k: Class, f: Frame, depth: usize) -> u32
     ensures { λ r. ⌜ r ≡ wrong k f depth ⌝ }
 {
     match k {
         Class::Alien => ALIEN,
         Class::Fails => ERROR_ITEM,
-        Class::Passes => NONE,
+        Class::Passes => NO_REFUSAL,
         Class::Drops => deep_at(depth),
         Class::Marks => starting_at(f, depth),
         Class::Simple(_kind) => tailed_at(f),

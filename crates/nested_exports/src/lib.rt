@@ -1,4 +1,5 @@
 // The call of the crate `nested` for programs in C and Rust: its answer as a number and one value.
+use exports_values::NumberAndValue;
 use exports_values::put_value;
 use nested::Nested;
 use refusal::SERVED;
@@ -6,12 +7,6 @@ ghost use mathlib.Core.Path.{_≡_};
 ghost use mathlib.Core.List.{[], _∷_};
 ghost use Rattle.chars.specs.Encode.{lay};
 ghost use Rattle.nested.specs.Lent.{nestNumber, nestValue, nestedOf};
-
-// An answer: its number and its value.
-struct NumberAndValue {
-    number: u32,
-    value: u64,
-}
 
 // An answer of a number and a value.
 fn tell(number: u32, value: u64) -> NumberAndValue

@@ -2,7 +2,7 @@
 -- `balanced`
 pub mod Balanced
 -- `tenth-word`
-pub mod Tenth
+pub mod TenthWord
 -- `around`
 pub mod Deep
 -- `next-sibling`

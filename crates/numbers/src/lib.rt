@@ -3,6 +3,7 @@
 // number; or that a denominator is zero. A part of the text is a slice that starts where the text starts, so that an index is a place of
 // the text, and the place where the part starts.
 use chars::Utf8;
+use digits::DECIMAL_RADIX;
 use digits::Int;
 use digits::Span;
 use refusal::LIMIT;
@@ -129,20 +130,18 @@ pub enum MaybeParts {
 // Document 01's number of the error of a zero denominator: 1/0
 pub const ZERO_DENOMINATOR: u32 = 8;
 
-// The radices that a prefix names; a text without a prefix is decimal.
-const BINARY: u64 = 2;
+// The radices that a prefix names beside DECIMAL_RADIX; a text without a prefix is decimal.
+const BINARY_RADIX: u64 = 2;
 
-const OCTAL: u64 = 8;
+const OCTAL_RADIX: u64 = 8;
 
-const DECIMAL: u64 = 10;
-
-const HEXADECIMAL: u64 = 16;
+pub const HEXADECIMAL_RADIX: u64 = 16;
 
 // The length of a prefix.
-const PREFIX: usize = 2;
+pub const PREFIX: usize = 2;
 
 // What stands for the radix where none is named.
-const NO_RADIX: u64 = 0;
+pub const NO_RADIX: u64 = 0;
 
 // Whether an integer is zero.
 fn zero_int(n: Int) -> bool
@@ -203,10 +202,10 @@ fn radix_mark(c: u8) -> u64
     ensures { λ r. ⌜ r ≡ radixMark c ⌝ }
 {
     match c {
-        b'x' | b'X' => HEXADECIMAL,
-        b'd' | b'D' => DECIMAL,
-        b'o' | b'O' => OCTAL,
-        b'b' | b'B' => BINARY,
+        b'x' | b'X' => HEXADECIMAL_RADIX,
+        b'd' | b'D' => DECIMAL_RADIX,
+        b'o' | b'O' => OCTAL_RADIX,
+        b'b' | b'B' => BINARY_RADIX,
         _ => NO_RADIX,
     }
 }
@@ -231,7 +230,7 @@ pub fn parse_number(t: &[u8]) -> Parsed
 {
     let radix = prefix(t);
     if radix == NO_RADIX {
-        judge(complexes::complex_at(t, 0, DECIMAL))
+        judge(complexes::complex_at(t, 0, DECIMAL_RADIX))
     } else {
         judge(complexes::complex_at(t, PREFIX, radix))
     }

@@ -1,6 +1,5 @@
 // The plainest numbers by a way of their own: such a text has no @, no second sign and no `i`, so that its parts are one real, it is ASCII,
 // and it is not walked for all these. Internal: for both readers.
-use crate::DECIMAL;
 use crate::MaybeReal;
 use crate::Real;
 use crate::Suffix;
@@ -8,6 +7,7 @@ use crate::fraction_at;
 use crate::ratio_at;
 use crate::reals::exact_at;
 use crate::reals::point_of;
+use digits::DECIMAL_RADIX;
 use digits::Int;
 use digits::SHORT;
 use digits::Span;
@@ -63,7 +63,7 @@ pub fn plain_real(t: &[u8]) -> MaybeReal
         return MaybeReal::NoReal;
     }
     if ratio_at(t, run.end) {
-        return exact_at(t, start, DECIMAL, negative);
+        return exact_at(t, start, DECIMAL_RADIX, negative);
     }
     MaybeReal::NoReal
 }

@@ -1,12 +1,12 @@
 // Whether a plus and a text are a number, where the plus lies elsewhere: the writer of a plan asks it of a word that it would join. It goes
 // the way of complexes and reals, a place further on. Internal.
-use crate::DECIMAL;
 use crate::MaybeReal;
 use crate::complexes::ends_i;
 use crate::complexes::imaginary_at;
 use crate::complexes::to_sign;
 use crate::reals::real_at;
 use crate::reals::ureal_at;
+use digits::DECIMAL_RADIX;
 ghost use mathlib.Core.Path.{_≡_};
 ghost use mathlib.Core.List.{_∷_};
 ghost use Prim.Native.Nat.{suc, _≤_, _<_};
@@ -36,7 +36,7 @@ fn plus_real(t: &[u8]) -> bool
     if byte_runs::equal_from(t, 0, b"nan.0") {
         return true;
     }
-    is_real(ureal_at(t, 0, DECIMAL, false))
+    is_real(ureal_at(t, 0, DECIMAL_RADIX, false))
 }
 
 // Whether a plus and t are a number that the sign at k cuts: +1-2i
@@ -47,7 +47,7 @@ fn plus_pair(t: &[u8], k: usize) -> bool
     if ends_i(t, k) {
         if plus_real(&t[..k]) {
             let last = t.len() - 1;
-            return is_real(imaginary_at(&t[..last], k, DECIMAL));
+            return is_real(imaginary_at(&t[..last], k, DECIMAL_RADIX));
         }
         return false;
     }
@@ -75,7 +75,7 @@ pub fn plus_number(t: &[u8]) -> bool
     let k = byte_runs::find(t, 0, b'@');
     if k < t.len() {
         if plus_real(&t[..k]) {
-            return is_real(real_at(t, k + 1, DECIMAL));
+            return is_real(real_at(t, k + 1, DECIMAL_RADIX));
         }
         return false;
     }

@@ -1,10 +1,10 @@
 // A real number from a place on: <real R> and the productions below it (specs/Reals).
-use crate::DECIMAL;
 use crate::Exponent;
 use crate::MaybeReal;
 use crate::Point;
 use crate::Real;
 use crate::Suffix;
+use digits::DECIMAL_RADIX;
 use digits::MaybeInt;
 use digits::Span;
 ghost use mathlib.Core.Path.{_≡_};
@@ -30,7 +30,7 @@ fn exponent_at(t: &[u8], from: usize) -> Suffix
 {
     let negative = byte_runs::starts_at(t, from, b'-');
     let start = digits::sign_end(t, from);
-    if digits::unsigned(t, start, DECIMAL) {
+    if digits::unsigned(t, start, DECIMAL_RADIX) {
         let end = t.len();
         Suffix::Marked(Exponent {
             negative,
@@ -216,7 +216,7 @@ pub(crate) fn ureal_at(t: &[u8], from: usize, radix: u64, neg: bool) -> MaybeRea
     requires { ⌜ (1 ≤ radix) × (radix ≤ 16) ⌝ }
     ensures { λ r. ⌜ r ≡ ureal radix neg from (drop from (now (t .entry))) ⌝ }
 {
-    if radix == DECIMAL {
+    if radix == DECIMAL_RADIX {
         let x = decimal_at(t, from, neg);
         match x {
             MaybeReal::AReal(_) => x,

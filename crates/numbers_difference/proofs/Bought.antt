@@ -33,7 +33,7 @@ use Rattle.numbers_difference.proofs.Reals.{Read, below-plain, real-low
 use Rattle.numbers_difference.proofs.WithParts.{Side}
 use Rattle.numbers_difference.specs.Conditions.{SignedBelow, capital, isCapital, isN, oddE, signAfter, signAfterOddE, somewhere}
 use Rattle.numbers_difference.proofs.Runs.{before-split}
-use Rattle.numbers_difference.proofs.Odd.{below-cut, below-odd, imaginary-odd, mark-facts, odd-hit, odd-next, real-odd, toSign-odd}
+use Rattle.numbers_difference.proofs.OddSigns.{below-cut, below-odd, imaginary-odd, mark-facts, odd-hit, odd-next, real-odd, toSign-odd}
 use Rattle.numbers_difference.proofs.Somewhere.{Mark, cap-hit, cap-next, plain-capital, reset-back, reset-join}
 use Rattle.numbers_difference.proofs.Sound.{real-imaginary}
 use Rattle.numbers_difference.proofs.Walk.{sign-marker}

@@ -35,7 +35,7 @@ use Rattle.numbers_difference.proofs.Whole.{Prefixed, Seen, complex-inv
 use Rattle.numbers_difference.specs.Conditions.{SignedBelow, capital, isCapital, isN, signAfterOddE, somewhere}
 use Rattle.numbers_difference.proofs.Runs.{all, all-append, all-cons, before-here}
 use Rattle.numbers_difference.proofs.Reals.{below-not, below-plain, below-real, real-low}
-use Rattle.numbers_difference.proofs.Low.{complex-low}
+use Rattle.numbers_difference.proofs.LowerCase.{complex-low}
 use Rattle.numbers_difference.proofs.Derived.{plain-not}
 use Rattle.numbers.specs.Reals as bought
 use Rattle.numbers.specs.Grammar as bought-grammar

@@ -17,7 +17,7 @@ pub mod Walk
 pub mod Somewhere
 pub mod Letters
 pub mod Reals
-pub mod Odd
+pub mod OddSigns
 pub mod WithParts
 pub mod Bought
-pub mod Low
+pub mod LowerCase

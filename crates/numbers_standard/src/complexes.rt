@@ -1,7 +1,7 @@
 // A number of one or two parts from a place on, by the standard: <complex R> (specs/Grammar).
-use crate::HEXADECIMAL;
 use crate::reals::lower_case;
 use crate::reals::real_at;
+use numbers::HEXADECIMAL_RADIX;
 use numbers::MaybeParts;
 use numbers::MaybeReal;
 use numbers::Real;
@@ -97,7 +97,7 @@ fn joint_at(t: &[u8], from: usize, radix: u64) -> usize
     requires { ⌜ from < length (now t) ⌝ }
     ensures { λ r. ⌜ r ≡ from + joint radix (drop from (now (t .entry))) ⌝ }
 {
-    if radix == HEXADECIMAL {
+    if radix == HEXADECIMAL_RADIX {
         return first_sign(t, from + 1);
     }
     let marker = numbers::is_marker(t[from]);

@@ -3,8 +3,11 @@
 // standard's grammar, and on which texts the two differ. A part of the text is a slice that starts where the text starts, so that an
 // index is a place of the text, and the place where the part starts.
 use chars::Utf8;
+use digits::DECIMAL_RADIX;
 use numbers::MaybeReal;
+use numbers::NO_RADIX;
 use numbers::NumberAnswer;
+use numbers::PREFIX;
 use numbers::Parsed;
 use numbers::Parts;
 use refusal::LIMIT;
@@ -29,24 +32,13 @@ const BOUGHT: u32 = 0;
 
 const STANDARD: u32 = 1;
 
-// The radix of a text without a prefix, and the one in which `e` is a digit.
-const DECIMAL: u64 = 10;
-
-const HEXADECIMAL: u64 = 16;
-
-// The length of a prefix.
-const PREFIX: usize = 2;
-
-// What stands for the radix where none is named.
-const NO_RADIX: u64 = 0;
-
 // What a text is as a number by the standard. Internal: for a text that is known to be UTF-8 and short enough.
 pub fn parse_standard(t: &[u8]) -> Parsed
     ensures { λ r. ⌜ r ≡ parseStandard (now (t .entry)) ⌝ }
 {
     let radix = numbers::prefix(t);
     if radix == NO_RADIX {
-        numbers::judge(complexes::complex_at(t, 0, DECIMAL))
+        numbers::judge(complexes::complex_at(t, 0, DECIMAL_RADIX))
     } else {
         numbers::judge(complexes::complex_at(t, PREFIX, radix))
     }

@@ -1,5 +1,5 @@
 // A real number from a place on, by the standard: <real R> and the productions below it (specs/Reals).
-use crate::DECIMAL;
+use digits::DECIMAL_RADIX;
 use numbers::MaybeReal;
 use numbers::Real;
 ghost use mathlib.Core.Path.{_≡_};
@@ -85,7 +85,7 @@ fn ureal_at(t: &[u8], from: usize, radix: u64, neg: bool) -> MaybeReal
     requires { ⌜ (1 ≤ radix) × (radix ≤ 16) ⌝ }
     ensures { λ r. ⌜ r ≡ ureal radix neg from (drop from (now (t .entry))) ⌝ }
 {
-    if radix == DECIMAL {
+    if radix == DECIMAL_RADIX {
         let x = numbers::decimal_at(t, from, neg);
         match x {
             MaybeReal::AReal(_) => x,

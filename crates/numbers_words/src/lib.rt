@@ -40,9 +40,9 @@ const NO_NUMBER: u32 = 1;
 const NUMBER_WORDS: usize = 27;
 
 // Where the words of the two reals start.
-const ONE_FROM: usize = 1;
+const FIRST_REAL: usize = 1;
 
-const TWO_FROM: usize = 14;
+const SECOND_REAL: usize = 14;
 
 // A number's forms: 5, 1+2i, 1@2.
 const REAL: u64 = 0;
@@ -301,8 +301,8 @@ fn put_answer(words: &mut [u64], w: Flattened)
     ensures { λ _. ⌜ now (words .exit) ≡ written (answer w) (now (words .entry)) ⌝ }
 {
     words[0] = w.first;
-    put_real(&mut words[ONE_FROM..], w.one);
-    put_real(&mut words[TWO_FROM..], w.two);
+    put_real(&mut words[FIRST_REAL..], w.one);
+    put_real(&mut words[SECOND_REAL..], w.two);
 }
 
 // Tells an answer that is no refusal: its number, and its words at the front of `words`. With fewer than NUMBER_WORDS words it is

@@ -25,11 +25,11 @@ ghost use Rattle.pieces.specs.Bounds.{isPlace, partBounds, doneBounds, phaseBou
 // How many bytes a character has at most.
 const WIDEST: usize = 4;
 
-// A string has its two quotes.
+// How many bytes the quotes of an item are.
 const QUOTES_LENGTH: usize = 2;
 
 // A pair has its plus and another byte.
-const PAIR: usize = 2;
+const PAIR_LENGTH: usize = 2;
 
 // The first code that has too many bits for a character of which `count` bytes were taken and `need` are to come.
 fn code_end(count: usize, need: usize) -> u32
@@ -220,7 +220,7 @@ fn waiting_bounds(start: usize, beyond: Beyond, m: Marks) -> bool
     requires { ⌜ m .at ≤ limit ⌝ }
     ensures { λ r. ⌜ r ≡ stageBounds (Stage.Waiting start beyond) m ⌝ }
 {
-    if !held_bounds(start, m, PAIR) {
+    if !held_bounds(start, m, PAIR_LENGTH) {
         return false;
     }
     if m.part.count != 0 {

@@ -12,7 +12,7 @@ use Rattle.pieces.specs.Calls.{What, item, more, finished, refused, Reply, laid
 use Rattle.pieces.specs.Given.{Given}
 use Rattle.pieces_cuttings.specs.declared.Cutting.{Cutting}
 use Rattle.pieces_cuttings.specs.declared.Reading.{Reading}
-use Rattle.pieces_cuttings.specs.declared.Stand.{Stand}
+use Rattle.pieces_cuttings.specs.declared.ReadingAndState.{ReadingAndState}
 use Rattle.pieces_cuttings.specs.Parts.{partOf}
 
 -- how many bytes of text memory each call is lent, more than an item's text may have
@@ -83,7 +83,7 @@ pub record Standing : Type 0 where
   pub state : State
   pub notes : Notes
 
-abbrev pub standing : Stand → List ℕ → List ℕ → List ℕ → Standing
+abbrev pub standing : ReadingAndState → List ℕ → List ℕ → List ℕ → Standing
 standing s records counts texts = record { state = s .state; notes = notes (s .reading) records counts texts }
 
 abbrev pub replied : Standing → Reply → Standing

@@ -9,8 +9,8 @@
 // and a letter that makes the state one outside the bounds of docs/STATE.md: m its mode, a its place, t its range, b its character begun,
 // l its item's length, k the start of its item, x its stop, d its depth; z makes its place the last that a text has, which is inside them:
 // so 20 is shown without 4 GiB.
+use crate::files::FILE_ROOM;
 use crate::files::MOST_LINES;
-use crate::files::ROOM;
 use crate::files::field;
 use crate::files::first;
 use crate::files::line;
@@ -35,17 +35,15 @@ use pieces::State;
 use pieces_calls::calls::end;
 use pieces_calls::calls::piece;
 use pieces_calls::opening::open;
+use pieces_cuttings::MARK_BYTE;
 use pieces_cuttings::part;
 use refusal::LIMIT;
 use refusal::TOO_FEW;
 
-// What the text memory holds before a call.
-const MARK: u8 = 7;
-
 // The text memory that the calls ask for, and a byte less.
 const ENOUGH: usize = LONGEST;
 
-const SHORT: usize = LONGEST - 1;
+const A_BYTE_LESS: usize = LONGEST - 1;
 
 // What no bound allows: a mode, a place, a length of an item, a stop, and of a short text a depth.
 const UNKNOWN_MODE: u32 = 2;
@@ -59,7 +57,7 @@ const NO_STOP: u32 = TOO_FEW;
 const UNLIKELY_DEPTH: u32 = 5;
 
 // Where the calls stand: the state, and whether the text memory is a byte too short.
-struct Stand {
+struct CallsStand {
     state: State,
     little: bool,
 }
@@ -89,7 +87,7 @@ fn answer(a: Answer, text: &[u8]) {
 
 // A piece call, whose answer is printed or not.
 fn on_piece(state: State, bytes: &[u8], told: bool) -> State {
-    let mut text = [MARK; ENOUGH];
+    let mut text = [MARK_BYTE; ENOUGH];
     let a = piece(state, bytes, &mut text);
     if told {
         answer(a, &text);
@@ -100,7 +98,7 @@ fn on_piece(state: State, bytes: &[u8], told: bool) -> State {
 
 // The same with a text memory that is a byte too short.
 fn on_piece_short(state: State, bytes: &[u8]) -> State {
-    let mut text = [MARK; SHORT];
+    let mut text = [MARK_BYTE; A_BYTE_LESS];
     let a = piece(state, bytes, &mut text);
     answer(a, &text);
     let after = a.state;
@@ -109,7 +107,7 @@ fn on_piece_short(state: State, bytes: &[u8]) -> State {
 
 // An end call, whose answer is printed or not.
 fn on_end(state: State, told: bool) -> State {
-    let mut text = [MARK; ENOUGH];
+    let mut text = [MARK_BYTE; ENOUGH];
     let a = end(state, &mut text);
     if told {
         answer(a, &text);
@@ -120,7 +118,7 @@ fn on_end(state: State, told: bool) -> State {
 
 // The same with a text memory that is a byte too short.
 fn on_end_short(state: State) -> State {
-    let mut text = [MARK; SHORT];
+    let mut text = [MARK_BYTE; A_BYTE_LESS];
     let a = end(state, &mut text);
     answer(a, &text);
     let after = a.state;
@@ -238,33 +236,33 @@ fn tell(state: State, letter: u8, name: &[u8]) {
 }
 
 // The state after a line that calls or forges.
-fn after(stand: Stand, letter: u8, rest: &[u8]) -> Stand {
+fn after(stand: CallsStand, letter: u8, rest: &[u8]) -> CallsStand {
     let state = stand.state;
     if stand.little {
-        return Stand {
+        return CallsStand {
             state: call_short(state, letter, rest),
             little: true,
         };
     }
-    Stand {
+    CallsStand {
         state: call(state, letter, rest),
         little: false,
     }
 }
 
 // Where the calls stand after a line, by its letter and what follows.
-fn step(stand: Stand, letter: u8, rest: &[u8]) -> Stand {
+fn step(stand: CallsStand, letter: u8, rest: &[u8]) -> CallsStand {
     let state = stand.state;
     match letter {
         b'#' | b's' => {
             tell(state, letter, rest);
             stand
         }
-        b'o' => Stand {
+        b'o' => CallsStand {
             state: fresh(),
             little: false,
         },
-        b'-' => Stand {
+        b'-' => CallsStand {
             state,
             little: true,
         },
@@ -273,12 +271,12 @@ fn step(stand: Stand, letter: u8, rest: &[u8]) -> Stand {
 }
 
 // The same, with the line whole.
-fn step_line(stand: Stand, line: &[u8]) -> Stand {
+fn step_line(stand: CallsStand, line: &[u8]) -> CallsStand {
     step(stand, first(line), field(line, 1))
 }
 
 // The lines of the file, one after the other.
-fn follow(from: Stand, file: &[u8]) {
+fn follow(from: CallsStand, file: &[u8]) {
     let mut stand = from;
     let mut at: usize = 0;
     let mut left = MOST_LINES;
@@ -295,9 +293,9 @@ fn follow(from: Stand, file: &[u8]) {
 // All of them.
 pub(crate) fn edge() {
     no_mode();
-    let mut file = [0u8; ROOM];
+    let mut file = [0u8; FILE_ROOM];
     let count = load(b"calls", &mut file);
-    let opened = Stand {
+    let opened = CallsStand {
         state: fresh(),
         little: false,
     };

@@ -1,19 +1,19 @@
 // The cases of a file, one after the other.
 use crate::cuts;
+use crate::files::FILE_ROOM;
 use crate::files::MOST_LINES;
-use crate::files::ROOM;
 use crate::files::line;
 use crate::files::load;
 use crate::files::past_line;
 use crate::long;
-use crate::long::Run;
+use crate::long::LongItem;
 use pieces_cuttings::Cutting;
 use pieces_cuttings::part;
 
 // What is done with each case of a file.
 pub enum Job {
     // a long item is made and read
-    Items(Run),
+    Items(LongItem),
     // a text is cut inside each of its characters
     Cut,
     // a text is read under a cutting
@@ -44,7 +44,7 @@ fn each(job: Job, file: &[u8]) {
 
 // Does it with the cases of a file.
 pub(crate) fn cases(job: Job, name: &[u8]) {
-    let mut file = [0u8; ROOM];
+    let mut file = [0u8; FILE_ROOM];
     let count = load(name, &mut file);
     each(job, part(&file, 0, count));
 }

@@ -12,13 +12,11 @@ ghost use Rattle.io.specs.Counts.{Counts};
 ghost use Rattle.pieces_cuttings.specs.Parts.{partOf};
 ghost use Rattle.pieces_edges.specs.Fields.{stillOf, pastTabs, fieldOf, realOf, putAt, pastPut};
 
-const TAB: u8 = b'\t';
-
 // What stands for a newline in a text.
 const FOR_NEWLINE: u8 = b'$';
 
 // More bytes than a file has.
-pub const ROOM: usize = 2048;
+pub const FILE_ROOM: usize = 2048;
 
 // More lines than a file has.
 pub const MOST_LINES: u32 = 1000;
@@ -55,7 +53,7 @@ pub fn past_line(file: &[u8], at: usize) -> usize
 fn still(tabs: u32, byte: u8) -> u32
     ensures { λ r. ⌜ r ≡ stillOf tabs byte ⌝ }
 {
-    if byte != TAB {
+    if byte != b'\t' {
         return tabs;
     }
     if tabs == 0 {
@@ -85,7 +83,7 @@ pub fn field(line: &[u8], tabs: u32) -> &[u8]
     ensures { λ r. ⌜ now r ≡ fieldOf (now (line .entry)) tabs ⌝ }
 {
     let from = past_tabs(line, tabs);
-    part(line, from, find(line, from, TAB))
+    part(line, from, find(line, from, b'\t'))
 }
 
 // The first byte of a field.

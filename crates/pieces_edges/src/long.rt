@@ -12,13 +12,13 @@ use pieces_cuttings::Cutting;
 use pieces_cuttings::part;
 
 // The longest text.
-const ROOM: usize = 6000;
+const LONG_ROOM: usize = 6000;
 
 // More than an item may have.
 const LONG: usize = 5000;
 
 // How an item is read: under a cutting, comments skipped or kept. It has so many bytes, or so many before what closes it.
-pub struct Run {
+pub struct LongItem {
     pub cutting: Cutting,
     pub size: usize,
     pub before_close: bool,
@@ -39,33 +39,33 @@ fn fill(source: &mut [u8], from: usize, to: usize, byte: u8) -> usize {
 }
 
 // How many bytes an item has before what closes it.
-fn open_size(run: Run, close: &[u8]) -> usize {
-    if run.before_close {
-        return run.size;
+fn open_size(how: LongItem, close: &[u8]) -> usize {
+    if how.before_close {
+        return how.size;
     }
-    std::num::wrapping_sub_usize(run.size, close.len())
+    std::num::wrapping_sub_usize(how.size, close.len())
 }
 
 // An item: a head, one byte again and again, and what closes it. It stands after a blank, and something beyond it.
-fn item(run: Run, head: &[u8], byte: u8, close: &[u8], beyond: &[u8]) {
-    let mut source = [0u8; ROOM];
+fn item(how: LongItem, head: &[u8], byte: u8, close: &[u8], beyond: &[u8]) {
+    let mut source = [0u8; LONG_ROOM];
     let blank = put(&mut source, 0, b" ");
     let headed = put(&mut source, blank, head);
-    let open = std::num::wrapping_add_usize(blank, open_size(run, close));
+    let open = std::num::wrapping_add_usize(blank, open_size(how, close));
     let filled = fill(&mut source, headed, open, byte);
     let closed = put(&mut source, filled, close);
     let all = put(&mut source, closed, beyond);
     newlines(&mut source);
-    let cutting = run.cutting;
-    show::reading(part(&source, 0, all), cutting, run.skip);
+    let cutting = how.cutting;
+    show::reading(part(&source, 0, all), cutting, how.skip);
 }
 
 // The item of a line.
-pub(crate) fn case(run: Run, line: &[u8]) {
+pub(crate) fn case(how: LongItem, line: &[u8]) {
     show::print(field(line, 0));
     show::end_line();
     item(
-        run,
+        how,
         field(line, 1),
         first(field(line, 2)),
         field(line, 3),
@@ -75,7 +75,7 @@ pub(crate) fn case(run: Run, line: &[u8]) {
 
 // An item of so many bytes.
 fn sized(cutting: Cutting, size: usize, skip: bool) -> Job {
-    Job::Items(Run {
+    Job::Items(LongItem {
         cutting,
         size,
         before_close: false,
@@ -107,19 +107,19 @@ pub(crate) fn edge(cutting: Cutting) {
 
 // A character of two, three and four bytes whose last byte makes the item too long, the first byte not yet.
 pub(crate) fn wide_ends(cutting: Cutting) {
-    let run = Run {
+    let how = LongItem {
         cutting,
         size: LONGEST - 1,
         before_close: true,
         skip: false,
     };
-    cases(Job::Items(run), b"wide_ends");
+    cases(Job::Items(how), b"wide_ends");
 }
 
 // What is no item may be longer: blanks, and a first line that starts with #!.
 pub(crate) fn no_items(cutting: Cutting) {
     cases(sized(cutting, LONG, false), b"blanks");
-    let mut source = [0u8; ROOM];
+    let mut source = [0u8; LONG_ROOM];
     let headed = put(&mut source, 0, b"#!");
     let filled = fill(&mut source, headed, LONG, b'x');
     let all = put(&mut source, filled, b"\na)");

@@ -9,7 +9,7 @@ use pieces_cuttings::record_at;
 ghost use mathlib.Core.Path.{_≡_};
 
 // The words or bytes of the memories that a reading is written to.
-const ROOM: usize = 8192;
+const READING_ROOM: usize = 8192;
 
 pub fn print(text: &[u8])
     ensures { λ _. ⌜ now (text .exit) ≡ now (text .entry) ⌝ }
@@ -131,9 +131,9 @@ fn ending(r: Reading) {
 pub fn reading(source: &[u8], cutting: Cutting, skip: bool)
     ensures { λ _. ⌜ now (source .exit) ≡ now (source .entry) ⌝ }
 {
-    let mut records = [0u32; ROOM];
-    let mut counts = [0usize; ROOM];
-    let mut texts = [0u8; ROOM];
+    let mut records = [0u32; READING_ROOM];
+    let mut counts = [0usize; READING_ROOM];
+    let mut texts = [0u8; READING_ROOM];
     let r = pieces_cuttings::read(
         source,
         cutting,

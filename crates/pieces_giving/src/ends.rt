@@ -8,6 +8,7 @@ use chars::is_blank;
 use items::Outcome;
 use items::Record;
 use items::kinds;
+use items::kinds::NO_DETAIL;
 use items::modes::REPORT;
 use meaning::Means;
 use meaning::Meant;
@@ -39,8 +40,6 @@ ghost use Rattle.pieces_giving.specs.Inner.{HoldsItem, OutcomeFits, Char
 
 // A plus is one byte.
 const PLUS_LENGTH: usize = 1;
-
-const NO_DETAIL: u32 = 0;
 
 // Reading goes on.
 pub fn go_on(m: Marks) -> Turned

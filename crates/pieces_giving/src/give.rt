@@ -9,7 +9,6 @@ use meaning::Means;
 use meaning::Range;
 use meaning::Text;
 use meaning::places::place;
-use meaning::records::IN_MEMORY;
 use pieces::Got;
 ghost use mathlib.Core.Path.{_≡_};
 ghost use mathlib.Core.List.{[], _∷_};
@@ -22,9 +21,6 @@ ghost use Rattle.pieces.specs.Expected.{longest};
 ghost use Rattle.pieces.specs.Calls.{item};
 ghost use Rattle.pieces_giving.specs.Answers.{whatOf};
 ghost use Rattle.pieces_giving.specs.Copied.{quotesOf, copiedBy, hasText, givenBy};
-
-// No text.
-const NOWHERE: u32 = 0;
 
 // How far a lies past b; 0 where it lies before.
 fn past(a: usize, b: usize) -> usize
@@ -152,7 +148,7 @@ pub fn give(
     let copied = copy_text(kind, source, extent.from as usize, raw, text);
     let at = place(report, kind, last, extent);
     if has_text(kind, source) {
-        return record_with(m, extent, at, IN_MEMORY, copied as u32, depth);
+        return record_with(m, extent, at, kinds::IN_MEMORY, copied as u32, depth);
     }
-    record_with(m, extent, at, NOWHERE, 0, depth)
+    record_with(m, extent, at, kinds::NO_TEXT, 0, depth)
 }

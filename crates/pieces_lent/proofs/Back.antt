@@ -19,7 +19,7 @@ use Rattle.pieces.specs.declared.Stage.the-variants.{Opening, Pound, FirstLine,
 use Rattle.pieces.specs.declared.Marks.{Marks}
 use Rattle.pieces.proofs.Kept.{both}
 use Rattle.pieces_lent.specs.declared.Words.{Words}
-use Rattle.pieces_lent.specs.declared.Row.{Row}
+use Rattle.pieces_lent.specs.declared.StageRow.{StageRow}
 use Rattle.pieces_lent.specs.Coding.{stageOf, row, rowOf, standing, bit, quotesOf, quotesCode, outcomeRow, phaseRow, stageRow, coded}
 use Rattle.pieces_lent.specs.Coding.{narrow, isRow, sameRow, isCode, stageCount, Narrowed}
 
@@ -55,11 +55,11 @@ module _ (w : Words) where
       }
 
   -- the code's comparison of a row with its stage's
-  pub rows-compared : {m : Marks} {a b : Row} {t : Bool} → m ≡ standing w → a ≡ rowOf w → b ≡ stageRow (m .stage) → t ≡ sameRow a b
+  pub rows-compared : {m : Marks} {a b : StageRow} {t : Bool} → m ≡ standing w → a ≡ rowOf w → b ≡ stageRow (m .stage) → t ≡ sameRow a b
       → sameRow (rowOf w) (stageRow (stageOf (rowOf w))) ≡ t
   unfolding standing
   rows-compared {m} {a} {b} {t} p q r s =
-      sym (s ∙ ap (λ (x : Row). sameRow x b) q ∙ ap (sameRow (rowOf w)) (r ∙ ap (λ (x : Marks). stageRow (x .stage)) p))
+      sym (s ∙ ap (λ (x : StageRow). sameRow x b) q ∙ ap (sameRow (rowOf w)) (r ∙ ap (λ (x : Marks). stageRow (x .stage)) p))
 
 -- ---- from marks to words and back
 
@@ -153,7 +153,7 @@ bit-same zero h = refl
 bit-same (suc zero) h = refl
 bit-same (suc (suc n)) h = absurd (let z = leb-true (suc (suc n)) 1 h in omega arith)
 
-same-row : {a b : Row} → sameRow a b ≡ true → a ≡ b
+same-row : {a b : StageRow} → sameRow a b ≡ true → a ≡ b
 unfolding sameRow
 same-row {a} {b} e =
     let two = and-true _ _ e in
@@ -175,7 +175,7 @@ same-row {a} {b} e =
     ∙ ap (λ (x : ℕ). row (b .stage) (b .start) (b .which) (b .detail) (b .one) x) e6
 
 -- words w with other answers to the two questions, and another row
-abbrev words-with : Words → ℕ → ℕ → Row → Words
+abbrev words-with : Words → ℕ → ℕ → StageRow → Words
 words-with w skip ended r =
     record {
       mode = w .mode;
@@ -206,7 +206,7 @@ coded-standing w e =
     let ended = and-true (narrow w && leb (w .skip) 1) (leb (w .ended) 1) (rows .0) in
     let skip = and-true (narrow w) (leb (w .skip) 1) (ended .0) in
     let known = and-true (ltb (w .stage) stageCount) (sameRow (rowOf w) (stageRow (stageOf (rowOf w)))) (rows .1) in
-    ap (λ (r : Row). words-with w (bit (eqb (w .skip) 1)) (bit (eqb (w .ended) 1)) r) (sym (same-row (known .1)))
+    ap (λ (r : StageRow). words-with w (bit (eqb (w .skip) 1)) (bit (eqb (w .ended) 1)) r) (sym (same-row (known .1)))
     ∙ ap (λ (n : ℕ). words-with w n (bit (eqb (w .ended) 1)) (rowOf w)) (bit-same (w .skip) (skip .1))
     ∙ ap (λ (n : ℕ). words-with w (w .skip) n (rowOf w)) (bit-same (w .ended) (ended .1))
 
@@ -265,7 +265,7 @@ stage-known (Waiting st End) = refl
 stage-known (Waiting st (Char c)) = refl
 stage-known (Stopped n p) = refl
 
-row-itself : (r : Row) → sameRow r r ≡ true
+row-itself : (r : StageRow) → sameRow r r ≡ true
 unfolding sameRow
 row-itself r =
     both (both (both (both (both (itself (r .stage)) (itself (r .start))) (itself (r .which))) (itself (r .detail))) (itself (r .one))) (itself (r .two))
@@ -276,6 +276,6 @@ row-itself r =
 pub coded-is-code : (m : Marks) → narrow (coded m) ≡ true → isCode (coded m) ≡ true
 unfolding coded isCode
 coded-is-code m h =
-    let r : Row = stageRow (m .stage) in
+    let r : StageRow = stageRow (m .stage) in
     let same : sameRow r (stageRow (stageOf r)) ≡ true = ap (λ (g : Stage). sameRow r (stageRow g)) (stage-back (m .stage)) ∙ row-itself r in
     both (both (both h (bit-small (m .skip))) (bit-small (m .ended))) (both (stage-known (m .stage)) same)

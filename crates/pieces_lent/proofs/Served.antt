@@ -14,7 +14,7 @@ use Rattle.pieces.specs.Calls.{Reply, textAfter}
 use Rattle.pieces_calls.specs.Answers.{pieced}
 use Rattle.pieces_lent.specs.declared.LentState.{LentState}
 use Rattle.pieces_lent.specs.declared.Told.{Told}
-use Rattle.pieces_lent.specs.declared.Seen.the-variants.{Standing, Outside}
+use Rattle.pieces_lent.specs.declared.MaybeMarks.the-variants.{Standing, Outside}
 use Rattle.pieces_lent.specs.Coding.{standing, isCode, seen}
 use Rattle.pieces_lent.specs.Calls.{Said, worded, outside, forCode, said, toldOf}
 

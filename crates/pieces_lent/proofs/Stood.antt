@@ -16,7 +16,7 @@ use Rattle.pieces_calls.specs.Answers.{pieceIn}
 use Rattle.pieces_giving.specs.Answers.{stateOf}
 use Rattle.pieces_turns.specs.Inner.{readsOn, Sound}
 use Rattle.pieces_lent.specs.declared.Words.{Words}
-use Rattle.pieces_lent.specs.declared.Seen.the-variants.{Standing}
+use Rattle.pieces_lent.specs.declared.MaybeMarks.the-variants.{Standing}
 use Rattle.pieces_lent.specs.Coding.{stageCount, Narrowed, standing, isCode, seen}
 use Rattle.pieces_lent.proofs.Back.{narrowed}
 

@@ -17,9 +17,9 @@ use Rattle.pieces.specs.declared.Stage.{Stage}
 use Rattle.pieces.specs.declared.Stage.the-variants.{Opening, Pound, FirstLine, Idle, Busy, Waiting, Stopped}
 use Rattle.pieces.specs.declared.Marks.{Marks}
 use Rattle.pieces_lent.specs.declared.Words.{Words}
-use Rattle.pieces_lent.specs.declared.Row.{Row}
-use Rattle.pieces_lent.specs.declared.Seen.{Seen}
-use Rattle.pieces_lent.specs.declared.Seen.the-variants.{Standing, Outside}
+use Rattle.pieces_lent.specs.declared.StageRow.{StageRow}
+use Rattle.pieces_lent.specs.declared.MaybeMarks.{MaybeMarks}
+use Rattle.pieces_lent.specs.declared.MaybeMarks.the-variants.{Standing, Outside}
 
 -- ---- from words to marks
 
@@ -27,7 +27,7 @@ abbrev pub quotesOf : ℕ → Quotes
 quotesOf n = if eqb n 0 then Double else Lines
 
 -- the stages by their number, from 0 on, with what the other words say
-abbrev pub stages : Row → List Stage
+abbrev pub stages : StageRow → List Stage
 stages r =
     let start : ℕ = r .start in
     let which : ℕ = r .which in
@@ -89,10 +89,10 @@ firstDone = 31
 abbrev pub stageCount : ℕ
 stageCount = 41
 
-unfoldable pub stageOf : Row → Stage
+unfoldable pub stageOf : StageRow → Stage
 stageOf r = getD (stages r) (r .stage) Opening
 
-abbrev pub rowOf : Words → Row
+abbrev pub rowOf : Words → StageRow
 rowOf w = record { stage = w .stage; start = w .start; which = w .which; detail = w .detail; one = w .one; two = w .two }
 
 -- the marks that words stand for
@@ -121,11 +121,11 @@ abbrev pub quotesCode : Quotes → ℕ
 quotesCode Double = 0
 quotesCode Lines = 1
 
-abbrev pub row : ℕ → ℕ → ℕ → ℕ → ℕ → ℕ → Row
+abbrev pub row : ℕ → ℕ → ℕ → ℕ → ℕ → ℕ → StageRow
 row stage start which detail one two = record { stage = stage; start = start; which = which; detail = detail; one = one; two = two }
 
 -- an item that starts at st and is whole
-abbrev pub outcomeRow : ℕ → Outcome → Row
+abbrev pub outcomeRow : ℕ → Outcome → StageRow
 outcomeRow st (Token k d) = row 31 st k d 0 0
 outcomeRow st Str = row 32 st 0 0 0 0
 outcomeRow st HereStr = row 33 st 0 0 0 0
@@ -138,7 +138,7 @@ outcomeRow st (Error n d) = row 39 st n d 0 0
 outcomeRow st (ErrorAt n d a b) = row 40 st n d a b
 
 -- an item that starts at st
-abbrev pub phaseRow : ℕ → Phase → Row
+abbrev pub phaseRow : ℕ → Phase → StageRow
 phaseRow st ph.InLine = row 7 st 0 0 0 0
 phaseRow st ph.AfterComma = row 8 st 0 0 0 0
 phaseRow st ph.AfterHash = row 9 st 0 0 0 0
@@ -165,11 +165,11 @@ phaseRow st (ph.Brace k from) = row 29 st (quotesCode k) 0 from 0
 phaseRow st (ph.Hex k closer from digits) = row 30 st (quotesCode k) closer from digits
 phaseRow st (ph.Done o) = outcomeRow st o
 
-abbrev pub beyondRow : ℕ → Beyond → Row
+abbrev pub beyondRow : ℕ → Beyond → StageRow
 beyondRow st End = row 4 st 0 0 0 0
 beyondRow st (Char c) = row 5 st 0 c 0 0
 
-abbrev pub stageRow : Stage → Row
+abbrev pub stageRow : Stage → StageRow
 stageRow Opening = row 0 0 0 0 0 0
 stageRow Pound = row 1 0 0 0 0 0
 stageRow FirstLine = row 2 0 0 0 0 0
@@ -178,7 +178,7 @@ stageRow (Busy st p) = phaseRow st p
 stageRow (Waiting st b) = beyondRow st b
 stageRow (Stopped n p) = row 6 p n 0 0 0
 
-abbrev pub withRow : Marks → Row → Words
+abbrev pub withRow : Marks → StageRow → Words
 withRow m r =
     record {
       mode = m .mode;
@@ -221,7 +221,7 @@ narrow w =
     && isNarrow (w .depth)
 
 -- the same, as what the code asks of a row and of words before it reads them
-pub record Narrow (r : Row) : Type 0 where
+pub record Narrow (r : StageRow) : Type 0 where
   pub which : r .which < 2 ^ 32
   pub detail : r .detail < 2 ^ 32
 
@@ -234,18 +234,18 @@ pub record Narrowed (w : Words) : Type 0 where
   pub code : w .code < 2 ^ 32
   pub depth : w .depth < 2 ^ 32
 
-unfoldable pub sameRow : Row → Row → Bool
+unfoldable pub sameRow : StageRow → StageRow → Bool
 sameRow a b =
     eqb (a .stage) (b .stage) && eqb (a .start) (b .start) && eqb (a .which) (b .which) && eqb (a .detail) (b .detail) && eqb (a .one) (b .one)
     && eqb (a .two) (b .two)
 
 -- a known stage whose unused words are 0: they are the words that its stage has
-abbrev pub isRow : Row → Bool
+abbrev pub isRow : StageRow → Bool
 isRow r = ltb (r .stage) stageCount && sameRow r (stageRow (stageOf r))
 
 unfoldable pub isCode : Words → Bool
 isCode w = narrow w && leb (w .skip) 1 && leb (w .ended) 1 && isRow (rowOf w)
 
 -- what decoding gives
-abbrev pub seen : Words → Seen
+abbrev pub seen : Words → MaybeMarks
 seen w = if isCode w then Standing (standing w) else Outside

@@ -15,7 +15,7 @@ use Rattle.pieces.specs.Calls.{What, refused, turnOf, feedOf, pieceOf, openOf}
 use Rattle.pieces.specs.Expected.{longest}
 use Rattle.pieces_lent.specs.declared.Words.{Words}
 use Rattle.pieces_lent.specs.declared.LentState.{LentState}
-use Rattle.pieces_lent.specs.declared.Row.{Row}
+use Rattle.pieces_lent.specs.declared.StageRow.{StageRow}
 use Rattle.pieces_lent.specs.Coding.{row, stageOf, standing, coded, narrow, sameRow, isCode}
 use Rattle.pieces_lent.specs.Calls.{lent, pieceFor, openFor}
 
@@ -27,7 +27,7 @@ abbrev after : List ℕ → Words
 after bytes = pieceFor new bytes longest .state .words
 
 -- the words of a plain state, comments kept, outside all brackets, with a stage, the place, the bytes held, and the numbers of a character begun
-abbrev words : Row → ℕ → ℕ → ℕ → ℕ → ℕ → ℕ → ℕ → Words
+abbrev words : StageRow → ℕ → ℕ → ℕ → ℕ → ℕ → ℕ → ℕ → Words
 words r at len count need low high code =
     record {
       mode = 0;

@@ -1,5 +1,5 @@
 // The calls with the words by value and the buffer lent. None asks anything of its caller.
-use crate::Seen;
+use crate::MaybeMarks;
 use crate::Told;
 use crate::Words;
 use crate::decoding::decode;
@@ -54,8 +54,8 @@ pub fn piece_words(words: Words, buf: &mut [u8], piece: &[u8], text: &mut [u8]) 
 {
     let seen = decode(words);
     match seen {
-        Seen::Standing(marks) => worded(piece_call(marks, buf, piece, text)),
-        Seen::Outside => refuse(words, OUT_OF_BOUNDS, 0),
+        MaybeMarks::Standing(marks) => worded(piece_call(marks, buf, piece, text)),
+        MaybeMarks::Outside => refuse(words, OUT_OF_BOUNDS, 0),
     }
 }
 
@@ -75,8 +75,8 @@ pub fn end_words(words: Words, buf: &mut [u8], text: &mut [u8]) -> Told
 {
     let seen = decode(words);
     match seen {
-        Seen::Standing(marks) => worded(end_call(marks, buf, text)),
-        Seen::Outside => refuse(words, OUT_OF_BOUNDS, 0),
+        MaybeMarks::Standing(marks) => worded(end_call(marks, buf, text)),
+        MaybeMarks::Outside => refuse(words, OUT_OF_BOUNDS, 0),
     }
 }
 

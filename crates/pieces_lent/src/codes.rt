@@ -94,7 +94,7 @@ pub const DOUBLE: u64 = 0;
 
 pub const LINES: u64 = 1;
 
-// The answers to a question, as `skip` and `ended` are.
+// The answers to a question.
 pub const NO: u64 = 0;
 
 pub const YES: u64 = 1;

@@ -1,6 +1,6 @@
 // From words to marks.
-use crate::Row;
-use crate::Seen;
+use crate::MaybeMarks;
+use crate::StageRow;
 use crate::Words;
 use crate::codes::*;
 use crate::encoding::stage_row;
@@ -32,7 +32,7 @@ fn quotes_of(which: u64) -> Quotes
 }
 
 // The outcome of an item that is whole.
-fn outcome_of(row: Row) -> Outcome
+fn outcome_of(row: StageRow) -> Outcome
     requires { ⌜ (coding.firstDone ≤ row .stage) × (row .stage < coding.stageCount) × coding.Narrow row ⌝ }
     ensures { λ r. ⌜ Stage.Busy (row .start) (Phase.Done r) ≡ coding.stageOf row ⌝ }
 {
@@ -54,7 +54,7 @@ fn outcome_of(row: Row) -> Outcome
 }
 
 // The phase of an item.
-fn phase_of(row: Row) -> Phase
+fn phase_of(row: StageRow) -> Phase
     requires { ⌜ (coding.firstPhase ≤ row .stage) × (row .stage < coding.stageCount) × coding.Narrow row ⌝ }
     ensures { λ r. ⌜ Stage.Busy (row .start) r ≡ coding.stageOf row ⌝ }
 {
@@ -94,7 +94,7 @@ fn phase_of(row: Row) -> Phase
     }
 }
 
-fn stage_of(row: Row) -> Stage
+fn stage_of(row: StageRow) -> Stage
     requires { ⌜ (row .stage < coding.stageCount) × coding.Narrow row ⌝ }
     ensures { λ r. ⌜ r ≡ coding.stageOf row ⌝ }
 {
@@ -112,10 +112,10 @@ fn stage_of(row: Row) -> Stage
     }
 }
 
-fn row_of(words: Words) -> Row
+fn row_of(words: Words) -> StageRow
     ensures { λ r. ⌜ r ≡ coding.rowOf words ⌝ }
 {
-    Row {
+    StageRow {
         stage: words.stage,
         start: words.start,
         which: words.which,
@@ -180,7 +180,7 @@ fn narrow(words: Words) -> bool
     words.depth < NARROW_END
 }
 
-fn same_row(a: Row, b: Row) -> bool
+fn same_row(a: StageRow, b: StageRow) -> bool
     ensures { λ r. ⌜ r ≡ coding.sameRow a b ⌝ }
 {
     if a.stage != b.stage {
@@ -202,25 +202,25 @@ fn same_row(a: Row, b: Row) -> bool
 }
 
 // The marks that the words stand for, if they stand for any.
-pub fn decode(words: Words) -> Seen
+pub fn decode(words: Words) -> MaybeMarks
     ensures { λ r. ⌜ r ≡ coding.seen words ⌝ }
 {
     if !narrow(words) {
-        return Seen::Outside;
+        return MaybeMarks::Outside;
     }
     if YES < words.skip {
-        return Seen::Outside;
+        return MaybeMarks::Outside;
     }
     if YES < words.ended {
-        return Seen::Outside;
+        return MaybeMarks::Outside;
     }
     if STAGES <= words.stage {
-        return Seen::Outside;
+        return MaybeMarks::Outside;
     }
     let marks = stand(words);
     let stage = marks.stage;
     if !same_row(row_of(words), stage_row(stage)) {
-        return Seen::Outside;
+        return MaybeMarks::Outside;
     }
-    Seen::Standing(marks)
+    MaybeMarks::Standing(marks)
 }

@@ -1,5 +1,5 @@
 // From marks to words.
-use crate::Row;
+use crate::StageRow;
 use crate::Words;
 use crate::codes::*;
 use items::Outcome;
@@ -33,16 +33,16 @@ fn quotes_code(k: Quotes) -> u64
 }
 
 // A stage with no numbers.
-fn bare(stage: u64) -> Row
+fn bare(stage: u64) -> StageRow
     ensures { λ r. ⌜ r ≡ coding.row stage 0 0 0 0 0 ⌝ }
 {
     row(stage, 0, 0, 0, 0, 0)
 }
 
-fn row(stage: u64, start: usize, which: u64, detail: u32, one: usize, two: usize) -> Row
+fn row(stage: u64, start: usize, which: u64, detail: u32, one: usize, two: usize) -> StageRow
     ensures { λ r. ⌜ r ≡ coding.row stage start which detail one two ⌝ }
 {
-    Row {
+    StageRow {
         stage,
         start: start as u64,
         which,
@@ -53,7 +53,7 @@ fn row(stage: u64, start: usize, which: u64, detail: u32, one: usize, two: usize
 }
 
 // An item that is whole, by its outcome.
-fn outcome_row(start: usize, what: Outcome) -> Row
+fn outcome_row(start: usize, what: Outcome) -> StageRow
     ensures { λ r. ⌜ r ≡ coding.outcomeRow start what ⌝ }
 {
     match what {
@@ -73,14 +73,21 @@ fn outcome_row(start: usize, what: Outcome) -> Row
 }
 
 // An item in a phase that is in quotes.
-fn quotes_row(stage: u64, start: usize, k: Quotes, closer: u32, from: usize, digits: usize) -> Row
+fn quotes_row(
+    stage: u64,
+    start: usize,
+    k: Quotes,
+    closer: u32,
+    from: usize,
+    digits: usize,
+) -> StageRow
     ensures { λ r. ⌜ r ≡ coding.row stage start (coding.quotesCode k) closer from digits ⌝ }
 {
     row(stage, start, quotes_code(k), closer, from, digits)
 }
 
 // An item by its phase.
-fn phase_row(start: usize, phase: Phase) -> Row
+fn phase_row(start: usize, phase: Phase) -> StageRow
     ensures { λ r. ⌜ r ≡ coding.phaseRow start phase ⌝ }
 {
     match phase {
@@ -113,7 +120,7 @@ fn phase_row(start: usize, phase: Phase) -> Row
 }
 
 // A pair of which one item was given.
-fn beyond_row(start: usize, beyond: Beyond) -> Row
+fn beyond_row(start: usize, beyond: Beyond) -> StageRow
     ensures { λ r. ⌜ r ≡ coding.beyondRow start beyond ⌝ }
 {
     match beyond {
@@ -122,7 +129,7 @@ fn beyond_row(start: usize, beyond: Beyond) -> Row
     }
 }
 
-pub(crate) fn stage_row(stage: Stage) -> Row
+pub(crate) fn stage_row(stage: Stage) -> StageRow
     ensures { λ r. ⌜ r ≡ coding.stageRow stage ⌝ }
 {
     match stage {

@@ -52,7 +52,7 @@ pub struct Words {
 }
 
 // A stage as numbers.
-pub struct Row {
+pub struct StageRow {
     pub stage: u64,
     pub start: u64,
     pub which: u64,
@@ -62,7 +62,7 @@ pub struct Row {
 }
 
 // What words stand for.
-pub enum Seen {
+pub enum MaybeMarks {
     Standing(Marks),
     // words that are the code of no marks
     Outside,

@@ -8,10 +8,11 @@ use items::QUOTE_LENGTH;
 use items::Quotes;
 use items::Record;
 use items::kinds;
+use items::kinds::IN_MEMORY;
+use items::kinds::NO_TEXT;
 use items_telling::Quick;
 use meaning::Means;
 use meaning::Text;
-use meaning::records::IN_MEMORY;
 use meaning::records::depth_after;
 use pieces_giving::give::copy_all;
 use pieces_lent::Words;
@@ -38,9 +39,6 @@ ghost use Rattle.pieces.specs.Expected.{longest};
 ghost use Rattle.pieces_spots.specs.Spots.{Firsts};
 ghost use Rattle.pieces_quick.specs.Words.{Ready, stood};
 ghost use Rattle.pieces_quick.specs.Gives.{recorded, decodedMeans, Copying, Copied, Held, Next, Finishes, Finished};
-
-// No text.
-const NOWHERE: u32 = 0;
 
 // The spot past a byte before which an item ended: a blank is passed, any other byte begins an item.
 fn after(s: PieceSpot, b: u8, f: u64, buf: &mut [u8]) -> PieceSpot
@@ -103,7 +101,7 @@ fn bare_record(m: Means, s: PieceSpot, depth: u32, raw: &[u8], text: &mut [u8]) 
         copy_all(raw, text);
         return record_of(m, s, IN_MEMORY, raw.len() as u32, depth);
     }
-    record_of(m, s, NOWHERE, 0, depth)
+    record_of(m, s, NO_TEXT, 0, depth)
 }
 
 // The record of an item whose text is the part of its extent between two places, which is copied to the front of the text memory.
@@ -279,7 +277,7 @@ pub fn give_comment(w: Words, s: PieceSpot, b: u8, buf: &mut [u8], text: &[u8]) 
         detail: kinds::NO_DETAIL,
         text: Text::Nowhere,
     };
-    let r = record_of(m, s, NOWHERE, 0, depth);
+    let r = record_of(m, s, NO_TEXT, 0, depth);
     let next = after(s, b, f, buf);
     Offer::Given(next, w.depth, r)
 }

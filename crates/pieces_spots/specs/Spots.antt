@@ -34,11 +34,11 @@ use Rattle.pieces.specs.Expected.{longest}
 use Rattle.pieces.specs.Calls.{marks, feedOf}
 use Rattle.pieces_giving.specs.Answers.{stateOf}
 use Rattle.pieces_turns.specs.Inner.{Sound}
-use Rattle.pieces_lent.specs.declared.Row.{Row}
+use Rattle.pieces_lent.specs.declared.StageRow.{StageRow}
 use Rattle.pieces_lent.specs.Coding.{row, stageOf, stageRow}
 use Rattle.pieces_spots.specs.declared.PieceSpot.{PieceSpot}
 
-abbrev pub rowAt : PieceSpot → Row
+abbrev pub rowAt : PieceSpot → StageRow
 rowAt s = row (s .stage) (s .start) (s .which) (s .detail) 0 0
 
 -- the marks of a spot, with the mode, the last range and the depth of others

@@ -1,6 +1,7 @@
 // What an item is that ends before a byte.
 use crate::first_byte::KINDS;
 use escapes::has_escape;
+use items::BOOLEAN_LENGTH;
 use items::QUOTE_LENGTH;
 use items::kinds;
 use items_telling::Quick;
@@ -24,12 +25,6 @@ ghost use Rattle.items.specs.declared.Outcome.the-variants.{Lined};
 ghost use Rattle.items.specs.declared.Quotes.the-variants.{Lines};
 ghost use Rattle.pieces_lent.specs.Coding.{quotesOf};
 ghost use Rattle.pieces_spots.specs.Spots.{StopsWord, Stops, TellsSign, TellsAt};
-
-// How many bytes a boolean of one letter is.
-const BOOLEAN: usize = 2;
-
-// What an identifier stands between.
-const VERTICAL: u8 = b'|';
 
 // Whether a byte ends a word, a number run and a word that begins with a number sign, of those that often do.
 fn is_stop(b: u8) -> bool
@@ -63,7 +58,7 @@ fn ends_word(b: u8) -> bool
 pub fn tell_boolean(at: usize, end: usize, raw: &[u8]) -> Quick
     ensures { λ r. ⌜ TellsSign (now (raw .entry)) r ⌝ }
 {
-    if raw.len() != BOOLEAN {
+    if raw.len() != BOOLEAN_LENGTH {
         return Quick::Other;
     }
     if raw[0] != b'#' {
@@ -84,10 +79,10 @@ fn is_lined(raw: &[u8]) -> bool
     if n <= QUOTE_LENGTH {
         return false;
     }
-    if raw[0] != VERTICAL {
+    if raw[0] != b'|' {
         return false;
     }
-    raw[n - 1] == VERTICAL
+    raw[n - 1] == b'|'
 }
 
 // What the bytes of an identifier in vertical lines tell: its text lies in the source where it has no escape.

@@ -20,27 +20,31 @@ pub const KINDS: u64 = 32;
 pub const DETAIL: u64 = 2048;
 
 // ( ) [ ] { } '
-const OPEN_ROUND: u64 = DONE_TOKEN + KIND * kinds::OPEN_PAREN as u64 + DETAIL * kinds::ROUND as u64;
+const OPEN_ROUND_DONE: u64 = DONE_TOKEN
+    + KIND * kinds::OPEN_PAREN as u64
+    + DETAIL * kinds::ROUND as u64;
 
-const CLOSE_ROUND: u64 = DONE_TOKEN
+const CLOSE_ROUND_DONE: u64 = DONE_TOKEN
     + KIND * kinds::CLOSE_PAREN as u64
     + DETAIL * kinds::ROUND as u64;
 
-const OPEN_SQUARE: u64 = DONE_TOKEN
+const OPEN_SQUARE_DONE: u64 = DONE_TOKEN
     + KIND * kinds::OPEN_PAREN as u64
     + DETAIL * kinds::SQUARE as u64;
 
-const CLOSE_SQUARE: u64 = DONE_TOKEN
+const CLOSE_SQUARE_DONE: u64 = DONE_TOKEN
     + KIND * kinds::CLOSE_PAREN as u64
     + DETAIL * kinds::SQUARE as u64;
 
-const OPEN_CURLY: u64 = DONE_TOKEN + KIND * kinds::OPEN_PAREN as u64 + DETAIL * kinds::CURLY as u64;
+const OPEN_CURLY_DONE: u64 = DONE_TOKEN
+    + KIND * kinds::OPEN_PAREN as u64
+    + DETAIL * kinds::CURLY as u64;
 
-const CLOSE_CURLY: u64 = DONE_TOKEN
+const CLOSE_CURLY_DONE: u64 = DONE_TOKEN
     + KIND * kinds::CLOSE_PAREN as u64
     + DETAIL * kinds::CURLY as u64;
 
-const TICK: u64 = DONE_TOKEN + KIND * kinds::QUOTE_TICK as u64;
+const TICK_DONE: u64 = DONE_TOKEN + KIND * kinds::QUOTE_TICK as u64;
 
 // in vertical lines: the kind of quotes stands where a token has its kind
 const IN_LINES: u64 = QUOTED + KIND * LINES;
@@ -75,15 +79,15 @@ pub fn first(b: u8) -> u64
         b'-' => IN_RUN,
         b'+' => IN_RUN,
         b'.' => IN_RUN,
-        b'(' => OPEN_ROUND,
-        b')' => CLOSE_ROUND,
-        b'[' => OPEN_SQUARE,
-        b']' => CLOSE_SQUARE,
-        b'{' => OPEN_CURLY,
-        b'}' => CLOSE_CURLY,
+        b'(' => OPEN_ROUND_DONE,
+        b')' => CLOSE_ROUND_DONE,
+        b'[' => OPEN_SQUARE_DONE,
+        b']' => CLOSE_SQUARE_DONE,
+        b'{' => OPEN_CURLY_DONE,
+        b'}' => CLOSE_CURLY_DONE,
         b'"' => QUOTED,
         b';' => IN_LINE,
-        b'\'' => TICK,
+        b'\'' => TICK_DONE,
         b',' => AFTER_COMMA,
         b'|' => IN_LINES,
         b'#' => AFTER_HASH,

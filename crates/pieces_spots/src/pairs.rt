@@ -22,11 +22,8 @@ const SECONDS: u8 = 0x80;
 
 const SECONDS_END: u8 = 0xC0;
 
-// What an escape begins with.
-const BACKSLASH: u8 = b'\\';
-
 // How many bytes are passed.
-const PAIR: usize = 2;
+const TWO_BYTES: usize = 2;
 
 // Whether two bytes are such a letter.
 fn is_letter(x: u8, y: u8) -> bool
@@ -84,13 +81,13 @@ fn has_escape(s: PieceSpot, piece: &[u8]) -> bool
     ensures { λ r. ⌜ (r ≡ true → Paired s (now (piece .entry))) ⌝ }
 {
     let i = s.i;
-    if piece[i] != BACKSLASH {
+    if piece[i] != b'\\' {
         return false;
     }
-    if piece.len() - i < PAIR {
+    if piece.len() - i < TWO_BYTES {
         return false;
     }
-    if LONGEST - PAIR < s.len {
+    if LONGEST - TWO_BYTES < s.len {
         return false;
     }
     is_escape(s.stage, piece[i + 1])
@@ -102,13 +99,13 @@ fn has_letter(s: PieceSpot, piece: &[u8]) -> bool
     ensures { λ r. ⌜ (r ≡ true → Paired s (now (piece .entry))) ⌝ }
 {
     let i = s.i;
-    if piece.len() - i < PAIR {
+    if piece.len() - i < TWO_BYTES {
         return false;
     }
     if !is_letter(piece[i], piece[i + 1]) {
         return false;
     }
-    if LONGEST - PAIR < s.len {
+    if LONGEST - TWO_BYTES < s.len {
         return false;
     }
     carries(s.stage)
@@ -144,8 +141,8 @@ fn pass_pair(s: PieceSpot, buf: &mut [u8], piece: &[u8]) -> PieceSpot
         which: s.which,
         detail: s.detail,
         at: s.at + 2,
-        len: len + PAIR,
-        i: i + PAIR,
+        len: len + TWO_BYTES,
+        i: i + TWO_BYTES,
     }
 }
 
@@ -173,7 +170,7 @@ pub fn begin_letter(s: PieceSpot, buf: &mut [u8], piece: &[u8]) -> PieceSpot
     ensures { λ r. ⌜ Fits r (now (buf .exit)) (now (piece .entry)) × Onward s (now (buf .entry)) r (now (buf .exit)) (now (piece .entry)) ⌝ }
 {
     let i = s.i;
-    if piece.len() - i < PAIR {
+    if piece.len() - i < TWO_BYTES {
         return s;
     }
     if !is_letter(piece[i], piece[i + 1]) {
@@ -187,7 +184,7 @@ pub fn begin_letter(s: PieceSpot, buf: &mut [u8], piece: &[u8]) -> PieceSpot
         which: 0,
         detail: 0,
         at: s.at + 2,
-        len: PAIR,
-        i: i + PAIR,
+        len: TWO_BYTES,
+        i: i + TWO_BYTES,
     }
 }

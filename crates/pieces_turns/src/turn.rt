@@ -22,6 +22,9 @@ use refusal::LIMIT;
 use refusal::LONG_ITEM;
 use refusal::NOT_UTF8;
 use refusal::TOO_LONG;
+use steps::signs::BANG;
+use steps::signs::HASH;
+use steps::signs::NEWLINE;
 use steps::step;
 ghost use mathlib.Core.Path.{_≡_};
 ghost use mathlib.Core.Bool.{true};
@@ -34,12 +37,6 @@ ghost use Rattle.pieces.specs.Calls as calls;
 ghost use Rattle.pieces_giving.specs.Answers.{stateOf, turnIn, textTurned, stops};
 ghost use Rattle.pieces_giving.specs.Inner.{HoldsItem, CharFits};
 ghost use Rattle.pieces_turns.specs.Inner.{Sound};
-
-const HASH: u32 = b'#' as u32;
-
-const BANG: u32 = b'!' as u32;
-
-const NEWLINE: u32 = b'\n' as u32;
 
 // A stop, which stands from then on.
 pub fn stop(m: Marks, number: u32, place: usize) -> Turned

@@ -1,22 +1,21 @@
 // What `plancheck` prints of the plans that are its arguments, by the same calls, and a last line with its status. The plans are those of
 // examples/bad, and a clean one.
 use findings::FindAnswer;
+use findings::codes::FINDING_WORDS;
 use findings_render::FULL;
 use libc::STDOUT_FILENO;
 ghost use Prim.Native.Nat.{_≤_, _<_};
 
 const MOST_FINDINGS: usize = 100;
 
-const FINDING_WORDS: usize = 7;
-
-const NOTHING: u32 = 0;
+const NOTHING_FOUND: u32 = 0;
 
 const FOUND: u32 = 1;
 
 const FAILED: u32 = 2;
 
 // How much memory a plan, and what is rendered of it, may take.
-const ROOM: usize = 65536;
+const PLAN_ROOM: usize = 65536;
 
 // The first bytes of a memory.
 fn front(t: &[u8], n: usize) -> &[u8] {
@@ -27,7 +26,7 @@ fn front(t: &[u8], n: usize) -> &[u8] {
 }
 
 fn print_finding(finding: &[u32], source: &[u8], name: &[u8]) {
-    let mut out = [0u8; ROOM];
+    let mut out = [0u8; PLAN_ROOM];
     let needed = findings_render::render(finding, source, name, FULL, false, &mut out);
     io::write_all(STDOUT_FILENO, front(&out, needed));
 }
@@ -55,7 +54,7 @@ fn print_findings(findings: &[u32], told: usize, source: &[u8], name: &[u8])
 }
 
 fn print_summary(name: &[u8], found: usize, errors: usize, told: usize) {
-    let mut out = [0u8; ROOM];
+    let mut out = [0u8; PLAN_ROOM];
     let needed = findings_render::summary(name, found, errors, told, FULL, &mut out);
     io::write_all(STDOUT_FILENO, front(&out, needed));
 }
@@ -81,7 +80,7 @@ fn check(source: &[u8], name: &[u8]) -> u32
             print_findings(&findings, told, source, name);
             print_summary(name, found, errors, told);
             if found == 0 {
-                return NOTHING;
+                return NOTHING_FOUND;
             }
             FOUND
         }
@@ -104,7 +103,7 @@ fn check_file(name: &[u8]) -> u32
         os::fail(name);
         return FAILED;
     }
-    let mut memory = [0u8; ROOM];
+    let mut memory = [0u8; PLAN_ROOM];
     let count = load(fd, &mut memory);
     check(front(&memory, count), name)
 }
@@ -136,7 +135,7 @@ fn print_status(status: u32) {
 
 fn main() {
     let count = os::arg_count();
-    let mut status: u32 = NOTHING;
+    let mut status: u32 = NOTHING_FOUND;
     let mut i = 1;
     while i < count {
         status = greater(status, check_argument(i));

@@ -22,7 +22,7 @@ use Rattle.lexer.specs.Reading.{Turn, turnFrom, turn, nextFrom, nextAt, sizeOf,
 use Rattle.lexer.specs.Reading as turns
 use Rattle.lexer.specs.declared.Spot.{Spot}
 use Rattle.lexer.specs.declared.Position.{Position}
-use Rattle.lexer.proofs.All.{all-gives, all-ends}
+use Rattle.lexer.proofs.AllItems.{all-gives, all-ends}
 use Rattle.lexer.proofs.Moves as moves
 use Rattle.lexer.proofs.Nexts.{next-moved}
 use Rattle.lexer.proofs.Opens.{reads-all}

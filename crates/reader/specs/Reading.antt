@@ -11,8 +11,8 @@ use Rattle.meaning.specs.Places.{rangeOf}
 use Rattle.lexer.specs.Answers.{Reply, Replied, item, finished, refuses, nextOf}
 use Rattle.lexer.specs.Opening.{Opening, opened, refused, openOf}
 use Rattle.lexer.specs.declared.Position.{Position}
-use Rattle.reader.specs.declared.Given.{Given}
-use Rattle.reader.specs.declared.Given.the-variants as given
+use Rattle.reader.specs.declared.ReaderAnswer.{ReaderAnswer}
+use Rattle.reader.specs.declared.ReaderAnswer.the-variants as given
 use Rattle.reader.specs.declared.Standing.{Standing}
 use Rattle.reader.specs.declared.Standing.the-variants as standing
 use Rattle.reader.specs.declared.Reader.{Reader}
@@ -26,7 +26,7 @@ pub data What : Type 0 where
   stops : ℕ → ℕ → ℕ → What
 
 -- what each answer means
-abbrev pub givenOf : Given → What
+abbrev pub givenOf : ReaderAnswer → What
 givenOf (given.Item r) = gives (wordsOf r)
 givenOf given.Finished = ends
 givenOf given.TooLong = stops refusal.tooLong limit 0

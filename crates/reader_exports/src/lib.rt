@@ -34,7 +34,7 @@ use refusal::SERVED;
 use refusal::TOO_FEW;
 use refusal::TOO_LONG;
 
-// What a call needs of records: refusal 22 comes with it.
+// How many records one item needs: refusal 22 comes with it.
 const ONE_RECORD: u64 = 1;
 
 // Whether there is room for a record and for two values.

@@ -12,24 +12,24 @@ ghost use Rattle.reader_exports.specs.Words.{readerWords, flag, listed, 
 pub const READER_WORDS: usize = 7;
 
 // The words by what they hold.
-const AT: usize = 0;
+const AT_WORD: usize = 0;
 
-const FROM: usize = 1;
+const FROM_WORD: usize = 1;
 
-const TO: usize = 2;
+const TO_WORD: usize = 2;
 
-const SECOND: usize = 3;
+const SECOND_WORD: usize = 3;
 
-const REPORT: usize = 4;
+const REPORT_WORD: usize = 4;
 
-const SKIP: usize = 5;
+const SKIP_WORD: usize = 5;
 
-const DEPTH: usize = 6;
+const DEPTH_WORD: usize = 6;
 
 // The greatest number of 32 bits.
-const WIDEST: u64 = 0xFFFF_FFFF;
+const GREATEST_U32: u64 = 0xFFFF_FFFF;
 
-// Yes and no.
+// The answers to a question.
 const YES: u64 = 1;
 
 const NO: u64 = 0;
@@ -48,13 +48,13 @@ fn flag_of(b: bool) -> u64
 fn are_narrow(a: u64, b: u64, c: u64) -> bool
     ensures { λ r. ⌜ r ≡ areNarrow a b c ⌝ }
 {
-    if WIDEST < a {
+    if GREATEST_U32 < a {
         return false;
     }
-    if WIDEST < b {
+    if GREATEST_U32 < b {
         return false;
     }
-    c <= WIDEST
+    c <= GREATEST_U32
 }
 
 // Whether three words are yes or no.
@@ -77,10 +77,10 @@ pub fn is_position(words: &[u64]) -> bool
     if words.len() != READER_WORDS {
         return false;
     }
-    if !are_narrow(words[FROM], words[TO], words[DEPTH]) {
+    if !are_narrow(words[FROM_WORD], words[TO_WORD], words[DEPTH_WORD]) {
         return false;
     }
-    are_flags(words[SECOND], words[REPORT], words[SKIP])
+    are_flags(words[SECOND_WORD], words[REPORT_WORD], words[SKIP_WORD])
 }
 
 // The position that they are.
@@ -90,16 +90,16 @@ pub fn position_in(words: &[u64]) -> Position
 {
     Position {
         spot: Spot {
-            at: words[AT] as usize,
+            at: words[AT_WORD] as usize,
             last: Range {
-                from: words[FROM] as u32,
-                to: words[TO] as u32,
+                from: words[FROM_WORD] as u32,
+                to: words[TO_WORD] as u32,
             },
-            second: words[SECOND] == YES,
-            report: words[REPORT] == YES,
-            skip: words[SKIP] == YES,
+            second: words[SECOND_WORD] == YES,
+            report: words[REPORT_WORD] == YES,
+            skip: words[SKIP_WORD] == YES,
         },
-        depth: words[DEPTH] as u32,
+        depth: words[DEPTH_WORD] as u32,
     }
 }
 
@@ -111,11 +111,11 @@ pub fn put_position(words: &mut [u64], p: Position)
     let second = flag_of(p.spot.second);
     let report = flag_of(p.spot.report);
     let skip = flag_of(p.spot.skip);
-    words[AT] = p.spot.at as u64;
-    words[FROM] = p.spot.last.from as u64;
-    words[TO] = p.spot.last.to as u64;
-    words[SECOND] = second;
-    words[REPORT] = report;
-    words[SKIP] = skip;
-    words[DEPTH] = p.depth as u64;
+    words[AT_WORD] = p.spot.at as u64;
+    words[FROM_WORD] = p.spot.last.from as u64;
+    words[TO_WORD] = p.spot.last.to as u64;
+    words[SECOND_WORD] = second;
+    words[REPORT_WORD] = report;
+    words[SKIP_WORD] = skip;
+    words[DEPTH_WORD] = p.depth as u64;
 }

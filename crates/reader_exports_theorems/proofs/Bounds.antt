@@ -14,7 +14,7 @@ use Rattle.lexer.specs.declared.Spot.{Spot}
 use Rattle.lexer.specs.declared.FirstChar.{FirstChar}
 use Rattle.lexer.specs.declared.FirstChar.the-variants.{At, Nothing}
 use Rattle.lexer.specs.declared.Position.{Position}
-use Rattle.lexer.proofs.Here.{char-inside}
+use Rattle.lexer.proofs.CharacterAt.{char-inside}
 use Rattle.lexer.proofs.Turns.{Started, started, none-started}
 use Rattle.lexer.proofs.Extents.{Any}
 use Rattle.lexer.proofs.Cases.{past, halfway, by-turn}

@@ -19,7 +19,7 @@ use Rattle.lexer.specs.declared.Spot.{Spot}
 use Rattle.lexer.specs.declared.Position.{Position}
 use Rattle.lexer.proofs.Moves.{Moved}
 use Rattle.lexer.proofs.Nexts.{next-moved}
-use Rattle.lexer.proofs.All.{all-gives, all-ends}
+use Rattle.lexer.proofs.AllItems.{all-gives, all-ends}
 use Rattle.lexer.proofs.Opens.{reads-all}
 use Rattle.reader_exports.specs.Words.{readerWords, listed, isPosition, positionIn}
 use Rattle.reader_exports.specs.Reader.{told, opens, openLeft, Memory, memory, Left, left, given, isRoom, nextLeft}

@@ -21,7 +21,7 @@ use Rattle.lexer.specs.Reading.{Turn, gives, ends, sizeOf, nextAt, allFrom, all
 use Rattle.lexer.specs.declared.Position.{Position}
 use Rattle.lexer.proofs.Moves.{Moved}
 use Rattle.lexer.proofs.Nexts.{next-moved}
-use Rattle.lexer.proofs.All.{all-gives, all-ends}
+use Rattle.lexer.proofs.AllItems.{all-gives, all-ends}
 use Rattle.lexer.proofs.Opens.{reads-all}
 use Rattle.reader_exports.specs.Words.{readerWords, listed}
 use Rattle.reader_exports.specs.Reader.{told, opens, openLeft, Memory, memory, Left, left, given, stays, isRoom, nextLeft}

@@ -13,19 +13,19 @@ use Rattle.lexer.specs.Inner.{deepAt}
 use Rattle.lexer.specs.declared.Position.{Position}
 use Rattle.reader.specs.Reading.{What, gives, ends, stops, givenOf, Moved, moved, nextFor, Stand, stands, refuses-with, standingOf, OpenedAs, openedAs, openFor}
 use Rattle.reader.specs.declared.Reader.{Reader}
-use Rattle.reader.specs.declared.Given.{Given}
-use Rattle.reader.specs.declared.Given.the-variants as given
+use Rattle.reader.specs.declared.ReaderAnswer.{ReaderAnswer}
+use Rattle.reader.specs.declared.ReaderAnswer.the-variants as given
 use Rattle.reader.specs.declared.Standing.{Standing}
 use Rattle.reader.specs.declared.Standing.the-variants as standing
 
 -- ---- one item
 
-givenBack : What → Given
+givenBack : What → ReaderAnswer
 givenBack (gives w) = given.Item (deepAt (getD w ownWords 0) (nineWith w))
 givenBack ends = given.Finished
 givenBack (stops n a b) = if eqb n 20 then given.TooLong else given.NoRoom b
 
-given-back : (a : Given) → givenBack (givenOf a) ≡ a
+given-back : (a : ReaderAnswer) → givenBack (givenOf a) ≡ a
 unfolding givenBack
 given-back (given.Item r) = refl
 given-back given.Finished = refl
@@ -33,7 +33,7 @@ given-back given.TooLong = refl
 given-back (given.NoRoom n) = refl
 
 -- the answer, the reader and the text memory after it
-pub next-one-answer : (r : Reader) (text : List ℕ) (a b : Given) (ra rb : Reader) (ta tb : List ℕ)
+pub next-one-answer : (r : Reader) (text : List ℕ) (a b : ReaderAnswer) (ra rb : Reader) (ta tb : List ℕ)
     → moved (givenOf a) ra ta ≡ nextFor r text → moved (givenOf b) rb tb ≡ nextFor r text → (a ≡ b) × (ra ≡ rb) × (ta ≡ tb)
 next-one-answer r text a b ra rb ta tb ea eb =
     let e : moved (givenOf a) ra ta ≡ moved (givenOf b) rb tb = ea ∙ sym eb in

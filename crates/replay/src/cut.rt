@@ -1,20 +1,19 @@
 // What the list tells of a text, against what the piece calls give under a cutting.
-use crate::frame::Frame;
+use crate::MEMORY_ROOM;
+use crate::frame::FrameHead;
 use crate::frame::spell_out;
 use items::Nine;
 use items::RECORD_WORDS;
 use items::Record;
+use items::kinds::IN_MEMORY;
+use items::kinds::IN_SOURCE;
+use items::kinds::NO_TEXT;
 use items::kinds::NUMBER;
-use meaning::records::IN_MEMORY;
-use meaning::records::IN_SOURCE;
 use pieces_cuttings::Cutting;
 use pieces_cuttings::Reading;
 use pieces_cuttings::part;
 use pieces_cuttings::record_at;
 use refusal::SERVED;
-
-// The words or bytes of each memory.
-const ROOM: usize = 8192;
 
 // The first byte of a character has at least this where the character has two, three and four bytes.
 const OF_TWO: u8 = 0xC0;
@@ -22,9 +21,6 @@ const OF_TWO: u8 = 0xC0;
 const OF_THREE: u8 = 0xE0;
 
 const OF_FOUR: u8 = 0xF0;
-
-// The text source of an item with no text.
-const NO_TEXT: u32 = 0;
 
 // How many bytes a character has that starts with this byte.
 fn width(first: u8) -> usize {
@@ -134,7 +130,7 @@ fn all_met(
 }
 
 // Whether a reading ends as a frame tells: with all items given, or with a stop and its place.
-fn ended(f: Frame, r: Reading) -> bool {
+fn ended(f: FrameHead, r: Reading) -> bool {
     if !r.over {
         return false;
     }
@@ -149,16 +145,16 @@ fn ended(f: Frame, r: Reading) -> bool {
 
 // Whether the piece calls give under a cutting what a frame tells.
 pub(crate) fn frame(
-    f: Frame,
+    f: FrameHead,
     source: &[u8],
     words: &[u8],
     memory: &[u8],
     cutting: Cutting,
 ) -> bool {
-    let mut told = [0u32; ROOM];
-    let mut records = [0u32; ROOM];
-    let mut counts = [0usize; ROOM];
-    let mut texts = [0u8; ROOM];
+    let mut told = [0u32; MEMORY_ROOM];
+    let mut records = [0u32; MEMORY_ROOM];
+    let mut counts = [0usize; MEMORY_ROOM];
+    let mut texts = [0u8; MEMORY_ROOM];
     let n = spell_out(words, &mut told);
     let r = pieces_cuttings::read(
         source,

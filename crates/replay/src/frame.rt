@@ -4,7 +4,7 @@
 pub const HEAD: usize = 22;
 
 // What a head says.
-pub struct Frame {
+pub struct FrameHead {
     // it is told of the whole-text call, and of the piece calls
     pub whole: bool,
     pub pieces: bool,
@@ -31,10 +31,10 @@ const WHOLE_ALONE: u8 = 1;
 const PIECES_ALONE: u8 = 2;
 
 // A word below this is spelled as a byte; any other as this and its four bytes.
-const ESCAPE: u8 = 255;
+const LONG_WORD: u8 = 255;
 
 // How many bytes such a word has.
-const ESCAPED: usize = 5;
+const LONG_WORD_BYTES: usize = 5;
 
 // A byte as a word.
 fn wide(b: u8) -> u32 {
@@ -57,8 +57,8 @@ fn four(a: u8, b: u8, c: u8, d: u8) -> u32 {
 }
 
 // A head, of its bytes.
-pub(crate) fn head(b: &[u8; HEAD]) -> Frame {
-    Frame {
+pub(crate) fn head(b: &[u8; HEAD]) -> FrameHead {
+    FrameHead {
         whole: b[2] != PIECES_ALONE,
         pieces: b[2] != WHOLE_ALONE,
         skip: b[0] == 1,
@@ -90,10 +90,10 @@ fn word_at(told: &[u8], at: usize) -> u32 {
     if told.len() <= at {
         return 0;
     }
-    if told[at] < ESCAPE {
+    if told[at] < LONG_WORD {
         return wide(told[at]);
     }
-    if told.len() - at < ESCAPED {
+    if told.len() - at < LONG_WORD_BYTES {
         return 0;
     }
     four(told[at + 1], told[at + 2], told[at + 3], told[at + 4])
@@ -104,13 +104,13 @@ fn past_word(told: &[u8], at: usize) -> usize {
     if told.len() <= at {
         return told.len();
     }
-    if told[at] < ESCAPE {
+    if told[at] < LONG_WORD {
         return at + 1;
     }
-    if told.len() - at < ESCAPED {
+    if told.len() - at < LONG_WORD_BYTES {
         return told.len();
     }
-    at + ESCAPED
+    at + LONG_WORD_BYTES
 }
 
 // Whether the words spelled are those of the records, all of them.

@@ -1,6 +1,6 @@
 // What the list tells of a text, against what the proved calls answer.
 use crate::cut;
-use crate::frame::Frame;
+use crate::frame::FrameHead;
 use crate::frame::same_words;
 use lexer::ReadAnswer;
 use pieces_cuttings::Cutting;
@@ -25,12 +25,12 @@ pub enum Verdict {
 }
 
 // Whether a frame tells this answer, with these values.
-fn tells(f: Frame, answer: u32, first: u64, second: u64) -> bool {
+fn tells(f: FrameHead, answer: u32, first: u64, second: u64) -> bool {
     f.answer == answer && f.first as u64 == first && f.second as u64 == second
 }
 
 // Whether a frame tells an answer.
-fn told(f: Frame, answer: ReadAnswer) -> bool {
+fn told(f: FrameHead, answer: ReadAnswer) -> bool {
     match answer {
         ReadAnswer::Served(items, bytes) => tells(f, SERVED, items as u64, bytes as u64),
         ReadAnswer::NoMode(mode) => tells(f, NO_MODE, mode as u64, 0),
@@ -42,7 +42,7 @@ fn told(f: Frame, answer: ReadAnswer) -> bool {
 
 // Whether the whole-text call answers what a frame tells, and writes the words and the text memory that it tells.
 fn whole(
-    f: Frame,
+    f: FrameHead,
     source: &[u8],
     words: &[u8],
     memory: &[u8],
@@ -78,7 +78,7 @@ fn mixed() -> Cutting {
 }
 
 // What comes of a frame with the piece calls, if it is told of them.
-fn in_pieces(f: Frame, source: &[u8], words: &[u8], memory: &[u8]) -> Verdict {
+fn in_pieces(f: FrameHead, source: &[u8], words: &[u8], memory: &[u8]) -> Verdict {
     if !f.pieces {
         return Verdict::Met;
     }
@@ -93,7 +93,7 @@ fn in_pieces(f: Frame, source: &[u8], words: &[u8], memory: &[u8]) -> Verdict {
 
 // What comes of a frame, by the calls that it is told of.
 fn judged(
-    f: Frame,
+    f: FrameHead,
     source: &[u8],
     words: &[u8],
     memory: &[u8],
@@ -111,7 +111,7 @@ fn judged(
 
 // What comes of a frame. The slices are longer than what it has of each.
 pub(crate) fn frame(
-    f: Frame,
+    f: FrameHead,
     source: &[u8],
     words: &[u8],
     memory: &[u8],

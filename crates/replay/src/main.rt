@@ -2,7 +2,7 @@
 // it, or with the refusal that document 01 gives, and every text is read again here by the proved calls, whole and in pieces. The program
 // prints how many answers it met, or the first text whose answer differs. docs/REPLAY.md says how the lists were made;
 // compare/replay/src/frame.rs says how they are written.
-use frame::Frame;
+use frame::FrameHead;
 use frame::HEAD;
 use judge::Verdict;
 use libc::STDOUT_FILENO;
@@ -12,7 +12,7 @@ mod frame;
 mod judge;
 
 // The bytes or words of each memory: the longest text has some 4,000 bytes.
-const ROOM: usize = 8192;
+pub(crate) const MEMORY_ROOM: usize = 8192;
 
 // More frames than any list has: the program ends, whatever it reads.
 const MOST_FRAMES: u64 = 1_000_000;
@@ -82,7 +82,7 @@ fn more(count: u64, told: bool) -> u64 {
 }
 
 // What was met after a frame, which is named if its answer differs.
-fn after(list: &[u8], done: Done, f: Frame, verdict: Verdict, source: &[u8]) -> Done {
+fn after(list: &[u8], done: Done, f: FrameHead, verdict: Verdict, source: &[u8]) -> Done {
     match verdict {
         Verdict::Met => Done {
             whole: more(done.whole, f.whole),
@@ -127,11 +127,11 @@ fn judged(
 
 // The same, in memory of its own.
 fn one(fd: i32, list: &[u8], done: Done) -> Done {
-    let mut source = [0u8; ROOM];
-    let mut words = [0u8; ROOM];
-    let mut memory = [0u8; ROOM];
-    let mut records = [0u32; ROOM];
-    let mut text = [0u8; ROOM];
+    let mut source = [0u8; MEMORY_ROOM];
+    let mut words = [0u8; MEMORY_ROOM];
+    let mut memory = [0u8; MEMORY_ROOM];
+    let mut records = [0u32; MEMORY_ROOM];
+    let mut text = [0u8; MEMORY_ROOM];
     judged(
         fd,
         list,

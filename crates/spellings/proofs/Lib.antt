@@ -2,4 +2,4 @@ pub mod Rows
 pub mod Table
 pub mod Case
 pub mod Forms
-pub mod Past
+pub mod PastFailing

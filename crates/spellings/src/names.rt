@@ -7,7 +7,7 @@ ghost use Rattle.items.specs.Meaning.{lower, lookup, charNames, unnamed};
 ghost use Rattle.spellings.specs.Names.{padded, nameOf, codeOf};
 use byte_runs::find;
 
-const ROWS: usize = 9;
+const NAME_ROWS: usize = 9;
 
 // Nine rows of nine bytes; shorter names are padded.
 const NAMES: [[u8; 9]; 9] = [
@@ -30,7 +30,7 @@ const CODES: [u32; 9] = [0x07, 0x08, 0x7F, 0x1B, 0x0A, 0x00, 0x0D, 0x20, 0x09];
 // What no name stands for.
 pub const UNNAMED: u32 = 0x80;
 
-// What an ASCII letter in upper case lacks to its lower case.
+// What a letter of ASCII in upper case lacks to its lower case.
 const TO_LOWER: u8 = 32;
 
 // A row of the table.
@@ -94,7 +94,7 @@ pub fn name_code(t: &[u8]) -> u32
     ensures { λ r. ⌜ r ≡ lookup charNames (map lower (now (t .entry))) unnamed ⌝ }
 {
     let mut k = 0;
-    while k < ROWS {
+    while k < NAME_ROWS {
         if is_name(t, k) {
             return row_code(k);
         }

@@ -1,11 +1,11 @@
 // Endings: where a word, a number run, a string or a comment to the end of its line ends, as far as one look past its run of characters
 // tells. Most items need no more; the scan reads any.
 use crate::Ending;
-use crate::runs::ASCII_END;
 use crate::runs::number_end;
 use crate::runs::past_word;
 use crate::runs::word_end;
 use crate::words::ends_run;
+use byte_runs::ASCII_END;
 use byte_runs::apart_end;
 ghost use mathlib.Core.Path.{_≡_};
 ghost use mathlib.Core.Bool.{Bool};

@@ -46,7 +46,7 @@ pub(crate) fn here_delim(c: u32) -> Next
 {
     match c {
         NEWLINE => Next::Eat(Phase::HereStart),
-        RETURN => Next::Eat(Phase::HereDelim),
+        CARRIAGE_RETURN => Next::Eat(Phase::HereDelim),
         _ => {
             if is_blank(c) {
                 return Next::Eat(Phase::Done(Outcome::Error(kinds::UNEXPECTED_CHAR, c)));

@@ -12,7 +12,7 @@ mod machine;
 mod quotes;
 mod runs;
 mod search;
-mod signs;
+pub mod signs;
 mod words;
 
 pub use endings::line_ending;

@@ -53,7 +53,7 @@ pub fn first_phase(c: u32) -> Phase
         TICK => single(kinds::QUOTE_TICK, kinds::NO_DETAIL),
         BACKTICK => single(kinds::QUASI_QUOTE, kinds::NO_DETAIL),
         PLUS | MINUS => Phase::InRun,
-        DOT => Phase::InRun,
+        PERIOD => Phase::InRun,
         VERTICAL => Phase::Quoted(Quotes::Lines),
         BACKSLASH => Phase::WordEscape,
         _ => {
@@ -108,16 +108,7 @@ pub fn step(report: bool, phase: Phase, raw: &[u8], at: usize, c: u32) -> Next
         Phase::TrimAfter(k) => quotes::trim_after(k, at, c),
         Phase::Escape(k, from) => quotes::read_string_escape(k, from, raw, at, c),
         Phase::Brace(k, from) => quotes::open_brace(report, k, from, raw, at, c),
-        Phase::Hex(k, closer, from, n) => quotes::hex_digits(
-            report,
-            k,
-            closer,
-            from,
-            n,
-            raw,
-            at,
-            c,
-        ),
+        Phase::Hex(k, stop, from, n) => quotes::hex_digits(report, k, stop, from, n, raw, at, c),
         Phase::Done(o) => Next::Stop(o),
     }
 }

@@ -3,6 +3,7 @@
 use crate::here::past_body;
 use crate::words::breaks_word;
 use crate::words::stays_run;
+use byte_runs::ASCII_END;
 use byte_runs::plain_end;
 use chars::between;
 use chars::letter_at;
@@ -20,9 +21,6 @@ ghost use Rattle.items.specs.declared.Phase.the-variants.{InWord};
 ghost use Rattle.steps.specs.Runs.{ofWord, ofRun, keeps};
 ghost use Rattle.steps.specs.Scan.{Passes, PassesFor};
 ghost use Rattle.steps.specs.Held.{Holds};
-
-// Below it a byte is a character of ASCII.
-pub(crate) const ASCII_END: u8 = 0x80;
 
 // What closes the quotes.
 fn delimiter(k: Quotes) -> u8

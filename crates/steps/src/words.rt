@@ -64,7 +64,7 @@ pub(crate) fn stays_run(c: u32) -> bool
 {
     match c {
         PLUS | MINUS | SLASH => true,
-        DOT | AT => true,
+        PERIOD | AT => true,
         LOWER_A | UPPER_A => true,
         LOWER_B | UPPER_B => true,
         LOWER_C | UPPER_C => true,

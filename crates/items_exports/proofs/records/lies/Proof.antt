@@ -1,5 +1,5 @@
 use borrow.Author.Tests.{le-leb, lt-leb}
-use Rattle.items_exports.proofs.Both.{both-no, both-yes}
+use Rattle.items_exports.proofs.BothTests.{both-no, both-yes}
 use Rattle.items_exports.proofs.records.lies.Statement.{statement}
 use Rattle.items_exports.proofs.records.lies.Tie as tie
 use Rattle.items_exports.proofs.records.lies.Reads as reads

@@ -1,6 +1,6 @@
 use borrow.Author.Tests.{eq-eqb, ne-eqb}
 use Rattle.items_exports.specs.Records.{opensInside}
-use Rattle.items_exports.proofs.Both.{both-no, both-yes}
+use Rattle.items_exports.proofs.BothTests.{both-no, both-yes}
 use borrow.Author.Needs.{needs}
 use Rattle.items_exports.proofs.records.opens_inside.Statement.{statement}
 use Rattle.items_exports.proofs.records.opens_inside.Tie as tie

@@ -1,7 +1,7 @@
 use mathlib.Core.Path.{sym, _∙_}
 use borrow.Author.Tests.{not-true, not-false}
 use Rattle.items_exports.specs.Records.{recordFits}
-use Rattle.items_exports.proofs.Both.{both-no, both-yes}
+use Rattle.items_exports.proofs.BothTests.{both-no, both-yes}
 use borrow.Author.Needs.{needs}
 use Rattle.items_exports.proofs.records.record_fits.Statement.{statement}
 use Rattle.items_exports.proofs.records.record_fits.Tie as tie

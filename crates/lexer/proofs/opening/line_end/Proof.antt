@@ -10,7 +10,7 @@ use Rattle.chars.specs.Utf8.{chars}
 use Rattle.chars.specs.declared.Decoded.the-variants as decoded
 use Rattle.chars.proofs.Width.{wide}
 use Rattle.lexer.specs.Opening.{lineEnd}
-use Rattle.lexer.proofs.Here.{char-found}
+use Rattle.lexer.proofs.CharacterAt.{char-found}
 use Rattle.lexer.proofs.Opens.{line-stop, line-on, line-none}
 use borrow.Author.Needs.{needs}
 use Rattle.lexer.proofs.opening.line_end.Statement.{statement}

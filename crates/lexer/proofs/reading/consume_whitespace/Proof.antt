@@ -9,7 +9,7 @@ use Rattle.chars.specs.Utf8.{chars}
 use Rattle.chars.specs.declared.Decoded.the-variants as decoded
 use Rattle.chars.proofs.Width.{wide}
 use Rattle.lexer.specs.Reading.{startFrom}
-use Rattle.lexer.proofs.Here.{char-found}
+use Rattle.lexer.proofs.CharacterAt.{char-found}
 use Rattle.lexer.proofs.Starts.{start-blank, start-solid, start-none}
 use borrow.Author.Needs.{needs}
 use Rattle.lexer.proofs.reading.consume_whitespace.Statement.{statement}

@@ -8,7 +8,7 @@ use borrow.Author.Needs.{needs}
 use denote.Ref.{now}
 use Rattle.laws.proofs.Compared.{same-differ}
 use Rattle.names.specs.Blocks.{eightAt}
-use Rattle.names.proofs.Fours.{Agree, same-not, same-by, agree-eight}
+use Rattle.names.proofs.SeveralBytes.{Agree, same-not, same-by, agree-eight}
 use Rattle.names.proofs.blocks.equal.Statement.{statement}
 use Rattle.names.proofs.blocks.equal.Tie as tie
 

@@ -7,7 +7,7 @@ use lib.ListN.{length}
 use borrow.Author.Needs.{needs}
 use denote.Ref.{now}
 use Rattle.names.specs.Blocks.{fourAt}
-use Rattle.names.proofs.Fours.{same-not, same-by, agree-four}
+use Rattle.names.proofs.SeveralBytes.{same-not, same-by, agree-four}
 use Rattle.names.proofs.blocks.equal_short.Statement.{statement}
 use Rattle.names.proofs.blocks.equal_short.Tie as tie
 

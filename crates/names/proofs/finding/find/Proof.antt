@@ -7,7 +7,7 @@ use mathlib.Core.Path.{_≡_, refl, sym, _∙_}
 use mathlib.Core.Logic.{_⊎_, inl, inr, ⊎-elim}
 use borrow.Author.Needs.{needs}
 use Rattle.names.specs.Call.{probeOf, freeOf, lookupOf}
-use Rattle.names.specs.declared.Found.the-variants.{Nothing}
+use Rattle.names.specs.declared.NameFound.the-variants.{Nothing}
 use Rattle.names.proofs.Gives.{find-other, find-own}
 use Rattle.names.proofs.Laws.{halves}
 use Rattle.names.proofs.finding.find.Statement.{statement}

@@ -5,7 +5,7 @@ use denote.Ref.{now}
 use Rattle.pieces.specs.declared.Marks.{Marks}
 use Rattle.pieces_calls.specs.Answers.{pieceIn}
 use Rattle.pieces_turns.specs.Inner.{Sound}
-use Rattle.pieces_lent.specs.declared.Seen.the-variants.{Standing}
+use Rattle.pieces_lent.specs.declared.MaybeMarks.the-variants.{Standing}
 use Rattle.pieces_lent.specs.Calls.{lent, pieceFor}
 use Rattle.pieces_lent.proofs.Served.{served}
 use Rattle.pieces_lent.proofs.Stood.{code-narrow, code-seen, called-on}

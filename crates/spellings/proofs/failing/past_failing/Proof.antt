@@ -1,6 +1,6 @@
 -- What `decode_at` says of the front of the bytes is the definition's front.
 use native.Mathlib.Omega.{arith}
-use Rattle.spellings.proofs.Past.{past-none, decoded-within, past-one}
+use Rattle.spellings.proofs.PastFailing.{past-none, decoded-within, past-one}
 use borrow.Author.Needs.{needs}
 use Rattle.spellings.proofs.failing.past_failing.Statement.{statement}
 use Rattle.spellings.proofs.failing.past_failing.Tie as tie

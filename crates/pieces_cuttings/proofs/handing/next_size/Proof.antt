@@ -1,0 +1,20 @@
+-- By the two tests.
+use borrow.Author.Needs.{needs}
+use borrow.Author.Tests.{lt-ltb, le-ltb}
+use Rattle.pieces_cuttings.proofs.handing.next_size.Statement.{statement}
+use Rattle.pieces_cuttings.proofs.handing.next_size.Tie as tie
+
+returns : tie.Need-returns
+returns c = rw (lt-ltb _ _ (c .if1 .taken))
+
+add-result : tie.Need-add-result
+add-result c = search needs
+
+returns-2 : tie.Need-returns-2
+returns-2 c = rw (le-ltb _ _ (c .before .before .if1 .left), lt-ltb _ _ (c .if2 .taken))
+
+returns-3 : tie.Need-returns-3
+returns-3 c = rw (le-ltb _ _ (c .before .before .if1 .left), le-ltb _ _ (c .if2 .left))
+
+pub next-size-spec : {M : Type 1} → statement M
+next-size-spec = tie.close (tie.spec returns add-result returns-2 returns-3)
