@@ -11,6 +11,10 @@ use borrow.Author.Needs.{needs}
 use Rattle.findings_render.proofs.render.Statement.{statement}
 use Rattle.findings_render.proofs.render.Tie as tie
 
+-- where the call began
+abbrev entry-of : tie.After-read-words → tie.Start
+entry-of c = c .before .before .before .before .before
+
 read-words-requires : tie.Need-read-words-requires
 read-words-requires c κs = tt
 
@@ -32,8 +36,7 @@ same-length c = search needs
 returns-2 : tie.Need-returns-2
 unfolding rendered
 returns-2 c =
-    let at-read-words = c .before .before .before .before .before .before in
-    let fit : length (at-read-words .before .before .before .before .before .args .out .now) ≤ top = omega arith in
+    let fit : length (entry-of (c .before .before .before .before .before .before) .args .out .now) ≤ top = omega arith in
     let branch = c .before .before .before .before in
     let after-is-told = branch .before in
     let after-read-words = after-is-told .before in
