@@ -65,6 +65,6 @@ ascii-pass s i = rw (← drop-drop (span ascii (drop i s)) i s) (pass (drop i s)
 pub passed-run : (s : List ℕ) (at r : ℕ) → r ≡ at + span ascii (drop at s) → Passed s at r
 passed-run s at r e = (omega (arith, e), ap (λ (k : ℕ). verdict (sequences 0 k (drop k s))) e ∙ ascii-pass s at)
 
-pub passed-block : (s : List ℕ) (at : ℕ) {r : Bool} → r ≡ leb 16 (span ascii (drop at s)) → r ≡ true → Passed s at (at + 16)
-passed-block s at e t =
-    (omega arith, sym (ascii-pass s (at + 16)) ∙ ap (λ (k : ℕ). verdict (sequences 0 k (drop k s))) (block-on ascii s at 16 e t) ∙ ascii-pass s at)
+pub passed-block : (s : List ℕ) (at n : ℕ) {r : Bool} → r ≡ leb n (span ascii (drop at s)) → r ≡ true → Passed s at (at + n)
+passed-block s at n e t =
+    (omega arith, sym (ascii-pass s (at + n)) ∙ ap (λ (k : ℕ). verdict (sequences 0 k (drop k s))) (block-on ascii s at n e t) ∙ ascii-pass s at)

@@ -9,7 +9,7 @@ use byte_runs::ASCII_END;
 use byte_runs::BLOCK;
 use byte_runs::pairs_at;
 ghost use mathlib.Core.Path.{_≡_};
-ghost use Prim.Native.Nat.{_+_};
+ghost use Prim.Native.Nat.{_+_, _<_};
 ghost use lib.Dec.{leb};
 ghost use lib.ListN.{drop};
 ghost use Rattle.laws.specs.Texts.{span};
@@ -30,6 +30,9 @@ const MARK_TWO: u8 = encode::MARK_TWO as u8;
 const MARK_THREE: u8 = encode::MARK_THREE as u8;
 
 const MARK_FOUR: u8 = encode::MARK_FOUR as u8;
+
+// How many bytes of ASCII are tested at once at the start of a text.
+const LONG_BLOCK: usize = 4 * BLOCK;
 
 // With six bits more, a code past this is past every character.
 const CODE_TOP: u32 = 0x7FFF;
@@ -162,19 +165,20 @@ pub fn decode_at(s: &[u8], at: usize) -> Decoded
     decode_bytes(s, at)
 }
 
-// Whether a block of ASCII stands at a place.
-fn ascii_block(s: &[u8], at: usize) -> bool
-    ensures { λ r. ⌜ r ≡ leb 16 (span ascii (drop at (now (s .entry)))) ⌝ }
+// Whether n bytes of ASCII stand at a place.
+fn ascii_block(s: &[u8], at: usize, n: usize) -> bool
+    requires { ⌜ 0 < n ⌝ }
+    ensures { λ r. ⌜ r ≡ leb n (span ascii (drop at (now (s .entry)))) ⌝ }
 {
-    if s.len() < BLOCK {
+    if s.len() < n {
         return false;
     }
-    if s.len() - BLOCK < at {
+    if s.len() - n < at {
         return false;
     }
     let mut or: u8 = 0;
     let mut j: usize = 0;
-    while j < BLOCK {
+    while j < n {
         or = or | s[at + j];
         j += 1;
     }
@@ -186,7 +190,7 @@ fn ascii_end(s: &[u8], at: usize) -> usize
     ensures { λ r. ⌜ r ≡ at + span ascii (drop at (now (s .entry))) ⌝ }
 {
     let mut i = at;
-    while ascii_block(s, i) {
+    while ascii_block(s, i, BLOCK) {
         i += BLOCK;
     }
     while i < s.len() {
@@ -199,13 +203,24 @@ fn ascii_end(s: &[u8], at: usize) -> usize
     i
 }
 
+// Past the long blocks of ASCII at the start of a text. Most texts are ASCII throughout, or begin so.
+fn past_long_blocks(s: &[u8]) -> usize
+    ensures { λ r. ⌜ Passed (now (s .entry)) 0 r ⌝ }
+{
+    let mut i = 0;
+    while ascii_block(s, i, LONG_BLOCK) {
+        i += LONG_BLOCK;
+    }
+    i
+}
+
 // Past the blocks, from a place on, of ASCII and of characters of one byte or two.
 fn past_blocks(s: &[u8], from: usize) -> usize
     ensures { λ r. ⌜ Passed (now (s .entry)) from r ⌝ }
 {
     let mut i = from;
     loop {
-        if ascii_block(s, i) {
+        if ascii_block(s, i, BLOCK) {
             i += BLOCK;
         } else {
             let n = pairs_at(s, i);
@@ -222,7 +237,7 @@ fn past_blocks(s: &[u8], from: usize) -> usize
 pub fn first_bad(s: &[u8]) -> Utf8
     ensures { λ r. ⌜ r ≡ firstBad (now (s .entry)) ⌝ }
 {
-    let mut i = 0;
+    let mut i = past_long_blocks(s);
     while i < s.len() {
         let j = wide_end(s, ascii_end(s, past_blocks(s, i)));
         if i < j {

@@ -14,10 +14,10 @@ use Rattle.chars.proofs.decode.ascii_block.Statement.{statement}
 use Rattle.chars.proofs.decode.ascii_block.Tie as tie
 
 abbrev Inv-loop : tie.InvT-loop
-Inv-loop s at or₀ j₀ or j = (j ≤ 16) × (ltb or 0x80 ≡ leb j (span ascii (drop at s)))
+Inv-loop s at n or₀ j₀ or j = (j ≤ n) × (ltb or 0x80 ≡ leb j (span ascii (drop at s)))
 
 abbrev μ-loop : tie.MeasureT-loop
-μ-loop s at or₀ j₀ or j = 16 - j
+μ-loop s at n or₀ j₀ or j = n - j
 
 pub ascii-block-spec : {M : Type 1} → statement M
 ascii-block-spec =
@@ -25,9 +25,9 @@ ascii-block-spec =
     (tie.spec
     Inv-loop
     μ-loop
-    (λ c. sym (block-short ascii (now (c .before .args .s)) (c .before .args .at) 16 (omega arith) (omega arith)))
+    (λ c. let a = c .before in sym (block-short ascii (now (a .args .s)) (a .args .at) (a .args .n) (omega arith) (a .pre)))
     (λ c. omega arith)
-    (λ c. sym (block-short ascii (now (c .before .before .args .s)) (c .before .before .args .at) 16 (omega arith) (omega arith)))
+    (λ c. let a = c .before .before in sym (block-short ascii (now (a .args .s)) (a .args .at) (a .args .n) (omega arith) (a .pre)))
     (λ c. let a = c .before .before .args in (omega arith, sym (le-leb 0 (span ascii (drop (a .at) (now (a .s)))) (omega arith))))
     (λ c. omega arith)
     (λ c. omega arith)
@@ -38,5 +38,5 @@ ascii-block-spec =
     (omega arith, ascii-next (now (a .s)) (a .at) (l .j) (l .or) (omega arith) (l .inv .1)))
     (λ c. let a = c .before .before .before .before .args in
     let l = c .before .loop in
-    let e : l .j ≡ 16 = omega arith in
+    let e : l .j ≡ a .n = omega arith in
     l .inv .1 ∙ ap (λ (j : ℕ). leb j (span ascii (drop (a .at) (now (a .s))))) e))

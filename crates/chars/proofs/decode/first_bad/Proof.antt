@@ -22,11 +22,11 @@ abbrev μ-loop : tie.MeasureT-loop
 
 -- where the call began, from after `wide-end`
 abbrev entry-of : tie.After-wide-end Inv-loop μ-loop → tie.Start Inv-loop μ-loop
-entry-of c = c .before .before .before .before .before .before
+entry-of c = c .before .before .before .before .before .before .before
 
 loop-holds : tie.Need-loop-holds Inv-loop μ-loop
 unfolding firstBad
-loop-holds c = refl
+loop-holds c = c .past-long-blocks .ensures .1
 
 loop-again : tie.Need-loop-again Inv-loop μ-loop
 loop-again c =
@@ -46,7 +46,7 @@ turn c e = sym (turns (now (entry-of (c .before .before) .args .s)) (c .before .
 -- at the end nothing is bad
 returns-4 : tie.Need-returns-4 Inv-loop μ-loop
 unfolding sequences
-returns-4 c = rw (drop-of-length-le (now (c .before .before .before .args .s)) (c .loop-test .left)) at (c .before .loop .inv)
+returns-4 c = rw (drop-of-length-le (now (c .before .before .before .before .args .s)) (c .loop-test .left)) at (c .before .loop .inv)
 
 pub first-bad-spec : {M : Type 1} → statement M
 first-bad-spec =
@@ -54,6 +54,7 @@ first-bad-spec =
     (tie.spec
     Inv-loop
     μ-loop
+    (λ c κs. search needs)
     loop-holds
     (λ c κs. search needs)
     (λ c κs. search needs)

@@ -43,7 +43,7 @@ past-blocks-spec =
     (λ c κs. search needs)
     (λ c. omega (arith, room c))
     (λ c. omega (arith, room c))
-    (λ c. passed-on _ _ _ _ (c .before .before .loop .inv) (passed-block _ _ (c .before .ascii-block .ensures) (c .if1 .taken)))
+    (λ c. passed-on _ _ _ _ (c .before .before .loop .inv) (passed-block _ _ 16 (c .before .ascii-block .ensures) (c .if1 .taken)))
     (λ c κs. search needs)
     (λ c. c .before .before .before .before .loop .inv)
     (λ c. omega (arith, pairs c .1))
