@@ -74,11 +74,23 @@ fn given_length(given: ElementValue) -> usize
     }
 }
 
-// Where the run of plain characters of ASCII from a place on ends: neither what closes the quotes nor a backslash.
+// Where the run of plain characters of ASCII from a place on ends: neither what closes the quotes nor a backslash. Before and behind an
+// escape there is often none, which a byte tells.
 fn run_end(raw: &[u8], at: usize, k: Quotes) -> usize
     ensures { λ r. ⌜ r ≡ at + span (plain (delimOf k) (code "\\")) (drop at (now (raw .entry))) ⌝ }
 {
-    plain_end(raw, at, delimiter(k), b'\\')
+    if raw.len() <= at {
+        return at;
+    }
+    let b = raw[at];
+    if b == b'\\' {
+        return at;
+    }
+    let closes = delimiter(k);
+    if b == closes {
+        return at;
+    }
+    plain_end(raw, at, closes, b'\\')
 }
 
 // A run of bytes, at the start of the free text memory.

@@ -79,20 +79,28 @@ fn equal_lower(t: &[u8], name: &[u8]) -> bool
     true
 }
 
-// Whether a text is the name of a row, of which its own length is compared.
+// Whether a text is the name of a row, of which its own length is compared. Of most rows the first letter tells that it is not.
 fn is_name(t: &[u8], k: usize) -> bool
     requires { ⌜ k < 9 ⌝ }
     ensures { λ r. ⌜ r ≡ same (map lower (now (t .entry))) (nameOf k) ⌝ }
 {
     let row = name_row(k);
+    if 0 < t.len() {
+        if lower_case(t[0]) != row[0] {
+            return false;
+        }
+    }
     let length = find(&row, 0, PADDING);
     equal_lower(t, &row[..length])
 }
 
-// The character that a text names, or UNNAMED.
+// The character that a text names, or UNNAMED. A letter by itself is no name.
 pub fn name_code(t: &[u8]) -> u32
     ensures { λ r. ⌜ r ≡ lookup charNames (map lower (now (t .entry))) unnamed ⌝ }
 {
+    if t.len() <= 1 {
+        return UNNAMED;
+    }
     let mut k = 0;
     while k < NAME_ROWS {
         if is_name(t, k) {

@@ -1,6 +1,6 @@
 -- A run of characters that leave an item in its phase: the scan answers past it what it answers before it.
 use Prim.Native.Nat.{ℕ, zero, suc, _+_, _-_, _≤_, _<_}
-use mathlib.Core.Path.{_≡_, refl, ap, _∙_}
+use mathlib.Core.Path.{_≡_, refl, sym, ap, _∙_}
 use mathlib.Core.Bool.{Bool, true, false, not, _&&_}
 use mathlib.Core.List.{List, [], _∷_, _++_}
 use mathlib.Core.Logic.{_⊎_, inl, inr, ⊎-elim}
@@ -11,7 +11,7 @@ use native.Mathlib.Omega.{arith}
 use borrow.Author.Tests.{ltb-true, lt-ltb, ne-eqb, not-true, eqb-true}
 use Rattle.laws.specs.Quoted.{code, codes, oneOf, within}
 use Rattle.laws.specs.Texts.{span}
-use Rattle.laws.proofs.Choice.{by-bool, no-yes, and-true, within-is}
+use Rattle.laws.proofs.Choice.{by-bool, yes-no, no-yes, if-all, and-true, within-is}
 use Rattle.laws.proofs.Runs.{span-le, span-hit, span-stop}
 use Rattle.chars.proofs.Round.{one-read}
 use Rattle.chars.proofs.Blanks.{between-blanks, low-run}
@@ -24,7 +24,7 @@ use Rattle.items.specs.declared.Outcome.{Outcome}
 use Rattle.items.specs.declared.Phase.{Phase}
 use Rattle.items.specs.declared.Phase.the-variants as ph
 use Rattle.items.specs.declared.Next.the-variants.{Eat}
-use Rattle.items.specs.Classes.{delimOf, breaksWord, staysRun, inNest, inQuotes, inWord, inRun}
+use Rattle.items.specs.Classes.{delimOf, breaksWord, staysRun, inNest, inQuotes, inWord, inRun, endsHash, inHash, staysHash}
 use Rattle.items.specs.Readers.{SoFar}
 use Rattle.items.specs.Machine.{stepOf, scanOf}
 use Rattle.steps.specs.Scan.{scanned, answer, Passes}
@@ -56,7 +56,7 @@ kept-ascii ph.HereBody c e = no-yes e
 kept-ascii ph.InWord c e = and-true _ _ e .0
 kept-ascii ph.WordEscape c e = no-yes e
 kept-ascii ph.InRun c e = and-true _ _ e .0
-kept-ascii ph.InHash c e = no-yes e
+kept-ascii ph.InHash c e = and-true _ _ e .0
 kept-ascii ph.HashEscape c e = no-yes e
 kept-ascii ph.HashTick c e = no-yes e
 kept-ascii ph.HashComma c e = no-yes e
@@ -72,6 +72,32 @@ kept-ascii (ph.Brace k from) c e = no-yes e
 kept-ascii (ph.Hex k closer from n) c e = no-yes e
 kept-ascii (ph.Done o) c e = no-yes e
 
+-- a word goes on with a character that neither breaks it nor is a backslash
+word-goes-on : (c : ℕ) → ofWord c ≡ true → (breaksWord c ≡ false) × (eqb c (code "\\") ≡ false)
+word-goes-on c e =
+    let f = and-true (not (breaksWord c)) (not (eqb c (code "\\"))) (and-true (ltb c 0x80) (not (breaksWord c) && not (eqb c (code "\\"))) e .1) in
+    (not-true (breaksWord c) (f .0), not-true (eqb c (code "\\")) (f .1))
+
+-- so does one that starts with `#`
+word-in-hash : (c : ℕ) → ofWord c ≡ true → inHash c ≡ staysHash
+unfolding breaksWord inHash endsHash
+word-in-hash c e =
+    let w = word-goes-on c e in
+    let other : (k : ℕ) → breaksWord k ≡ true → eqb c k ≡ false = λ k t. ne-eqb c k (λ f. yes-no (sym t ∙ ap breaksWord (sym f) ∙ w .0)) in
+    let solid : isBlank c ≡ false =
+    by-bool (isBlank c) (λ b. yes-no (sym (if-all (λ (x : Bool). x ≡ true) (oneOf (codes "([)]{}'\"`;,") c) refl b) ∙ w .0)) (λ b. b) in
+    rw (
+      w .1,
+      other (code "'") refl,
+      other (code "`") refl,
+      other (code ",") refl,
+      other (code "(") refl,
+      other (code "[") refl,
+      other (code ")") refl,
+      other (code "]") refl,
+      solid,
+    )
+
 pub kept-stays : (report : Bool) (p : Phase) (i : SoFar) (c : ℕ) → keeps p c ≡ true → stepOf report p i c ≡ Eat p
 unfolding inNest inQuotes inWord inRun
 kept-stays report ph.InLine i c e = rw (plain-a (code "\n") (code "\n") c e)
@@ -81,12 +107,10 @@ kept-stays report ph.AfterAngle i c e = no-yes e
 kept-stays report ph.HereDelim i c e = no-yes e
 kept-stays report ph.HereStart i c e = no-yes e
 kept-stays report ph.HereBody i c e = no-yes e
-kept-stays report ph.InWord i c e =
-    let f = and-true (not (breaksWord c)) (not (eqb c (code "\\"))) (and-true (ltb c 0x80) (not (breaksWord c) && not (eqb c (code "\\"))) e .1) in
-    rw (not-true (breaksWord c) (f .0), not-true (eqb c (code "\\")) (f .1))
+kept-stays report ph.InWord i c e = let w = word-goes-on c e in rw (w .0, w .1)
 kept-stays report ph.WordEscape i c e = no-yes e
 kept-stays report ph.InRun i c e = rw (and-true (ltb c 0x80) (staysRun c) e .1)
-kept-stays report ph.InHash i c e = no-yes e
+kept-stays report ph.InHash i c e = rw (word-in-hash c e)
 kept-stays report ph.HashEscape i c e = no-yes e
 kept-stays report ph.HashTick i c e = no-yes e
 kept-stays report ph.HashComma i c e = no-yes e

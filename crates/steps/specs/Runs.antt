@@ -14,7 +14,7 @@ ofWord c = ltb c 0x80 && (not (breaksWord c) && not (eqb c (code "\\")))
 abbrev pub ofRun : ℕ → Bool
 ofRun c = ltb c 0x80 && staysRun c
 
--- by phase: in a comment, in quotes, in a word and in a number run; elsewhere none is passed
+-- by phase: in a comment, in quotes, in a word, in one that starts with `#` and in a number run; elsewhere none is passed
 abbrev pub keeps : Phase → ℕ → Bool
 keeps ph.InLine c = plain (code "\n") (code "\n") c
 keeps ph.AfterComma c = false
@@ -26,7 +26,7 @@ keeps ph.HereBody c = false
 keeps ph.InWord c = ofWord c
 keeps ph.WordEscape c = false
 keeps ph.InRun c = ofRun c
-keeps ph.InHash c = false
+keeps ph.InHash c = ofWord c
 keeps ph.HashEscape c = false
 keeps ph.HashTick c = false
 keeps ph.HashComma c = false

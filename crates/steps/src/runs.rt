@@ -114,6 +114,7 @@ pub fn ascii_run(s: &[u8], at: usize, phase: Phase) -> usize
         Phase::Quoted(k) => plain_end(s, at, delimiter(k), b'\\'),
         Phase::InWord => word_end(s, at),
         Phase::InRun => number_end(s, at),
+        Phase::InHash => word_end(s, at),
         _ => at,
     }
 }
@@ -176,6 +177,7 @@ pub(crate) fn run_end(s: &[u8], start: usize, at: usize, phase: Phase) -> usize
         Phase::Quoted(k) => past_plain(s, at, delimiter(k), b'\\'),
         Phase::InWord => past_word(s, at),
         Phase::InRun => number_end(s, at),
+        Phase::InHash => word_end(s, at),
         Phase::HereBody => past_body(s, start, at),
         _ => at,
     }

@@ -6,7 +6,7 @@ use native.Mathlib.Omega.{arith}
 use lib.ListN.{drop}
 use borrow.Author.Needs.{needs}
 use Rattle.items.specs.Meaning.{lower, lookup, charNames, unnamed}
-use Rattle.spellings.proofs.Table.{named-here, named-later, named-never}
+use Rattle.spellings.proofs.Table.{letter-unnamed, named-here, named-later, named-never}
 use Rattle.spellings.proofs.names.name_code.Statement.{statement}
 use Rattle.spellings.proofs.names.name_code.Tie as tie
 
@@ -15,6 +15,9 @@ Inv-loop t k₀ k = (k ≤ 9) × (lookup charNames (map lower t) unnamed ≡ loo
 
 abbrev μ-loop : tie.MeasureT-loop
 μ-loop t k₀ k = 9 - k
+
+returns : tie.Need-returns Inv-loop μ-loop
+returns c = sym (letter-unnamed (c .before .before .args .t .now) (c .if1 .taken))
 
 loop-holds : tie.Need-loop-holds Inv-loop μ-loop
 loop-holds c = (omega arith, refl)
@@ -25,11 +28,11 @@ is-name-requires c κs = search needs
 row-code-requires : tie.Need-row-code-requires Inv-loop μ-loop
 row-code-requires c κs = search needs
 
-returns : tie.Need-returns Inv-loop μ-loop
-returns c =
+returns-2 : tie.Need-returns-2 Inv-loop μ-loop
+returns-2 c =
     let turn = c .before .before .before .before in
     c .row-code .ensures ∙ sym (turn .loop .inv .1
-    ∙ named-here _ (turn .loop .k) (c .before .before .before .loop-test .taken) (sym (c .before .before .is-name .ensures) ∙ c .before .if1 .taken))
+    ∙ named-here _ (turn .loop .k) (c .before .before .before .loop-test .taken) (sym (c .before .before .is-name .ensures) ∙ c .before .if2 .taken))
 
 add-k : tie.Need-add-k Inv-loop μ-loop
 add-k c = search needs
@@ -41,11 +44,11 @@ loop-again : tie.Need-loop-again Inv-loop μ-loop
 loop-again c = (
   omega arith,
   c .before .before .before .loop .inv .1
-      ∙ named-later _ (c .before .before .before .loop .k) (c .before .before .loop-test .taken) (sym (c .before .is-name .ensures) ∙ c .if1 .left),
+      ∙ named-later _ (c .before .before .before .loop .k) (c .before .before .loop-test .taken) (sym (c .before .is-name .ensures) ∙ c .if2 .left),
 )
 
-returns-2 : tie.Need-returns-2 Inv-loop μ-loop
-returns-2 c = sym (c .before .loop .inv .1 ∙ named-never _ (c .before .loop .k) (c .loop-test .left))
+returns-3 : tie.Need-returns-3 Inv-loop μ-loop
+returns-3 c = sym (c .before .loop .inv .1 ∙ named-never _ (c .before .loop .k) (c .loop-test .left))
 
 pub name-code-spec : {M : Type 1} → statement M
 name-code-spec =
@@ -53,11 +56,12 @@ name-code-spec =
     (tie.spec
     Inv-loop
     μ-loop
+    returns
     loop-holds
     is-name-requires
     row-code-requires
-    returns
+    returns-2
     add-k
     loop-less
     loop-again
-    returns-2)
+    returns-3)

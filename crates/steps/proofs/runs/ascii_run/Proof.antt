@@ -25,7 +25,7 @@ along p q e at l h = h ∙ ap (λ (x : Phase). at + span (keeps x) l) e
 
 -- the tags of the phases without a run
 abbrev others : List ℕ
-others = 1 ∷ 2 ∷ 3 ∷ 4 ∷ 5 ∷ 6 ∷ 8 ∷ 10 ∷ 11 ∷ 12 ∷ 13 ∷ 15 ∷ 16 ∷ 18 ∷ 19 ∷ 20 ∷ 21 ∷ 22 ∷ 23 ∷ 24 ∷ []
+others = 1 ∷ 2 ∷ 3 ∷ 4 ∷ 5 ∷ 6 ∷ 8 ∷ 11 ∷ 12 ∷ 13 ∷ 15 ∷ 16 ∷ 18 ∷ 19 ∷ 20 ∷ 21 ∷ 22 ∷ 23 ∷ 24 ∷ []
 
 pass-none : (at : ℕ) (l : List ℕ) → at ≡ at + span (λ c. false) l
 unfolding span
@@ -44,7 +44,7 @@ none ph.HereBody h at l = pass-none at l
 none ph.InWord h at l = absurd (miss others 7 tt h)
 none ph.WordEscape h at l = pass-none at l
 none ph.InRun h at l = absurd (miss others 9 tt h)
-none ph.InHash h at l = pass-none at l
+none ph.InHash h at l = absurd (miss others 10 tt h)
 none ph.HashEscape h at l = pass-none at l
 none ph.HashTick h at l = pass-none at l
 none ph.HashComma h at l = pass-none at l
@@ -93,6 +93,12 @@ enum-told-4 c = search needs
 number-end-requires : tie.Need-number-end-requires
 number-end-requires c κs = search needs
 
+enum-told-5 : tie.Need-enum-told-5
+enum-told-5 c = search needs
+
+word-end-requires-2 : tie.Need-word-end-requires-2
+word-end-requires-2 c κs = search needs
+
 returns : tie.Need-returns
 returns c = along _ _ (sym (c .before .enum-told .given .1)) _ _ (c .plain-end .ensures)
 
@@ -112,7 +118,10 @@ returns-5 : tie.Need-returns-5
 returns-5 c = along _ _ (sym (c .before .enum-told4 .given .1)) _ _ (c .number-end .ensures)
 
 returns-6 : tie.Need-returns-6
-returns-6 c = let f = c .before .before .args in none (f .phase) (c .match .keys6) (f .at) (drop (f .at) (now (f .s)))
+returns-6 c = along _ _ (sym (c .before .enum-told5 .given .1)) _ _ (c .word-end2 .ensures)
+
+returns-7 : tie.Need-returns-7
+returns-7 c = let f = c .before .before .args in none (f .phase) (c .match .keys7) (f .at) (drop (f .at) (now (f .s)))
 
 pub ascii-run-spec : {M : Type 1} → statement M
 ascii-run-spec =
@@ -129,9 +138,12 @@ ascii-run-spec =
     word-end-requires
     enum-told-4
     number-end-requires
+    enum-told-5
+    word-end-requires-2
     returns
     returns-2
     returns-3
     returns-4
     returns-5
-    returns-6)
+    returns-6
+    returns-7)

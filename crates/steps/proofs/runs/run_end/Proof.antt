@@ -43,10 +43,17 @@ returns-5 c =
     (omega (arith, c .number-end .ensures)))
 
 returns-6 : tie.Need-returns-6
-returns-6 c = passes-as _ _ _ _ _ _ (sym (c .before .enum-told5 .given .1)) (c .past-body .ensures)
+returns-6 c =
+    let a = c .before .before .before .before in
+    passes-for _ _ _ _ _ _ (a .pre .0) (sym (c .before .enum-told5 .given .1))
+    (passes (now (a .args .s)) (a .args .at) ph.InHash (c .word-end .result) (a .pre .1) (omega (arith, c .word-end .ensures))
+    (omega (arith, c .word-end .ensures)))
 
 returns-7 : tie.Need-returns-7
-returns-7 c =
+returns-7 c = passes-as _ _ _ _ _ _ (sym (c .before .enum-told6 .given .1)) (c .past-body .ensures)
+
+returns-8 : tie.Need-returns-8
+returns-8 c =
     let p = c .before .before .pre in passes-for _ _ _ _ _ _ (p .0) refl (passes-none _ _ _ (p .1))
 
 pub run-end-spec : {M : Type 1} → statement M
@@ -66,10 +73,13 @@ run-end-spec =
     (λ c κs. search needs)
     (λ c. search needs)
     (λ c κs. search needs)
+    (λ c. search needs)
+    (λ c κs. search needs)
     returns
     returns-2
     returns-3
     returns-4
     returns-5
     returns-6
-    returns-7)
+    returns-7
+    returns-8)
