@@ -6,11 +6,13 @@
 //! its own, so that no reading finds names that another one interned.
 //!
 //! `bench once READER FILE` and `bench time READER FILE` are those processes: one reading, or the first time and the best of several.
+//! `bench count READER FILE` prints the instructions a byte of one file.
 mod measure;
 mod readers;
 mod tables;
 mod texts;
 
+use std::path::Path;
 use std::process::ExitCode;
 use std::{env, fs};
 
@@ -30,6 +32,13 @@ fn main() -> ExitCode {
             let text = fs::read_to_string(file).expect("a text");
             let run = (reader.ready)(&text);
             println!("{}", if how == "once" { measure::once(run) } else { measure::timed(run) });
+            ExitCode::SUCCESS
+        }
+        ["count", reader, file] => {
+            let reader = readers::named(reader).expect("a reader's name");
+            let bytes = fs::metadata(file).expect("a text").len();
+            let found = measure::instructions(reader, Path::new(file)).expect("a text that is served");
+            println!("{:.1}", found.count as f64 / bytes as f64);
             ExitCode::SUCCESS
         }
         _ => match wanted(&words) {
