@@ -18,7 +18,7 @@ use Rattle.items.specs.declared.Quotes.the-variants.{Double}
 use Rattle.items.specs.declared.Phase.{Phase}
 use Rattle.items.specs.declared.Phase.the-variants as ph
 use Rattle.items.specs.declared.Next.the-variants.{Eat, Stop}
-use Rattle.items.specs.Classes.{inQuotes, breaksWord, staysRun, endsRun, inWord, inRun}
+use Rattle.items.specs.Classes.{inNest, inQuotes, breaksWord, staysRun, endsRun, inWord, inRun}
 use Rattle.items.specs.Readers.{SoFar, comment}
 use Rattle.items.specs.Machine.{stepOf, finishOf, scanOf}
 use Rattle.steps.specs.Scan.{part, scanned, answer, Passes}
@@ -28,6 +28,7 @@ use Rattle.steps.specs.declared.Ending.the-variants.{At, Unknown}
 use Rattle.steps.specs.Ended.{EndsAs}
 use Rattle.steps.proofs.Turn.{turn-eat, turn-stop, turn-out}
 use Rattle.steps.proofs.Kept.{ascii-found, done-scan}
+use Rattle.steps.proofs.Letters.{passes-none}
 
 -- where a run ends before the text does, its test fails
 span-fails : (f : ℕ → Bool) (t : List ℕ) → span f t < length t → f (getD t (span f t) 0) ≡ false
@@ -57,14 +58,18 @@ module _ (s : List ℕ) (report : Bool) (from : ℕ) (p : Phase) (e : ℕ) (pass
       pass .2 report a before
       ∙ turn-stop s report a p e (getD s e 0) (e + 1) (char-at s e (getD s e 0) (e + 1) (ascii-found s e h k) (omega arith)) o (st _)
 
-  -- before a character that is eaten into a phase from which the item is whole, whatever follows
+  -- before a character that is eaten into another phase
+  eaten : (q : Phase) → e < length s → getD s e 0 < 0x80 → ((i : SoFar) → stepOf report p i (getD s e 0) ≡ Eat q)
+      → answer s report a p from ≡ answer s report a q (e + 1)
+  eaten q h k st =
+      pass .2 report a before
+      ∙ turn-eat s report a p e (getD s e 0) (e + 1) (char-at s e (getD s e 0) (e + 1) (ascii-found s e h k) (omega arith)) q (omega (arith, pass .0)) (st _)
+
+  -- from which the item is whole, whatever follows
   ended-eat : (o : Outcome) (q : Phase) → e < length s → getD s e 0 < 0x80 → ((i : SoFar) → stepOf report p i (getD s e 0) ≡ Eat q)
       → ((i : SoFar) (cs : List ℕ) → scanned (scanOf report q i cs) ≡ record { what = o; end = i .at })
       → answer s report a p from ≡ record { what = o; end = e + 1 }
-  ended-eat o q h k st fin =
-      pass .2 report a before
-      ∙ turn-eat s report a p e (getD s e 0) (e + 1) (char-at s e (getD s e 0) (e + 1) (ascii-found s e h k) (omega arith)) q (omega (arith, pass .0)) (st _)
-      ∙ fin _ _
+  ended-eat o q h k st fin = eaten q h k st ∙ fin _ _
 
 -- ---- what closes a string and a comment
 
@@ -79,6 +84,14 @@ string-whole report i (c ∷ cs) = refl
 
 newline-closes : (report : Bool) (c : ℕ) → c ≡ code "\n" → (i : SoFar) → stepOf report ph.InLine i c ≡ Eat (ph.Done comment)
 newline-closes report c e i = rw e
+
+bar-opens : (report : Bool) (d c : ℕ) → c ≡ code "|" → (i : SoFar) → stepOf report (ph.Nest d) i c ≡ Eat (ph.NestBar d)
+unfolding inNest
+bar-opens report d c e i = rw e
+
+sharp-closes : (report : Bool) (c : ℕ) → c ≡ code "#" → (i : SoFar) → stepOf report (ph.NestBar 1) i c ≡ Eat (ph.Done comment)
+unfolding inNest
+sharp-closes report c e i = rw e
 
 -- ---- what stops a word, and a number run
 
@@ -98,7 +111,7 @@ pub space-ends : (report : Bool) → endsRun report (code " ") ≡ true
 unfolding endsRun isBlank
 space-ends report = refl
 
--- ---- a word, a number run, a string and a comment
+-- ---- a word, a number run, a string and the comments
 
 module _ (s : List ℕ) (from e : ℕ) where
   module _ (pass : Passes s ph.InWord from e) (report : Bool) where
@@ -128,6 +141,13 @@ module _ (s : List ℕ) (from e : ℕ) where
     line-before h q a k =
         ended-eat s report from ph.InLine e pass a k comment (ph.Done comment) h (omega (arith, q)) (newline-closes report _ q)
         (λ i cs. sym (done-scan report comment i cs))
+
+  pub nested-before : Passes s (ph.Nest 1) from e → (report : Bool) → e + 1 < length s → getD s e 0 ≡ code "|" → getD s (e + 1) 0 ≡ code "#"
+      → EndsAs s report (ph.Nest 1) comment from (At (e + 1 + 1))
+  nested-before pass report h b q a k =
+      eaten s report from (ph.Nest 1) e pass a k (ph.NestBar 1) (omega arith) (omega (arith, b)) (bar-opens report 1 _ b)
+      ∙ ended-eat s report (e + 1) (ph.NestBar 1) (e + 1) (passes-none s (ph.NestBar 1) (e + 1) (omega arith)) a (omega (arith, pass .0)) comment (ph.Done comment)
+      h (omega (arith, q)) (sharp-closes report _ q) (λ i cs. sym (done-scan report comment i cs))
 
 -- ---- past a part of the run
 

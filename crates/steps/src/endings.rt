@@ -1,5 +1,5 @@
-// Endings: where a word, a number run, a string or a comment to the end of its line ends, as far as one look past its run of characters
-// tells. Most items need no more; the scan reads any.
+// Endings: where a word, a number run, a string or a comment ends, as far as one look past its run of characters tells. Most items need no
+// more; the scan reads any.
 use crate::Ending;
 use crate::runs::number_end;
 use crate::runs::past_word;
@@ -15,7 +15,7 @@ ghost use Rattle.chars.specs.Utf8.{firstBad};
 ghost use Rattle.chars.specs.declared.Utf8.the-variants.{Good};
 ghost use Rattle.items.specs.Readers.{comment};
 ghost use Rattle.items.specs.declared.Outcome.the-variants.{Word, Run, Str};
-ghost use Rattle.items.specs.declared.Phase.the-variants.{InWord, InRun, InLine, Quoted};
+ghost use Rattle.items.specs.declared.Phase.the-variants.{InWord, InRun, InLine, Nest, Quoted};
 ghost use Rattle.items.specs.declared.Quotes.the-variants.{Double};
 ghost use Rattle.steps.specs.Ended.{EndsAs};
 
@@ -104,4 +104,27 @@ pub fn line_ending(s: &[u8], from: usize) -> Ending
         return Ending::At(end);
     }
     Ending::At(end + 1)
+}
+
+// The end of a nested comment that holds no other, from the place past its `#|`, where the text is good from there on. Most hold no `|`
+// and no `#` at all.
+pub fn nested_ending(s: &[u8], from: usize) -> Ending
+    requires { ⌜ (from ≤ length (now s)) × (firstBad (drop from (now s)) ≡ Good) ⌝ }
+    ensures { λ r. ⌜ ((report : Bool) → EndsAs (now (s .entry)) report (Nest 1) comment from r) ⌝ }
+{
+    let bar = apart_end(s, from, b'|', b'#');
+    if s.len() <= bar {
+        return Ending::Unknown;
+    }
+    if s[bar] != b'|' {
+        return Ending::Unknown;
+    }
+    let sharp = bar + 1;
+    if s.len() <= sharp {
+        return Ending::Unknown;
+    }
+    if s[sharp] == b'#' {
+        return Ending::At(sharp + 1);
+    }
+    Ending::Unknown
 }

@@ -16,6 +16,7 @@ pub mod signs;
 mod words;
 
 pub use endings::line_ending;
+pub use endings::nested_ending;
 pub use endings::run_ending;
 pub use endings::string_ending;
 pub use endings::word_ending;
