@@ -21,6 +21,7 @@ pub mod Glances
 pub mod Stood
 pub mod Strung
 pub mod Tells
+pub mod Quotings
 pub mod Sharps
 pub mod Skims
 pub mod AllItems

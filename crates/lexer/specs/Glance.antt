@@ -7,7 +7,7 @@ use lib.ListN.{length, getD}
 use lib.Dec.{eqb}
 use Rattle.laws.specs.Quoted.{code}
 use Rattle.items.specs.Kinds as kind
-use Rattle.items.specs.Classes.{firstOf, afterHash}
+use Rattle.items.specs.Classes.{delimOf, firstOf, afterHash}
 use Rattle.items.specs.Machine.{onFirst, onAfterHash}
 use Rattle.items.specs.Readers.{SoFar, hashKind}
 use Rattle.items.specs.Items.{Place, rangeAfter}
@@ -15,6 +15,7 @@ use Rattle.items.specs.declared.HashKind.the-variants.{Decided}
 use Rattle.items.specs.declared.Next.the-variants.{Eat}
 use Rattle.items.specs.declared.Outcome.{Outcome}
 use Rattle.items.specs.declared.Outcome.the-variants.{Token, Word}
+use Rattle.items.specs.declared.Quotes.{Quotes}
 use Rattle.items.specs.declared.Phase.{Phase}
 use Rattle.items.specs.declared.Phase.the-variants as ph
 use Rattle.steps.specs.Scan.{part, answer}
@@ -23,7 +24,7 @@ use Rattle.steps.specs.declared.Ending.{Ending}
 use Rattle.steps.specs.declared.Ending.the-variants as ending
 use Rattle.meaning.specs.declared.Means.{Means}
 use Rattle.lexer.specs.Inner.{First}
-use Rattle.items_telling.specs.Tells.{Alone, Level}
+use Rattle.items_telling.specs.Tells.{Alone, Level, quotedKind}
 use Rattle.items_telling.specs.declared.Quick.{Quick}
 use Rattle.items_telling.specs.declared.Quick.the-variants.{Item, Bracket, Other}
 
@@ -47,6 +48,14 @@ abbrev pub WordedTo : List ℕ → ℕ → Ending → Type 0
 WordedTo s at (ending.At e) = (next : ℕ) × (Worded s at next × ((report : Bool) → EndsAs s report ph.InWord Word next (ending.At e)))
 WordedTo s at ending.Unknown = Unit
 
+-- a quote stands at a place, which such a quote closes, and what is wholly in them has a kind
+pub record Quoting (s : List ℕ) (at quote kind : ℕ) : Type 0 where
+  pub quotes : Quotes
+  pub some : at < length s
+  pub opens : getD s at 0 ≡ delimOf quotes
+  pub closes : quote ≡ delimOf quotes
+  pub is : kind ≡ quotedKind quotes
+
 -- a number sign stands at a place
 pub record Sharp (s : List ℕ) (at : ℕ) : Type 0 where
   pub some : at < length s
@@ -61,6 +70,12 @@ pub record Spells (s : List ℕ) (at v : ℕ) : Type 0 where
   pub small : letter < 0x80
   pub stays : (raw : List ℕ) → onAfterHash (afterHash letter) raw letter ≡ Eat ph.InHash
   pub boolean : hashKind (code "#" ∷ letter ∷ []) ≡ Decided (Token kind.BooleanLiteral v)
+
+-- or a vertical line after it, which opens a nested comment with it
+pub record Nests (s : List ℕ) (at : ℕ) : Type 0 where
+  pub sign : Sharp s at
+  pub more : at + 1 < length s
+  pub bar : getD s (at + 1) 0 ≡ code "|"
 
 -- from the place a to the place e stands an item with the meaning m, which is not skipped
 pub record Glanced (s : List ℕ) (report skip : Bool) (a e : ℕ) (m : Means) : Type 0 where

@@ -3,20 +3,21 @@
 // looked at but what may end them.
 use byte_runs::ASCII_END;
 use chars::letter_at;
-use escapes::has_escape;
 use items::BOOLEAN_LENGTH;
+use items::QUOTE_LENGTH;
 use items::kinds;
 use items_telling::Quick;
 use items_telling::bare;
+use items_telling::named;
 use items_telling::tell_run;
-use items_telling::tell_string;
 use items_telling::tell_word;
 use meaning::Means;
 use meaning::Text;
 use steps::Ending;
 use steps::line_ending;
+use steps::nested_ending;
+use steps::quoted_ending;
 use steps::run_ending;
-use steps::string_ending;
 use steps::word_ending;
 ghost use mathlib.Core.Path.{_≡_};
 ghost use mathlib.Core.Bool.{Bool, true};
@@ -26,15 +27,17 @@ ghost use Rattle.chars.specs.Utf8.{firstBad};
 ghost use Rattle.chars.specs.declared.Utf8.the-variants.{Good};
 ghost use Rattle.items.specs.Classes.{inHash, stopsHash};
 ghost use Rattle.items.specs.Whole.{limit};
-ghost use Rattle.items.specs.declared.Phase.the-variants.{InWord, InRun, InLine, Quoted};
-ghost use Rattle.items.specs.declared.Quotes.the-variants.{Double};
+ghost use Rattle.items.specs.declared.Phase.the-variants.{InWord, InRun, InLine};
 ghost use Rattle.meaning.specs.Meant.{means};
 ghost use Rattle.meaning.specs.declared.Text.the-variants.{Nowhere};
 ghost use Rattle.items_telling.specs.declared.Quick.the-variants.{Bracket};
-ghost use Rattle.lexer.specs.Glance.{Begins, Rare, Worded, WordedTo, Sharp, Spells, GlanceAt, SkimAt};
+ghost use Rattle.lexer.specs.Glance.{Begins, Rare, Worded, WordedTo, Quoting, Sharp, Spells, Nests, GlanceAt, SkimAt};
 
 // From it on bytes begin characters past ASCII; so does C2, but that begins blanks.
 const WIDE_FIRST: u8 = 0xC3;
+
+// How many bytes open a nested comment.
+const NEST_LENGTH: usize = 2;
 
 // A bracket.
 fn bracket(kind: u32, detail: u32, at: usize, end: usize) -> Quick
@@ -70,13 +73,14 @@ fn quick_run(source: &[u8], report: bool, at: usize) -> Quick
     }
 }
 
-// A string that starts at a place.
-fn quick_string(source: &[u8], at: usize) -> Quick
-    requires { ⌜ (length (now source) ≤ limit) × Begins (now source) at (at + 1) (Quoted Double) × (firstBad (drop (at + 1) (now source)) ≡ Good) ⌝ }
+// A string, or a word in vertical lines, that starts at a place, by its quote and its kind.
+fn quick_quoted(source: &[u8], quote: u8, kind: u32, at: usize) -> Quick
+    requires { ⌜ (length (now source) ≤ limit) × Quoting (now source) at quote kind × (firstBad (drop (at + 1) (now source)) ≡ Good) ⌝ }
     ensures { λ r. ⌜ ((report skip : Bool) → GlanceAt (now (source .entry)) report skip at r) ⌝ }
 {
-    match string_ending(source, at + 1) {
-        Ending::At(end) => tell_string(at, end, &source[at..end]),
+    let from = at + QUOTE_LENGTH;
+    match quoted_ending(source, from, quote) {
+        Ending::At(end) => named(kind, at, end, from, end - QUOTE_LENGTH),
         Ending::Unknown => Quick::Other,
     }
 }
@@ -123,10 +127,24 @@ fn quick_boolean(source: &[u8], value: u32, at: usize) -> Quick
     Quick::Other
 }
 
+// A nested comment that starts at a place, where comments are kept.
+fn quick_nested(source: &[u8], skip: bool, at: usize) -> Quick
+    requires { ⌜ (length (now source) ≤ limit) × Nests (now source) at × (firstBad (now source) ≡ Good) ⌝ }
+    ensures { λ r. ⌜ ((report : Bool) → GlanceAt (now (source .entry)) report skip at r) ⌝ }
+{
+    if skip {
+        return Quick::Other;
+    }
+    match nested_ending(source, at + NEST_LENGTH) {
+        Ending::At(end) => bare(kinds::COMMENT, kinds::NO_DETAIL, at, end),
+        Ending::Unknown => Quick::Other,
+    }
+}
+
 // What a number sign begins, by the byte after it.
-fn quick_hash(source: &[u8], at: usize) -> Quick
-    requires { ⌜ (length (now source) ≤ limit) × Sharp (now source) at ⌝ }
-    ensures { λ r. ⌜ ((report skip : Bool) → GlanceAt (now (source .entry)) report skip at r) ⌝ }
+fn quick_hash(source: &[u8], skip: bool, at: usize) -> Quick
+    requires { ⌜ (length (now source) ≤ limit) × Sharp (now source) at × (firstBad (now source) ≡ Good) ⌝ }
+    ensures { λ r. ⌜ ((report : Bool) → GlanceAt (now (source .entry)) report skip at r) ⌝ }
 {
     let next = at + 1;
     if source.len() <= next {
@@ -136,6 +154,7 @@ fn quick_hash(source: &[u8], at: usize) -> Quick
         b'(' => bracket(kinds::OPEN_PAREN, kinds::VECTOR, at, next + 1),
         b't' => quick_boolean(source, kinds::TRUE, at),
         b'f' => quick_boolean(source, kinds::FALSE, at),
+        b'|' => quick_nested(source, skip, at),
         _ => Quick::Other,
     }
 }
@@ -156,9 +175,9 @@ pub fn quick_at(source: &[u8], report: bool, skip: bool, at: usize) -> Quick
         b'`' => bare(kinds::QUASI_QUOTE, kinds::NO_DETAIL, at, at + 1),
         b'a'..=b'z' => quick_word(source, at),
         b'0'..=b'9' => quick_run(source, report, at),
-        b'"' => quick_string(source, at),
+        b'"' => quick_quoted(source, b'"', kinds::STRING_LITERAL, at),
         b';' => quick_line(source, skip, at),
-        b'#' => quick_hash(source, at),
+        b'#' => quick_hash(source, skip, at),
         _ => Quick::Other,
     }
 }
@@ -214,22 +233,6 @@ pub fn quick_rare(source: &[u8], at: usize) -> Quick
     }
 }
 
-// The end of a string that starts at a place, if it has no escape.
-fn skim_string(source: &[u8], at: usize) -> Ending
-    requires { ⌜ (length (now source) ≤ limit) × Begins (now source) at (at + 1) (Quoted Double) × (firstBad (drop (at + 1) (now source)) ≡ Good) ⌝ }
-    ensures { λ r. ⌜ ((report skip : Bool) → SkimAt (now (source .entry)) report skip at r) ⌝ }
-{
-    match string_ending(source, at + 1) {
-        Ending::At(end) => {
-            if has_escape(&source[at..end]) {
-                return Ending::Unknown;
-            }
-            Ending::At(end)
-        }
-        Ending::Unknown => Ending::Unknown,
-    }
-}
-
 // The end of a comment to the end of its line that starts at a place, where comments are kept.
 fn skim_line(source: &[u8], skip: bool, at: usize) -> Ending
     requires { ⌜ (length (now source) ≤ limit) × Begins (now source) at (at + 1) InLine × (firstBad (drop (at + 1) (now source)) ≡ Good) ⌝ }
@@ -242,11 +245,11 @@ fn skim_line(source: &[u8], skip: bool, at: usize) -> Ending
 }
 
 // The end of what a number sign begins.
-fn skim_hash(source: &[u8], at: usize) -> Ending
-    requires { ⌜ (length (now source) ≤ limit) × Sharp (now source) at ⌝ }
-    ensures { λ r. ⌜ ((report skip : Bool) → SkimAt (now (source .entry)) report skip at r) ⌝ }
+fn skim_hash(source: &[u8], skip: bool, at: usize) -> Ending
+    requires { ⌜ (length (now source) ≤ limit) × Sharp (now source) at × (firstBad (now source) ≡ Good) ⌝ }
+    ensures { λ r. ⌜ ((report : Bool) → SkimAt (now (source .entry)) report skip at r) ⌝ }
 {
-    match quick_hash(source, at) {
+    match quick_hash(source, skip, at) {
         Quick::Item(_, _, end) => Ending::At(end),
         Quick::Bracket(_, _, end) => Ending::At(end),
         Quick::Other => Ending::Unknown,
@@ -270,9 +273,9 @@ pub fn skim_at(source: &[u8], report: bool, skip: bool, at: usize) -> Ending
         b'`' => Ending::At(next),
         b'a'..=b'z' => word_ending(source, next),
         b'0'..=b'9' => run_ending(source, report, next),
-        b'"' => skim_string(source, at),
+        b'"' => quoted_ending(source, next, b'"'),
         b';' => skim_line(source, skip, at),
-        b'#' => skim_hash(source, at),
+        b'#' => skim_hash(source, skip, at),
         _ => rare_ending(source, at),
     }
 }
