@@ -222,14 +222,27 @@ fn rare_ending(source: &[u8], at: usize) -> Ending
     word_ending(source, next)
 }
 
-// Such a word. It is asked for where `quick_at` tells nothing: were it an arm there, the compiler would make slower code of all arms.
-pub fn quick_rare(source: &[u8], at: usize) -> Quick
+// Such a word.
+fn rare_word(source: &[u8], at: usize) -> Quick
     requires { ⌜ (length (now source) ≤ limit) × (at < length (now source)) ⌝ }
     ensures { λ r. ⌜ ((report skip : Bool) → GlanceAt (now (source .entry)) report skip at r) ⌝ }
 {
     match rare_ending(source, at) {
         Ending::At(end) => tell_word(at, end, &source[at..end]),
         Ending::Unknown => Quick::Other,
+    }
+}
+
+// What is told after all others: such a word, one in vertical lines, and a number that begins with a sign. It is asked for where `quick_at`
+// tells nothing: were these arms there, the compiler would make slower code of all arms.
+pub fn quick_rare(source: &[u8], report: bool, at: usize) -> Quick
+    requires { ⌜ (length (now source) ≤ limit) × (at < length (now source)) × (firstBad (now source) ≡ Good) ⌝ }
+    ensures { λ r. ⌜ ((skip : Bool) → GlanceAt (now (source .entry)) report skip at r) ⌝ }
+{
+    match source[at] {
+        b'|' => quick_quoted(source, b'|', kinds::IDENTIFIER, at),
+        b'-' => quick_run(source, report, at),
+        _ => rare_word(source, at),
     }
 }
 
@@ -256,6 +269,19 @@ fn skim_hash(source: &[u8], skip: bool, at: usize) -> Ending
     }
 }
 
+// The end of what is told after all others.
+fn skim_rare(source: &[u8], report: bool, at: usize) -> Ending
+    requires { ⌜ (length (now source) ≤ limit) × (at < length (now source)) × (firstBad (now source) ≡ Good) ⌝ }
+    ensures { λ r. ⌜ ((skip : Bool) → SkimAt (now (source .entry)) report skip at r) ⌝ }
+{
+    let next = at + 1;
+    match source[at] {
+        b'|' => quoted_ending(source, next, b'|'),
+        b'-' => run_ending(source, report, next),
+        _ => rare_ending(source, at),
+    }
+}
+
 // The end of the item that starts at a place, by its first byte: what it means is not asked for.
 pub fn skim_at(source: &[u8], report: bool, skip: bool, at: usize) -> Ending
     requires { ⌜ (length (now source) ≤ limit) × (at < length (now source)) × (firstBad (now source) ≡ Good) ⌝ }
@@ -276,6 +302,6 @@ pub fn skim_at(source: &[u8], report: bool, skip: bool, at: usize) -> Ending
         b'"' => quoted_ending(source, next, b'"'),
         b';' => skim_line(source, skip, at),
         b'#' => skim_hash(source, skip, at),
-        _ => rare_ending(source, at),
+        _ => skim_rare(source, report, at),
     }
 }

@@ -19,7 +19,7 @@ use Rattle.lexer.proofs.Glances.{begins}
 use Rattle.items_telling.proofs.Firsts.{letter-solid, letter-first, digit-solid, digit-first}
 use Rattle.lexer.proofs.Tells.{single-told}
 use Rattle.lexer.proofs.Quotings.{quoted-skims}
-use Rattle.lexer.proofs.Skims.{word-skims, run-skims, worded-skims}
+use Rattle.lexer.proofs.Skims.{word-skims, run-skims}
 use Rattle.lexer.proofs.glance.skim_at.Statement.{statement}
 use Rattle.lexer.proofs.glance.skim_at.Tie as tie
 
@@ -171,13 +171,11 @@ returns-13 c =
     word-skims (now (a .args .source)) (a .args .report) (a .args .skip) (a .args .at) (a .args .at + 1) (a .pre .0) (letter w) (λ e. omega (arith, e, w .before .if3 .left)) (c .word-ending .result)
     (c .word-ending .ensures (a .args .report))
 
-rare-ending-requires : tie.Need-rare-ending-requires
-rare-ending-requires c κs = search needs
+skim-rare-requires : tie.Need-skim-rare-requires
+skim-rare-requires c κs = search needs
 
 returns-14 : tie.Need-returns-14
-returns-14 c =
-    let a = c .before .before .before .before .before in
-    worded-skims (now (a .args .source)) (a .args .report) (a .args .skip) (a .args .at) (a .pre .0) (c .rare-ending .result) (c .rare-ending .ensures)
+returns-14 c = c .skim-rare .ensures (c .before .before .before .before .before .args .skip)
 
 pub skim-at-spec : {M : Type 1} → statement M
 skim-at-spec =
@@ -190,7 +188,7 @@ skim-at-spec =
     skim-hash-requires
     run-ending-requires
     word-ending-requires
-    rare-ending-requires
+    skim-rare-requires
     returns
     returns-2
     returns-3
