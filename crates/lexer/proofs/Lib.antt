@@ -23,6 +23,7 @@ pub mod Strung
 pub mod Tells
 pub mod Quotings
 pub mod Sharps
+pub mod LoneCharacters
 pub mod Skims
 pub mod AllItems
 pub mod Memory

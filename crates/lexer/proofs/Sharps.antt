@@ -48,7 +48,7 @@ unfolding afterHash inHash endsHash isBlank hashKind boolKind same bytesOf utf8
 spells-false s at S m e = record { sign = S; more = m; letter = code "f"; stands = e; small = omega arith; stays = λ raw. refl; boolean = refl }
 
 -- a character of ASCII stands at a place
-ascii-at : (s : List ℕ) (at c : ℕ) → at < length s → getD s at 0 ≡ c → c < 0x80 → CharAt s at c (at + 1)
+pub ascii-at : (s : List ℕ) (at c : ℕ) → at < length s → getD s at 0 ≡ c → c < 0x80 → CharAt s at c (at + 1)
 ascii-at s at c h e k = subst (λ (x : ℕ). CharAt s at x (at + 1)) e (char-at s at (getD s at 0) (at + 1) (ascii-found s at h (omega arith)) (omega arith))
 
 -- the kind of the bare sign
@@ -60,11 +60,11 @@ vector-opens : (report : Bool) (raw : List ℕ) (n : ℕ) → raw ≡ code "#" �
 unfolding afterHash inHash endsHash
 vector-opens report raw n e = rw (e, sign-kind)
 
-boolean-ends : (report : Bool) (raw : List ℕ) (n c : ℕ) (o : Outcome) → hashKind raw ≡ Decided o → inHash c ≡ stopsHash → stepOf report ph.InHash (soFar raw n) c ≡ Stop o
-boolean-ends report raw n c o e k = rw (k, e)
+pub hash-ends : (report : Bool) (raw : List ℕ) (n c : ℕ) (o : Outcome) → hashKind raw ≡ Decided o → inHash c ≡ stopsHash → stepOf report ph.InHash (soFar raw n) c ≡ Stop o
+hash-ends report raw n c o e k = rw (k, e)
 
 module _ (s : List ℕ) (at : ℕ) (S : Sharp s at) where
-  sign-begins : Begins s at (at + 1) ph.AfterHash
+  pub sign-begins : Begins s at (at + 1) ph.AfterHash
   unfolding firstOf startsRun isBlank
   sign-begins = glances.begins s at (code "#") ph.AfterHash (S .some) (S .sharp) (omega arith) refl refl
 
@@ -87,7 +87,7 @@ module _ (s : List ℕ) (at : ℕ) (S : Sharp s at) where
     next = at + 1;
     begins = sign-begins;
     scan = h;
-    quiet = λ last i. refl;
+    quiet = λ last end. refl;
     alone = record { means = λ r. refl; undecoded = tt };
     kept = and-false skip (eqb k kind.Comment) other;
   }
@@ -117,7 +117,7 @@ boolean-told s at v B report skip m c e stop =
       omega arith,
       two-told s at (B .sign) report skip kind.BooleanLiteral v
           (sym (turn-eat s report at ph.AfterHash (at + 1) (B .letter) (at + 2) k ph.InHash (omega arith) (B .stays (part s at (at + 1)))
-          ∙ turn-stop s report at ph.InHash (at + 2) c (at + 2 + 1) l o (boolean-ends report (part s at (at + 2))
+          ∙ turn-stop s report at ph.InHash (at + 2) c (at + 2 + 1) l o (hash-ends report (part s at (at + 2))
           (at + 2) c o (ap hashKind (letter-part s at (B .sign) (B .letter) (B .more) (B .stands)) ∙ B .boolean) (stop .1)))) refl,
       λ depth. refl,
     )

@@ -72,7 +72,7 @@ module _ (s : List ℕ) (report skip : Bool) (at next : ℕ) (short : length s �
   sole-skims : (o : Outcome) (p : Phase) (e : ℕ) → Begins s at next p → record { what = o; end = e } ≡ answer s report at p next
       → ((last : Place) (i : SoFar) → rangeAfter report last at o i ≡ last) → Sole o at (part s at e) → SkimAt s report skip at (ending.At e)
   sole-skims o p e B h quiet S =
-      (S .0, record { what = o; phase = p; next = next; begins = B; scan = h; quiet = quiet; alone = S .1 .0; kept = and-false skip (eqb (S .0 .kind) kind.Comment) (S .1 .1) })
+      (S .0, record { what = o; phase = p; next = next; begins = B; scan = h; quiet = λ last end. quiet last _; alone = S .1 .0; kept = and-false skip (eqb (S .0 .kind) kind.Comment) (S .1 .1) })
 
   no-plus : (o : Outcome) (p : Phase) (e : ℕ) → Begins s at next p → record { what = o; end = e } ≡ answer s report at p next
       → (getD s at 0 ≡ code "+" → ⊥) → firstIs (code "+") (part s at e) ≡ false

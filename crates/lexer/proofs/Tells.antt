@@ -54,7 +54,7 @@ single-told s report skip at c k d h e l b f other = record {
   next = at + 1;
   begins = begins s at c (ph.Done (Token k d)) h e l b f;
   scan = done-scan report (Token k d) (soFar (part s at (at + 1)) (at + 1)) (chars (drop (at + 1) s));
-  quiet = λ last i. refl;
+  quiet = λ last end. refl;
   alone = record { means = λ r. refl; undecoded = tt };
   kept = and-false skip (eqb k kind.Comment) other;
 }
@@ -100,7 +100,7 @@ module _ (s : List ℕ) (report : Bool) (at next e : ℕ) (o : Outcome) (p : Pha
           next = next;
           begins = B;
           scan = h;
-          quiet = quiet;
+          quiet = λ last end. quiet last _;
           alone = t .4;
           kept = and-false skip (eqb (m .kind) kind.Comment) (t .2);
         }),
@@ -119,7 +119,7 @@ comment-told s report skip at next e p k B h = (
     next = next;
     begins = B;
     scan = h;
-    quiet = λ last i. refl;
+    quiet = λ last end. refl;
     alone = record { means = λ r. refl; undecoded = tt };
     kept = rw k;
   },

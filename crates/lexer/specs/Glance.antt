@@ -9,7 +9,7 @@ use Rattle.laws.specs.Quoted.{code}
 use Rattle.items.specs.Kinds as kind
 use Rattle.items.specs.Classes.{delimOf, firstOf, afterHash}
 use Rattle.items.specs.Machine.{onFirst, onAfterHash}
-use Rattle.items.specs.Readers.{SoFar, hashKind}
+use Rattle.items.specs.Readers.{soFar, hashKind}
 use Rattle.items.specs.Items.{Place, rangeAfter}
 use Rattle.items.specs.declared.HashKind.the-variants.{Decided}
 use Rattle.items.specs.declared.Next.the-variants.{Eat}
@@ -77,6 +77,12 @@ pub record Nests (s : List ℕ) (at : ℕ) : Type 0 where
   pub more : at + 1 < length s
   pub bar : getD s (at + 1) 0 ≡ code "|"
 
+-- or a backslash after it, which opens a character with it
+pub record Marks (s : List ℕ) (at : ℕ) : Type 0 where
+  pub sign : Sharp s at
+  pub more : at + 1 < length s
+  pub mark : getD s (at + 1) 0 ≡ code "\\"
+
 -- from the place a to the place e stands an item with the meaning m, which is not skipped
 pub record Glanced (s : List ℕ) (report skip : Bool) (a e : ℕ) (m : Means) : Type 0 where
   pub what : Outcome
@@ -84,7 +90,7 @@ pub record Glanced (s : List ℕ) (report skip : Bool) (a e : ℕ) (m : Means) :
   pub next : ℕ
   pub begins : Begins s a next phase
   pub scan : record { what = what; end = e } ≡ answer s report a phase next
-  pub quiet : (last : Place) (i : SoFar) → rangeAfter report last a what i ≡ last
+  pub quiet : (last : Place) (end : ℕ) → rangeAfter report last a what (soFar (part s a e) end) ≡ last
   pub alone : Alone what a (part s a e) m
   pub kept : (skip && eqb (m .kind) kind.Comment) ≡ false
 

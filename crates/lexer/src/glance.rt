@@ -31,13 +31,18 @@ ghost use Rattle.items.specs.declared.Phase.the-variants.{InWord, InRun, InLine
 ghost use Rattle.meaning.specs.Meant.{means};
 ghost use Rattle.meaning.specs.declared.Text.the-variants.{Nowhere};
 ghost use Rattle.items_telling.specs.declared.Quick.the-variants.{Bracket};
-ghost use Rattle.lexer.specs.Glance.{Begins, Rare, Worded, WordedTo, Quoting, Sharp, Spells, Nests, GlanceAt, SkimAt};
+ghost use Rattle.lexer.specs.Glance.{Begins, Rare, Worded, WordedTo, Quoting, Sharp, Spells, Nests, Marks, GlanceAt, SkimAt};
 
 // From it on bytes begin characters past ASCII; so does C2, but that begins blanks.
 const WIDE_FIRST: u8 = 0xC3;
 
 // How many bytes open a nested comment.
 const NEST_LENGTH: usize = 2;
+
+// How many bytes stand before a character, and how many it has of ASCII with them: #\a
+const MARK_LENGTH: usize = 2;
+
+const CHARACTER_LENGTH: usize = MARK_LENGTH + 1;
 
 // A bracket.
 fn bracket(kind: u32, detail: u32, at: usize, end: usize) -> Quick
@@ -99,8 +104,8 @@ fn quick_line(source: &[u8], skip: bool, at: usize) -> Quick
     }
 }
 
-// Whether a byte ends a boolean before it, of those that often do.
-fn ends_boolean(b: u8) -> bool
+// Whether a byte ends what a number sign began before it, of those that often do.
+fn ends_hash(b: u8) -> bool
     ensures { λ r. ⌜ (r ≡ true → (b < 0x80) × (inHash b ≡ stopsHash)) ⌝ }
 {
     match b {
@@ -121,8 +126,27 @@ fn quick_boolean(source: &[u8], value: u32, at: usize) -> Quick
     if source.len() <= end {
         return Quick::Other;
     }
-    if ends_boolean(source[end]) {
+    if ends_hash(source[end]) {
         return bare(kinds::BOOLEAN_LITERAL, value, at, end);
+    }
+    Quick::Other
+}
+
+// A character of ASCII by itself that starts at a place.
+fn quick_character(source: &[u8], at: usize) -> Quick
+    requires { ⌜ (length (now source) ≤ limit) × Marks (now source) at ⌝ }
+    ensures { λ r. ⌜ ((report skip : Bool) → GlanceAt (now (source .entry)) report skip at r) ⌝ }
+{
+    let end = at + CHARACTER_LENGTH;
+    if source.len() <= end {
+        return Quick::Other;
+    }
+    let c = source[at + MARK_LENGTH];
+    if ASCII_END <= c {
+        return Quick::Other;
+    }
+    if ends_hash(source[end]) {
+        return bare(kinds::CHARACTER_LITERAL, c as u32, at, end);
     }
     Quick::Other
 }
@@ -155,6 +179,7 @@ fn quick_hash(source: &[u8], skip: bool, at: usize) -> Quick
         b't' => quick_boolean(source, kinds::TRUE, at),
         b'f' => quick_boolean(source, kinds::FALSE, at),
         b'|' => quick_nested(source, skip, at),
+        b'\\' => quick_character(source, at),
         _ => Quick::Other,
     }
 }

@@ -1,4 +1,4 @@
--- The byte after the sign opens a vector or a nested comment, or is a letter that spells a boolean with it (Sharps).
+-- The byte after the sign opens a vector, a nested comment or a character, or is a letter that spells a boolean with it (Sharps).
 use borrow.Author.Needs.{needs}
 use native.Mathlib.Omega.{arith}
 use mathlib.Core.Path.{sym, subst}
@@ -39,6 +39,11 @@ quick-nested-requires c κs =
     let a = c .before .before .before .before in
     (a .pre .0, record { sign = a .pre .1; more = omega (arith, c .before .before .if1 .left); bar = c .match .keys4 }, a .pre .2)
 
+quick-character-requires : tie.Need-quick-character-requires
+quick-character-requires c κs =
+    let a = c .before .before .before .before in
+    (a .pre .0, record { sign = a .pre .1; more = omega (arith, c .before .before .if1 .left); mark = c .match .keys5 })
+
 returns-2 : tie.Need-returns-2
 returns-2 c report =
     let a = c .before .before .before .before .before in
@@ -55,7 +60,10 @@ returns-5 : tie.Need-returns-5
 returns-5 c report = c .quick-nested .ensures report
 
 returns-6 : tie.Need-returns-6
-returns-6 c report = tt
+returns-6 c report = c .quick-character .ensures report (c .before .before .before .before .before .args .skip)
+
+returns-7 : tie.Need-returns-7
+returns-7 c report = tt
 
 pub quick-hash-spec : {M : Type 1} → statement M
 quick-hash-spec =
@@ -69,8 +77,10 @@ quick-hash-spec =
     quick-boolean-requires
     quick-boolean-requires-2
     quick-nested-requires
+    quick-character-requires
     returns-2
     returns-3
     returns-4
     returns-5
-    returns-6)
+    returns-6
+    returns-7)
