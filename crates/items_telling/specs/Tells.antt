@@ -9,6 +9,9 @@ use Rattle.items.specs.Kinds as kind
 use Rattle.items.specs.Items.{depthAfter}
 use Rattle.items.specs.Meaning.{meaningOf}
 use Rattle.items.specs.declared.Outcome.{Outcome}
+use Rattle.items.specs.declared.Outcome.the-variants.{Str, Lined}
+use Rattle.items.specs.declared.Quotes.{Quotes}
+use Rattle.items.specs.declared.Quotes.the-variants.{Double, Lines}
 use Rattle.meaning.specs.Meant.{sizedAll}
 use Rattle.meaning.specs.declared.Text.{Text}
 use Rattle.meaning.specs.declared.Text.the-variants.{Nowhere, Source, Decoded}
@@ -36,3 +39,12 @@ abbrev pub Tells : Outcome → ℕ → List ℕ → Quick → Type 0
 Tells what at raw (Item m a e) = (a ≡ at) × (e ≡ at + length raw) × (eqb (m .kind) kind.Comment ≡ false) × (m .kind < kind.firstError) × Alone what at raw m × Level (m .kind)
 Tells what at raw (Bracket m a e) = ⊥
 Tells what at raw Other = Unit
+
+-- what an item is that is wholly in quotes, and its kind
+abbrev pub quotedAs : Quotes → Outcome
+quotedAs Double = Str
+quotedAs Lines = Lined
+
+abbrev pub quotedKind : Quotes → ℕ
+quotedKind Double = kind.StringLiteral
+quotedKind Lines = kind.Identifier

@@ -6,7 +6,7 @@ use Rattle.chars.specs.Wide.{PastAscii, Solid}
 use Rattle.items.specs.Kinds as kind
 use Rattle.items.specs.Classes.{firstOf}
 use Rattle.items.specs.Machine.{onFirst, scanOf}
-use Rattle.items.specs.Readers.{SoFar, soFar}
+use Rattle.items.specs.Readers.{soFar}
 use Rattle.items.specs.Meaning.{meaningOf}
 use Rattle.items.specs.Items.{Place, range, rangeAfter, standing, placeOf}
 use Rattle.items.specs.Whole.{limit}
@@ -107,8 +107,8 @@ module _ (s : List ℕ) (report skip : Bool) (a e : ℕ) (m : Means) (G : Glance
   made free p = One (nineFor free m extent (toldPlace p)) (moved p e (placeIn (p .last)) false)
 
   -- the item sets no range
-  quiet-in : (p : Spot) → p .report ≡ report → (last : Place) (i : SoFar) → rangeAfter (p .report) last a (G .what) i ≡ last
-  quiet-in p u last i = rw u (G .quiet last i)
+  quiet-in : (p : Spot) → p .report ≡ report → (last : Place) (end : ℕ) → rangeAfter (p .report) last a (G .what) (soFar (part s a e) end) ≡ last
+  quiet-in p u last end = rw u (G .quiet last end)
 
   turn-told : (free : ℕ) (p : Spot) → p .report ≡ report
       → made free p ≡ foundOf free (turnAt p a (G .begins .c) (chars (drop (G .next) s)))

@@ -21,7 +21,9 @@ pub mod Glances
 pub mod Stood
 pub mod Strung
 pub mod Tells
+pub mod Quotings
 pub mod Sharps
+pub mod LoneCharacters
 pub mod Skims
 pub mod AllItems
 pub mod Memory

@@ -1,15 +1,18 @@
--- What a number sign begins, as far as the next bytes tell: the opening of a vector, and a boolean of one letter before a byte that ends
--- it. The machine's two turns after the sign are taken one by one.
+-- What a number sign begins, as far as the next bytes tell: the opening of a vector, a boolean of one letter before a byte that ends it, and a
+-- nested comment. The machine's turns after the sign are taken one by one.
 use Rattle.laws.specs.Quoted.{code}
 use Rattle.laws.specs.Texts.{same, begins}
 use Rattle.laws.proofs.Places.{here}
 use Rattle.chars.specs.Blank.{isBlank}
 use Rattle.chars.specs.Encode.{bytesOf, utf8}
+use Rattle.chars.specs.Utf8.{firstBad}
+use Rattle.chars.specs.declared.Utf8.the-variants.{Good}
+use Rattle.chars.proofs.Cuts.{good-past}
 use Rattle.chars.proofs.Chars.{CharAt, char-at}
 use Rattle.items.specs.Kinds as kind
 use Rattle.items.specs.Classes.{startsRun, firstOf, afterHash, endsHash, inHash, stopsHash}
 use Rattle.items.specs.Machine.{stepOf}
-use Rattle.items.specs.Readers.{soFar, hashKind, boolKind, quoteKind, formKind}
+use Rattle.items.specs.Readers.{soFar, comment, hashKind, boolKind, quoteKind, formKind}
 use Rattle.items.specs.declared.HashKind.the-variants.{Decided, Bracket}
 use Rattle.items.specs.declared.Next.the-variants.{Eat, Stop}
 use Rattle.items.specs.declared.Outcome.{Outcome}
@@ -21,18 +24,19 @@ use Rattle.steps.proofs.Turn.{turn-eat, turn-stop}
 use Rattle.meaning.specs.Meant.{means}
 use Rattle.meaning.specs.declared.Means.{Means}
 use Rattle.meaning.specs.declared.Text.the-variants.{Nowhere}
-use Rattle.lexer.specs.Glance.{Begins, Sharp, Spells, Glanced, GlanceAt, SkimAt}
+use Rattle.lexer.specs.Glance.{Begins, Sharp, Spells, Nests, Glanced, GlanceAt, SkimAt}
 use Rattle.items_telling.specs.declared.Quick.{Quick}
 use Rattle.items_telling.specs.declared.Quick.the-variants as quick
 use Rattle.lexer.proofs.Glances as glances
-use Rattle.lexer.proofs.Tells.{and-false}
+use Rattle.lexer.proofs.Tells.{and-false, comment-told}
+use Rattle.steps.specs.Ended.{EndsAs}
 use Rattle.steps.specs.declared.Ending.the-variants as ending
 use Prim.Native.Nat.{ℕ, _+_, _-_, _<_}
 use mathlib.Core.Path.{_≡_, refl, sym, ap, _∙_, subst}
 use mathlib.Core.Bool.{Bool, false}
 use mathlib.Core.List.{List, [], _∷_}
 use lib.Dec.{eqb}
-use lib.ListN.{length, getD, take}
+use lib.ListN.{length, getD, take, drop}
 use native.Mathlib.Omega.{arith}
 
 pub spells-true : (s : List ℕ) (at : ℕ) → Sharp s at → at + 1 < length s → getD s (at + 1) 0 ≡ code "t" → Spells s at 1
@@ -44,7 +48,7 @@ unfolding afterHash inHash endsHash isBlank hashKind boolKind same bytesOf utf8
 spells-false s at S m e = record { sign = S; more = m; letter = code "f"; stands = e; small = omega arith; stays = λ raw. refl; boolean = refl }
 
 -- a character of ASCII stands at a place
-ascii-at : (s : List ℕ) (at c : ℕ) → at < length s → getD s at 0 ≡ c → c < 0x80 → CharAt s at c (at + 1)
+pub ascii-at : (s : List ℕ) (at c : ℕ) → at < length s → getD s at 0 ≡ c → c < 0x80 → CharAt s at c (at + 1)
 ascii-at s at c h e k = subst (λ (x : ℕ). CharAt s at x (at + 1)) e (char-at s at (getD s at 0) (at + 1) (ascii-found s at h (omega arith)) (omega arith))
 
 -- the kind of the bare sign
@@ -56,11 +60,11 @@ vector-opens : (report : Bool) (raw : List ℕ) (n : ℕ) → raw ≡ code "#" �
 unfolding afterHash inHash endsHash
 vector-opens report raw n e = rw (e, sign-kind)
 
-boolean-ends : (report : Bool) (raw : List ℕ) (n c : ℕ) (o : Outcome) → hashKind raw ≡ Decided o → inHash c ≡ stopsHash → stepOf report ph.InHash (soFar raw n) c ≡ Stop o
-boolean-ends report raw n c o e k = rw (k, e)
+pub hash-ends : (report : Bool) (raw : List ℕ) (n c : ℕ) (o : Outcome) → hashKind raw ≡ Decided o → inHash c ≡ stopsHash → stepOf report ph.InHash (soFar raw n) c ≡ Stop o
+hash-ends report raw n c o e k = rw (k, e)
 
 module _ (s : List ℕ) (at : ℕ) (S : Sharp s at) where
-  sign-begins : Begins s at (at + 1) ph.AfterHash
+  pub sign-begins : Begins s at (at + 1) ph.AfterHash
   unfolding firstOf startsRun isBlank
   sign-begins = glances.begins s at (code "#") ph.AfterHash (S .some) (S .sharp) (omega arith) refl refl
 
@@ -83,7 +87,7 @@ module _ (s : List ℕ) (at : ℕ) (S : Sharp s at) where
     next = at + 1;
     begins = sign-begins;
     scan = h;
-    quiet = λ last i. refl;
+    quiet = λ last end. refl;
     alone = record { means = λ r. refl; undecoded = tt };
     kept = and-false skip (eqb k kind.Comment) other;
   }
@@ -113,12 +117,34 @@ boolean-told s at v B report skip m c e stop =
       omega arith,
       two-told s at (B .sign) report skip kind.BooleanLiteral v
           (sym (turn-eat s report at ph.AfterHash (at + 1) (B .letter) (at + 2) k ph.InHash (omega arith) (B .stays (part s at (at + 1)))
-          ∙ turn-stop s report at ph.InHash (at + 2) c (at + 2 + 1) l o (boolean-ends report (part s at (at + 2))
+          ∙ turn-stop s report at ph.InHash (at + 2) c (at + 2 + 1) l o (hash-ends report (part s at (at + 2))
           (at + 2) c o (ap hashKind (letter-part s at (B .sign) (B .letter) (B .more) (B .stands)) ∙ B .boolean) (stop .1)))) refl,
       λ depth. refl,
     )
 
--- where only its end is asked for
+-- ---- a nested comment
+
+nest-opens : (report : Bool) (raw : List ℕ) (n : ℕ) → stepOf report ph.AfterHash (soFar raw n) (code "|") ≡ Eat (ph.Nest 1)
+unfolding afterHash
+nest-opens report raw n = refl
+
+module _ (s : List ℕ) (at : ℕ) (N : Nests s at) where
+  pub nested-good : firstBad s ≡ Good → firstBad (drop (at + 2) s) ≡ Good
+  nested-good g =
+      let n : at + 1 + 1 ≡ at + 2 = omega arith in
+      subst (λ (i : ℕ). firstBad (drop i s) ≡ Good) n (good-past s (at + 1) g (N .more) (omega (arith, N .bar)))
+
+  -- where comments are kept
+  pub nested-told : (report skip : Bool) (e : ℕ) → skip ≡ false → EndsAs s report (ph.Nest 1) comment (at + 2) (ending.At e)
+      → GlanceAt s report skip at (quick.Item (means kind.Comment 0 Nowhere) at e)
+  nested-told report skip e kept h =
+      let n : at + 1 + 1 ≡ at + 2 = omega arith in
+      let k : CharAt s (at + 1) (code "|") (at + 2) = subst (CharAt s (at + 1) (code "|")) n (ascii-at s (at + 1) (code "|") (N .more) (N .bar) (omega arith)) in
+      comment-told s report skip at (at + 1) e ph.AfterHash kept (sign-begins s at (N .sign))
+      (sym (turn-eat s report at ph.AfterHash (at + 1) (code "|") (at + 2) k (ph.Nest 1) (omega arith) (nest-opens report (part s at (at + 1)) (at + 1)) ∙ h at (omega arith)))
+
+-- ---- where only its end is asked for
+
 pub hash-skims : (s : List ℕ) (report skip : Bool) (at : ℕ) (q : Quick) → GlanceAt s report skip at q → (m : Means) (a e : ℕ) → q ≡ quick.Item m a e → SkimAt s report skip at (ending.At e)
 hash-skims s report skip at q g m a e h = let t = subst (GlanceAt s report skip at) h g in (m, t .2)
 

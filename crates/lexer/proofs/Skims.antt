@@ -2,14 +2,13 @@
 -- is a word of the table, an identifier, a number or an error.
 use Rattle.items.specs.Kinds as kind
 use Rattle.items.specs.Readers.{SoFar, comment, firstIs}
-use Rattle.items.specs.Meaning.{wordKind, runMeans, escaped}
+use Rattle.items.specs.Meaning.{wordKind, runMeans}
 use Rattle.items.specs.Items.{Item, Place, range, rangeAfter}
 use Rattle.items.specs.Whole.{limit}
 use Rattle.items.specs.declared.Outcome.{Outcome}
-use Rattle.items.specs.declared.Outcome.the-variants.{Str, Word, Run}
+use Rattle.items.specs.declared.Outcome.the-variants.{Word, Run}
 use Rattle.items.specs.declared.Phase.{Phase}
 use Rattle.items.specs.declared.Phase.the-variants as ph
-use Rattle.items.specs.declared.Quotes.the-variants.{Double}
 use Rattle.items.specs.declared.Nine.{Nine}
 use Rattle.laws.specs.Quoted.{code}
 use Rattle.laws.proofs.Choice.{by-bool}
@@ -35,26 +34,18 @@ use Rattle.lexer.specs.declared.Found.the-variants.{One}
 use Rattle.lexer.proofs.Glances.{next-told, toldPlace, bare-nine}
 use Rattle.lexer.proofs.ReadingOn.{going-on, it, it-moved, size-le}
 use Rattle.lexer.proofs.ToldTurns.{here, Blanks, going-blanks, none-halfway}
-use Rattle.items_telling.proofs.Tells.{string-tells, identifier-tells, word-tells, run-tells}
-use Rattle.lexer.proofs.Tells.{and-false, spans, ends-here, line-told}
-use Prim.Native.Nat.{ℕ, _+_, _-_, _*_, _≤_, _<_}
-use mathlib.Core.Path.{_≡_, refl, sym, ap, _∙_, subst}
+use Rattle.items_telling.proofs.Tells.{identifier-tells, word-tells, run-tells}
+use Rattle.lexer.proofs.Tells.{and-false, first-byte, spans, ends-here, comment-told}
+use Prim.Native.Nat.{ℕ, _+_, _*_, _≤_, _<_}
+use mathlib.Core.Path.{_≡_, refl, sym, _∙_, subst}
 use mathlib.Core.Bool.{Bool, false}
 use mathlib.Core.List.{List, [], _∷_, _++_}
 use lib.Dec.{eqb}
-use lib.ListN.{length, length-append, getD, drop}
-use lib.Seq.{getD-take, getD-drop}
+use lib.ListN.{length, length-append, getD}
 use native.Mathlib.Omega.{arith}
 use borrow.Author.Tests.{eq-eqb, eqb-true, ne-eqb}
 
 -- ---- what is skimmed
-
--- the first byte of a part
-first-byte : (s : List ℕ) (at e : ℕ) → at < e → getD (part s at e) 0 0 ≡ getD s at 0
-first-byte s at e h =
-    let n : 0 < e - at = omega arith in
-    let z : at + 0 ≡ at = omega arith in
-    getD-take (e - at) (drop at s) 0 0 n ∙ getD-drop at s 0 0 ∙ ap (λ (i : ℕ). getD s i 0) z
 
 -- an extent has one meaning, without decoded text, and is no comment
 abbrev Sole : Outcome → ℕ → List ℕ → Type 0
@@ -81,7 +72,7 @@ module _ (s : List ℕ) (report skip : Bool) (at next : ℕ) (short : length s �
   sole-skims : (o : Outcome) (p : Phase) (e : ℕ) → Begins s at next p → record { what = o; end = e } ≡ answer s report at p next
       → ((last : Place) (i : SoFar) → rangeAfter report last at o i ≡ last) → Sole o at (part s at e) → SkimAt s report skip at (ending.At e)
   sole-skims o p e B h quiet S =
-      (S .0, record { what = o; phase = p; next = next; begins = B; scan = h; quiet = quiet; alone = S .1 .0; kept = and-false skip (eqb (S .0 .kind) kind.Comment) (S .1 .1) })
+      (S .0, record { what = o; phase = p; next = next; begins = B; scan = h; quiet = λ last end. quiet last _; alone = S .1 .0; kept = and-false skip (eqb (S .0 .kind) kind.Comment) (S .1 .1) })
 
   no-plus : (o : Outcome) (p : Phase) (e : ℕ) → Begins s at next p → record { what = o; end = e } ≡ answer s report at p next
       → (getD s at 0 ≡ code "+" → ⊥) → firstIs (code "+") (part s at e) ≡ false
@@ -99,17 +90,9 @@ module _ (s : List ℕ) (report skip : Bool) (at next : ℕ) (short : length s �
       let scan = ends-here s report at next ph.InRun Run e B h in
       sole-skims Run ph.InRun e B scan (λ last i. refl) (run-sole at (part s at e) (no-plus Run ph.InRun e B scan n) (parseNumber (part s at e)) refl)
 
-  pub string-skims : Begins s at next (ph.Quoted Double) → (e : ℕ) → EndsAs s report (ph.Quoted Double) Str next (ending.At e) → escaped (part s at e) ≡ false
-      → SkimAt s report skip at (ending.At e)
-  string-skims B e h f =
-      let raw = part s at e in
-      let t = string-tells at (at + length raw) raw refl f in
-      sole-skims Str (ph.Quoted Double) e B (ends-here s report at next (ph.Quoted Double) Str e B h) (λ last i. refl)
-      (means kind.StringLiteral 0 (Source (at + 1) (at + length raw - 1)), (t .4, t .2))
-
   pub line-skims : skip ≡ false → Begins s at next ph.InLine → (r : Ending) → EndsAs s report ph.InLine comment next r → SkimAt s report skip at r
   line-skims k B ending.Unknown h = tt
-  line-skims k B (ending.At e) h = (means kind.Comment 0 Nowhere, line-told s report skip at next e k B (ends-here s report at next ph.InLine comment e B h) .2)
+  line-skims k B (ending.At e) h = (means kind.Comment 0 Nowhere, comment-told s report skip at next e ph.InLine k B (ends-here s report at next ph.InLine comment e B h) .2)
 
 pub worded-skims : (s : List ℕ) (report skip : Bool) (at : ℕ) → length s ≤ limit → (r : Ending) → WordedTo s at r → SkimAt s report skip at r
 worded-skims s report skip at short ending.Unknown w = tt

@@ -30,11 +30,19 @@ use mathlib.Core.Bool.{Bool, true, false, _&&_}
 use mathlib.Core.List.{List}
 use lib.Dec.{eqb}
 use lib.ListN.{length, getD, drop, length-take, length-drop}
+use lib.Seq.{getD-take, getD-drop}
 use native.Mathlib.Omega.{arith}
 
 pub and-false : (b x : Bool) → x ≡ false → (b && x) ≡ false
 and-false true x e = e
 and-false false x e = refl
+
+-- a byte of a part, and its first
+pub part-byte : (s : List ℕ) (at e i : ℕ) → at + i < e → getD (part s at e) i 0 ≡ getD s (at + i) 0
+part-byte s at e i h = let n : i < e - at = omega arith in getD-take (e - at) (drop at s) i 0 n ∙ getD-drop at s i 0
+
+pub first-byte : (s : List ℕ) (at e : ℕ) → at < e → getD (part s at e) 0 0 ≡ getD s at 0
+first-byte s at e h = let z : at + 0 ≡ at = omega arith in part-byte s at e 0 (omega arith) ∙ ap (λ (i : ℕ). getD s i 0) z
 
 -- ---- a character that is an item of its own
 
@@ -46,7 +54,7 @@ single-told s report skip at c k d h e l b f other = record {
   next = at + 1;
   begins = begins s at c (ph.Done (Token k d)) h e l b f;
   scan = done-scan report (Token k d) (soFar (part s at (at + 1)) (at + 1)) (chars (drop (at + 1) s));
-  quiet = λ last i. refl;
+  quiet = λ last end. refl;
   alone = record { means = λ r. refl; undecoded = tt };
   kept = and-false skip (eqb k kind.Comment) other;
 }
@@ -92,7 +100,7 @@ module _ (s : List ℕ) (report : Bool) (at next e : ℕ) (o : Outcome) (p : Pha
           next = next;
           begins = B;
           scan = h;
-          quiet = quiet;
+          quiet = λ last end. quiet last _;
           alone = t .4;
           kept = and-false skip (eqb (m .kind) kind.Comment) (t .2);
         }),
@@ -100,18 +108,18 @@ module _ (s : List ℕ) (report : Bool) (at next e : ℕ) (o : Outcome) (p : Pha
       )
 
 -- a comment, where comments are kept
-pub line-told : (s : List ℕ) (report skip : Bool) (at next e : ℕ) → skip ≡ false → Begins s at next ph.InLine
-    → record { what = comment; end = e } ≡ answer s report at ph.InLine next → GlanceAt s report skip at (Item (means kind.Comment 0 Nowhere) at e)
-line-told s report skip at next e k B h = (
+pub comment-told : (s : List ℕ) (report skip : Bool) (at next e : ℕ) (p : Phase) → skip ≡ false → Begins s at next p
+    → record { what = comment; end = e } ≡ answer s report at p next → GlanceAt s report skip at (Item (means kind.Comment 0 Nowhere) at e)
+comment-told s report skip at next e p k B h = (
   refl,
   omega arith,
   record {
     what = comment;
-    phase = ph.InLine;
+    phase = p;
     next = next;
     begins = B;
     scan = h;
-    quiet = λ last i. refl;
+    quiet = λ last end. refl;
     alone = record { means = λ r. refl; undecoded = tt };
     kept = rw k;
   },

@@ -7,14 +7,15 @@ use lib.ListN.{length, getD}
 use lib.Dec.{eqb}
 use Rattle.laws.specs.Quoted.{code}
 use Rattle.items.specs.Kinds as kind
-use Rattle.items.specs.Classes.{firstOf, afterHash}
+use Rattle.items.specs.Classes.{delimOf, firstOf, afterHash}
 use Rattle.items.specs.Machine.{onFirst, onAfterHash}
-use Rattle.items.specs.Readers.{SoFar, hashKind}
+use Rattle.items.specs.Readers.{soFar, hashKind}
 use Rattle.items.specs.Items.{Place, rangeAfter}
 use Rattle.items.specs.declared.HashKind.the-variants.{Decided}
 use Rattle.items.specs.declared.Next.the-variants.{Eat}
 use Rattle.items.specs.declared.Outcome.{Outcome}
 use Rattle.items.specs.declared.Outcome.the-variants.{Token, Word}
+use Rattle.items.specs.declared.Quotes.{Quotes}
 use Rattle.items.specs.declared.Phase.{Phase}
 use Rattle.items.specs.declared.Phase.the-variants as ph
 use Rattle.steps.specs.Scan.{part, answer}
@@ -23,7 +24,7 @@ use Rattle.steps.specs.declared.Ending.{Ending}
 use Rattle.steps.specs.declared.Ending.the-variants as ending
 use Rattle.meaning.specs.declared.Means.{Means}
 use Rattle.lexer.specs.Inner.{First}
-use Rattle.items_telling.specs.Tells.{Alone, Level}
+use Rattle.items_telling.specs.Tells.{Alone, Level, quotedKind}
 use Rattle.items_telling.specs.declared.Quick.{Quick}
 use Rattle.items_telling.specs.declared.Quick.the-variants.{Item, Bracket, Other}
 
@@ -47,6 +48,14 @@ abbrev pub WordedTo : List ℕ → ℕ → Ending → Type 0
 WordedTo s at (ending.At e) = (next : ℕ) × (Worded s at next × ((report : Bool) → EndsAs s report ph.InWord Word next (ending.At e)))
 WordedTo s at ending.Unknown = Unit
 
+-- a quote stands at a place, which such a quote closes, and what is wholly in them has a kind
+pub record Quoting (s : List ℕ) (at quote kind : ℕ) : Type 0 where
+  pub quotes : Quotes
+  pub some : at < length s
+  pub opens : getD s at 0 ≡ delimOf quotes
+  pub closes : quote ≡ delimOf quotes
+  pub is : kind ≡ quotedKind quotes
+
 -- a number sign stands at a place
 pub record Sharp (s : List ℕ) (at : ℕ) : Type 0 where
   pub some : at < length s
@@ -62,6 +71,18 @@ pub record Spells (s : List ℕ) (at v : ℕ) : Type 0 where
   pub stays : (raw : List ℕ) → onAfterHash (afterHash letter) raw letter ≡ Eat ph.InHash
   pub boolean : hashKind (code "#" ∷ letter ∷ []) ≡ Decided (Token kind.BooleanLiteral v)
 
+-- or a vertical line after it, which opens a nested comment with it
+pub record Nests (s : List ℕ) (at : ℕ) : Type 0 where
+  pub sign : Sharp s at
+  pub more : at + 1 < length s
+  pub bar : getD s (at + 1) 0 ≡ code "|"
+
+-- or a backslash after it, which opens a character with it
+pub record Marks (s : List ℕ) (at : ℕ) : Type 0 where
+  pub sign : Sharp s at
+  pub more : at + 1 < length s
+  pub mark : getD s (at + 1) 0 ≡ code "\\"
+
 -- from the place a to the place e stands an item with the meaning m, which is not skipped
 pub record Glanced (s : List ℕ) (report skip : Bool) (a e : ℕ) (m : Means) : Type 0 where
   pub what : Outcome
@@ -69,7 +90,7 @@ pub record Glanced (s : List ℕ) (report skip : Bool) (a e : ℕ) (m : Means) :
   pub next : ℕ
   pub begins : Begins s a next phase
   pub scan : record { what = what; end = e } ≡ answer s report a phase next
-  pub quiet : (last : Place) (i : SoFar) → rangeAfter report last a what i ≡ last
+  pub quiet : (last : Place) (end : ℕ) → rangeAfter report last a what (soFar (part s a e) end) ≡ last
   pub alone : Alone what a (part s a e) m
   pub kept : (skip && eqb (m .kind) kind.Comment) ≡ false
 

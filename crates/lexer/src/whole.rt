@@ -195,15 +195,15 @@ fn put_told(source: &[u8], p: Spot, recs: &mut [u32], free: usize, from: usize, 
     }
 }
 
-// As `put_told`, for the words that `quick_rare` tells.
+// As `put_told`, for what `quick_rare` tells.
 fn put_rare(source: &[u8], p: Spot, recs: &mut [u32], free: usize, from: usize, deep: u32) -> Wrote
-    requires { ⌜ (length (now source) ≤ limit) × Amid (now source) p (now recs) free deep from ⌝ }
+    requires { ⌜ (length (now source) ≤ limit) × Amid (now source) p (now recs) free deep from × (firstBad (now source) ≡ Good) ⌝ }
     ensures { λ r. ⌜ ToldOn (now (source .entry)) p (now (recs .entry)) free deep from (r .at) (now (recs .exit)) (r .depth) (r .words) ⌝ }
 {
     let mut w = from;
     let mut at = p.at;
     while at < source.len() {
-        match quick_rare(source, at) {
+        match quick_rare(source, p.report, at) {
             Quick::Item(m, start, end) => {
                 put(&mut recs[w..], record_at(m, start, end, free, deep));
                 w += RECORD_WORDS;

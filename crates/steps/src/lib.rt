@@ -16,8 +16,9 @@ pub mod signs;
 mod words;
 
 pub use endings::line_ending;
+pub use endings::nested_ending;
+pub use endings::quoted_ending;
 pub use endings::run_ending;
-pub use endings::string_ending;
 pub use endings::word_ending;
 pub use here::delimiter_length;
 pub use here::here_line;

@@ -3,7 +3,8 @@ use borrow.Author.Needs.{needs}
 use native.Mathlib.Omega.{arith}
 use mathlib.Core.Path.{sym}
 use denote.Ref.{now}
-use Rattle.steps.proofs.Ended.{string-before}
+use Rattle.items.specs.declared.Quotes.the-variants.{Double}
+use Rattle.steps.proofs.Ended.{closed-before}
 use Rattle.items_telling.proofs.Escaped.{fails-past}
 use Rattle.items_telling.proofs.strings.string_at.Statement.{statement}
 use Rattle.items_telling.proofs.strings.string_at.Tie as tie
@@ -22,7 +23,7 @@ returns-2 c =
     let pass = w .past-string .ensures in (
       omega (arith, pass .0),
       omega (arith, c .before .before .if1 .left),
-      λ report a b. sym (string-before (now (f .s)) (f .from) (w .past-string .result) pass report (c .before .before .if1 .left) (c .if2 .taken) a b),
+      λ report a b. sym (closed-before (now (f .s)) (f .from) (w .past-string .result) Double pass (c .before .before .if1 .left) (c .if2 .taken) report a b),
     )
 
 returns-5 : tie.Need-returns-5

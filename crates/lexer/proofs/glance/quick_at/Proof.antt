@@ -17,6 +17,7 @@ use Rattle.items_telling.specs.declared.Quick.{Quick}
 use Rattle.lexer.proofs.Glances.{begins}
 use Rattle.items_telling.proofs.Firsts.{letter-solid, letter-first, digit-solid, digit-first}
 use Rattle.lexer.proofs.Tells.{single-told}
+use Rattle.lexer.proofs.Quotings.{quoting}
 use Rattle.lexer.proofs.glance.quick_at.Statement.{statement}
 use Rattle.lexer.proofs.glance.quick_at.Tie as tie
 
@@ -75,12 +76,11 @@ add-bare-2 c = search needs
 bare-requires-2 : tie.Need-bare-requires-2
 bare-requires-2 c κs = search needs
 
-quick-string-requires : tie.Need-quick-string-requires
-unfolding firstOf startsRun isBlank
-quick-string-requires c κs =
+quick-quoted-requires : tie.Need-quick-quoted-requires
+quick-quoted-requires c κs =
     let a = c .before .before .before in (
       a .pre .0,
-      begins (now (a .args .source)) (a .args .at) (code "\"") (ph.Quoted Double) (a .pre .1) (c .match .keys9) (omega arith) refl refl,
+      quoting (now (a .args .source)) (a .args .at) Double (a .pre .1) (c .match .keys9),
       good-past (now (a .args .source)) (a .args .at) (a .pre .2) (a .pre .1) (omega (arith, c .match .keys9)),
     )
 
@@ -94,7 +94,7 @@ quick-line-requires c κs =
     )
 
 quick-hash-requires : tie.Need-quick-hash-requires
-quick-hash-requires c κs = let a = c .before .before .before in (a .pre .0, record { some = a .pre .1; sharp = c .match .keys11 })
+quick-hash-requires c κs = let a = c .before .before .before in (a .pre .0, record { some = a .pre .1; sharp = c .match .keys11 }, a .pre .2)
 
 quick-run-requires : tie.Need-quick-run-requires
 quick-run-requires c κs =
@@ -204,13 +204,13 @@ returns-8 c =
     )
 
 returns-9 : tie.Need-returns-9
-returns-9 c = let a = c .before .before .before .before in c .quick-string .ensures (a .args .report) (a .args .skip)
+returns-9 c = let a = c .before .before .before .before in c .quick-quoted .ensures (a .args .report) (a .args .skip)
 
 returns-10 : tie.Need-returns-10
 returns-10 c = let a = c .before .before .before .before in c .quick-line .ensures (a .args .report)
 
 returns-11 : tie.Need-returns-11
-returns-11 c = let a = c .before .before .before .before in c .quick-hash .ensures (a .args .report) (a .args .skip)
+returns-11 c = let a = c .before .before .before .before in c .quick-hash .ensures (a .args .report)
 
 returns-12 : tie.Need-returns-12
 returns-12 c = let a = c .before .before .before .before .before .before in c .quick-run .ensures (a .args .skip)
@@ -248,7 +248,7 @@ quick-at-spec =
     bare-requires
     add-bare-2
     bare-requires-2
-    quick-string-requires
+    quick-quoted-requires
     quick-line-requires
     quick-hash-requires
     quick-run-requires

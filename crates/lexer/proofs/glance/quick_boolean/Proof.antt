@@ -17,11 +17,11 @@ add-end c = omega (arith, c .before .pre .0, c .before .pre .1 .more)
 returns : tie.Need-returns
 returns c report skip = tt
 
-shared-slice-read-ends-boolean : tie.Need-shared-slice-read-ends-boolean
-shared-slice-read-ends-boolean c = search needs
+shared-slice-read-ends-hash : tie.Need-shared-slice-read-ends-hash
+shared-slice-read-ends-hash c = search needs
 
-ends-boolean-requires : tie.Need-ends-boolean-requires
-ends-boolean-requires c κs = search needs
+ends-hash-requires : tie.Need-ends-hash-requires
+ends-hash-requires c κs = search needs
 
 bare-requires : tie.Need-bare-requires
 bare-requires c κs = search needs
@@ -32,7 +32,7 @@ returns-2 c report skip =
     subst (λ (q : Quick). GlanceAt (now (a .args .source)) report skip (a .args .at) q) (sym (c .bare .ensures))
     (boolean-told (now (a .args .source))
     (a .args .at) (a .args .value) (a .pre .1) report skip (omega (arith, c .before .before .before .before .if1 .left))
-    (getD (now (a .args .source)) (a .args .at + 2) 0) refl (c .before .before .ends-boolean .ensures (c .before .if2 .taken)))
+    (getD (now (a .args .source)) (a .args .at + 2) 0) refl (c .before .before .ends-hash .ensures (c .before .if2 .taken)))
 
 returns-3 : tie.Need-returns-3
 returns-3 c report skip = tt
@@ -43,8 +43,8 @@ quick-boolean-spec =
     (tie.spec
     add-end
     returns
-    shared-slice-read-ends-boolean
-    ends-boolean-requires
+    shared-slice-read-ends-hash
+    ends-hash-requires
     bare-requires
     returns-2
     returns-3)

@@ -10,7 +10,7 @@ use Rattle.steps.specs.Ended.{EndsAs}
 use Rattle.steps.specs.declared.Ending.{Ending}
 use Rattle.lexer.specs.Glance.{GlanceAt}
 use Rattle.items_telling.specs.declared.Quick.{Quick}
-use Rattle.lexer.proofs.Tells.{begins-inside, ends-here, line-told}
+use Rattle.lexer.proofs.Tells.{begins-inside, ends-here, comment-told}
 use Rattle.lexer.proofs.glance.quick_line.Statement.{statement}
 use Rattle.lexer.proofs.glance.quick_line.Tie as tie
 
@@ -37,7 +37,7 @@ returns-2 c report =
     let a = c .before .before .before .before .before .before .before in
     let e = c .before .before .end .given in
     subst (λ (q : Quick). GlanceAt (now (a .args .source)) report (a .args .skip) (a .args .at) q) (sym (c .bare .ensures))
-    (line-told (now (a .args .source)) report (a .args .skip) (a .args .at) (a .args .at + 1) (e .0 .0) (c .before .before .before .before .before .if1 .left) (a .pre .1)
+    (comment-told (now (a .args .source)) report (a .args .skip) (a .args .at) (a .args .at + 1) (e .0 .0) ph.InLine (c .before .before .before .before .before .if1 .left) (a .pre .1)
     (ends-here (now (a .args .source)) report (a .args .at) (a .args .at + 1) ph.InLine comment (e .0 .0) (a .pre .1)
     (subst (λ (y : Ending). EndsAs (now (a .args .source)) report ph.InLine comment (a .args .at + 1) y)
     (e .1) (c .before .before .before .before .line-ending .ensures report))))

@@ -1,72 +1,56 @@
--- The word ends as `rare_ending` says (Tells), and its bytes tell the rest.
+-- The arms are rows of `firstOf`; what each begins is told by its own function.
 use borrow.Author.Needs.{needs}
 use native.Mathlib.Omega.{arith}
-use mathlib.Core.Path.{refl, sym, subst}
-use mathlib.Core.Bool.{false}
+use mathlib.Core.Path.{refl}
 use denote.Ref.{now}
-use Rattle.items.specs.declared.Outcome.the-variants.{Word}
+use Rattle.laws.specs.Quoted.{code}
+use Rattle.chars.specs.Blank.{isBlank}
+use Rattle.chars.proofs.Cuts.{good-past}
+use Rattle.items.specs.Classes.{startsRun, firstOf}
 use Rattle.items.specs.declared.Phase.the-variants as ph
-use Rattle.steps.specs.declared.Ending.the-variants as ending
-use Rattle.lexer.specs.Glance.{WordedTo}
-use Rattle.lexer.proofs.Tells.{Spans, ends-here, spans, ended-told}
+use Rattle.items.specs.declared.Quotes.the-variants.{Lines}
+use Rattle.lexer.proofs.Glances.{begins}
+use Rattle.lexer.proofs.Quotings.{quoting}
 use Rattle.lexer.proofs.glance.quick_rare.Statement.{statement}
 use Rattle.lexer.proofs.glance.quick_rare.Tie as tie
 
-there : (c : tie.After-known-told) → WordedTo (now (c .before .before .before .before .before .args .source)) (c .before .before .before .before .before .args .at) (ending.At (c .before .end .given .0 .0))
-there c =
-    let a = c .before .before .before .before .before in
-    subst (WordedTo (now (a .args .source)) (a .args .at)) (c .before .end .given .1) (c .before .before .before .rare-ending .ensures)
+shared-slice-read-match : tie.Need-shared-slice-read-match
+shared-slice-read-match c = search needs
 
-within : (c : tie.After-known-told) → Spans (now (c .before .before .before .before .before .args .source)) (c .before .before .before .before .before .args .at) (c .before .end .given .0 .0)
-within c =
-    let a = c .before .before .before .before .before in
-    let w = there c in
-    spans (now (a .args .source)) false (a .args .at) (w .0) (c .before .end .given .0 .0) Word ph.InWord (w .1 .0 .begins)
-    (ends-here (now (a .args .source)) false (a .args .at) (w .0) ph.InWord Word (c .before .end .given .0 .0) (w .1 .0 .begins) (w .1 .1 false)) (a .pre .0)
+quick-quoted-requires : tie.Need-quick-quoted-requires
+quick-quoted-requires c κs =
+    let a = c .before .before .before in (
+      a .pre .0,
+      quoting (now (a .args .source)) (a .args .at) Lines (a .pre .1) (c .match .keys1),
+      good-past (now (a .args .source)) (a .args .at) (a .pre .2) (a .pre .1) (omega (arith, c .match .keys1)),
+    )
 
-rare-ending-requires : tie.Need-rare-ending-requires
-rare-ending-requires c κs = search needs
+quick-run-requires : tie.Need-quick-run-requires
+unfolding firstOf startsRun isBlank
+quick-run-requires c κs =
+    let a = c .before .before .before in
+    (a .pre .0, begins (now (a .args .source)) (a .args .at) (code "-") ph.InRun (a .pre .1) (c .match .keys2) (omega arith) refl refl)
 
-enum-known-end : tie.Need-enum-known-end
-enum-known-end c = search needs
-
-sub-tell-word : tie.Need-sub-tell-word
-sub-tell-word c = omega (arith, within c .some)
-
-part-tell-word-start : tie.Need-part-tell-word-start
-part-tell-word-start c = omega (arith, within c .some)
-
-part-tell-word-end : tie.Need-part-tell-word-end
-part-tell-word-end c = omega (arith, within c .inside)
-
-tell-word-requires : tie.Need-tell-word-requires
-tell-word-requires c κs = let w = within (c .before) in (omega (arith, w .some, w .long), sym (w .long))
-
-enum-told : tie.Need-enum-told
-enum-told c = search needs
+rare-word-requires : tie.Need-rare-word-requires
+rare-word-requires c κs = search needs
 
 returns : tie.Need-returns
-returns c report skip =
-    let a = c .before .before .before .before .before .before .before in
-    let e = c .before .before .before .end .given .0 .0 in
-    let w = there (c .before .before) in
-    ended-told (now (a .args .source)) report (a .args .at) (w .0) e Word ph.InWord (w .1 .0 .begins)
-    (ends-here (now (a .args .source)) report (a .args .at) (w .0) ph.InWord Word e (w .1 .0 .begins) (w .1 .1 report))
-    (a .pre .0) (λ last i. refl) (c .tell-word .result) (c .tell-word .ensures) skip
+returns c skip = c .quick-quoted .ensures (c .before .before .before .before .args .report) skip
 
 returns-2 : tie.Need-returns-2
-returns-2 c report skip = tt
+returns-2 c skip = c .quick-run .ensures skip
+
+returns-3 : tie.Need-returns-3
+returns-3 c skip = c .rare-word .ensures (c .before .before .before .before .args .report) skip
 
 pub quick-rare-spec : {M : Type 1} → statement M
 quick-rare-spec =
     tie.close
     (tie.spec
-    rare-ending-requires
-    enum-known-end
-    sub-tell-word
-    part-tell-word-start
-    part-tell-word-end
-    tell-word-requires
-    enum-told
+    shared-slice-read-match
+    quick-quoted-requires
+    quick-run-requires
+    rare-word-requires
     returns
-    returns-2)
+    returns-2
+    returns-3)

@@ -18,7 +18,8 @@ use Rattle.lexer.specs.Glance.{Begins}
 use Rattle.lexer.proofs.Glances.{begins}
 use Rattle.items_telling.proofs.Firsts.{letter-solid, letter-first, digit-solid, digit-first}
 use Rattle.lexer.proofs.Tells.{single-told}
-use Rattle.lexer.proofs.Skims.{word-skims, run-skims, worded-skims}
+use Rattle.lexer.proofs.Quotings.{quoted-skims}
+use Rattle.lexer.proofs.Skims.{word-skims, run-skims}
 use Rattle.lexer.proofs.glance.skim_at.Statement.{statement}
 use Rattle.lexer.proofs.glance.skim_at.Tie as tie
 
@@ -49,14 +50,10 @@ add-next c = search needs
 shared-slice-read-match : tie.Need-shared-slice-read-match
 shared-slice-read-match c = search needs
 
-skim-string-requires : tie.Need-skim-string-requires
-unfolding firstOf startsRun isBlank
-skim-string-requires c κs =
-    let a = c .before .before .before in (
-      a .pre .0,
-      begins (now (a .args .source)) (a .args .at) (code "\"") (ph.Quoted Double) (a .pre .1) (c .match .keys9) (omega arith) refl refl,
-      good-past (now (a .args .source)) (a .args .at) (a .pre .2) (a .pre .1) (omega (arith, c .match .keys9)),
-    )
+quoted-ending-requires : tie.Need-quoted-ending-requires
+quoted-ending-requires c κs =
+    let a = c .before .before .before in
+    (omega (arith, a .pre .1), good-past (now (a .args .source)) (a .args .at) (a .pre .2) (a .pre .1) (omega (arith, c .match .keys9)))
 
 skim-line-requires : tie.Need-skim-line-requires
 unfolding firstOf startsRun isBlank
@@ -68,7 +65,7 @@ skim-line-requires c κs =
     )
 
 skim-hash-requires : tie.Need-skim-hash-requires
-skim-hash-requires c κs = let a = c .before .before .before in (a .pre .0, record { some = a .pre .1; sharp = c .match .keys11 })
+skim-hash-requires c κs = let a = c .before .before .before in (a .pre .0, record { some = a .pre .1; sharp = c .match .keys11 }, a .pre .2)
 
 run-ending-requires : tie.Need-run-ending-requires
 run-ending-requires c κs = omega (arith, c .before .before .before .before .before .pre .1)
@@ -149,13 +146,16 @@ returns-8 c =
     )
 
 returns-9 : tie.Need-returns-9
-returns-9 c = let a = c .before .before .before .before in c .skim-string .ensures (a .args .report) (a .args .skip)
+returns-9 c =
+    let a = c .before .before .before .before in
+    quoted-skims (now (a .args .source)) (a .args .at) Double (a .pre .0) (a .pre .1) (c .before .match .keys9) (c .quoted-ending .result) (c .quoted-ending .ensures Double refl)
+    (a .args .report) (a .args .skip)
 
 returns-10 : tie.Need-returns-10
 returns-10 c = let a = c .before .before .before .before in c .skim-line .ensures (a .args .report)
 
 returns-11 : tie.Need-returns-11
-returns-11 c = let a = c .before .before .before .before in c .skim-hash .ensures (a .args .report) (a .args .skip)
+returns-11 c = let a = c .before .before .before .before in c .skim-hash .ensures (a .args .report)
 
 returns-12 : tie.Need-returns-12
 returns-12 c =
@@ -171,13 +171,11 @@ returns-13 c =
     word-skims (now (a .args .source)) (a .args .report) (a .args .skip) (a .args .at) (a .args .at + 1) (a .pre .0) (letter w) (λ e. omega (arith, e, w .before .if3 .left)) (c .word-ending .result)
     (c .word-ending .ensures (a .args .report))
 
-rare-ending-requires : tie.Need-rare-ending-requires
-rare-ending-requires c κs = search needs
+skim-rare-requires : tie.Need-skim-rare-requires
+skim-rare-requires c κs = search needs
 
 returns-14 : tie.Need-returns-14
-returns-14 c =
-    let a = c .before .before .before .before .before in
-    worded-skims (now (a .args .source)) (a .args .report) (a .args .skip) (a .args .at) (a .pre .0) (c .rare-ending .result) (c .rare-ending .ensures)
+returns-14 c = c .skim-rare .ensures (c .before .before .before .before .before .args .skip)
 
 pub skim-at-spec : {M : Type 1} → statement M
 skim-at-spec =
@@ -185,12 +183,12 @@ skim-at-spec =
     (tie.spec
     add-next
     shared-slice-read-match
-    skim-string-requires
+    quoted-ending-requires
     skim-line-requires
     skim-hash-requires
     run-ending-requires
     word-ending-requires
-    rare-ending-requires
+    skim-rare-requires
     returns
     returns-2
     returns-3

@@ -18,21 +18,21 @@ enum-told : tie.Need-enum-told
 enum-told c = search needs
 
 returns : tie.Need-returns
-returns c report skip =
+returns c report =
     let a = c .before .before .before .before .before in
     let g = c .before .end .given in
-    hash-skims (now (a .args .source)) report skip (a .args .at) (c .before .before .before .quick-hash .result)
-    (c .before .before .before .quick-hash .ensures report skip) (g .0 .0) (g .0 .1 .0) (g .0 .1 .1 .0) (g .1)
+    hash-skims (now (a .args .source)) report (a .args .skip) (a .args .at) (c .before .before .before .quick-hash .result)
+    (c .before .before .before .quick-hash .ensures report) (g .0 .0) (g .0 .1 .0) (g .0 .1 .1 .0) (g .1)
 
 returns-2 : tie.Need-returns-2
-returns-2 c report skip =
+returns-2 c report =
     let a = c .before .before .before .before .before in
     let g = c .before .end2 .given in
-    bracket-skims (now (a .args .source)) report skip (a .args .at) (c .before .before .before .quick-hash .result)
-    (c .before .before .before .quick-hash .ensures report skip) (g .0 .0) (g .0 .1 .0) (g .0 .1 .1 .0) (g .1)
+    bracket-skims (now (a .args .source)) report (a .args .skip) (a .args .at) (c .before .before .before .quick-hash .result)
+    (c .before .before .before .quick-hash .ensures report) (g .0 .0) (g .0 .1 .0) (g .0 .1 .1 .0) (g .1)
 
 returns-3 : tie.Need-returns-3
-returns-3 c report skip = tt
+returns-3 c report = tt
 
 pub skim-hash-spec : {M : Type 1} → statement M
 skim-hash-spec = tie.close (tie.spec quick-hash-requires enum-known-end enum-known-end-2 enum-told returns returns-2 returns-3)

@@ -69,6 +69,7 @@ put-rare-requires c κs =
       entry .pre .0,
       told-amid (now (a .source)) (a .p) (now (a .recs)) (a .free) (a .deep) (a .from) (t .put-told .result .at) (told t)
           (c .before .spot-past2 .result) (c .before .spot-past2 .ensures) (entry .pre .1),
+      entry .pre .2,
     )
 
 same-length : tie.Need-same-length Inv-loop μ-loop

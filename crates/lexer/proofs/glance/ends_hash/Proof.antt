@@ -5,8 +5,8 @@ use Prim.Native.Nat.{ℕ, _<_}
 use Rattle.laws.proofs.Choice.{impossible}
 use Rattle.chars.specs.Blank.{isBlank}
 use Rattle.items.specs.Classes.{endsHash, inHash, stopsHash}
-use Rattle.lexer.proofs.glance.ends_boolean.Statement.{statement}
-use Rattle.lexer.proofs.glance.ends_boolean.Tie as tie
+use Rattle.lexer.proofs.glance.ends_hash.Statement.{statement}
+use Rattle.lexer.proofs.glance.ends_hash.Tie as tie
 
 abbrev Ends : ℕ → Type 0
 Ends b = (b < 0x80) × (inHash b ≡ stopsHash)
@@ -30,5 +30,5 @@ returns-4 c e = subst Ends (sym (c .match .keys4)) (omega arith, refl)
 returns-5 : tie.Need-returns-5
 returns-5 c e = impossible cc
 
-pub ends-boolean-spec : {M : Type 1} → statement M
-ends-boolean-spec = tie.close (tie.spec returns returns-2 returns-3 returns-4 returns-5)
+pub ends-hash-spec : {M : Type 1} → statement M
+ends-hash-spec = tie.close (tie.spec returns returns-2 returns-3 returns-4 returns-5)
