@@ -185,7 +185,7 @@ module _ (t : List ℕ) (k : ℕ) (i : k < length t) (u : plain (take k t) ≡ t
     pub sign-alone : length t ≤ k + 1 + toSign false (drop (k + 1) t)
     sign-alone =
         let e = sign-all false (drop (k + 1) t) (behind (λ c. c ≡ code "+" → ⊥) (λ c n e. let l = n .0 in omega arith) (λ e. omega arith))
-            (behind (λ c. c ≡ code "-" → ⊥) (λ c n e. let l = n .0 in omega arith) (λ e. omega arith)) in
+        (behind (λ c. c ≡ code "-" → ⊥) (λ c n e. let l = n .0 in omega arith) (λ e. omega arith)) in
         omega (arith, length-drop (k + 1) t)
 
     pub markless : false ≡ exponentMarker (getD t 0 0)

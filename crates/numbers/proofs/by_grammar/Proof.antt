@@ -6,7 +6,6 @@ use borrow.Author.Needs.{needs}
 use Rattle.numbers.proofs.by_grammar.Statement.{statement}
 use Rattle.numbers.proofs.by_grammar.Tie as tie
 
-
 first-bad-requires : tie.Need-first-bad-requires
 first-bad-requires c κs = search needs
 

@@ -13,7 +13,6 @@ use Rattle.numbers.proofs.brief.brief_complex.Tie as tie
 abbrev entry-of : tie.After-is-sound → tie.Start
 entry-of c = c .before .before .before
 
-
 outline-at-requires : tie.Need-outline-at-requires
 outline-at-requires c κs = search needs
 
@@ -55,9 +54,9 @@ returns-4 c =
       entry .pre .1,
       ap (λ (n : ℕ). getD (entry .args .t .now) n 0) (sym last) ∙ c .before .before .if3 .left,
       ap AReal (c .before .real-of .ensures)
-      ∙ outline-real (entry .args .t .now) 0 (entry .args .one) (begun .1) (omega arith) (begun .2) (omega arith) (begun .3) (begun .4),
+          ∙ outline-real (entry .args .t .now) 0 (entry .args .one) (begun .1) (omega arith) (begun .2) (omega arith) (begun .3) (begun .4),
       ap AReal (c .real-of2 .ensures)
-      ∙ outline-to (entry .args .t .now) _ (looked .before .outline-at .result) (two .0) (two .3) (two .1) _ (omega arith) (two .2) (is-told _ (c .before .before .before .before .before .if1 .left) ∙ looked .is-sound .ensures) last,
+          ∙ outline-to (entry .args .t .now) _ (looked .before .outline-at .result) (two .0) (two .3) (two .1) _ (omega arith) (two .2) (is-told _ (c .before .before .before .before .before .if1 .left) ∙ looked .is-sound .ensures) last,
     )
 
 pub brief-complex-spec : {M : Type 1} → statement M

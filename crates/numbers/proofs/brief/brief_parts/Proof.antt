@@ -14,7 +14,6 @@ begins c =
     let one = c .before .before .before .outline-at .ensures in
     (omega arith, one .0, one .1, one .2, is-told _ (c .before .if2 .left) ∙ c .before .before .is-sound .ensures, c .if3 .left)
 
-
 returns : tie.Need-returns
 returns c = search needs
 

@@ -14,7 +14,6 @@ use Rattle.numbers.proofs.brief.brief_ratio.Tie as tie
 abbrev entry-of : tie.After-decimal-run → tie.Start
 entry-of c = c .before .before .before .before .before .before
 
-
 add-start : tie.Need-add-start
 add-start c = search needs
 

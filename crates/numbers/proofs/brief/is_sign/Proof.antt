@@ -6,7 +6,6 @@ use borrow.Author.Needs.{needs}
 use Rattle.numbers.proofs.brief.is_sign.Statement.{statement}
 use Rattle.numbers.proofs.brief.is_sign.Tie as tie
 
-
 returns : tie.Need-returns
 unfolding isSign
 returns c = simp (c .if1 .taken)
