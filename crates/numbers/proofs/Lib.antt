@@ -14,5 +14,8 @@ pub mod Plain
 pub mod Ascii
 pub mod PlainReals
 pub mod PlainPlaces
+pub mod Outlines
+pub mod BriefNumbers
+pub mod BriefAnswers
 pub mod AfterPlus
 pub mod Grammars

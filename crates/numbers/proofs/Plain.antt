@@ -293,9 +293,9 @@ module _ (neg : Bool) (p : ℕ) (s : List ℕ) where
       (λ e. good-or (decimal neg p s) (exact 10 neg p s) (decimal-good e))
       (λ k e. or-good (decimal neg p s) (exact 10 neg p s) (rw (ratio-decimal e) tt) (ratio-good k e))
 
-pub real-good : (s : List ℕ) → plain s ≡ true → Good (real 10 0 s)
+pub real-good : (p : ℕ) (s : List ℕ) → plain s ≡ true → Good (real 10 p s)
 unfolding real plain
-real-good s h = or-good (infnan s) (ureal 10 (negative s) (0 + sign s) (drop (sign s) s)) (infnan-harmless s) (ureal-good (negative s) (0 + sign s) (drop (sign s) s) h)
+real-good p s h = or-good (infnan s) (ureal 10 (negative s) (p + sign s) (drop (sign s) s)) (infnan-harmless s) (ureal-good (negative s) (p + sign s) (drop (sign s) s) h)
 
 good-number : (x : MaybeReal) → Good x → (p : Parts) × (judged (justOf x) ≡ Is p)
 unfolding judged justOf zeroParts
@@ -322,4 +322,4 @@ plain-one [] h = no-yes (sym plain-some ∙ h)
 plain-one (c ∷ s) h = let n = plain-first c s h in one-real c s (n .0) (n .1) (n .2)
 
 pub plain-is : (s : List ℕ) → plain s ≡ true → (p : Parts) × (parseNumber s ≡ Is p)
-plain-is s h = let g = good-number (real 10 0 s) (real-good s h) in (g .0, plain-one s h ∙ g .1)
+plain-is s h = let g = good-number (real 10 0 s) (real-good 0 s h) in (g .0, plain-one s h ∙ g .1)

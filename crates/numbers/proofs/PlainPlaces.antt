@@ -7,10 +7,9 @@ use Rattle.laws.proofs.Places.{past, cut-at}
 use Rattle.digits.specs.Digits.{digits, sign, uinteger}
 use Rattle.digits.proofs.Digits.{uinteger-past, uinteger-run}
 use Prim.Native.Nat.{ℕ, _+_, _≤_, _<_}
-use mathlib.Core.Path.{_≡_, sym, _∙_}
+use mathlib.Core.Path.{_≡_, sym, ap, _∙_}
 use mathlib.Core.Bool.{Bool, true, false, _&&_, _||_}
 use mathlib.Core.List.{List}
-use native.Mathlib.Nat.{zero-add}
 use lib.ListN.{length, getD, drop}
 use lib.Seq.{drop-drop, getD-drop}
 use lib.Dec.{eqb, ltb}
@@ -48,12 +47,13 @@ module _ (t : List ℕ) (p : ℕ) where
     pub ratio-run : (e : ℕ) → p + 1 < length t → code "0" < getD t (p + 1) 0 → e ≡ p + 1 + digits 10 (drop (p + 1) t) → eqb e (length t) ≡ ratio (drop p t)
     ratio-run e l z k = uinteger-run 10 t (p + 1) e l k ∙ rw (lt-ltb (code "0") (getD t (p + 1) 0) z) at after-slash
 
-module _ (t : List ℕ) (p e : ℕ) (s : p ≡ 0 + sign (drop 0 t)) (d : e ≡ p + digits 10 (drop p t)) where
-  unsigned : plain t ≡ unsignedPlain (drop p t)
+-- from the place q on, where the sign ends at p and the digits after it at e
+module _ (t : List ℕ) (q p e : ℕ) (s : p ≡ q + sign (drop q t)) (d : e ≡ p + digits 10 (drop p t)) where
+  unsigned : plain (drop q t) ≡ unsignedPlain (drop p t)
   unfolding plain
-  unsigned = let q : p ≡ sign t = s ∙ zero-add (sign t) in rw q
+  unsigned = ap unsignedPlain (sym (cut-at t q (sign (drop q t)) p s))
 
-  pub plain-digits : e ≡ length t → ltb p e ≡ plain t
+  pub plain-digits : e ≡ length t → ltb p e ≡ plain (drop q t)
   unfolding uinteger starts span
   plain-digits f = by-bool (ltb p (length t))
       (λ h. let l = ltb-true p (length t) h in
@@ -73,15 +73,15 @@ module _ (t : List ℕ) (p e : ℕ) (s : p ≡ 0 + sign (drop 0 t)) (d : e ≡ p
         (λ h. lt-ltb 0 (digits 10 (drop p t)) (omega (arith, ltb-true p e h)) ∙ sym h)
         (λ h. le-ltb 0 (digits 10 (drop p t)) (omega (arith, ltb-false p e h)) ∙ sym h)
 
-    rest : plain t ≡ (fraction (drop e t) || (ltb p e && ratio (drop e t)))
+    rest : plain (drop q t) ≡ (fraction (drop e t) || (ltb p e && ratio (drop e t)))
     rest = unsigned ∙ simp (← uninteger, ← cut-at t p (digits 10 (drop p t)) e d, some-digits)
 
-    pub plain-fraction : true ≡ fraction (drop e t) → true ≡ plain t
+    pub plain-fraction : true ≡ fraction (drop e t) → true ≡ plain (drop q t)
     plain-fraction h = sym (rest ∙ rw (sym h))
 
     module _ (f : false ≡ fraction (drop e t)) where
-      pub plain-ratio : (r : Bool) → p < e → r ≡ ratio (drop e t) → r ≡ plain t
+      pub plain-ratio : (r : Bool) → p < e → r ≡ ratio (drop e t) → r ≡ plain (drop q t)
       plain-ratio r l h = h ∙ sym (rest ∙ rw (sym f, lt-ltb p e l))
 
-      pub plain-none : e ≤ p → false ≡ plain t
+      pub plain-none : e ≤ p → false ≡ plain (drop q t)
       plain-none l = sym (rest ∙ rw (sym f, le-ltb p e l))

@@ -2,43 +2,39 @@
 -- sign; and a text that is one of them is ASCII and has that real alone.
 use Rattle.numbers.specs.declared.Real.{Real}
 use Rattle.numbers.specs.declared.Real.the-variants.{Integer}
-use Rattle.numbers.specs.declared.Parts.the-variants.{Just}
-use Rattle.numbers.specs.declared.Parsed.the-variants.{Is}
 use Rattle.numbers.specs.declared.Suffix.the-variants.{Empty}
 use Rattle.numbers.specs.declared.MaybeReal.{MaybeReal}
 use Rattle.numbers.specs.declared.MaybeReal.the-variants.{AReal, NoReal}
 use Rattle.numbers.specs.AfterPlus.{isReal}
-use Rattle.numbers.specs.Call.{parts, given, number}
-use Rattle.numbers.specs.Grammar.{justOf, zeroReal, zeroParts, judged}
-use Rattle.numbers.specs.Plain.{fraction, ratio, plain, plainReal, brief}
+use Rattle.numbers.specs.Brief.{plainFrom}
+use Rattle.numbers.specs.Grammar.{zeroReal}
+use Rattle.numbers.specs.Plain.{fraction, ratio, plain}
 use Rattle.numbers.specs.Reals.{pointOf, decimal, infnan, integralOf, exact, orElse, ureal, real}
 use Rattle.numbers.proofs.Ascii.{Ascii, ascii-good}
-use Rattle.numbers.proofs.Call.{served}
+use Rattle.numbers.proofs.Grammars.{real-signed}
+use Rattle.numbers.proofs.RealParts.{bought}
 use Rattle.numbers.proofs.Decimals.{suffix-past, dotted-fraction, decimal-dot}
-use Rattle.numbers.proofs.Plain.{All, Numeral, some, whole, uinteger-avoids, before-all, Good, no-decimal, decimal-good, ratio-decimal, real-good, plain-first, plain-some, plain-one}
-use Rattle.numbers.proofs.PlainPlaces.{plain-digits, plain-fraction, plain-ratio, plain-none}
-use Rattle.refusal.specs.Refusals.{limit}
+use Rattle.numbers.proofs.Plain.{All, Numeral, some, whole, uinteger-avoids, before-all, Good, no-decimal, decimal-good, ratio-decimal, real-good, plain-first, plain-some}
+use Rattle.numbers.proofs.PlainPlaces.{plain-digits, plain-fraction, plain-ratio}
 use Rattle.laws.specs.Quoted.{code}
 use Rattle.laws.specs.Texts.{starts, same}
 use Rattle.laws.proofs.Choice.{by-bool, and-true, and-no, no-yes, yes-no}
-use Rattle.laws.proofs.Compared.{starts-in}
 use Rattle.laws.proofs.Places.{cut-at}
 use Rattle.chars.specs.declared.Utf8.the-variants as utf8
 use Rattle.chars.specs.Utf8.{firstBad}
 use Rattle.digits.specs.declared.Int.{Int}
 use Rattle.digits.specs.declared.MaybeInt.the-variants.{AnInt}
-use Rattle.digits.specs.Digits.{digits, sign, uinteger, short, wholeOf}
+use Rattle.digits.specs.Digits.{digits, sign, uinteger, wholeOf}
 use Rattle.digits.proofs.Digits.{uinteger-run, uinteger-in}
-use Prim.Native.Nat.{ℕ, _+_, _-_, _≤_, _<_}
+use Prim.Native.Nat.{ℕ, _+_, _≤_, _<_}
 use mathlib.Core.Path.{_≡_, refl, sym, ap, _∙_}
 use mathlib.Core.Bool.{Bool, true, false, _&&_}
 use mathlib.Core.List.{List, [], _∷_}
-use lib.ListN.{length, getD, drop}
+use lib.ListN.{length, drop}
 use lib.Seq.{drop-drop}
-use lib.Dec.{ltb, leb}
+use lib.Dec.{eqb}
 use native.Mathlib.Omega.{arith}
-use native.Mathlib.Nat.{zero-add}
-use borrow.Author.Tests.{eq-eqb, ne-eqb, lt-ltb, le-ltb, le-leb, lt-leb, leb-true}
+use borrow.Author.Tests.{eq-eqb, ne-eqb, eqb-true, lt-ltb, le-ltb}
 
 -- ---- no infinity
 
@@ -71,33 +67,34 @@ module _ (neg : Bool) (p : ℕ) (s : List ℕ) where
   unfolding ureal orElse
   ureal-ratio h = simp (ratio-decimal neg p s h)
 
-pub fraction-in : (t : List ℕ) (e : ℕ) → true ≡ fraction (drop e t) → e < length t
-fraction-in t e h = starts-in (code ".") t e (sym (and-true (starts (code ".") (drop e t)) (uinteger 10 (drop 1 (drop e t))) (sym h) .0))
+-- a slash is no dot
+slash-fraction : (s : List ℕ) → true ≡ ratio s → false ≡ fraction s
+unfolding starts
+slash-fraction [] h = refl
+slash-fraction (c ∷ s) h =
+    let d = eqb-true c (code "/") (and-true (eqb c (code "/")) _ (sym h) .0) in simp (ne-eqb c (code ".") (λ e. omega arith))
 
--- ---- the whole text: the sign ends at p, the digits after it at e
+-- ---- the text from the place q on: the sign ends at p, the digits after it at e
 
-module _ (t : List ℕ) (neg : Bool) (p e : ℕ) (n : neg ≡ starts (code "-") (drop 0 t)) (s : p ≡ 0 + sign (drop 0 t)) (d : e ≡ p + digits 10 (drop p t)) where
-  after-sign : plain t ≡ true → ureal 10 neg p (drop p t) ≡ plainReal t
-  unfolding plainReal real orElse
-  after-sign h = let q : p ≡ sign t = s ∙ zero-add (sign t) in simp (h, plain-finite t h, n, q, zero-add)
+module _ (t : List ℕ) (q : ℕ) (neg : Bool) (p e : ℕ) (n : neg ≡ starts (code "-") (drop q t)) (s : p ≡ q + sign (drop q t))
+    (d : e ≡ p + digits 10 (drop p t)) where
+  after-sign : plain (drop q t) ≡ true → ureal 10 neg p (drop p t) ≡ plainFrom q (drop q t)
+  unfolding plainFrom
+  after-sign h =
+      real-signed bought 10 t q (infnan (drop q t)) refl (ureal 10 neg p (drop p t)) neg p (plain-finite (drop q t) h) n s refl ∙ simp h
 
   run-in : p ≤ e
   run-in = omega arith
 
-  module _ (f : e ≡ length t) where
-    pub real-whole : p < e → (x : Int) → AnInt x ≡ wholeOf 10 neg p (drop p t) → AReal (Integer x) ≡ plainReal t
-    unfolding integralOf
-    real-whole l x h =
-        let u = sym (eq-eqb e (length t) f) ∙ uinteger-run 10 t p e (omega arith) d in
-        ap integralOf h ∙ sym (ureal-whole neg p (drop p t) (sym u)) ∙ after-sign (sym (plain-digits t p e s d f) ∙ lt-ltb p e l)
-
-    pub real-sign : e ≤ p → NoReal ≡ plainReal t
-    unfolding plainReal
-    real-sign l = simp (sym (plain-digits t p e s d f) ∙ le-ltb p e l)
+  pub real-whole : e ≡ length t → p < e → (x : Int) → AnInt x ≡ wholeOf 10 neg p (drop p t) → AReal (Integer x) ≡ plainFrom q (drop q t)
+  unfolding integralOf
+  real-whole f l x h =
+      let u = sym (eq-eqb e (length t) f) ∙ uinteger-run 10 t p e (omega arith) d in
+      ap integralOf h ∙ sym (ureal-whole neg p (drop p t) (sym u)) ∙ after-sign (sym (plain-digits t q p e s d f) ∙ lt-ltb p e l)
 
   module _ (k : e ≡ length t → ⊥) where
     pub real-fraction : true ≡ fraction (drop e t) → (r : MaybeReal)
-        → r ≡ pointOf neg (record { start = p; end = e }) (record { start = e + 1; end = length t }) Empty → r ≡ plainReal t
+        → r ≡ pointOf neg (record { start = p; end = e }) (record { start = e + 1; end = length t }) Empty → r ≡ plainFrom q (drop q t)
     real-fraction h r z =
         let a = and-true (starts (code ".") (drop e t)) (uinteger 10 (drop 1 (drop e t))) (sym h) in
         let u : uinteger 10 (drop (e + 1) t) ≡ true = ap (uinteger 10) (sym (drop-drop 1 e t)) ∙ a .1 in
@@ -105,23 +102,14 @@ module _ (t : List ℕ) (neg : Bool) (p e : ℕ) (n : neg ≡ starts (code "-") 
         let w = whole (drop (e + 1) t) u in
         let m = some (drop (e + 1) t) u in
         decimal-dot neg t p e d r (sym (a .0))
-        (dotted-fraction neg t p e (e + 1) (length t) run-in (omega arith) r Empty (suffix-past t (length t) (omega arith)) z (λ q. omega arith))
+        (dotted-fraction neg t p e (e + 1) (length t) run-in (omega arith) r Empty (suffix-past t (length t) (omega arith)) z (λ i. omega arith))
         ∙ sym (ureal-decimal neg p (drop p t) (ap fraction (sym (cut-at t p (digits 10 (drop p t)) e d)) ∙ sym h))
-        ∙ after-sign (sym (plain-fraction t p e s d k h))
+        ∙ after-sign (sym (plain-fraction t q p e s d k h))
 
-    module _ (f : false ≡ fraction (drop e t)) where
-      pub real-ratio : p < e → true ≡ ratio (drop e t) → (r : MaybeReal) → r ≡ exact 10 neg p (drop p t) → r ≡ plainReal t
-      real-ratio l h r z =
-          z ∙ sym (ureal-ratio neg p (drop p t) (ap ratio (sym (cut-at t p (digits 10 (drop p t)) e d)) ∙ sym h))
-          ∙ after-sign (sym (plain-ratio t p e s d k f true l h))
-
-      pub real-other : p < e → false ≡ ratio (drop e t) → NoReal ≡ plainReal t
-      unfolding plainReal
-      real-other l h = simp (sym (plain-ratio t p e s d k f false l h))
-
-      pub real-none : e ≤ p → NoReal ≡ plainReal t
-      unfolding plainReal
-      real-none l = simp (sym (plain-none t p e s d k f l))
+    pub real-ratio : p < e → true ≡ ratio (drop e t) → (r : MaybeReal) → r ≡ exact 10 neg p (drop p t) → r ≡ plainFrom q (drop q t)
+    real-ratio l h r z =
+        z ∙ sym (ureal-ratio neg p (drop p t) (ap ratio (sym (cut-at t p (digits 10 (drop p t)) e d)) ∙ sym h))
+        ∙ after-sign (sym (plain-ratio t q p e s d k (slash-fraction (drop e t) h) true l h))
 
 -- ---- what has such a real
 
@@ -129,50 +117,17 @@ numerals-ascii : (s : List ℕ) → All Numeral s → Ascii s
 numerals-ascii [] h = tt
 numerals-ascii (c ∷ s) h = let n = h .0 .1 in (omega arith, numerals-ascii s (h .1))
 
-plain-ascii : (s : List ℕ) → plain s ≡ true → Ascii s
+pub plain-ascii : (s : List ℕ) → plain s ≡ true → Ascii s
 plain-ascii [] h = tt
 plain-ascii (c ∷ s) h = let n = plain-first c s h in let u = n .1 in (omega arith, numerals-ascii s (n .2))
 
 pub plain-good : (s : List ℕ) → plain s ≡ true → firstBad s ≡ utf8.Good
 plain-good s h = ascii-good s (plain-ascii s h)
 
-pub plain-told : (t : List ℕ) (x : Real) → AReal x ≡ plainReal t → (plain t ≡ true) × (judged (justOf (real 10 0 t)) ≡ Is (Just x))
-unfolding plainReal judged justOf zeroParts
-plain-told t x e = by-bool (plain t)
-    (λ h. let r : AReal x ≡ real 10 0 t = simp h at e in
-    let g : zeroReal x ≡ false = rw (sym r) at (real-good t h) in (h, rw (sym r) (simp g)))
+-- one that is told
+pub plain-told : (p : ℕ) (s : List ℕ) (x : Real) → AReal x ≡ plainFrom p s → (plain s ≡ true) × (AReal x ≡ real 10 p s) × (zeroReal x ≡ false)
+unfolding plainFrom
+plain-told p s x e = by-bool (plain s)
+    (λ h. let r : AReal x ≡ real 10 p s = simp h at e in
+    let g : zeroReal x ≡ false = rw (sym r) at (real-good p s h) in (h, r, g))
     (λ h. let r : AReal x ≡ NoReal = simp h at e in yes-no (ap isReal r))
-
-pub plain-answer : (t : List ℕ) → length t ≤ limit → (x : Real) → AReal x ≡ plainReal t → parts (Just x) ≡ number t
-plain-answer t l x e =
-    let h = plain-told t x e in sym (served t l (plain-good t (h .0)) ∙ ap given (plain-one t (h .0) ∙ h .1))
-
--- ---- the length and the ends
-
-module _ (t : List ℕ) where
-  pub brief-empty : length t ≡ 0 → false ≡ brief t
-  unfolding brief
-  brief-empty h = simp h
-
-  module _ (z : length t ≡ 0 → ⊥) where
-    positive : ltb 0 (length t) ≡ true
-    positive = lt-ltb 0 (length t) (omega arith)
-
-    pub brief-long : short < length t → false ≡ brief t
-    unfolding brief
-    brief-long h = simp (positive, lt-leb (length t) short h)
-
-    module _ (l : length t ≤ short) where
-      pub brief-last : code "9" < getD t (length t - 1) 0 → false ≡ brief t
-      unfolding brief
-      brief-last h = simp (positive, le-leb (length t) short l, lt-leb (getD t (length t - 1) 0) (code "9") h)
-
-      pub brief-first : getD t (length t - 1) 0 ≤ code "9" → leb (getD t 0 0) (code "9") ≡ brief t
-      unfolding brief
-      brief-first h = simp (positive, le-leb (length t) short l, le-leb (getD t (length t - 1) 0) (code "9") h)
-
-  pub brief-short : true ≡ brief t → length t ≤ short
-  unfolding brief
-  brief-short h =
-      let a = and-true (ltb 0 (length t)) (leb (length t) short && (leb (getD t (length t - 1) 0) (code "9") && leb (getD t 0 0) (code "9"))) (sym h) in
-      leb-true (length t) short (and-true (leb (length t) short) (leb (getD t (length t - 1) 0) (code "9") && leb (getD t 0 0) (code "9")) (a .1) .0)

@@ -27,11 +27,3 @@ unsignedPlain s = uinteger 10 s || (fraction (drop (digits 10 s) s) || (ltb 0 (d
 
 unfoldable pub plain : List ℕ → Bool
 plain s = unsignedPlain (drop (sign s) s)
-
--- the real that one of the plainest numbers is
-unfoldable pub plainReal : List ℕ → MaybeReal
-plainReal s = if plain s then real 10 0 s else NoReal
-
--- whether a text may be one of them by its length and its two ends: it is short, and past `9` no character is theirs
-unfoldable pub brief : List ℕ → Bool
-brief s = ltb 0 (length s) && (leb (length s) short && (leb (getD s (length s - 1) 0) (code "9") && leb (getD s 0 0) (code "9")))

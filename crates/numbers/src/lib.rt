@@ -9,17 +9,18 @@ use digits::Span;
 use refusal::LIMIT;
 ghost use mathlib.Core.Path.{_≡_};
 ghost use Rattle.numbers.specs.Grammar.{zeroInt, zeroReal, zeroParts, judged, radixMark, prefix, parseNumber};
-ghost use lib.ListN.{drop};
+ghost use Prim.Native.Nat.{_≤_};
+ghost use lib.ListN.{length, drop};
+ghost use Rattle.refusal.specs.Refusals.{limit};
 ghost use Rattle.numbers.specs.Plain.{fraction, ratio, plain};
 ghost use Rattle.numbers.specs.Call.{answered, given, number};
 
+mod brief;
 mod complexes;
-mod plainest;
 mod plus;
 mod reals;
 
-pub use plainest::is_brief;
-pub use plainest::plain_real;
+pub use brief::brief_parts;
 pub use plus::plus_number;
 
 // What the second reader (crate numbers_standard) has in common with this one. Internal.
@@ -125,6 +126,16 @@ pub enum MaybePoint {
 pub enum MaybeParts {
     SomeParts(Parts),
     NoParts,
+}
+
+// What a plainest real without a slash has from a place on: whether a minus sign, where its digits start, where those before a dot end and where
+// all end, and the value of those before the dot.
+pub struct Outline {
+    pub negative: bool,
+    pub start: usize,
+    pub dot: usize,
+    pub end: usize,
+    pub value: u64,
 }
 
 // Document 01's number of the error of a zero denominator: 1/0
@@ -296,23 +307,26 @@ pub fn serve(p: Parsed) -> NumberAnswer
     }
 }
 
-// The number call on any bytes. One of the plainest numbers is ASCII, so its text need not be asked whether it is UTF-8.
+// The number call on a text that is short enough, by the whole grammar.
+pub fn by_grammar(t: &[u8]) -> NumberAnswer
+    requires { ⌜ length (now t) ≤ limit ⌝ }
+    ensures { λ r. ⌜ answered r ≡ number (now (t .entry)) ⌝ }
+{
+    match chars::first_bad(t) {
+        Utf8::Bad(at) => NumberAnswer::NotUtf8(at),
+        Utf8::Good => serve(parse_number(t)),
+    }
+}
+
+// The number call on any bytes. A brief number is ASCII, so its text need not be asked whether it is UTF-8.
 pub fn number(t: &[u8]) -> NumberAnswer
     ensures { λ r. ⌜ answered r ≡ number (now (t .entry)) ⌝ }
 {
     if LIMIT < t.len() {
         return NumberAnswer::TooLong;
     }
-    if is_brief(t) {
-        match plain_real(t) {
-            MaybeReal::AReal(x) => {
-                return NumberAnswer::Is(Parts::Just(x));
-            }
-            MaybeReal::NoReal => {}
-        }
-    }
-    match chars::first_bad(t) {
-        Utf8::Bad(at) => NumberAnswer::NotUtf8(at),
-        Utf8::Good => serve(parse_number(t)),
+    match brief_parts(t) {
+        MaybeParts::SomeParts(p) => NumberAnswer::Is(p),
+        MaybeParts::NoParts => by_grammar(t),
     }
 }

@@ -3,16 +3,19 @@ use Rattle.refusal.specs.Refusals.{tooLong, notUtf8, limit, unknownChoice}
 use Rattle.numbers.specs.declared.Parsed.{Parsed}
 use Rattle.numbers.specs.declared.MaybeParts.{MaybeParts}
 use Rattle.numbers.specs.Grammar.{judged, prefix}
-use Rattle.numbers.specs.Call.{given, number, refused}
+use Rattle.numbers.specs.Call.{Answer, given, number, refused}
 use Rattle.numbers_standard.specs.Grammar.{complex, numberParts, parseStandard}
 use Rattle.numbers_standard.specs.Call.{bought, standard, byStandard, numberBy}
 use Rattle.chars.specs.Utf8.{firstBad}
 use Rattle.chars.specs.declared.Utf8.the-variants as utf8
 use Prim.Native.Nat.{ℕ, _≤_, _<_}
-use mathlib.Core.Path.{_≡_}
+use mathlib.Core.Path.{_≡_, _∙_}
 use mathlib.Core.List.{List}
 use lib.ListN.{length, drop}
-use borrow.Author.Tests.{lt-ltb, le-ltb, eq-eqb, ne-eqb}
+use lib.Dec.{eqb}
+use Rattle.laws.proofs.Choice.{by-bool}
+use native.Mathlib.Omega.{arith}
+use borrow.Author.Tests.{lt-ltb, le-ltb, eq-eqb, ne-eqb, eqb-true, eqb-false}
 
 -- the prefix m
 module _ (s : List ℕ) (m : ℕ) (b : MaybeParts) (r : Parsed) (p : m ≡ prefix s) where
@@ -53,3 +56,11 @@ module _ (c : ℕ) (t : List ℕ) where
     pub by-unknown : (c ≡ standard → ⊥) → refused unknownChoice 0 ≡ numberBy c t
     unfolding numberBy
     by-unknown m = simp (ne-eqb c bought n, ne-eqb c standard m)
+
+  pub by-other : c ≤ standard → (c ≡ bought → ⊥) → byStandard t ≡ numberBy c t
+  by-other l n =
+      by-standard n (by-bool (eqb c standard) (λ e. eqb-true c standard e) (λ e. absurd (n (omega (arith, eqb-false c standard e)))))
+
+  -- what both readers answer
+  pub by-both : c ≤ standard → (a : Answer) → a ≡ number t → a ≡ byStandard t → a ≡ numberBy c t
+  by-both l a f g = by-bool (eqb c bought) (λ e. f ∙ by-bought (eqb-true c bought e)) (λ e. g ∙ by-other l (eqb-false c bought e))

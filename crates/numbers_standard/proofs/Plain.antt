@@ -1,23 +1,31 @@
--- The plainest numbers are read as by the bought reader: they have no letter, so that case does not matter, and no sign but the first.
-use Rattle.numbers.specs.declared.Real.{Real}
-use Rattle.numbers.specs.declared.Parts.the-variants.{Just}
+-- The plainest reals are read as by the bought reader: they have no letter, so that case does not matter, and no sign but the first. So are
+-- brief numbers, which are cut at the same place.
+use Rattle.numbers.specs.declared.Parts.{Parts}
+use Rattle.numbers.specs.declared.Parts.the-variants.{Just, Complex, Polar}
+use Rattle.numbers.specs.declared.Parsed.the-variants.{Is}
+use Rattle.numbers.specs.declared.MaybeParts.the-variants.{SomeParts}
 use Rattle.numbers.specs.declared.MaybeReal.{MaybeReal}
-use Rattle.numbers.specs.declared.MaybeReal.the-variants.{AReal}
+use Rattle.numbers.specs.Brief.{Briefly}
 use Rattle.numbers.specs.Call.{parts, given}
 use Rattle.numbers.specs.Grammar.{justOf, startsE, judged, prefix}
-use Rattle.numbers.specs.Plain.{ratio, unsignedPlain, plain, plainReal}
+use Rattle.numbers.specs.Plain.{ratio, unsignedPlain, plain}
 use Rattle.numbers.specs.Reals as bought
 use Rattle.numbers.proofs.Plain.{All, Numeral, all-map, by-shape, uinteger-avoids, before-all, sign-all, avoids-start, decimal-good, before-slash, plain-first, plain-some}
-use Rattle.numbers.proofs.PlainReals.{first-good, plain-good, plain-told}
+use Rattle.numbers.proofs.PlainReals.{first-good, plain-told}
+use Rattle.numbers.proofs.Ascii.{ascii-good}
+use Rattle.numbers.proofs.BriefNumbers.{unmarked, sign-there, markless, polar-parts, complex-parts}
+use Rattle.numbers.proofs.BriefAnswers.{judged-is, nonzero, brief-ascii}
 use Rattle.numbers_standard.specs.Reals.{infnan, ureal, real}
 use Rattle.numbers_standard.specs.Reals as standard
 use Rattle.numbers_standard.specs.Grammar.{endsI, aloneOf, joint, rectangular, complex, numberParts, parseStandard}
 use Rattle.numbers_standard.specs.Call.{byStandard}
-use Rattle.numbers_standard.proofs.Call.{served}
+use Rattle.numbers_standard.proofs.Call.{parse-ten, served}
+use Rattle.numbers_standard.proofs.Cuts.{ends-here, joint-other, rectangular-pair}
+use Rattle.numbers_standard.proofs.Cuts as cuts
 use Rattle.numbers_standard.proofs.Letters.{lower-below}
 use Rattle.refusal.specs.Refusals.{limit}
 use Rattle.laws.specs.Letters.{lower}
-use Rattle.laws.specs.Quoted.{code}
+use Rattle.laws.specs.Quoted.{code, within}
 use Rattle.laws.specs.Texts.{starts}
 use Rattle.laws.proofs.Choice.{and-true, no-yes}
 use Rattle.laws.proofs.Compared.{starts-in}
@@ -26,7 +34,7 @@ use Prim.Native.Nat.{ℕ, zero, suc, _+_, _-_, _≤_, _<_}
 use mathlib.Core.Path.{_≡_, refl, sym, ap, _∙_}
 use mathlib.Core.Bool.{Bool, true, false, _&&_}
 use mathlib.Core.List.{List, [], _∷_, map}
-use lib.ListN.{length, getD, drop}
+use lib.ListN.{length, getD, take, drop}
 use lib.Seq.{drop-drop}
 use lib.Dec.{ltb}
 use native.Mathlib.Omega.{arith}
@@ -114,17 +122,39 @@ module _ (neg : Bool) (p : ℕ) (s : List ℕ) where
       ∙ sym (first-good (bought.decimal neg p s) (bought.exact 10 neg p s) (decimal-good neg p s e)))
       (λ _ e. rw (ratio-same e))
 
-real-same : (c : ℕ) (s : List ℕ) → plain (c ∷ s) ≡ true → real 10 0 (c ∷ s) ≡ bought.real 10 0 (c ∷ s)
+pub real-same : (p : ℕ) (s : List ℕ) → plain s ≡ true → real 10 p s ≡ bought.real 10 p s
 unfolding real bought.real infnan plain
-real-same c s h =
+real-same p [] h = no-yes (sym plain-some ∙ h)
+real-same p (c ∷ s) h =
     let n = plain-first c s h in
-    rw (low-same (c ∷ s) (low c s (n .0) (n .1) (n .2)), ureal-same (negative (c ∷ s)) (0 + sign (c ∷ s)) (drop (sign (c ∷ s)) (c ∷ s)) h)
+    rw (low-same (c ∷ s) (low c s (n .0) (n .1) (n .2)), ureal-same (negative (c ∷ s)) (p + sign (c ∷ s)) (drop (sign (c ∷ s)) (c ∷ s)) h)
 
 plain-one : (s : List ℕ) → plain s ≡ true → parseStandard s ≡ judged (justOf (bought.real 10 0 s))
 plain-one [] h = no-yes (sym plain-some ∙ h)
 plain-one (c ∷ s) h =
-    let n = plain-first c s h in one-real c s (n .0) (n .1) (n .2) ∙ ap (λ (x : MaybeReal). judged (justOf x)) (real-same c s h)
+    let n = plain-first c s h in one-real c s (n .0) (n .1) (n .2) ∙ ap (λ (x : MaybeReal). judged (justOf x)) (real-same 0 (c ∷ s) h)
 
-pub plain-answer : (t : List ℕ) → length t ≤ limit → (x : Real) → AReal x ≡ plainReal t → parts (Just x) ≡ byStandard t
-plain-answer t l x e =
-    let h = plain-told t x e in sym (served t l (plain-good t (h .0)) ∙ ap given (plain-one t (h .0) ∙ h .1))
+-- ---- brief numbers: both grammars cut them at the same place
+
+brief-parsed : (t : List ℕ) (p : Parts) → Briefly t (SomeParts p) → Is p ≡ parseStandard t
+unfolding justOf lower within
+brief-parsed t (Just a) h =
+    let r = plain-told 0 t a h in judged-is (Just a) (nonzero t (Just a) h) ∙ ap (λ (x : MaybeReal). judged (justOf x)) (r .1) ∙ sym (plain-one t (r .0))
+brief-parsed t (Polar a b) h =
+    let k = h .0 in
+    let u = plain-told 0 (drop 0 (take k t)) a (h .3) .0 in
+    parse-ten t 0 (SomeParts (Polar a b)) (Is (Polar a b)) (unmarked t k (h .1) u) refl
+    (polar-parts cuts.standard real-same t k (h .1) a b (h .3) (h .2) (h .4)) (judged-is (Polar a b) (nonzero t (Polar a b) h))
+brief-parsed t (Complex a b) h =
+    let k = h .0 in
+    let u = plain-told 0 (drop 0 (take k t)) a (h .4) .0 in
+    let w = plain-told k (drop k (take (length t - 1) t)) b (h .5) .0 in
+    let l = h .1 in
+    let e = ends-here t k (h .1) (code "i") (ap lower (sym (h .3))) in
+    let j = joint-other 10 t 0 k (λ q. omega arith) (omega arith) false (markless t k (h .1) u (h .2) (h .3) w) (sign-there t k (h .1) u (h .2) (h .3) w) in
+    parse-ten t 0 (SomeParts (Complex a b)) (Is (Complex a b)) (unmarked t k (h .1) u) refl
+    (complex-parts cuts.standard real-same t k (h .1) a b (h .4) (h .2) (h .3) (h .5) e (λ r z. rectangular-pair 10 t 0 k j r (h .1) z))
+    (judged-is (Complex a b) (nonzero t (Complex a b) h))
+
+pub brief-answer : (t : List ℕ) → length t ≤ limit → (p : Parts) → Briefly t (SomeParts p) → parts p ≡ byStandard t
+brief-answer t l p h = ap given (brief-parsed t p h) ∙ sym (served t l (ascii-good t (brief-ascii t p h)))

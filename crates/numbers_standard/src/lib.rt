@@ -4,14 +4,16 @@
 // index is a place of the text, and the place where the part starts.
 use chars::Utf8;
 use digits::DECIMAL_RADIX;
-use numbers::MaybeReal;
+use numbers::MaybeParts;
 use numbers::NO_RADIX;
 use numbers::NumberAnswer;
 use numbers::PREFIX;
 use numbers::Parsed;
-use numbers::Parts;
 use refusal::LIMIT;
 ghost use mathlib.Core.Path.{_≡_};
+ghost use Prim.Native.Nat.{_≤_};
+ghost use lib.ListN.{length};
+ghost use Rattle.refusal.specs.Refusals.{limit};
 ghost use Rattle.numbers.specs.Call.{answered};
 ghost use Rattle.numbers_standard.specs.Grammar.{parseStandard};
 ghost use Rattle.numbers_standard.specs.Call.{answeredBy, byStandard, numberBy};
@@ -44,36 +46,35 @@ pub fn parse_standard(t: &[u8]) -> Parsed
     }
 }
 
-// The number call with the standard's reader on any bytes. Both readers answer the plainest numbers alike.
+// The number call with the standard's reader on a text that is short enough.
 fn by_standard(t: &[u8]) -> NumberAnswer
+    requires { ⌜ length (now t) ≤ limit ⌝ }
     ensures { λ r. ⌜ answered r ≡ byStandard (now (t .entry)) ⌝ }
 {
-    if LIMIT < t.len() {
-        return NumberAnswer::TooLong;
-    }
-    if numbers::is_brief(t) {
-        match numbers::plain_real(t) {
-            MaybeReal::AReal(x) => {
-                return NumberAnswer::Is(Parts::Just(x));
-            }
-            MaybeReal::NoReal => {}
-        }
-    }
     match chars::first_bad(t) {
         Utf8::Bad(at) => NumberAnswer::NotUtf8(at),
         Utf8::Good => numbers::serve(parse_standard(t)),
     }
 }
 
-// The number call with a choice of reader on any bytes.
+// The number call with a choice of reader on any bytes. Both readers answer brief numbers alike.
 pub fn number_by(choice: u32, t: &[u8]) -> NumberByAnswer
     ensures { λ r. ⌜ answeredBy r ≡ numberBy choice (now (t .entry)) ⌝ }
 {
+    if STANDARD < choice {
+        return NumberByAnswer::UnknownChoice;
+    }
+    if LIMIT < t.len() {
+        return NumberByAnswer::Answered(NumberAnswer::TooLong);
+    }
+    match numbers::brief_parts(t) {
+        MaybeParts::SomeParts(p) => {
+            return NumberByAnswer::Answered(NumberAnswer::Is(p));
+        }
+        MaybeParts::NoParts => {}
+    }
     if choice == BOUGHT {
-        return NumberByAnswer::Answered(numbers::number(t));
+        return NumberByAnswer::Answered(numbers::by_grammar(t));
     }
-    if choice == STANDARD {
-        return NumberByAnswer::Answered(by_standard(t));
-    }
-    NumberByAnswer::UnknownChoice
+    NumberByAnswer::Answered(by_standard(t))
 }

@@ -19,8 +19,7 @@ use Rattle.laws.proofs.Lent.{written-push, length-written, length-part, part-wr
 use Rattle.chars.specs.Encode.{lay}
 use Rattle.numbers.specs.Call.{Answer}
 use Rattle.numbers_words.specs.declared.Flat.{Flat}
-use Rattle.numbers_words.specs.declared.Flattened.{Flattened}
-use Rattle.numbers_words.specs.Words.{minus, value, formed, joined, flattened, numberWords, roomOr, numberOr, figure, real, answer}
+use Rattle.numbers_words.specs.Words.{minus, value, formed, joined, flattened, numberWords, roomOr, numberOr, figure, real}
 
 -- -1 less a negative value is its magnitude less 1
 less : (n : ℕ) → negsuc 0 -ℤ negsuc n ≡ pos n
@@ -60,14 +59,14 @@ real-is r a b c e f g =
     ∙ ap (λ (x : List ℕ). formed (r .form) a x (figure (r .three))) f
     ∙ ap (λ (x : List ℕ). formed (r .form) a b x) g
 
-pub answer-is : (w : Flattened) (a b : List ℕ) → real (w .one) ≡ a → real (w .two) ≡ b → answer w ≡ joined (w .first) a b
-unfolding answer
-answer-is w a b e f = ap (λ (x : List ℕ). joined (w .first) x (real (w .two))) e ∙ ap (λ (x : List ℕ). joined (w .first) a x) f
+-- an answer's words by those of its reals
+pub joined-is : (first : ℕ) {a b c d : List ℕ} → a ≡ c → b ≡ d → joined first a b ≡ joined first c d
+joined-is first {b = b} {c = c} e f = ap (λ (x : List ℕ). joined first x b) e ∙ ap (λ (x : List ℕ). joined first c x) f
 
 -- every answer that is no refusal has as many words
-pub length-answer : (w : Flattened) → length (answer w) ≡ numberWords
-unfolding answer joined real formed
-length-answer w = refl
+length-answer : (first : ℕ) (one two : Flat) → length (joined first (real one) (real two)) ≡ numberWords
+unfolding joined real formed
+length-answer first one two = refl
 
 -- words are laid where there is room for all of them
 module _ (w memory : List ℕ) where
@@ -80,21 +79,21 @@ module _ (w memory : List ℕ) where
   laid-all h e = simp (le-ltb (length memory) (length w) h) e
 
 -- 22, or the number of an answer that there is room for
-module _ (w : Flattened) (memory : List ℕ) where
-  pub too-few : length memory < numberWords → (refusal.tooFew ≡ roomOr memory (w .number)) × (memory ≡ lay (answer w) memory)
+module _ (n first : ℕ) (one two : Flat) (memory : List ℕ) where
+  abbrev words : List ℕ
+  words = joined first (real one) (real two)
+
+  pub too-few : length memory < numberWords → (refusal.tooFew ≡ roomOr memory n) × (memory ≡ lay words memory)
   too-few h =
-      (simp (lt-ltb (length memory) numberWords h), laid-none (answer w) memory (omega (arith, length-answer w)))
+      (simp (lt-ltb (length memory) numberWords h), laid-none words memory (omega (arith, length-answer first one two)))
 
-  pub served : {now : List ℕ} → numberWords ≤ length memory → now ≡ written (answer w) memory → (w .number ≡ roomOr memory (w .number)) × (now ≡ lay (answer w) memory)
-  served h e = (simp (le-ltb (length memory) numberWords h), laid-all (answer w) memory (omega (arith, length-answer w)) e)
+  pub served : {now : List ℕ} → numberWords ≤ length memory → now ≡ written words memory → (n ≡ roomOr memory n) × (now ≡ lay words memory)
+  served h e = (simp (le-ltb (length memory) numberWords h), laid-all words memory (omega (arith, length-answer first one two)) e)
 
--- an answer told by the words and the number that it is known to have
-pub served-as : (memory : List ℕ) (w : Flattened) (l : List ℕ) (n : ℕ) {r : ℕ} {now : List ℕ} → w .number ≡ n → answer w ≡ l
-    → r ≡ roomOr memory (w .number) → now ≡ lay (answer w) memory → (r ≡ roomOr memory n) × (now ≡ lay l memory)
-served-as memory w l n d e f g = (
-  f ∙ ap (λ (m : ℕ). roomOr memory m) d,
-  g ∙ ap (λ (x : List ℕ). lay x memory) e,
-)
+-- an answer told by the words that it is known to have
+pub served-as : (memory : List ℕ) (n : ℕ) {w l : List ℕ} {r : ℕ} {now : List ℕ} → w ≡ l
+    → (r ≡ roomOr memory n) × (now ≡ lay w memory) → (r ≡ roomOr memory n) × (now ≡ lay l memory)
+served-as memory n e t = (t .0, t .1 ∙ ap (λ (x : List ℕ). lay x memory) e)
 
 -- the one word of a refusal
 module _ (x : ℕ) (memory : List ℕ) where

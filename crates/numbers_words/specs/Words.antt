@@ -17,7 +17,6 @@ use Rattle.numbers.specs.declared.Parts.the-variants.{Just, Complex, Polar}
 use Rattle.numbers.specs.Call.{Answer, parts, noNumber, error, refused}
 use Rattle.numbers_words.specs.declared.Figure.{Figure}
 use Rattle.numbers_words.specs.declared.Flat.{Flat}
-use Rattle.numbers_words.specs.declared.Flattened.{Flattened}
 
 abbrev pub bit : Bool → ℕ
 bit true = 1
@@ -106,6 +105,3 @@ figure f = f .has ∷ f .minus ∷ f .first ∷ f .second ∷ []
 
 unfoldable pub real : Flat → List ℕ
 real r = formed (r .form) (figure (r .one)) (figure (r .two)) (figure (r .three))
-
-unfoldable pub answer : Flattened → List ℕ
-answer w = joined (w .first) (real (w .one)) (real (w .two))

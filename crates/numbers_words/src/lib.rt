@@ -29,7 +29,7 @@ ghost use Rattle.laws.specs.Lent.{written};
 ghost use mathlib.Core.List.{[], _∷_};
 ghost use Rattle.chars.specs.Encode.{lay};
 ghost use Rattle.numbers.specs.Call.{answered};
-ghost use Rattle.numbers_words.specs.Words.{bit, minus, sign, nothing, places, intWords, formed, noReal, realWords, joined, partsWords, flattened, numberWords, roomOr, numberOr, figure, real, answer};
+ghost use Rattle.numbers_words.specs.Words.{bit, minus, sign, nothing, places, intWords, formed, noReal, realWords, joined, partsWords, flattened, numberWords, roomOr, numberOr, figure, real};
 
 // What the call answers beside the error of a zero denominator and refusals: a number, or none.
 const A_NUMBER: u32 = 0;
@@ -89,14 +89,6 @@ pub struct Flat {
     pub one: Figure,
     pub two: Figure,
     pub three: Figure,
-}
-
-// The number of an answer that is no refusal, and its words.
-pub struct Flattened {
-    pub number: u32,
-    pub first: u64,
-    pub one: Flat,
-    pub two: Flat,
 }
 
 // 1 for yes, 0 for no.
@@ -235,46 +227,6 @@ fn no_real() -> Flat
     simple(NO_REAL, nothing())
 }
 
-// An answer without parts: its number and its first word.
-fn bare(number: u32, first: u64) -> Flattened
-    ensures { λ r. ⌜ (r .number ≡ number) × (answer r ≡ joined first noReal noReal) ⌝ }
-{
-    Flattened {
-        number,
-        first,
-        one: no_real(),
-        two: no_real(),
-    }
-}
-
-// A number of two reals.
-fn pair(first: u64, a: Real, b: Real) -> Flattened
-    ensures { λ r. ⌜ (r .number ≡ 0) × (answer r ≡ joined first (realWords a) (realWords b)) ⌝ }
-{
-    Flattened {
-        number: A_NUMBER,
-        first,
-        one: real_words(a),
-        two: real_words(b),
-    }
-}
-
-// The words of a number.
-fn parts_words(p: Parts) -> Flattened
-    ensures { λ r. ⌜ (r .number ≡ 0) × (answer r ≡ partsWords p) ⌝ }
-{
-    match p {
-        Parts::Just(a) => Flattened {
-            number: A_NUMBER,
-            first: REAL,
-            one: real_words(a),
-            two: no_real(),
-        },
-        Parts::Complex(a, b) => pair(COMPLEX, a, b),
-        Parts::Polar(a, b) => pair(POLAR, a, b),
-    }
-}
-
 // Writes a real's words at the front of `words`.
 fn put_real(words: &mut [u64], r: Flat)
     requires { ⌜ 13 ≤ length (now words) ⌝ }
@@ -295,26 +247,44 @@ fn put_real(words: &mut [u64], r: Flat)
     words[12] = r.three.second;
 }
 
-// Writes an answer's words at the front of `words`.
-fn put_answer(words: &mut [u64], w: Flattened)
+// Writes an answer's words at the front of `words`: its first one, and those of two reals.
+fn put_answer(words: &mut [u64], first: u64, one: Flat, two: Flat)
     requires { ⌜ numberWords ≤ length (now words) ⌝ }
-    ensures { λ _. ⌜ now (words .exit) ≡ written (answer w) (now (words .entry)) ⌝ }
+    ensures { λ _. ⌜ now (words .exit) ≡ written (joined first (real one) (real two)) (now (words .entry)) ⌝ }
 {
-    words[0] = w.first;
-    put_real(&mut words[FIRST_REAL..], w.one);
-    put_real(&mut words[SECOND_REAL..], w.two);
+    words[0] = first;
+    put_real(&mut words[FIRST_REAL..], one);
+    put_real(&mut words[SECOND_REAL..], two);
 }
 
 // Tells an answer that is no refusal: its number, and its words at the front of `words`. With fewer than NUMBER_WORDS words it is
 // TOO_FEW, and nothing is written.
-fn tell_served(words: &mut [u64], w: Flattened) -> u32
-    ensures { λ r. ⌜ (r ≡ roomOr (now (words .entry)) (w .number)) × (now (words .exit) ≡ lay (answer w) (now (words .entry))) ⌝ }
+fn tell_served(words: &mut [u64], number: u32, first: u64, one: Flat, two: Flat) -> u32
+    ensures { λ r. ⌜ (r ≡ roomOr (now (words .entry)) number) × (now (words .exit) ≡ lay (joined first (real one) (real two)) (now (words .entry))) ⌝ }
 {
     if words.len() < NUMBER_WORDS {
         return TOO_FEW;
     }
-    put_answer(words, w);
-    w.number
+    put_answer(words, first, one, two);
+    number
+}
+
+// Tells an answer without parts.
+fn tell_bare(words: &mut [u64], number: u32) -> u32
+    ensures { λ r. ⌜ (r ≡ roomOr (now (words .entry)) number) × (now (words .exit) ≡ lay (joined 0 noReal noReal) (now (words .entry))) ⌝ }
+{
+    tell_served(words, number, 0, no_real(), no_real())
+}
+
+// Tells a number's parts.
+fn tell_parts(words: &mut [u64], p: Parts) -> u32
+    ensures { λ r. ⌜ (r ≡ roomOr (now (words .entry)) 0) × (now (words .exit) ≡ lay (partsWords p) (now (words .entry))) ⌝ }
+{
+    match p {
+        Parts::Just(a) => tell_served(words, A_NUMBER, REAL, real_words(a), no_real()),
+        Parts::Complex(a, b) => tell_served(words, A_NUMBER, COMPLEX, real_words(a), real_words(b)),
+        Parts::Polar(a, b) => tell_served(words, A_NUMBER, POLAR, real_words(a), real_words(b)),
+    }
 }
 
 // Tells a refusal: its number, and what it comes with as the first word, where there is one. Every other word stays.
@@ -333,9 +303,9 @@ pub fn tell(words: &mut [u64], a: NumberAnswer) -> u32
     ensures { λ r. ⌜ (r ≡ numberOr (now (words .entry)) (answered a)) × (now (words .exit) ≡ lay (flattened (answered a)) (now (words .entry))) ⌝ }
 {
     match a {
-        NumberAnswer::Is(p) => tell_served(words, parts_words(p)),
-        NumberAnswer::NoNumber => tell_served(words, bare(NO_NUMBER, 0)),
-        NumberAnswer::ZeroDenominator => tell_served(words, bare(ZERO_DENOMINATOR, 0)),
+        NumberAnswer::Is(p) => tell_parts(words, p),
+        NumberAnswer::NoNumber => tell_bare(words, NO_NUMBER),
+        NumberAnswer::ZeroDenominator => tell_bare(words, ZERO_DENOMINATOR),
         NumberAnswer::TooLong => tell_refused(words, TOO_LONG, LIMIT_VALUE),
         NumberAnswer::NotUtf8(at) => tell_refused(words, NOT_UTF8, at as u64),
     }

@@ -1,8 +1,7 @@
--- A text too long goes first; one of the plainest numbers is UTF-8 and has one real; then a text's first bad sequence; else it is read.
-use Rattle.numbers.specs.Call.{given}
-use Rattle.numbers.proofs.Call.{too-long, not-utf8, served}
-use Rattle.numbers.proofs.PlainReals.{plain-answer, brief-short}
-use mathlib.Core.Path.{sym, ap, _∙_}
+-- A text too long goes first; then the parts that are told of a brief number; else it is read by the grammar.
+use Rattle.numbers.proofs.Call.{too-long}
+use Rattle.numbers.proofs.BriefAnswers.{brief-answer}
+use mathlib.Core.Path.{sym}
 use borrow.Author.Needs.{needs}
 use Rattle.numbers.proofs.number.Statement.{statement}
 use Rattle.numbers.proofs.number.Tie as tie
@@ -10,65 +9,34 @@ use Rattle.numbers.proofs.number.Tie as tie
 returns : tie.Need-returns
 returns c = sym (too-long _ (c .if1 .taken))
 
-is-brief-requires : tie.Need-is-brief-requires
-is-brief-requires c κs = search needs
+brief-parts-requires : tie.Need-brief-parts-requires
+brief-parts-requires c κs = search needs
 
-plain-real-requires : tie.Need-plain-real-requires
-plain-real-requires c κs = brief-short _ (sym (c .if2 .taken) ∙ c .before .is-brief .ensures)
-
-enum-known-x : tie.Need-enum-known-x
-enum-known-x c = search needs
-
-returns-2 : tie.Need-returns-2
-returns-2 c =
-    let real = c .before .before .before in
-    plain-answer _ (real .before .before .before .if1 .left) _ (sym (c .before .x .given .1) ∙ real .plain-real .ensures)
+enum-known-p : tie.Need-enum-known-p
+enum-known-p c = search needs
 
 enum-told : tie.Need-enum-told
 enum-told c = search needs
 
-first-bad-requires : tie.Need-first-bad-requires
-first-bad-requires c κs = search needs
+by-grammar-requires : tie.Need-by-grammar-requires
+by-grammar-requires c κs = search needs
 
-enum-known-at : tie.Need-enum-known-at
-enum-known-at c = search needs
-
-enum-told-2 : tie.Need-enum-told-2
-enum-told-2 c = search needs
-
-parse-number-requires : tie.Need-parse-number-requires
-parse-number-requires c κs = search needs
-
-serve-requires : tie.Need-serve-requires
-serve-requires c κs = search needs
+returns-2 : tie.Need-returns-2
+returns-2 c =
+    let told = c .before .before .before in
+    brief-answer _ (told .before .if1 .left) _ (rw (c .before .p .given .1) at (told .brief-parts .ensures))
 
 returns-3 : tie.Need-returns-3
-returns-3 c =
-    let checked = c .before .before .before in
-    sym (not-utf8 _ (checked .before .before .before .if1 .left) _ (sym (checked .first-bad .ensures) ∙ c .before .at .given .1))
-
-returns-4 : tie.Need-returns-4
-returns-4 c =
-    let checked = c .before .before .before .before in
-    c .serve .ensures
-    ∙ ap given (c .before .parse-number .ensures)
-    ∙ sym
-    (served _ (checked .before .before .before .if1 .left) (sym (checked .first-bad .ensures) ∙ c .before .before .enum-told2 .given .1))
+returns-3 c = search needs
 
 pub number-spec : {M : Type 1} → statement M
 number-spec =
     tie.close
     (tie.spec
     returns
-    is-brief-requires
-    plain-real-requires
-    enum-known-x
-    returns-2
+    brief-parts-requires
+    enum-known-p
     enum-told
-    first-bad-requires
-    enum-known-at
-    enum-told-2
-    parse-number-requires
-    serve-requires
-    returns-3
-    returns-4)
+    by-grammar-requires
+    returns-2
+    returns-3)
