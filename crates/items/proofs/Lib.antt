@@ -29,6 +29,7 @@ pub mod OfClass
 pub mod Walk
 pub mod Outcomes
 pub mod Meanings
+pub mod LoneCharacters
 pub mod Skipped
 pub mod OneOrTwo
 pub mod Own

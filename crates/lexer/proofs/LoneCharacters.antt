@@ -1,24 +1,21 @@
 -- A character of ASCII by itself, as `#\a`: the machine's three turns after the sign are taken one by one, and one letter is no name.
-use Prim.Native.Nat.{ℕ, _+_, _-_, _≤_, _<_}
+use Prim.Native.Nat.{ℕ, _+_, _-_, _<_}
 use mathlib.Core.Path.{_≡_, refl, sym, ap, _∙_, subst}
-use mathlib.Core.Bool.{Bool, false, _&&_, _||_}
-use mathlib.Core.List.{List, [], _∷_, map}
+use mathlib.Core.Bool.{Bool}
+use mathlib.Core.List.{List, [], _∷_}
 use lib.Dec.{eqb}
 use lib.ListN.{length, getD, take, drop}
 use native.Mathlib.Omega.{arith}
 use Rattle.laws.specs.Quoted.{code}
 use Rattle.laws.specs.Texts.{same, begins}
-use Rattle.laws.proofs.Choice.{and-no}
 use Rattle.laws.proofs.Places.{here}
 use Rattle.chars.specs.Encode.{bytesOf, utf8}
 use Rattle.chars.proofs.Chars.{CharAt}
-use Rattle.chars.proofs.Round.{one-read}
 use Rattle.items.specs.Kinds as kind
 use Rattle.items.specs.Classes.{afterHash, inHash, stopsHash}
 use Rattle.items.specs.Machine.{stepOf}
-use Rattle.items.specs.Readers.{soFar, firstIs, hashKind, boolKind, quoteKind, formKind}
-use Rattle.items.specs.Meaning.{lookup, charNames, unnamed, lower, spelledOut, characterOf, charInside}
-use Rattle.items.specs.declared.CharValue.the-variants.{Scalar}
+use Rattle.items.specs.Readers.{soFar, hashKind, boolKind, quoteKind, formKind}
+use Rattle.items.proofs.LoneCharacters.{lone-is}
 use Rattle.items.specs.declared.HashKind.the-variants.{Decided}
 use Rattle.items.specs.declared.Next.the-variants.{Eat}
 use Rattle.items.specs.declared.Outcome.the-variants.{Character}
@@ -32,11 +29,6 @@ use Rattle.lexer.specs.Glance.{Marks, GlanceAt}
 use Rattle.lexer.proofs.Sharps.{ascii-at, hash-ends, sign-begins}
 use Rattle.lexer.proofs.Tells.{and-false}
 
-letter-unnamed : (c : ℕ) → lookup charNames (map lower (c ∷ [])) unnamed ≡ unnamed
-unfolding lookup charNames same bytesOf utf8
-letter-unnamed c = let no : (k : ℕ) → (eqb (lower c) k && false) ≡ false = λ k. and-no (eqb (lower c) k) in
-    rw (no 0x61, no 0x62, no 0x64, no 0x65, no 0x6E, no 0x72, no 0x73, no 0x74)
-
 -- ---- the bytes of `#\` and a character
 
 abbrev lone : ℕ → List ℕ
@@ -45,10 +37,6 @@ lone c = code "#" ∷ code "\\" ∷ c ∷ []
 lone-kind : (c : ℕ) → hashKind (lone c) ≡ Decided Character
 unfolding hashKind boolKind quoteKind formKind same begins bytesOf utf8
 lone-kind c = refl
-
-lone-is : (report : Bool) (c : ℕ) → c < 0x80 → characterOf report (charInside (lone c)) ≡ Scalar c
-unfolding characterOf spelledOut
-lone-is report c h = rw (letter-unnamed c) (rw (and-no (firstIs (code "u") (c ∷ []) || firstIs (code "x") (c ∷ [])), one-read c [] h))
 
 mark-opens : (report : Bool) (raw : List ℕ) (n : ℕ) → stepOf report ph.AfterHash (soFar raw n) (code "\\") ≡ Eat ph.HashEscape
 unfolding afterHash inHash

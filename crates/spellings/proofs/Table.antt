@@ -2,18 +2,16 @@
 -- statement is one equation over the whole table that computes; `at` turns it into the fact at a row.
 use Prim.Native.Nat.{ℕ, zero, suc, _+_, _≤_, _<_}
 use mathlib.Core.Path.{_≡_, refl, sym, ap, _∙_}
-use mathlib.Core.Bool.{true, false, _&&_}
+use mathlib.Core.Bool.{true, false}
 use mathlib.Core.List.{List, [], _∷_, map}
 use native.Mathlib.Nat.{le-of-suc-le-suc, not-suc-le-zero}
 use native.Mathlib.Numerals.{add-one}
 use native.Mathlib.Omega.{arith}
 use lib.ListN.{length, getD, take, drop, List·getD-map, drop-of-length-le}
 use lib.Seq.{drop-cons}
-use lib.Dec.{eqb}
 use borrow.Author.Tests.{ne-eqb}
 use Rattle.laws.specs.Quoted.{codes}
 use Rattle.laws.specs.Texts.{span, before, same}
-use Rattle.laws.proofs.Choice.{and-no}
 use Rattle.chars.specs.Encode.{bytesOf, utf8}
 use Rattle.items.specs.Meaning.{Row, lookup, charNames, unnamed, lower}
 use Rattle.spellings.specs.Names.{noRow, nameOf, codeOf, padded}
@@ -86,14 +84,6 @@ unfolding same
 first-differs [] name h d = absurd (omega arith)
 first-differs (x ∷ t) [] h d = refl
 first-differs (x ∷ t) (c ∷ name) h d = rw (ne-eqb (lower x) c d)
-
--- a letter by itself is no name
-pub letter-unnamed : (t : List ℕ) → length t ≤ 1 → lookup charNames (map lower t) unnamed ≡ unnamed
-unfolding lookup charNames same bytesOf utf8
-letter-unnamed [] h = refl
-letter-unnamed (x ∷ []) h = let no : (c : ℕ) → (eqb (lower x) c && false) ≡ false = λ c. and-no (eqb (lower x) c) in
-    rw (no 0x61, no 0x62, no 0x64, no 0x65, no 0x6E, no 0x72, no 0x73, no 0x74)
-letter-unnamed (x ∷ y ∷ t) h = absurd (omega arith)
 
 -- ---- the search from row k on
 

@@ -6,7 +6,8 @@ use native.Mathlib.Omega.{arith}
 use lib.ListN.{drop}
 use borrow.Author.Needs.{needs}
 use Rattle.items.specs.Meaning.{lower, lookup, charNames, unnamed}
-use Rattle.spellings.proofs.Table.{letter-unnamed, named-here, named-later, named-never}
+use Rattle.items.proofs.LoneCharacters.{letter-unnamed}
+use Rattle.spellings.proofs.Table.{named-here, named-later, named-never}
 use Rattle.spellings.proofs.names.name_code.Statement.{statement}
 use Rattle.spellings.proofs.names.name_code.Tie as tie
 
