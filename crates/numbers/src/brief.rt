@@ -1,5 +1,6 @@
-// Brief numbers by a way of their own: one of the plainest reals, two with `@` or a sign between them, or an integer behind a prefix, in a text whose digits have a value
-// within signed 64 bits whatever they are. Each byte is read once, and no part is handed on but as numbers. Internal: for both readers.
+// Brief numbers by a way of their own: one of the plainest reals, two with `@` or a sign between them, or an integer behind a prefix, in a text
+// whose digits have a value within signed 64 bits whatever they are. Each byte is read once, and no part is handed on but as numbers.
+// Internal: for both readers.
 use crate::Exponent;
 use crate::MaybeParts;
 use crate::NO_RADIX;
