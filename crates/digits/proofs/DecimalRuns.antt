@@ -65,7 +65,7 @@ uinteger-digits R s u =
     (λ e. let k = eqb-true (digits R s) (length s) (sym (rw e at u)) in omega arith)
     (λ e. omega (arith, ltb-false 0 (length s) e))
 
-top-ge : (neg : Bool) → 2 ^ 63 ≤ top neg
+pub top-ge : (neg : Bool) → 2 ^ 63 ≤ top neg
 top-ge true = lit≤ tt
 top-ge false = lit≤ tt
 

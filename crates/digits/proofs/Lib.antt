@@ -8,3 +8,4 @@ pub mod Digits
 pub mod Integers
 pub mod HexDigits
 pub mod DecimalRuns
+pub mod RadixRuns

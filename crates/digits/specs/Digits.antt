@@ -57,6 +57,10 @@ runValue n s = value 10 n (take (digits 10 s) s)
 abbrev pub short : ℕ
 short = 18
 
+-- and in whatever radix up to 16
+abbrev pub shortInAny : ℕ
+shortInAny = 15
+
 -- a magnitude that may be that of a signed 64-bit number
 unfoldable pub fit : ℕ → Magnitude
 fit n = if leb n (2 ^ 63) then Fits n else Large

@@ -5,7 +5,7 @@ ghost use mathlib.Core.Path.{_≡_};
 ghost use Prim.Native.Nat.{_+_, _^_, _≤_, _<_};
 ghost use lib.ListN.{length, drop};
 ghost use Rattle.laws.specs.Quoted.{within};
-ghost use Rattle.digits.specs.Digits.{digitOf, digits, sign, uinteger, value, runValue, short, fit, signed, top, wholeOf, integer};
+ghost use Rattle.digits.specs.Digits.{digitOf, digits, sign, uinteger, value, runValue, short, shortInAny, fit, signed, top, wholeOf, integer};
 
 mod hexadecimal;
 
@@ -57,6 +57,9 @@ pub const DECIMAL_RADIX: u64 = 10;
 
 // The decimal digits of a text of so many bytes, whatever they are, have a value within signed 64 bits.
 pub const SHORT: usize = 18;
+
+// The digits of a text of so many bytes, whatever they are and in whatever radix, have a value within signed 64 bits.
+pub const SHORT_IN_ANY: usize = 15;
 
 // The first magnitude past signed 64 bits, and the first one after a minus sign.
 const TOP: u64 = 0x8000_0000_0000_0000;
@@ -134,6 +137,24 @@ pub fn decimal_run(t: &[u8], from: usize, before: u64) -> Run
         } else {
             return Run { end: i, value: v };
         }
+    }
+    Run { end: i, value: v }
+}
+
+// The run of digits of a radix from a place on in a text that is short in any; the value is that of all digits where they end the text.
+pub fn short_run(t: &[u8], from: usize, radix: u64) -> Run
+    requires { ⌜ (length (now t) ≤ shortInAny) × (radix ≤ 16) ⌝ }
+    ensures { λ r. ⌜ (r .end ≡ from + digits radix (drop from (now (t .entry)))) × (length (now (t .entry)) ≤ r .end → r .value ≡ value radix 0 (drop from (now (t .entry)))) × (r .value < 16 ^ r .end) ⌝ }
+{
+    let mut v: u64 = 0;
+    let mut i = from;
+    while i < t.len() {
+        let d = digit(t[i]);
+        if radix <= d {
+            return Run { end: i, value: v };
+        }
+        v = v * radix + d;
+        i += 1;
     }
     Run { end: i, value: v }
 }

@@ -14,9 +14,18 @@ use Rattle.numbers.proofs.Ascii.{Ascii, ascii-good}
 use Rattle.numbers.proofs.BriefNumbers.{unmarked, polar-ascii, complex-ascii, sign-there, sign-alone, markless, polar-parts, complex-parts}
 use Rattle.numbers.proofs.Call.{served}
 use Rattle.numbers.proofs.Cuts.{bought, ends-here, rectangular-pair}
-use Rattle.numbers.proofs.Judged.{parse-ten}
+use Rattle.numbers.proofs.Judged.{prefix-le, parse-ten, parse-radix}
 use Rattle.numbers.proofs.Plain.{plain-one}
 use Rattle.numbers.proofs.PlainReals.{plain-ascii, plain-told}
+use Rattle.numbers.proofs.RadixNumbers.{prefixed-ascii, prefixed-complex}
+use Rattle.numbers.specs.declared.Real.the-variants.{Integer}
+use Rattle.numbers.specs.AfterPlus.{isReal}
+use Rattle.numbers.specs.Reals.{integralOf}
+use Rattle.digits.specs.declared.MaybeInt.{MaybeInt}
+use Rattle.digits.specs.declared.MaybeInt.the-variants.{AnInt, NoInt}
+use Rattle.digits.specs.Digits.{sign, negative, wholeOf}
+use Rattle.laws.proofs.Choice.{yes-no}
+use mathlib.Core.Logic.{_⊎_, inl, inr}
 use Rattle.refusal.specs.Refusals.{limit}
 use Rattle.laws.specs.Quoted.{code}
 use Prim.Native.Nat.{ℕ, _+_, _-_, _≤_, _<_}
@@ -27,10 +36,17 @@ use lib.ListN.{length, getD, take, drop}
 use native.Mathlib.Omega.{arith}
 use borrow.Author.Tests.{eq-eqb}
 
+areal-one : {a b : Real} → AReal a ≡ AReal b → a ≡ b
+areal-one {a} {b} e = ap inner e
+  where
+    inner : MaybeReal → Real
+    inner (AReal r) = r
+    inner NoReal = a
+
 -- one real, where it is there
 pub briefly-just : (t : List ℕ) (x : MaybeReal) → x ≡ plainFrom 0 t → Briefly t (justOf x)
 unfolding justOf
-briefly-just t (AReal a) e = e
+briefly-just t (AReal a) e = inl e
 briefly-just t NoReal e = tt
 
 -- no denominator is zero
@@ -38,16 +54,23 @@ pub judged-is : (p : Parts) → zeroParts p ≡ false → Is p ≡ judged (SomeP
 unfolding judged
 judged-is p h = simp h
 
+integral-nonzero : (n : MaybeInt) (a : Real) → AReal a ≡ integralOf n → zeroReal a ≡ false
+unfolding integralOf zeroReal
+integral-nonzero (AnInt n) a e = let f : a ≡ Integer n = areal-one e in rw f
+integral-nonzero NoInt a e = yes-no (ap isReal e)
+
 pub nonzero : (t : List ℕ) (p : Parts) → Briefly t (SomeParts p) → zeroParts p ≡ false
 unfolding zeroParts
-nonzero t (Just a) h = plain-told 0 t a h .2
+nonzero t (Just a) (inl h) = plain-told 0 t a h .2
+nonzero t (Just a) (inr h) = integral-nonzero (wholeOf (prefix t) (negative (drop 2 t)) (2 + sign (drop 2 t)) (drop (2 + sign (drop 2 t)) t)) a (h .2)
 nonzero t (Polar a b) h = simp (plain-told 0 (drop 0 (take (h .0) t)) a (h .3) .2) (plain-told (h .0 + 1) (drop (h .0 + 1) t) b (h .4) .2)
 nonzero t (Complex a b) h =
     simp (plain-told 0 (drop 0 (take (h .0) t)) a (h .4) .2) (plain-told (h .0) (drop (h .0) (take (length t - 1) t)) b (h .5) .2)
 
 -- all is ASCII
 pub brief-ascii : (t : List ℕ) (p : Parts) → Briefly t (SomeParts p) → Ascii t
-brief-ascii t (Just a) h = plain-ascii t (plain-told 0 t a h .0)
+brief-ascii t (Just a) (inl h) = plain-ascii t (plain-told 0 t a h .0)
+brief-ascii t (Just a) (inr h) = prefixed-ascii t (prefix-le t) (h .0) (h .1)
 brief-ascii t (Polar a b) h =
     polar-ascii t (h .0) (h .1) (plain-told 0 (drop 0 (take (h .0) t)) a (h .3) .0) (h .2) (plain-told (h .0 + 1) (drop (h .0 + 1) t) b (h .4) .0)
 brief-ascii t (Complex a b) h =
@@ -57,8 +80,11 @@ brief-ascii t (Complex a b) h =
 -- the parts by the bought reader
 brief-parsed : (t : List ℕ) (p : Parts) → Briefly t (SomeParts p) → Is p ≡ parseNumber t
 unfolding justOf
-brief-parsed t (Just a) h =
-    let r = plain-told 0 t a h in judged-is (Just a) (nonzero t (Just a) h) ∙ ap (λ (x : MaybeReal). judged (justOf x)) (r .1) ∙ sym (plain-one t (r .0))
+brief-parsed t (Just a) (inl h) =
+    let r = plain-told 0 t a h in judged-is (Just a) (nonzero t (Just a) (inl h)) ∙ ap (λ (x : MaybeReal). judged (justOf x)) (r .1) ∙ sym (plain-one t (r .0))
+brief-parsed t (Just a) (inr h) =
+    parse-radix t (prefix t) (SomeParts (Just a)) (Is (Just a)) refl (λ e. omega (arith, h .0)) (prefixed-complex t (AReal a) (prefix-le t) h)
+    (judged-is (Just a) (nonzero t (Just a) (inr h)))
 brief-parsed t (Polar a b) h =
     let k = h .0 in
     let u = plain-told 0 (drop 0 (take k t)) a (h .3) .0 in

@@ -15,6 +15,7 @@ pub mod Ascii
 pub mod PlainReals
 pub mod PlainPlaces
 pub mod Outlines
+pub mod RadixNumbers
 pub mod BriefNumbers
 pub mod BriefAnswers
 pub mod AfterPlus

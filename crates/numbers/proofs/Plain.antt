@@ -139,29 +139,59 @@ avoids-start b (suc k) (c ∷ s) h = avoids-start b k s (h .1)
 pub uinteger-avoids : (s : List ℕ) → uinteger 10 s ≡ true → Avoids (code "/") s
 uinteger-avoids s h = all-map Digit (λ d. d ≡ code "/" → ⊥) (λ d n e. omega arith) s (uinteger-digits s h)
 
--- ---- a first character, which may be a sign, and numerals are one real
+-- ---- a first character, which may be a sign, and others that cut nothing are one real
 
-module _ (c : ℕ) (s : List ℕ) (l : code "+" ≤ c) (u : c ≤ code "9") (h : All Numeral s) where
-  avoid : (b : ℕ) → ((d : ℕ) → Numeral d → d ≡ b → ⊥) → Avoids b s
-  avoid b f = all-map Numeral (λ d. d ≡ b → ⊥) f s h
+-- a character that is neither @, a sign nor a letter of an imaginary part, an infinity or a NaN
+pub record Calm (c : ℕ) : Type 0 where
+  pub at : c ≡ code "@" → ⊥
+  pub plus : c ≡ code "+" → ⊥
+  pub minus : c ≡ code "-" → ⊥
+  pub i : c ≡ code "i" → ⊥
+  pub n : c ≡ code "n" → ⊥
+  pub big : c ≡ code "I" → ⊥
+  pub large : c ≡ code "N" → ⊥
+  pub ascii : c < 0x80
 
-  one-part : complex 10 0 (c ∷ s) ≡ rectangular 10 0 (c ∷ s)
+pub numeral-calm : (c : ℕ) → Numeral c → Calm c
+numeral-calm c h =
+    let l = h .0 in
+    let u = h .1 in
+    record {
+      at = λ e. omega arith;
+      plus = λ e. omega arith;
+      minus = λ e. omega arith;
+      i = λ e. omega arith;
+      n = λ e. omega arith;
+      big = λ e. omega arith;
+      large = λ e. omega arith;
+      ascii = omega arith;
+    }
+
+module _ (R p c : ℕ) (s : List ℕ) (l : c ≡ code "@" → ⊥) (u : c ≡ code "i" → ⊥) (h : All Calm s) where
+  avoid : (b : ℕ) → ((d : ℕ) → Calm d → d ≡ b → ⊥) → Avoids b s
+  avoid b f = all-map Calm (λ d. d ≡ b → ⊥) f s h
+
+  one-part : complex R p (c ∷ s) ≡ rectangular R p (c ∷ s)
   unfolding complex
-  one-part =
-      simp (before-all (code "@") (c ∷ s) ((λ e. omega arith), avoid (code "@") (λ d n e. omega arith)), le-ltb (length (c ∷ s)) (length (c ∷ s)) (omega arith))
+  one-part = simp (before-all (code "@") (c ∷ s) (l, avoid (code "@") (λ d n. n .at)), le-ltb (length (c ∷ s)) (length (c ∷ s)) (omega arith))
 
-  uncut : rectangular 10 0 (c ∷ s) ≡ aloneOf 10 0 (c ∷ s)
+  uncut : rectangular R p (c ∷ s) ≡ aloneOf R p (c ∷ s)
   unfolding rectangular
   uncut =
-      simp (sign-all (startsE (c ∷ s)) s (avoid (code "+") (λ d n e. omega arith)) (avoid (code "-") (λ d n e. omega arith)), le-ltb (1 + length s) (length (c ∷ s)) (omega arith))
+      simp (sign-all (startsE (c ∷ s)) s (avoid (code "+") (λ d n. n .plus)) (avoid (code "-") (λ d n. n .minus)), le-ltb (1 + length s) (length (c ∷ s)) (omega arith))
 
-  alone : aloneOf 10 0 (c ∷ s) ≡ justOf (real 10 0 (c ∷ s))
+  alone : aloneOf R p (c ∷ s) ≡ justOf (real R p (c ∷ s))
   unfolding aloneOf endsI
-  alone = simp (avoids-start (code "i") (length (c ∷ s) - 1) (c ∷ s) ((λ e. omega arith), avoid (code "i") (λ d n e. omega arith)))
+  alone = simp (avoids-start (code "i") (length (c ∷ s) - 1) (c ∷ s) (u, avoid (code "i") (λ d n. n .i)))
 
-  pub one-real : parseNumber (c ∷ s) ≡ judged (justOf (real 10 0 (c ∷ s)))
-  unfolding parseNumber prefix
-  one-real = simp (ne-eqb c (code "#") (λ e. omega arith)) (ap judged (one-part ∙ uncut ∙ alone))
+  pub one-complex : complex R p (c ∷ s) ≡ justOf (real R p (c ∷ s))
+  one-complex = one-part ∙ uncut ∙ alone
+
+pub one-real : (c : ℕ) (s : List ℕ) → code "+" ≤ c → c ≤ code "9" → All Numeral s → parseNumber (c ∷ s) ≡ judged (justOf (real 10 0 (c ∷ s)))
+unfolding parseNumber prefix
+one-real c s l u h =
+    simp (ne-eqb c (code "#") (λ e. omega arith))
+    (ap judged (one-complex 10 0 c s (λ e. omega arith) (λ e. omega arith) (all-map Numeral Calm numeral-calm s h)))
 
 -- ---- the real, and no zero denominator
 

@@ -11,7 +11,7 @@ use Rattle.laws.specs.Choice.{if_then_else_}
 use Rattle.laws.specs.Quoted.{code}
 use Rattle.laws.specs.Texts.{starts}
 use Rattle.digits.specs.declared.Int.the-variants.{Small}
-use Rattle.digits.specs.Digits.{digits, sign, negative, runValue, short, signed}
+use Rattle.digits.specs.Digits.{digits, sign, negative, uinteger, runValue, short, signed, wholeOf}
 use Rattle.numbers.specs.declared.Outline.{Outline}
 use Rattle.numbers.specs.declared.Real.{Real}
 use Rattle.numbers.specs.declared.Real.the-variants.{Integer, Decimal}
@@ -21,7 +21,8 @@ use Rattle.numbers.specs.declared.MaybeReal.the-variants.{AReal, NoReal}
 use Rattle.numbers.specs.declared.MaybeParts.{MaybeParts}
 use Rattle.numbers.specs.declared.MaybeParts.the-variants.{SomeParts, NoParts}
 use Rattle.numbers.specs.Plain.{plain}
-use Rattle.numbers.specs.Reals.{real}
+use Rattle.numbers.specs.Reals.{integralOf, real}
+use Rattle.numbers.specs.Grammar.{prefix}
 
 -- where a dot and the digits after it end, from the place p on; p where no dot is
 unfoldable pub fractionEnd : ℕ → List ℕ → ℕ
@@ -62,9 +63,16 @@ abbrev pub Begins : List ℕ → Outline → Type 0
 Begins t o =
     (length t ≤ short) × Outlines t 0 o × (o .value < 10 ^ short) × (o .dot ≤ o .end) × (true ≡ sound o) × (o .end < length t)
 
--- the parts of t, where they are told: one of the plainest reals, or two with @ at a place k or the second's sign there and `i` at the end
+-- the real of t is the integer behind a prefix: its sign, and digits of the radix and nothing else
+abbrev pub Prefixed : List ℕ → MaybeReal → Type 0
+Prefixed t r =
+    (0 < prefix t)
+    × (uinteger (prefix t) (drop (2 + sign (drop 2 t)) t) ≡ true)
+    × (r ≡ integralOf (wholeOf (prefix t) (negative (drop 2 t)) (2 + sign (drop 2 t)) (drop (2 + sign (drop 2 t)) t)))
+
+-- the parts of t, where they are told: one of the plainest reals or an integer behind a prefix, or two plain reals with @ at a place k or the second's sign there and `i` at the end
 abbrev pub Briefly : List ℕ → MaybeParts → Type 0
-Briefly t (SomeParts (Just a)) = AReal a ≡ plainFrom 0 t
+Briefly t (SomeParts (Just a)) = (AReal a ≡ plainFrom 0 t) ⊎ Prefixed t (AReal a)
 Briefly t (SomeParts (Polar a b)) =
     (k : ℕ) × (k < length t) × (getD t k 0 ≡ code "@") × (AReal a ≡ plainFrom 0 (drop 0 (take k t))) × (AReal b ≡ plainFrom (k + 1) (drop (k + 1) t))
 Briefly t (SomeParts (Complex a b)) =

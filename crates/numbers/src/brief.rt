@@ -1,13 +1,18 @@
-// Brief numbers by a way of their own: one of the plainest reals, or two with `@` or a sign between them, in a text whose digits have a value
-// within signed 64 bits whatever they are. Each byte is read once, and no part is handed on but as numbers. Internal: for both readers.
+// Brief numbers by a way of their own: one of the plainest reals, two with `@` or a sign between them, or an integer behind a prefix, in a text
+// whose digits have a value within signed 64 bits whatever they are. Each byte is read once, and no part is handed on but as numbers.
+// Internal: for both readers.
 use crate::Exponent;
 use crate::MaybeParts;
+use crate::NO_RADIX;
 use crate::Outline;
+use crate::PREFIX;
 use crate::Parts;
 use crate::Point;
 use crate::Real;
+use crate::prefix;
 use digits::Int;
 use digits::SHORT;
+use digits::SHORT_IN_ANY;
 use digits::Span;
 ghost use mathlib.Core.Path.{_≡_};
 ghost use mathlib.Core.Logic.{_⊎_};
@@ -151,6 +156,32 @@ fn brief_ratio(t: &[u8], one: Outline) -> MaybeParts
     MaybeParts::SomeParts(Parts::Just(Real::Rational(over, under)))
 }
 
+// The parts of a text that is a prefix and an integer.
+fn brief_radix(t: &[u8]) -> MaybeParts
+    ensures { λ r. ⌜ Briefly (now (t .entry)) r ⌝ }
+{
+    let radix = prefix(t);
+    if radix == NO_RADIX {
+        return MaybeParts::NoParts;
+    }
+    if SHORT_IN_ANY < t.len() {
+        return MaybeParts::NoParts;
+    }
+    let negative = byte_runs::starts_at(t, PREFIX, b'-');
+    let start = digits::sign_end(t, PREFIX);
+    let run = digits::short_run(t, start, radix);
+    if t.len() <= start {
+        return MaybeParts::NoParts;
+    }
+    if run.end < t.len() {
+        return MaybeParts::NoParts;
+    }
+    MaybeParts::SomeParts(Parts::Just(Real::Integer(Int::Small(digits::small(
+        negative,
+        run.value,
+    )))))
+}
+
 // The parts of a brief number; none are told of any other text.
 pub fn brief_parts(t: &[u8]) -> MaybeParts
     ensures { λ r. ⌜ Briefly (now (t .entry)) r ⌝ }
@@ -160,7 +191,7 @@ pub fn brief_parts(t: &[u8]) -> MaybeParts
     }
     let one = outline_at(t, 0);
     if !is_sound(one) {
-        return MaybeParts::NoParts;
+        return brief_radix(t);
     }
     let end = one.end;
     if t.len() <= end {

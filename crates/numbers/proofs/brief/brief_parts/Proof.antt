@@ -3,6 +3,7 @@ use Rattle.numbers.specs.declared.MaybeReal.the-variants.{AReal}
 use Rattle.numbers.specs.Brief.{Begins}
 use Rattle.numbers.proofs.Outlines.{outline-rest, is-told, is-sign-told}
 use mathlib.Core.Path.{sym, ap, _∙_}
+use mathlib.Core.Logic.{inl}
 use native.Mathlib.Omega.{arith}
 use borrow.Author.Needs.{needs}
 use Rattle.numbers.proofs.brief.brief_parts.Statement.{statement}
@@ -23,6 +24,9 @@ outline-at-requires c κs = search needs
 is-sound-requires : tie.Need-is-sound-requires
 is-sound-requires c κs = search needs
 
+brief-radix-requires : tie.Need-brief-radix-requires
+brief-radix-requires c κs = search needs
+
 returns-2 : tie.Need-returns-2
 returns-2 c = search needs
 
@@ -33,9 +37,9 @@ returns-3 : tie.Need-returns-3
 returns-3 c =
     let one = c .before .before .before .before .outline-at in
     let entry = c .before .before .before .before .before .before .before in
-    ap AReal (c .real-of .ensures)
+    inl (ap AReal (c .real-of .ensures)
     ∙ outline-rest (entry .args .t .now) 0 (one .result) (one .ensures .0) (one .ensures .3) (one .ensures .1) (omega arith) (one .ensures .2)
-    (is-told _ (c .before .before .if2 .left) ∙ c .before .before .before .is-sound .ensures) (c .before .if3 .taken)
+    (is-told _ (c .before .before .if2 .left) ∙ c .before .before .before .is-sound .ensures) (c .before .if3 .taken))
 
 shared-slice-read-c : tie.Need-shared-slice-read-c
 shared-slice-read-c c = search needs
@@ -77,6 +81,7 @@ brief-parts-spec =
     returns
     outline-at-requires
     is-sound-requires
+    brief-radix-requires
     returns-2
     real-of-requires
     returns-3

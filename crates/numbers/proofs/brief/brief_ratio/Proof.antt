@@ -5,6 +5,7 @@ use Rattle.digits.proofs.DecimalRuns.{ten-some, short-top}
 use Prim.Native.Nat.{_+_}
 use mathlib.Core.Path.{refl}
 use mathlib.Core.Bool.{false}
+use mathlib.Core.Logic.{inl}
 use native.Mathlib.Omega.{arith}
 use borrow.Author.Needs.{needs}
 use Rattle.numbers.proofs.brief.brief_ratio.Statement.{statement}
@@ -53,9 +54,9 @@ returns-4 c =
     let begun = entry .pre .0 in
     let i = run .before .before .before .if1 .left in
     let in-text = run-in (entry .args .t .now) (entry .args .one .end + 1) (omega arith) in
-    ratio-told (entry .args .t .now) (entry .args .one) (begun .1) (begun .5) (begun .2) (begun .4) (entry .pre .1) (entry .pre .2) _ _ i (run .before .if2 .left) (told .0) (c .before .before .if3 .left) (told .1)
+    inl (ratio-told (entry .args .t .now) (entry .args .one) (begun .1) (begun .5) (begun .2) (begun .4) (entry .pre .1) (entry .pre .2) _ _ i (run .before .if2 .left) (told .0) (c .before .before .if3 .left) (told .1)
     (short-top false short short _ (omega arith) refl (value-short _ _ _ (begun .0) (omega (arith, told .0)) (told .2))) _ _ (c .before .small .ensures)
-    (c .small2 .ensures)
+    (c .small2 .ensures))
 
 pub brief-ratio-spec : {M : Type 1} → statement M
 brief-ratio-spec =
