@@ -36,7 +36,7 @@ extern "C" {
 
 /* The version, as CHANGELOG.md and the Rust crate have it. Records, states and the archive are of one version. */
 #define MIHADRENA_VERSION_MAJOR 0
-#define MIHADRENA_VERSION_MINOR 25
+#define MIHADRENA_VERSION_MINOR 26
 #define MIHADRENA_VERSION_PATCH 0
 
 /* The version of the archive that is linked: major * 65536 + minor * 256 + patch. */
