@@ -1,5 +1,5 @@
-// Endings: where a word, a number run, an item in quotes or a comment ends, as far as one look past its run of characters tells. Most items need no
-// more; the scan reads any.
+// Endings: where a word, a number run, an item in quotes or a comment ends, as far as one look past its run of characters tells. Most items
+// need no more; the scan reads any.
 use crate::Ending;
 use crate::runs::number_end;
 use crate::runs::past_word;
