@@ -1,6 +1,6 @@
 // Items that one look tells: a bracket, a quote mark, and a word, a number, a character, a string or a comment that the next bytes show to
-// be no more than that. Any other is for `next_item`, which reads them all. The text is good UTF-8, so that in quotes and in comments no character is
-// looked at but what may end them.
+// be no more than that. Any other is for `next_item`, which reads them all. The text is good UTF-8, so that in quotes and in comments no
+// character is looked at but what may end them.
 use byte_runs::ASCII_END;
 use chars::letter_at;
 use items::BOOLEAN_LENGTH;
