@@ -78,7 +78,7 @@ brief-ascii t (Complex a b) h =
     (plain-told (h .0) (drop (h .0) (take (length t - 1) t)) b (h .5) .0)
 
 -- the parts by the bought reader
-pub brief-parsed : (t : List ℕ) (p : Parts) → Briefly t (SomeParts p) → Is p ≡ parseNumber t
+brief-parsed : (t : List ℕ) (p : Parts) → Briefly t (SomeParts p) → Is p ≡ parseNumber t
 unfolding justOf
 brief-parsed t (Just a) (inl h) =
     let r = plain-told 0 t a h in judged-is (Just a) (nonzero t (Just a) (inl h)) ∙ ap (λ (x : MaybeReal). judged (justOf x)) (r .1) ∙ sym (plain-one t (r .0))

@@ -235,8 +235,8 @@ pub fn prefix(t: &[u8]) -> u64
     }
 }
 
-// What a text is as a number, by the whole grammar.
-fn parse_parts(t: &[u8]) -> Parsed
+// What a text is as a number. Internal: for a text that is known to be UTF-8 and short enough.
+pub fn parse_number(t: &[u8]) -> Parsed
     ensures { λ r. ⌜ r ≡ parseNumber (now (t .entry)) ⌝ }
 {
     let radix = prefix(t);
@@ -244,16 +244,6 @@ fn parse_parts(t: &[u8]) -> Parsed
         judge(complexes::complex_at(t, 0, DECIMAL_RADIX))
     } else {
         judge(complexes::complex_at(t, PREFIX, radix))
-    }
-}
-
-// What a text is as a number. Internal: for a text that is known to be UTF-8 and short enough.
-pub fn parse_number(t: &[u8]) -> Parsed
-    ensures { λ r. ⌜ r ≡ parseNumber (now (t .entry)) ⌝ }
-{
-    match brief_parts(t) {
-        MaybeParts::SomeParts(p) => Parsed::Is(p),
-        MaybeParts::NoParts => parse_parts(t),
     }
 }
 
@@ -324,7 +314,7 @@ pub fn by_grammar(t: &[u8]) -> NumberAnswer
 {
     match chars::first_bad(t) {
         Utf8::Bad(at) => NumberAnswer::NotUtf8(at),
-        Utf8::Good => serve(parse_parts(t)),
+        Utf8::Good => serve(parse_number(t)),
     }
 }
 

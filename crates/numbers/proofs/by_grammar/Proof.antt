@@ -15,8 +15,8 @@ enum-known-at c = search needs
 enum-told : tie.Need-enum-told
 enum-told c = search needs
 
-parse-parts-requires : tie.Need-parse-parts-requires
-parse-parts-requires c κs = search needs
+parse-number-requires : tie.Need-parse-number-requires
+parse-number-requires c κs = search needs
 
 serve-requires : tie.Need-serve-requires
 serve-requires c κs = search needs
@@ -30,7 +30,7 @@ returns-2 : tie.Need-returns-2
 returns-2 c =
     let checked = c .before .before .before in
     c .serve .ensures
-    ∙ ap given (c .before .parse-parts .ensures)
+    ∙ ap given (c .before .parse-number .ensures)
     ∙ sym (served _ (checked .before .before .before .pre) (sym (checked .before .first-bad .ensures) ∙ c .before .before .enum-told .given .1))
 
 pub by-grammar-spec : {M : Type 1} → statement M
@@ -40,7 +40,7 @@ by-grammar-spec =
     first-bad-requires
     enum-known-at
     enum-told
-    parse-parts-requires
+    parse-number-requires
     serve-requires
     returns
     returns-2)

@@ -1,37 +1,44 @@
--- The parts that are told of a brief number are the grammar's (BriefAnswers); any other text is read by the grammar.
+-- The prefix gives the radix and the place where the number starts.
+use Rattle.numbers.proofs.Judged.{prefix-le, parse-ten, parse-radix}
+use Prim.Native.Nat.{_≤_}
+use native.Mathlib.Omega.{arith}
 use borrow.Author.Needs.{needs}
-use mathlib.Core.Path.{_≡_}
-use Rattle.numbers.proofs.BriefAnswers.{brief-parsed}
 use Rattle.numbers.proofs.parse_number.Statement.{statement}
 use Rattle.numbers.proofs.parse_number.Tie as tie
 
-brief-parts-requires : tie.Need-brief-parts-requires
-brief-parts-requires c κs = search needs
+prefix-requires : tie.Need-prefix-requires
+prefix-requires c κs = search needs
 
-enum-known-p : tie.Need-enum-known-p
-enum-known-p c = search needs
+complex-at-requires : tie.Need-complex-at-requires
+complex-at-requires c κs = search needs
 
-enum-told : tie.Need-enum-told
-enum-told c = search needs
+judge-requires : tie.Need-judge-requires
+judge-requires c κs = search needs
 
-parse-parts-requires : tie.Need-parse-parts-requires
-parse-parts-requires c κs = search needs
+complex-at-requires-2 : tie.Need-complex-at-requires-2
+complex-at-requires-2 c κs = let h : c .before .prefix .result ≤ 16 = rw (c .before .prefix .ensures) (prefix-le _) in omega arith
+
+judge-requires-2 : tie.Need-judge-requires-2
+judge-requires-2 c κs = search needs
 
 returns : tie.Need-returns
 returns c =
-    let told = c .before .before .before in
-    brief-parsed _ _ (rw (c .before .p .given .1) at (told .brief-parts .ensures))
+    parse-ten _ _ _ _ (c .before .before .before .prefix .ensures) (c .before .before .if1 .taken) (c .before .complex-at .ensures)
+    (c .judge .ensures)
 
 returns-2 : tie.Need-returns-2
-returns-2 c = search needs
+returns-2 c =
+    parse-radix _ _ _ _ (c .before .before .before .prefix .ensures) (c .before .before .if1 .left) (c .before .complex-at2 .ensures)
+    (c .judge2 .ensures)
 
 pub parse-number-spec : {M : Type 1} → statement M
 parse-number-spec =
     tie.close
     (tie.spec
-    brief-parts-requires
-    enum-known-p
-    enum-told
-    parse-parts-requires
+    prefix-requires
+    complex-at-requires
+    judge-requires
+    complex-at-requires-2
+    judge-requires-2
     returns
     returns-2)
