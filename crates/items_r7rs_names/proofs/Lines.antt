@@ -40,6 +40,9 @@ before w x f (foreign u {v = y} {t = t} {w = z} s d) = subst (λ (l : List ℕ).
 at-once : {t w : List ℕ} → ForeignEscape t → Inside t w
 at-once d = foreign [] no-more d
 
+null-departs : {t : List ℕ} → ForeignEscape (code "\\" ∷ code "0" ∷ t)
+null-departs = null
+
 -- ---- one element
 
 abbrev isSimple : AfterBackslash → Bool
@@ -78,7 +81,7 @@ module _ (c x : ℕ) {t v : List ℕ} (h : Inside t v) where
       if-is Escape (eqb c (code "t")) (λ e. by-letter (code "t") (code "\t") e (before (codes "\\t") (code "\t") (λ u y s. mnemonic letter.tab s) h)) (λ _.
       if-is Escape (eqb c (code "n")) (λ e. by-letter (code "n") (code "\n") e (before (codes "\\n") (code "\n") (λ u y s. mnemonic letter.linefeed s) h)) (λ _.
       if-is Escape (eqb c (code "r")) (λ e. by-letter (code "r") (code "\r") e (before (codes "\\r") (code "\r") (λ u y s. mnemonic letter.return s) h)) (λ _.
-      if-is Escape (eqb c (code "0")) (λ e. by-letter (code "0") 0x00 e (at-once null)) (λ _.
+      if-is Escape (eqb c (code "0")) (λ e. by-letter (code "0") 0x00 e (at-once null-departs)) (λ _.
       if-all Escape (eqb c (code "x")) (λ f. no-yes (ap isSimple f)) (
       if-all Escape (eqb c (code "u")) (λ f. no-yes (ap isSimple f)) (
       if-all Escape (eqb c (code " ")) (λ f. no-yes (ap isSimple f)) (

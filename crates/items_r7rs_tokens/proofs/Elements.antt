@@ -64,11 +64,15 @@ module _ (E : List ℕ → List ℕ → Type 0) (none : E [] []) where
       = rw (append-assoc w (code "\n" ∷ n ++ p) t, append-assoc n p t) in
       subst (λ (l : List ℕ). UpTo E l v) whole (departs (code "\\" ∷ w ++ (code "\n" ∷ n ++ p)) (f p x (front p t i) s) d)
 
+-- a <return> is a newline in the standard's string, and itself here
+return-departs : {t : List ℕ} → Departure (code "\r" ∷ t)
+return-departs = return-alone
+
 pub string-up-to : {t v : List ℕ} → Elements t v → UpTo StringElements t v
 string-up-to standard.Elements.no-more = all string.no-more
 string-up-to (standard.Elements.itself {c = c} h s) = before StringElements string.no-more (c ∷ []) (c ∷ []) (λ u y k. string.itself h k) (string-up-to s)
-string-up-to (standard.Elements.return h s) = at-once StringElements string.no-more return-alone
-string-up-to (standard.Elements.return-newline s) = at-once StringElements string.no-more return-alone
+string-up-to (standard.Elements.return h s) = at-once StringElements string.no-more return-departs
+string-up-to (standard.Elements.return-newline s) = at-once StringElements string.no-more return-departs
 string-up-to (standard.Elements.mnemonic {c = c} {x = x} m s) =
     before StringElements string.no-more (code "\\" ∷ c ∷ []) (x ∷ []) (λ u y k. string.mnemonic m k) (string-up-to s)
 string-up-to (standard.Elements.doublequote s) = before StringElements string.no-more (codes "\\\"") (codes "\"") (λ u y k. string.doublequote k) (string-up-to s)
