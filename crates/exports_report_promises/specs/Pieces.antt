@@ -1,6 +1,6 @@
 -- A piece call in report mode: `calls::piece` ensures that its answer is `pieceOf state piece (length text)`, `calls::end` the same with
 -- `endOf`; for C `mihadrena_piece` and `mihadrena_end` that their answer and all memory are `pieceLeft` and `endLeft`.
-use Prim.Native.Nat.{ℕ, _-_}
+use Prim.Native.Nat.{ℕ, _+_, _-_}
 use mathlib.Core.Path.{_≡_, refl}
 use mathlib.Core.Bool.{Bool, true, false}
 use mathlib.Core.List.{List, [], _∷_}
@@ -59,8 +59,8 @@ pub record Rows : Type 0 where
   pub bar : answered (pieceOf (fresh 1 false) (spelled "12|a|") longest) ≡ answer 3 (texted kind.Number 0 2 "12")
   pub failing : answered (pieceOf inString (spelled "\\x4G1;\"") longest) ≡ answer 7 (deep 1 (error kind.InvalidHexEscapeLiteral 2 1 8 5 6))
   -- as C gets them: the record of the error behind E10's first, and that of the number
-  pub own-told : endLeft (pieceLeft opened tenth .memory) .memory .item ≡ 102 ∷ 0 ∷ 8 ∷ 9 ∷ 8 ∷ 9 ∷ 0 ∷ 0 ∷ 0 ∷ 0 ∷ []
-  pub bar-told : pieceLeft opened (spelled "12|a|") .memory .item ≡ 29 ∷ 0 ∷ 0 ∷ 2 ∷ 0 ∷ 2 ∷ 2 ∷ 0 ∷ 2 ∷ 0 ∷ []
+  pub own-told : endLeft (pieceLeft opened tenth .memory) .memory .item ≡ (kind.firstError + kind.IncompleteString) ∷ 0 ∷ 8 ∷ 9 ∷ 8 ∷ 9 ∷ 0 ∷ 0 ∷ 0 ∷ 0 ∷ []
+  pub bar-told : pieceLeft opened (spelled "12|a|") .memory .item ≡ kind.Number ∷ 0 ∷ 0 ∷ 2 ∷ 0 ∷ 2 ∷ 2 ∷ 0 ∷ 2 ∷ 0 ∷ []
 
 rows : Rows
 -- the list only permits the computing

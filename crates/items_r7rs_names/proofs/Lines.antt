@@ -40,6 +40,7 @@ before w x f (foreign u {v = y} {t = t} {w = z} s d) = subst (λ (l : List ℕ).
 at-once : {t w : List ℕ} → ForeignEscape t → Inside t w
 at-once d = foreign [] no-more d
 
+-- `\0` is an escape here, and none of the standard's
 null-departs : {t : List ℕ} → ForeignEscape (code "\\" ∷ code "0" ∷ t)
 null-departs = null
 
