@@ -6,7 +6,7 @@ ghost use Rattle.byte_periods.specs.Periods.{byte, Suffixed, Repeats, Moves, Sta
 use byte_runs::agreeing;
 
 // The greatest suffix of the bytes before `end`: where it starts, and its least period.
-#[derive(Drop)]
+#[derive(Clone, Copy)]
 pub struct Suffix {
     pub start: usize,
     pub period: usize,
@@ -15,7 +15,7 @@ pub struct Suffix {
 
 // How far a text is moved along itself, how many of its bytes agree with it there, and where the greatest suffix of these starts and its period; where
 // none is kept nothing is known.
-#[derive(Drop)]
+#[derive(Clone, Copy)]
 pub struct Moved {
     pub by: usize,
     pub kept: usize,

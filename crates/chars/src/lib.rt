@@ -3,7 +3,7 @@
 
 // Where the byte machine stands within a character: how many bytes it still wants, the range of the next of them, and the code so far.
 // At need 0 it stands between two characters.
-#[derive(Drop)]
+#[derive(Clone, Copy)]
 pub struct Begun {
     pub need: u8,
     pub low: u8,
@@ -12,7 +12,7 @@ pub struct Begun {
 }
 
 // What one byte does.
-#[derive(Drop)]
+#[derive(Clone, Copy)]
 pub enum Step {
     // The character wants more bytes: CE, the first byte of λ.
     More(Begun),
@@ -23,7 +23,7 @@ pub enum Step {
 }
 
 // What stands at a place of a text.
-#[derive(Drop)]
+#[derive(Clone, Copy)]
 pub enum Decoded {
     // A character, and the place past it.
     Char { code: u32, next: usize },
@@ -36,7 +36,7 @@ pub enum Decoded {
 }
 
 // Whether a text is UTF-8, else where its first bad sequence starts.
-#[derive(Drop)]
+#[derive(Clone, Copy)]
 pub enum Utf8 {
     Good,
     Bad(usize),

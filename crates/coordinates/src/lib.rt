@@ -21,7 +21,7 @@ mod values;
 pub use values::{record_value, value};
 
 // What the calls answer: specs/Answers gives the number and what comes with it for each case.
-#[derive(Drop)]
+#[derive(Clone, Copy)]
 pub enum CoordinateAnswer {
     // 6892014.7
     Value(f64),

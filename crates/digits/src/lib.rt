@@ -10,41 +10,41 @@ mod hexadecimal;
 pub use hexadecimal::hex_value;
 
 // Places of a text: from `start` to before `end`.
-#[derive(Drop)]
+#[derive(Clone, Copy)]
 pub struct Span {
     pub start: usize,
     pub end: usize,
 }
 
 // A run of digits: where it ends, and their value.
-#[derive(Drop)]
+#[derive(Clone, Copy)]
 pub struct Run {
     pub end: usize,
     pub value: u64,
 }
 
 // An integer. Small: its value. Big, as 9223372036854775808 is: whether it has a minus sign, and where its digits stand.
-#[derive(Drop)]
+#[derive(Clone, Copy)]
 pub enum Int {
     Small(i64),
     Big(bool, Span),
 }
 
-#[derive(Drop)]
+#[derive(Clone, Copy)]
 pub enum MaybeInt {
     AnInt(Int),
     NoInt,
 }
 
 // The value of digits without their sign, where it is at most 2^63: Large is 9223372036854775809.
-#[derive(Drop)]
+#[derive(Clone, Copy)]
 enum Magnitude {
     Fits(u64),
     Large,
 }
 
 // Hexadecimal digits: their value, or what is wrong with them (the detail of error 11) and at which place of their text.
-#[derive(Drop)]
+#[derive(Clone, Copy)]
 pub enum Hex {
     Value(u32),
     Wrong(u32, usize),

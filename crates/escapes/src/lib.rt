@@ -19,7 +19,7 @@ use chars::{char_width, put_char};
 use items::Quotes;
 
 // What an element of a text gives.
-#[derive(Drop)]
+#[derive(Clone, Copy)]
 pub enum ElementValue {
     // nothing: a line that goes on
     Nothing,
@@ -30,7 +30,7 @@ pub enum ElementValue {
 }
 
 // What an element gives, and the place past it. At the end of the text, and where an escape is wrong, that is nothing and the end of all.
-#[derive(Drop)]
+#[derive(Clone, Copy)]
 pub struct Element {
     pub given: ElementValue,
     pub next: usize,

@@ -10,7 +10,7 @@ use lexer::ReadAnswer;
 use refusal::{LIMIT_VALUE, NO_MODE, NOT_UTF8, SERVED, TOO_FEW, TOO_LONG};
 
 // An answer: its number and its two values.
-#[derive(Drop)]
+#[derive(Clone, Copy)]
 struct NumberAndValues {
     number: u32,
     first: u64,

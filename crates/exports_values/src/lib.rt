@@ -4,7 +4,7 @@ ghost use Rattle.std.specs.Prelude.{◌≡◌, [], ◌∷◌};
 ghost use Rattle.chars.specs.Encode.{lay};
 
 // An answer: its number and its value.
-#[derive(Drop)]
+#[derive(Clone, Copy)]
 pub struct NumberAndValue {
     pub number: u32,
     pub value: u64,

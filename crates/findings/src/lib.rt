@@ -15,7 +15,7 @@ mod telling;
 pub use plans::find;
 
 // A finding. A second place is never empty: 0 and 0 say that there is none.
-#[derive(Drop)]
+#[derive(Clone, Copy)]
 pub struct Finding {
     // WARNING or ERROR
     pub severity: u32,
@@ -31,7 +31,7 @@ pub struct Finding {
 }
 
 // What is asked of a row.
-#[derive(Drop)]
+#[derive(Clone, Copy)]
 pub struct Row {
     pub kind: u32,
     // the extent
@@ -48,28 +48,28 @@ pub struct Row {
 }
 
 // What a row tells.
-#[derive(Drop)]
+#[derive(Clone, Copy)]
 pub enum RowTold {
     Nothing,
     One(Finding),
 }
 
 // The finding about lists, and the row that tells it.
-#[derive(Drop)]
+#[derive(Clone, Copy)]
 pub enum ListTold {
     Silent,
     At(usize, Finding),
 }
 
 // How many findings there are, and how many of them are errors.
-#[derive(Drop)]
+#[derive(Clone, Copy)]
 pub struct Counted {
     pub findings: usize,
     pub errors: usize,
 }
 
 // What the call answers.
-#[derive(Drop)]
+#[derive(Clone, Copy)]
 pub enum FindAnswer {
     // 0, with how many findings there are and how many of them are errors
     Found(usize, usize),

@@ -11,7 +11,7 @@ use findings_render_parts::laying::put_byte;
 use findings_render_parts::numbers::{digit_byte, hex_count, put_digits, put_number};
 
 // A finding's words, and its places as far as the text goes.
-#[derive(Drop)]
+#[derive(Clone, Copy)]
 pub struct ToldFinding {
     pub severity: u32,
     pub code: u32,

@@ -6,7 +6,7 @@ pub mod numbers;
 pub mod places;
 
 // What stands at a place of a text: how many bytes it has, how it is shown, and its number.
-#[derive(Drop)]
+#[derive(Clone, Copy)]
 pub struct Seen {
     pub size: usize,
     pub kind: u32,
@@ -14,7 +14,7 @@ pub struct Seen {
 }
 
 // What is shown of a line: where it starts and ends, and from where to where it is shown.
-#[derive(Drop)]
+#[derive(Clone, Copy)]
 pub struct Window {
     pub start: usize,
     pub from: usize,

@@ -21,7 +21,7 @@ use slips::{is_slip, mend};
 mod slips;
 
 // The place behind a closing quote.
-#[derive(Drop)]
+#[derive(Clone, Copy)]
 pub enum Closing {
     // |a|
     Behind(usize),

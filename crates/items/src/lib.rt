@@ -22,7 +22,7 @@ pub const BOOLEAN_LENGTH: usize = 2;
 pub const CHARACTER_MARK: usize = 2;
 
 // What stands between quotes.
-#[derive(Drop)]
+#[derive(Clone, Copy)]
 pub enum Quotes {
     // a string: "a"
     Double,
@@ -31,7 +31,7 @@ pub enum Quotes {
 }
 
 // What an item turned out to be, once its extent is known. Kind, detail and text follow from this and the extent's bytes.
-#[derive(Drop)]
+#[derive(Clone, Copy)]
 pub enum Outcome {
     // a kind and its detail, with no text: (
     Token(u32, u32),
@@ -56,7 +56,7 @@ pub enum Outcome {
 }
 
 // Where in an item the machine stands.
-#[derive(Drop)]
+#[derive(Clone, Copy)]
 pub enum Phase {
     // in a comment to the end of the line: ;
     InLine,
@@ -114,14 +114,14 @@ pub enum Phase {
 // What a character does in a phase: it belongs to the item, which is then in another phase; or the item ended before it. An item
 // is known to be whole only when a character beyond it has been seen, or the end: the quote that closes a string is eaten into the
 // phase `Closed`, which stops before the next character.
-#[derive(Drop)]
+#[derive(Clone, Copy)]
 pub enum Next {
     Eat(Phase),
     Stop(Outcome),
 }
 
 // What a word that starts with # is by its bytes.
-#[derive(Drop)]
+#[derive(Clone, Copy)]
 pub enum HashKind {
     // #t
     Decided(Outcome),
@@ -132,7 +132,7 @@ pub enum HashKind {
 }
 
 // The character that some digits or a name stand for, or an error.
-#[derive(Drop)]
+#[derive(Clone, Copy)]
 pub enum CharValue {
     Scalar(u32),
     // an error's number and detail
@@ -142,7 +142,7 @@ pub enum CharValue {
 }
 
 // An item in nine words, as document 01 lays them out.
-#[derive(Drop)]
+#[derive(Clone, Copy)]
 pub struct Nine {
     // the kind, or 100 plus an error's number
     pub kind: u32,
@@ -160,7 +160,7 @@ pub struct Nine {
 }
 
 // A record: those nine words, and how many brackets are open before the item.
-#[derive(Drop)]
+#[derive(Clone, Copy)]
 pub struct Record {
     pub nine: Nine,
     pub depth: u32,

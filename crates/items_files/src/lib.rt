@@ -13,7 +13,7 @@ mod loading;
 mod storing;
 
 // What lies before a word: which of its record's words it is, the word before it, and the start of the item last stored.
-#[derive(Drop)]
+#[derive(Clone, Copy)]
 pub struct Before {
     pub which: u32,
     pub last: u32,
@@ -22,7 +22,7 @@ pub struct Before {
 
 // What stands at a place of a file: a number and the place after it; one that is longer than needed, over 32 bits or goes on after
 // its fifth group; or one that the file's end cuts short.
-#[derive(Drop)]
+#[derive(Clone, Copy)]
 pub enum Number {
     Whole(u32, usize),
     Wrong,
@@ -30,7 +30,7 @@ pub enum Number {
 }
 
 // A brief number, one below 268,435,456 and so of up to four groups, with the place after it; or any other, or none.
-#[derive(Drop)]
+#[derive(Clone, Copy)]
 pub enum Brief {
     Value(u32, usize),
     Other,
@@ -38,14 +38,14 @@ pub enum Brief {
 
 // A light item, as nearly all are: the starts of its place and of its text are brief and its other numbers have one group each. With it
 // the place after it; or any other, or none.
-#[derive(Drop)]
+#[derive(Clone, Copy)]
 pub enum Light {
     Item(Record, usize),
     Other,
 }
 
 // What the writer's first pass finds: the bytes of the file, or the first record that goes back.
-#[derive(Drop)]
+#[derive(Clone, Copy)]
 pub enum Measured {
     Bytes(usize),
     Back(usize),
@@ -53,7 +53,7 @@ pub enum Measured {
 
 // What the reader's first pass finds: the words of the records, or the first number that fails: cut short, wrong in itself, or of a
 // word over 32 bits.
-#[derive(Drop)]
+#[derive(Clone, Copy)]
 pub enum FirstPass {
     Words(usize),
     Cut(usize),
@@ -62,7 +62,7 @@ pub enum FirstPass {
 }
 
 // What the writer answers: specs/Answers gives the number and what comes with it for each case.
-#[derive(Drop)]
+#[derive(Clone, Copy)]
 pub enum StoreAnswer {
     // 0, with the bytes written
     Stored(usize),
@@ -73,7 +73,7 @@ pub enum StoreAnswer {
 }
 
 // What the reader answers.
-#[derive(Drop)]
+#[derive(Clone, Copy)]
 pub enum LoadAnswer {
     // 0, with the items read
     Loaded(usize),

@@ -18,7 +18,7 @@ mod strings;
 pub use strings::string_at;
 
 // What one look tells.
-#[derive(Drop)]
+#[derive(Clone, Copy)]
 pub enum Quick {
     // an item that is no bracket, by its meaning and its extent
     Item(Means, usize, usize),
@@ -29,7 +29,7 @@ pub enum Quick {
 }
 
 // What the bytes of a string tell from a place on.
-#[derive(Drop)]
+#[derive(Clone, Copy)]
 pub enum Strung {
     // it is whole, and ends at a place
     Whole(usize),

@@ -21,7 +21,7 @@ mod whole;
 mod word;
 
 // What the call looks at in a record.
-#[derive(Drop)]
+#[derive(Clone, Copy)]
 pub struct WriteWords {
     pub kind: u32,
     // the extent
@@ -34,7 +34,7 @@ pub struct WriteWords {
 }
 
 // Whether records are refused.
-#[derive(Drop)]
+#[derive(Clone, Copy)]
 pub enum Judged {
     Fine,
     // the first record concerned has a kind that 01 does not have, or its extent or text is not whole characters of what is lent: 48
@@ -44,7 +44,7 @@ pub enum Judged {
 }
 
 // What the call answers.
-#[derive(Drop)]
+#[derive(Clone, Copy)]
 pub enum WriteAnswer {
     // this many bytes were written
     Written(usize),
@@ -59,7 +59,7 @@ pub enum WriteAnswer {
 }
 
 // Whether a text is one extent where it will stand.
-#[derive(Drop)]
+#[derive(Clone, Copy)]
 pub enum Stand {
     // all of it, and what it turned out to be: foo
     Ends(Outcome),
@@ -68,7 +68,7 @@ pub enum Stand {
 }
 
 // How the bytes of a word are written.
-#[derive(Drop)]
+#[derive(Clone, Copy)]
 pub enum Form {
     // foo
     AsIs,
@@ -77,7 +77,7 @@ pub enum Form {
 }
 
 // What is written next.
-#[derive(Drop)]
+#[derive(Clone, Copy)]
 pub struct WriteTurn {
     // the last record that it takes
     pub last: usize,

@@ -20,7 +20,7 @@ pub use text::{text_and_mark, text_mark, text_of};
 pub use whole::{count, read, write};
 
 // Where in a source reading stands.
-#[derive(Drop)]
+#[derive(Clone, Copy)]
 pub struct Spot {
     // the place of the next character
     pub at: usize,
@@ -35,14 +35,14 @@ pub struct Spot {
 }
 
 // Where reading stands: its spot, and how many brackets are open there.
-#[derive(Drop)]
+#[derive(Clone, Copy)]
 pub struct Position {
     pub spot: Spot,
     pub depth: u32,
 }
 
 // The first character of an item.
-#[derive(Drop)]
+#[derive(Clone, Copy)]
 pub enum FirstChar {
     // the character, its place, and the place past it
     At(u32, usize, usize),
@@ -51,7 +51,7 @@ pub enum FirstChar {
 }
 
 // What reading on gives.
-#[derive(Drop)]
+#[derive(Clone, Copy)]
 pub enum Found {
     // an item by itself, and the spot after it
     One(Nine, Spot),
@@ -59,14 +59,14 @@ pub enum Found {
 }
 
 // How far counting got: the place, and the items before it.
-#[derive(Drop)]
+#[derive(Clone, Copy)]
 pub struct CountedTo {
     pub at: usize,
     pub items: usize,
 }
 
 // How far writing got: the place, the words that the records take, and how many brackets are open there.
-#[derive(Drop)]
+#[derive(Clone, Copy)]
 pub struct Wrote {
     pub at: usize,
     pub words: usize,
@@ -74,14 +74,14 @@ pub struct Wrote {
 }
 
 // What the items of a text need: records, and bytes of text memory.
-#[derive(Drop)]
+#[derive(Clone, Copy)]
 pub struct Needed {
     pub items: usize,
     pub text: usize,
 }
 
 // What the whole-text call answers.
-#[derive(Drop)]
+#[derive(Clone, Copy)]
 pub enum ReadAnswer {
     // how many items were written, and how many bytes of decoded text
     Served(usize, usize),
@@ -96,7 +96,7 @@ pub enum ReadAnswer {
 }
 
 // What opening answers.
-#[derive(Drop)]
+#[derive(Clone, Copy)]
 pub enum OpenAnswer {
     Opened(Position),
     // 25, with the mode
@@ -108,7 +108,7 @@ pub enum OpenAnswer {
 }
 
 // What the reader answers.
-#[derive(Drop)]
+#[derive(Clone, Copy)]
 pub enum NextAnswer {
     // an item, and the position after it
     Item(Record, Position),
@@ -121,7 +121,7 @@ pub enum NextAnswer {
 }
 
 // Where the item begins that comes next, as far as one look reads it. Internal.
-#[derive(Drop)]
+#[derive(Clone, Copy)]
 pub enum Beginning {
     // it starts at a place, and stands in a phase at another
     At(usize, usize, Phase),

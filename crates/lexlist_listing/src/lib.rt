@@ -19,7 +19,7 @@ const PIECE: usize = 512;
 const LAST_CALLS: usize = 4;
 
 // What was heard last: that there may be more, that all was given, or a refusal's number and place.
-#[derive(Drop)]
+#[derive(Clone, Copy)]
 enum Heard {
     Going,
     Finished,
@@ -27,7 +27,7 @@ enum Heard {
 }
 
 // Where the listing stands: the state, how many items were listed, and what was heard last.
-#[derive(Drop)]
+#[derive(Clone, Copy)]
 struct Listing {
     state: State,
     items: u64,
@@ -177,7 +177,7 @@ fn list_end(listing: Listing, text: &mut [u8]) -> Listing
 }
 
 // The listing after a read, whether it is the last, and whether the read failed, which is not the end of the input.
-#[derive(Drop)]
+#[derive(Clone, Copy)]
 struct ReadPiece {
     listing: Listing,
     last: bool,

@@ -6,7 +6,7 @@
 use chars::Begun;
 
 // Served with a count, or refused with document 01's number and what comes with it.
-#[derive(Drop)]
+#[derive(Clone, Copy)]
 pub enum LinesAnswer {
     // how many line starts the index has, or how many places were answered
     Served(usize),
@@ -14,7 +14,7 @@ pub enum LinesAnswer {
 }
 
 // What the question answers.
-#[derive(Drop)]
+#[derive(Clone, Copy)]
 pub enum Located {
     // the line and the column, both from 1
     At(usize, usize),
@@ -22,7 +22,7 @@ pub enum Located {
 }
 
 // Where a place stands in its line.
-#[derive(Drop)]
+#[derive(Clone, Copy)]
 pub enum Column {
     // where a character starts, or at the end: its column, from 1
     Whole(usize),
@@ -31,7 +31,7 @@ pub enum Column {
 }
 
 // The index of a text that comes in pieces.
-#[derive(Drop)]
+#[derive(Clone, Copy)]
 pub struct LineState {
     // where the byte machine stands within a character
     pub begun: Begun,

@@ -27,7 +27,7 @@ use spellings::characters::character;
 use spellings::failing::rest;
 
 // Where an item's text lies.
-#[derive(Drop)]
+#[derive(Clone, Copy)]
 pub enum Text {
     // it has none: (
     Nowhere,
@@ -38,7 +38,7 @@ pub enum Text {
 }
 
 // The kind, the detail and the text of an item.
-#[derive(Drop)]
+#[derive(Clone, Copy)]
 pub struct Means {
     pub kind: u32,
     pub detail: u32,
@@ -46,7 +46,7 @@ pub struct Means {
 }
 
 // The items of one extent.
-#[derive(Drop)]
+#[derive(Clone, Copy)]
 pub enum Meant {
     // foo
     One(Means),
@@ -55,7 +55,7 @@ pub enum Meant {
 }
 
 // From a place of the text to a place.
-#[derive(Drop)]
+#[derive(Clone, Copy)]
 pub struct Range {
     pub from: u32,
     pub to: u32,

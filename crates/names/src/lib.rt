@@ -13,7 +13,7 @@ pub use entering::{enter, open_table};
 pub use naming::{name_mark, name_of, place_of};
 
 // The answer to a party that asks for a name's number.
-#[derive(Drop)]
+#[derive(Clone, Copy)]
 pub enum Entered {
     // the name's number: 0 for the first name of party 0, 512 for the first of party 1
     Number(u32),
@@ -22,14 +22,14 @@ pub enum Entered {
 }
 
 // Where a name lies in the lent bytes; 0 and 0 where there is none.
-#[derive(Drop)]
+#[derive(Clone, Copy)]
 pub struct Place {
     pub start: usize,
     pub end: usize,
 }
 
 // What an index answers.
-#[derive(Drop)]
+#[derive(Clone, Copy)]
 pub enum Proposal {
     // an entry that bears the name
     Entry(usize),
@@ -40,14 +40,14 @@ pub enum Proposal {
 }
 
 // The number of a name, if it is there.
-#[derive(Drop)]
+#[derive(Clone, Copy)]
 pub enum NameFound {
     At(usize),
     Nothing,
 }
 
 // What a half, or both, answer for a name.
-#[derive(Drop)]
+#[derive(Clone, Copy)]
 pub struct Sought {
     // its number, if it is there
     pub number: NameFound,

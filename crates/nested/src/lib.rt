@@ -28,7 +28,7 @@ const WORD: usize = 0x1_0000_0000;
 // What a record is to the reader: none of the layout's, an error, a comment, `#;`, a quoting mark, a simple datum with its
 // node's kind, an opening and a closing bracket with its detail, a dot. A bracket is a u64 here and in a frame: the compiler packs a u32 into
 // one word with the tag, and takes it apart again at every record.
-#[derive(Drop)]
+#[derive(Clone, Copy)]
 pub enum Class {
     Alien,
     Fails,
@@ -43,7 +43,7 @@ pub enum Class {
 
 // A level that is open: the whole text; a mark or `#;` that waits; a bracket with no datum yet, with some, with a dot that
 // waits, with the datum after the dot.
-#[derive(Drop)]
+#[derive(Clone, Copy)]
 pub enum Frame {
     Plan,
     Quoting,
@@ -55,7 +55,7 @@ pub enum Frame {
 }
 
 // The next record, the next node and the kind of the node of what was read; or a refusal with its record.
-#[derive(Drop)]
+#[derive(Clone, Copy)]
 pub enum Read {
     Got(usize, usize, u32),
     Failed(u32, usize),
@@ -63,7 +63,7 @@ pub enum Read {
 
 // What one record of a level does, with the datum that starts there: reading goes on at a record and a node in a frame; the level is shut,
 // and the next record and node follow it; or a refusal with its record.
-#[derive(Drop)]
+#[derive(Clone, Copy)]
 pub enum Turn {
     On(usize, usize, Frame),
     Shut(usize, usize),
@@ -71,7 +71,7 @@ pub enum Turn {
 }
 
 // The number of nodes; or a refusal with its record, at the end the number of records.
-#[derive(Drop)]
+#[derive(Clone, Copy)]
 pub enum Nested {
     Built(usize),
     Refused(u32, usize),

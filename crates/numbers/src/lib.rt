@@ -25,14 +25,14 @@ pub use complexes::{complex, just, polar, to_sign};
 pub use reals::{decimal_at, integral, is_marker, rational};
 
 // A decimal's exponent: whether it has a minus sign, and where its digits stand.
-#[derive(Drop)]
+#[derive(Clone, Copy)]
 pub struct Exponent {
     pub negative: bool,
     pub digits: Span,
 }
 
 // A decimal: its sign, and where its digits stand. Of 1e5 the fraction, of 1.5 the exponent is the empty place after the digits.
-#[derive(Drop)]
+#[derive(Clone, Copy)]
 pub struct Point {
     pub negative: bool,
     pub whole: Span,
@@ -40,7 +40,7 @@ pub struct Point {
     pub exponent: Exponent,
 }
 
-#[derive(Drop)]
+#[derive(Clone, Copy)]
 pub enum Real {
     // 5
     Integer(Int),
@@ -62,7 +62,7 @@ pub enum Real {
     ImpliedOne(bool),
 }
 
-#[derive(Drop)]
+#[derive(Clone, Copy)]
 pub enum Parts {
     // 5
     Just(Real),
@@ -73,7 +73,7 @@ pub enum Parts {
 }
 
 // What the number call answers: specs/Call gives document 01's numbers for each case.
-#[derive(Drop)]
+#[derive(Clone, Copy)]
 pub enum NumberAnswer {
     // 5
     Is(Parts),
@@ -88,7 +88,7 @@ pub enum NumberAnswer {
 }
 
 // What a text is that is known to be UTF-8 and short enough.
-#[derive(Drop)]
+#[derive(Clone, Copy)]
 pub enum Parsed {
     // 5
     Is(Parts),
@@ -99,7 +99,7 @@ pub enum Parsed {
 }
 
 // What follows a decimal's digits.
-#[derive(Drop)]
+#[derive(Clone, Copy)]
 pub enum Suffix {
     Empty,
     // e5
@@ -108,14 +108,14 @@ pub enum Suffix {
     Bad,
 }
 
-#[derive(Drop)]
+#[derive(Clone, Copy)]
 pub enum MaybeReal {
     AReal(Real),
     NoReal,
 }
 
 // What a text is that may be one decimal.
-#[derive(Drop)]
+#[derive(Clone, Copy)]
 pub enum MaybePoint {
     // 1.5
     APoint(Point),
@@ -123,7 +123,7 @@ pub enum MaybePoint {
     NoPoint,
 }
 
-#[derive(Drop)]
+#[derive(Clone, Copy)]
 pub enum MaybeParts {
     SomeParts(Parts),
     NoParts,
@@ -131,7 +131,7 @@ pub enum MaybeParts {
 
 // What a plainest real without a slash has from a place on: whether a minus sign, where its digits start, where those before a dot end and where
 // all end, and the value of those before the dot.
-#[derive(Drop)]
+#[derive(Clone, Copy)]
 pub struct Outline {
     pub negative: bool,
     pub start: usize,

@@ -17,7 +17,7 @@ mod complexes;
 mod reals;
 
 // What the number call with a choice answers: specs/Call gives the numbers for each case.
-#[derive(Drop)]
+#[derive(Clone, Copy)]
 pub enum NumberByAnswer {
     // what the chosen reader's call answers
     Answered(NumberAnswer),

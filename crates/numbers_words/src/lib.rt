@@ -64,7 +64,7 @@ const VALUE: u64 = 1;
 const PLACES: u64 = 2;
 
 // The words of a figure.
-#[derive(Drop)]
+#[derive(Clone, Copy)]
 pub struct Figure {
     pub has: u64,
     pub minus: u64,
@@ -73,7 +73,7 @@ pub struct Figure {
 }
 
 // The words of a real.
-#[derive(Drop)]
+#[derive(Clone, Copy)]
 pub struct Flat {
     pub form: u64,
     pub one: Figure,

@@ -11,7 +11,7 @@ use items::{Phase, Record};
 pub const LONGEST: usize = 4096;
 
 // What stands beyond a pair such as `+foo` whose second item waits.
-#[derive(Drop)]
+#[derive(Clone, Copy)]
 pub enum Beyond {
     // the end of the text
     End,
@@ -20,7 +20,7 @@ pub enum Beyond {
 }
 
 // Where the reader stands.
-#[derive(Drop)]
+#[derive(Clone, Copy)]
 pub enum Stage {
     // at the start of the text
     Opening,
@@ -39,13 +39,13 @@ pub enum Stage {
 }
 
 // A character begun: how many of its bytes were taken, and what may follow.
-#[derive(Drop)]
+#[derive(Clone, Copy)]
 pub struct Part {
     pub count: usize,
     pub state: Begun,
 }
 
-#[derive(Drop)]
+#[derive(Clone, Copy)]
 pub struct Marks {
     // 0 plain, 1 report
     pub mode: u32,
@@ -66,14 +66,14 @@ pub struct Marks {
     pub depth: u32,
 }
 
-#[derive(Drop)]
+#[derive(Clone, Copy)]
 pub struct State {
     pub buf: [u8; LONGEST],
     pub marks: Marks,
 }
 
 // What a call gives beside the bytes taken.
-#[derive(Drop)]
+#[derive(Clone, Copy)]
 pub enum Got {
     Item(Record),
     More,
@@ -83,7 +83,7 @@ pub enum Got {
 }
 
 // Whether a piece state was opened.
-#[derive(Drop)]
+#[derive(Clone, Copy)]
 pub enum Start {
     Ready,
     // a refusal's number, and the mode
@@ -91,14 +91,14 @@ pub enum Start {
 }
 
 // A fresh state; a plain one where opening was refused.
-#[derive(Drop)]
+#[derive(Clone, Copy)]
 pub struct Opened {
     pub state: State,
     pub start: Start,
 }
 
 // What a call answers: the state after it, how many bytes of the piece were taken, and what is given.
-#[derive(Drop)]
+#[derive(Clone, Copy)]
 pub struct Answer {
     pub state: State,
     pub taken: usize,
@@ -106,7 +106,7 @@ pub struct Answer {
 }
 
 // The same inside, where the buffer is lent.
-#[derive(Drop)]
+#[derive(Clone, Copy)]
 pub struct Pieced {
     pub marks: Marks,
     pub taken: usize,
@@ -114,7 +114,7 @@ pub struct Pieced {
 }
 
 // What one byte did: `More` where nothing is given yet.
-#[derive(Drop)]
+#[derive(Clone, Copy)]
 pub struct Turned {
     pub marks: Marks,
     pub got: Got,

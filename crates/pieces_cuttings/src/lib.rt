@@ -11,7 +11,7 @@ pub use parts::{copy, part, record_at};
 
 // How a text is cut: a first piece of so many bytes, then pieces of `low` bytes, of one byte more each time up to `high`, then of `low`
 // again.
-#[derive(Drop)]
+#[derive(Clone, Copy)]
 pub struct Cutting {
     pub first: usize,
     pub low: usize,
@@ -19,7 +19,7 @@ pub struct Cutting {
 }
 
 // What a reading has come to.
-#[derive(Drop)]
+#[derive(Clone, Copy)]
 pub struct Reading {
     // how many items are written down, and how many bytes their texts have
     pub items: usize,
@@ -36,7 +36,7 @@ pub struct Reading {
 }
 
 // The same, and the state.
-#[derive(Drop)]
+#[derive(Clone, Copy)]
 struct ReadingAndState {
     state: State,
     reading: Reading,

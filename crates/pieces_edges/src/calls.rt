@@ -37,7 +37,7 @@ const NO_STOP: u32 = TOO_FEW;
 const UNLIKELY_DEPTH: u32 = 5;
 
 // Where the calls stand: the state, and whether the text memory is a byte too short.
-#[derive(Drop)]
+#[derive(Clone, Copy)]
 struct CallsStand {
     state: State,
     little: bool,

@@ -5,7 +5,7 @@ use crate::{cuts, long};
 use pieces_cuttings::{Cutting, part};
 
 // What is done with each case of a file.
-#[derive(Drop)]
+#[derive(Clone, Copy)]
 pub enum Job {
     // a long item is made and read
     Items(LongItem),

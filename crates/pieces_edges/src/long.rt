@@ -13,7 +13,7 @@ const LONG_ROOM: usize = 6000;
 const LONG: usize = 5000;
 
 // How an item is read: under a cutting, comments skipped or kept. It has so many bytes, or so many before what closes it.
-#[derive(Drop)]
+#[derive(Clone, Copy)]
 pub struct LongItem {
     pub cutting: Cutting,
     pub size: usize,

@@ -24,7 +24,7 @@ mod tells;
 pub use closing::is_closing;
 
 // What the end gives: an item, by the brackets open past it and its record; that all were given; or nothing where it is not told here.
-#[derive(Drop)]
+#[derive(Clone, Copy)]
 pub enum Last {
     Given(u64, Record),
     Finished,

@@ -12,7 +12,7 @@ pub mod lending;
 pub mod opening;
 
 // The marks of a state as numbers. A word that a stage does not use is 0.
-#[derive(Drop)]
+#[derive(Clone, Copy)]
 pub struct Words {
     // 0 plain, 1 report
     pub mode: u64,
@@ -50,7 +50,7 @@ pub struct Words {
 }
 
 // A stage as numbers.
-#[derive(Drop)]
+#[derive(Clone, Copy)]
 pub struct StageRow {
     pub stage: u64,
     pub start: u64,
@@ -61,7 +61,7 @@ pub struct StageRow {
 }
 
 // What words stand for.
-#[derive(Drop)]
+#[derive(Clone, Copy)]
 pub enum MaybeMarks {
     Standing(Marks),
     // words that are the code of no marks
@@ -69,21 +69,21 @@ pub enum MaybeMarks {
 }
 
 // A state as the caller keeps it.
-#[derive(Drop)]
+#[derive(Clone, Copy)]
 pub struct LentState {
     pub buf: [u8; LONGEST],
     pub words: Words,
 }
 
 // A fresh state to lend; a plain one where opening was refused.
-#[derive(Drop)]
+#[derive(Clone, Copy)]
 pub struct Fresh {
     pub state: LentState,
     pub start: Start,
 }
 
 // What a call answers where the buffer alone is lent: the words after it, how many bytes of the piece were taken, and what is given.
-#[derive(Drop)]
+#[derive(Clone, Copy)]
 pub struct Told {
     pub words: Words,
     pub taken: usize,
@@ -91,7 +91,7 @@ pub struct Told {
 }
 
 // What a call answers where the state is lent.
-#[derive(Drop)]
+#[derive(Clone, Copy)]
 pub struct Taken {
     pub taken: usize,
     pub got: Got,

@@ -23,14 +23,14 @@ pub mod finishing;
 pub mod ready;
 
 // The record of an item, or nothing where it is not made here.
-#[derive(Drop)]
+#[derive(Clone, Copy)]
 pub enum Gift {
     Of(Record),
     Not,
 }
 
 // An item's record, the spot past the byte before which it ended and the brackets open there; or nothing where it is not told here.
-#[derive(Drop)]
+#[derive(Clone, Copy)]
 pub enum Offer {
     Given(PieceSpot, u64, Record),
     Not,
@@ -38,7 +38,7 @@ pub enum Offer {
 
 // Where the moves lead: to the end of the piece; past an item, with the brackets open there and the item's record; or to a spot before a
 // byte from which the crate `pieces_lent` has to go on.
-#[derive(Drop)]
+#[derive(Clone, Copy)]
 pub enum Reached {
     More(PieceSpot),
     Item(PieceSpot, u64, Record),

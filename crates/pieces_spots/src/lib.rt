@@ -15,7 +15,7 @@ pub use moving::{begin, close, past};
 pub use pairs::run_on;
 
 // Where the reader stands: the row of its stage, its place, the bytes of the item held, and the bytes of the piece taken.
-#[derive(Drop)]
+#[derive(Clone, Copy)]
 pub struct PieceSpot {
     pub stage: u64,
     pub start: u64,

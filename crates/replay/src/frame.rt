@@ -4,7 +4,7 @@
 pub const HEAD: usize = 22;
 
 // What a head says.
-#[derive(Drop)]
+#[derive(Clone, Copy)]
 pub struct FrameHead {
     // it is told of the whole-text call, and of the piece calls
     pub whole: bool,

@@ -6,7 +6,7 @@ use pieces_cuttings::Cutting;
 use refusal::{LIMIT_VALUE, NO_MODE, NOT_UTF8, SERVED, TOO_FEW, TOO_LONG};
 
 // What comes of a frame.
-#[derive(Drop)]
+#[derive(Clone, Copy)]
 pub enum Verdict {
     Met,
     // the whole-text call answers something else

@@ -17,7 +17,7 @@ pub(crate) const MEMORY_ROOM: usize = 8192;
 const MOST_FRAMES: u64 = 1_000_000;
 
 // How many answers were met, whole and in pieces, and whether the list is at its end or has one that differs.
-#[derive(Drop)]
+#[derive(Clone, Copy)]
 struct Done {
     whole: u64,
     pieces: u64,

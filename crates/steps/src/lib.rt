@@ -21,14 +21,14 @@ pub use machine::{finish, first_phase, scan, step};
 pub use runs::ascii_run;
 
 // What an item turned out to be, and where it ends.
-#[derive(Drop)]
+#[derive(Clone, Copy)]
 pub struct Scanned {
     pub what: Outcome,
     pub end: usize,
 }
 
 // Where an item ends, as far as one look tells.
-#[derive(Drop)]
+#[derive(Clone, Copy)]
 pub enum Ending {
     At(usize),
     // the scan tells: a word with a backslash

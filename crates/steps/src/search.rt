@@ -17,7 +17,7 @@ const FAR: usize = 128;
 
 // What is known of a delimiter: its first `count` bytes stand at the place `at`, and its line has them before `read`. The place looked at
 // last failed at its byte `off`, which stands at the place `odd`.
-#[derive(Drop)]
+#[derive(Clone, Copy)]
 struct Known {
     pub at: usize,
     pub count: usize,
