@@ -1,0 +1,109 @@
+-- Each arm is a power's exact value, an odd number of units times a power of two.
+use Rattle.std.proofs.Common.{◌≡◌, ℕ, zero, suc, ◌<◌, sym, ap, arith}
+use lib.Ieee
+use Rattle.coordinates.specs.Inner.{ten_to}
+use Rattle.coordinates.proofs.scaling.power.Goals as goal
+
+-- none of the numbers below n
+abbrev Others : ℕ → ℕ → Type 0
+Others zero k = Unit {0}
+Others (suc n) k = Others n k × (k ≡ n → ⊥)
+
+none : (n k : ℕ) → k < n → Others n k → ⊥
+none zero k h o = omega arith
+none (suc n) k h o = let d = o.1 in none n k (omega arith) o.0
+
+pub returns-in-0 : goal.returns-in-0
+unfolding Ieee.of_bits ten_to
+returns-in-0 c = ap ten_to (sym c.in-0.is)
+
+pub returns-in-1 : goal.returns-in-1
+unfolding Ieee.of_bits ten_to
+returns-in-1 c = ap ten_to (sym c.in-1.is)
+
+pub returns-in-2 : goal.returns-in-2
+unfolding Ieee.of_bits ten_to
+returns-in-2 c = ap ten_to (sym c.in-2.is)
+
+pub returns-in-3 : goal.returns-in-3
+unfolding Ieee.of_bits ten_to
+returns-in-3 c = ap ten_to (sym c.in-3.is)
+
+pub returns-in-4 : goal.returns-in-4
+unfolding Ieee.of_bits ten_to
+returns-in-4 c = ap ten_to (sym c.in-4.is)
+
+pub returns-in-5 : goal.returns-in-5
+unfolding Ieee.of_bits ten_to
+returns-in-5 c = ap ten_to (sym c.in-5.is)
+
+pub returns-in-6 : goal.returns-in-6
+unfolding Ieee.of_bits ten_to
+returns-in-6 c = ap ten_to (sym c.in-6.is)
+
+pub returns-in-7 : goal.returns-in-7
+unfolding Ieee.of_bits ten_to
+returns-in-7 c = ap ten_to (sym c.in-7.is)
+
+pub returns-in-8 : goal.returns-in-8
+unfolding Ieee.of_bits ten_to
+returns-in-8 c = ap ten_to (sym c.in-8.is)
+
+pub returns-in-9 : goal.returns-in-9
+unfolding Ieee.of_bits ten_to
+returns-in-9 c = ap ten_to (sym c.in-9.is)
+
+pub returns-in-10 : goal.returns-in-10
+unfolding Ieee.of_bits ten_to
+returns-in-10 c = ap ten_to (sym c.in-10.is)
+
+pub returns-in-11 : goal.returns-in-11
+unfolding Ieee.of_bits ten_to
+returns-in-11 c = ap ten_to (sym c.in-11.is)
+
+pub returns-in-12 : goal.returns-in-12
+unfolding Ieee.of_bits ten_to
+returns-in-12 c = ap ten_to (sym c.in-12.is)
+
+pub returns-in-13 : goal.returns-in-13
+unfolding Ieee.of_bits ten_to
+returns-in-13 c = ap ten_to (sym c.in-13.is)
+
+pub returns-in-14 : goal.returns-in-14
+unfolding Ieee.of_bits ten_to
+returns-in-14 c = ap ten_to (sym c.in-14.is)
+
+pub returns-in-15 : goal.returns-in-15
+unfolding Ieee.of_bits ten_to
+returns-in-15 c = ap ten_to (sym c.in-15.is)
+
+pub returns-in-16 : goal.returns-in-16
+unfolding Ieee.of_bits ten_to
+returns-in-16 c = ap ten_to (sym c.in-16.is)
+
+pub returns-in-17 : goal.returns-in-17
+unfolding Ieee.of_bits ten_to
+returns-in-17 c = ap ten_to (sym c.in-17.is)
+
+pub returns-in-18 : goal.returns-in-18
+unfolding Ieee.of_bits ten_to
+returns-in-18 c = ap ten_to (sym c.in-18.is)
+
+pub returns-in-19 : goal.returns-in-19
+unfolding Ieee.of_bits ten_to
+returns-in-19 c = ap ten_to (sym c.in-19.is)
+
+pub returns-in-20 : goal.returns-in-20
+unfolding Ieee.of_bits ten_to
+returns-in-20 c = ap ten_to (sym c.in-20.is)
+
+pub returns-in-21 : goal.returns-in-21
+unfolding Ieee.of_bits ten_to
+returns-in-21 c = ap ten_to (sym c.in-21.is)
+
+pub returns-in-22 : goal.returns-in-22
+unfolding Ieee.of_bits ten_to
+returns-in-22 c = ap ten_to (sym c.in-22.is)
+
+pub returns-in_default : goal.returns-in_default
+returns-in_default c = absurd (none 23 _ (omega arith) c.in_default.in_default-own.rest)

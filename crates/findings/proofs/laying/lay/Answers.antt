@@ -1,0 +1,24 @@
+-- One finding more, or none.
+use borrow.Author.Tests.{eq-eqb, ne_eqb}
+use native.Mathlib.Nat.{add-zero}
+use Rattle.findings_rows.specs.Laid.{laid_rows_from}
+use Rattle.findings.specs.Told.{errors_in}
+use Rattle.findings.proofs.laying.lay.Goals as goal
+
+pub returns-then-f-eq-ERROR : goal.returns-then-f-eq-ERROR
+unfolding errors_in laid_rows_from
+returns-then-f-eq-ERROR c =
+    let t = c.before.t-1 in
+    let lay-one = c.lay_one in
+    rw t.given.1 (rw (eq-eqb _ _ c.if-f-eq-ERROR.true, lay-one.ensures))
+
+pub returns-in-Nothing : goal.returns-in-Nothing
+unfolding errors_in laid_rows_from
+returns-in-Nothing c = rw c.in-Nothing.is (simp add-zero)
+
+pub returns-else-f-eq-ERROR : goal.returns-else-f-eq-ERROR
+unfolding errors_in laid_rows_from
+returns-else-f-eq-ERROR c =
+    let t = c.before.t-1 in
+    let lay-one = c.lay_one in
+    rw t.given.1 (rw (ne_eqb _ _ c.if-f-eq-ERROR.false, lay-one.ensures, add-zero))

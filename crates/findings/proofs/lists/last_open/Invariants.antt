@@ -1,0 +1,10 @@
+use mathlib.Core.Path.{◌≡◌}
+use Rattle.findings.specs.Rows.{last_before}
+use Rattle.findings.specs.Lists.{is_open}
+use Rattle.findings.proofs.lists.last_open.Given as goal
+
+abbrev pub invariant-loop-i : goal.invariant-loop-i
+invariant-loop-i l = last_before (is_open l.rows l.depth) l.p ≡ last_before (is_open l.rows l.depth) l.i
+
+abbrev pub decreases-loop-i : goal.decreases-loop-i
+decreases-loop-i l = l.i

@@ -1,0 +1,30 @@
+-- The invariant: the characters from the place i on are left.
+use Prim.Native.Nat.{◌-◌}
+use native.Mathlib.Omega.{arith}
+use Rattle.laws.proofs.Lent.{part_rest}
+use Rattle.findings_render_parts.specs.Shown.{shown_one}
+use Rattle.findings_render_parts.proofs.OneByOne.{left_start, left_on, left_end}
+use Rattle.findings_render_parts.proofs.Walks.{walked_on, walked_end}
+use Rattle.findings_render_parts.proofs.characters.put_shown.Goals as goal
+
+pub loop-i-init : goal.loop-i-init
+loop-i-init c = (omega arith, left_start)
+
+pub seen_at-u-requires : goal.seen_at-u-requires
+seen_at-u-requires c = c.loop-i-test.true
+
+pub loop-i-preserved : goal.loop-i-preserved
+loop-i-preserved c =
+    (
+      omega arith,
+      rw c.seen_at-u.ensures.0
+          (left_on c.loop-i.invariant.1 (walked_on shown_one c.args.t.now c.loop-i.i c.loop-i-test.true)
+          (rw (part_rest c.args.t.now c.loop-i.i, c.seen_at-u.ensures.0) at c.put_one-next.ensures)),
+    )
+
+pub shape_of-out : goal.shape_of-out
+shape_of-out c = c.loop-i.invariant.1.room
+
+pub returns : goal.returns
+returns c =
+    left_end c.loop-i.invariant.1 (walked_end shown_one c.args.t.now c.loop-i.i c.loop-i-test.false)

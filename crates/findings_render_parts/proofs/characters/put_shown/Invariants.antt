@@ -1,0 +1,11 @@
+use Prim.Native.Nat.{◌-◌, ◌≤◌}
+use lib.ListN.{length, drop}
+use Rattle.findings_render_parts.specs.Shown.{shown}
+use Rattle.findings_render_parts.proofs.OneByOne.{Left}
+use Rattle.findings_render_parts.proofs.characters.put_shown.Given as goal
+
+abbrev pub invariant-loop-i : goal.invariant-loop-i
+invariant-loop-i l = (l.i ≤ length l.t) × Left l.quoted (shown (drop l.i l.t)) l.next l.out (shown l.t) l.at l.initial.out
+
+abbrev pub decreases-loop-i : goal.decreases-loop-i
+decreases-loop-i l = length l.t - l.i

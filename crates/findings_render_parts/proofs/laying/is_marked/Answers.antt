@@ -1,0 +1,11 @@
+-- Nothing is marked where nothing is quoted.
+use Rattle.findings_render_parts.specs.Laid.{is_marked}
+use Rattle.findings_render_parts.proofs.laying.is_marked.Goals as goal
+
+pub returns-then-quoted : goal.returns-then-quoted
+unfolding is_marked
+returns-then-quoted c = rw c.if-quoted.true c.is_special.ensures
+
+pub returns : goal.returns
+unfolding is_marked
+returns c = rw c.if-quoted.false

@@ -1,0 +1,12 @@
+-- By the test.
+use borrow.Author.Tests.{lt-ltb, le-ltb}
+use Rattle.findings_render_parts.specs.Printed.{digit}
+use Rattle.findings_render_parts.proofs.numbers.digit_byte.Goals as goal
+
+pub returns-then-d-lt10 : goal.returns-then-d-lt10
+unfolding digit
+returns-then-d-lt10 c = rw (lt-ltb c.args.d 10 c.if-d-lt10.true)
+
+pub returns : goal.returns
+unfolding digit
+returns c = rw (le-ltb c.args.d 10 c.if-d-lt10.false)

@@ -1,0 +1,21 @@
+-- The invariant: the run from this place on ends where that from the first on does.
+use Prim.Native.Nat.{◌-◌}
+use mathlib.Core.Path.{sym, ◌∙◌}
+use Rattle.laws.proofs.Runs.{span_hit, span_stop, span_end}
+use Rattle.findings_render_parts.specs.Spots.{later, next_character}
+use Rattle.findings_render_parts.proofs.places.next_character.Goals as goal
+
+pub loop-i-preserved : goal.loop-i-preserved
+unfolding next_character
+loop-i-preserved c =
+    sym (span_hit later c.args.s.now c.loop-i.i c.loop-i-test.true (sym c.is_byte_within.ensures ∙ c.if-is_byte_within.true)) ∙ c.loop-i.invariant
+
+pub returns-else-is_byte_within : goal.returns-else-is_byte_within
+unfolding next_character
+returns-else-is_byte_within c =
+    sym (span_stop later c.args.s.now c.loop-i.i c.loop-i-test.true (sym c.is_byte_within.ensures ∙ c.if-is_byte_within.false)) ∙ c.loop-i.invariant
+
+pub returns : goal.returns
+unfolding next_character
+returns c =
+    sym (span_end later c.args.s.now c.loop-i.i c.loop-i-test.false) ∙ c.loop-i.invariant

@@ -1,0 +1,22 @@
+-- By the form.
+use mathlib.Core.Path.{ap}
+use lib.ListN.{length}
+use native.Mathlib.Omega.{arith}
+use Rattle.items_writing.proofs.QuotedBytes.{quoted_by_lem}
+use Rattle.items_writing.proofs.quoting.put_shown.Goals as goal
+
+pub put_plain-requires : goal.put_plain-requires
+put_plain-requires c = rw c.in-AsIs.is at c.requires
+
+pub put_quoted-requires : goal.put_quoted-requires
+put_quoted-requires c =
+    let e = quoted_by_lem c.in-Within.k c.args.t.now c.closing.ensures in let h = rw
+    c.in-Within.is at c.requires in omega (arith, ap length e)
+
+pub returns-in-AsIs : goal.returns-in-AsIs
+returns-in-AsIs c = rw c.in-AsIs.is c.put_plain.ensures
+
+pub returns-in-Within : goal.returns-in-Within
+returns-in-Within c =
+    let e = quoted_by_lem c.in-Within.k c.args.t.now c.closing.ensures in
+    rw c.in-Within.is (rw e c.put_quoted.ensures)

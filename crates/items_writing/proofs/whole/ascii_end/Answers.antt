@@ -1,0 +1,18 @@
+-- The loop keeps: up to the place i the text is passed.
+use native.Mathlib.Omega.{arith}
+use Prim.Native.Nat.{◌-◌}
+use Rattle.chars.proofs.Wide.{passed_none, passed_on, passed_small}
+use Rattle.items_writing.proofs.whole.ascii_end.Goals as goal
+
+pub loop-i-init : goal.loop-i-init
+loop-i-init c = passed_none _ _
+
+pub returns-then-t-i-ge-ASCII_END : goal.returns-then-t-i-ge-ASCII_END
+returns-then-t-i-ge-ASCII_END c = c.loop-i.invariant
+
+pub loop-i-preserved : goal.loop-i-preserved
+loop-i-preserved c =
+    passed_on _ _ _ _ c.loop-i.invariant (passed_small _ _ c.loop-i-test.true (omega arith))
+
+pub returns : goal.returns
+returns c = c.loop-i.invariant

@@ -1,0 +1,56 @@
+-- The own half is asked first, and the other one only where the own answers nothing, as `or_else` has it: before the second turn that is known,
+-- and the own half's free slot.
+use Prim.Native.Nat.{ℕ, ◌+◌, ◌-◌, ◌<◌}
+use native.Mathlib.Omega.{arith}
+use mathlib.Core.Path.{refl, sym, ◌∙◌}
+use mathlib.Core.Logic.{◌⊎◌, inl, inr, ⊎_elim}
+use Rattle.names.proofs.Gives.{find_other, find_own}
+use Rattle.names.proofs.Laws.{halves}
+use Rattle.names.proofs.finding.find.Goals as goal
+
+-- 1 in the own half, 0 in the other
+abbrev left : ℕ → ℕ → ℕ
+left party half = 1 - ((half - party) + (party - half))
+
+left_less : (p : ℕ) → p < 2 → left p (1 - p) < left p p
+left_less p h = halves (λ q. left q (1 - q) < left q q) (omega arith) (omega arith) p h
+
+pub loop-half-init : goal.loop-half-init
+loop-half-init c = inl refl
+
+pub lookup-said-requires : goal.lookup-said-requires
+lookup-said-requires c =
+    let p = c.requires in record {
+      h_value = p.0;
+      readable = ⊎_elim (λ e. rw e p.1.0) (λ e. rw e.0 p.1.1) c.loop-half.invariant;
+    }
+
+pub returns-then-half-party : goal.returns-then-half-party
+returns-then-half-party c =
+    ⊎_elim
+    (λ e. absurd (c.if-half-party.true e))
+    (λ e. (
+      find_other c.args.words.now
+          c.args.bytes.now c.args.party c.args.name.now e.1 (c.lookup-said.ensures.0 ∙ rw e.0),
+      e.2,
+    ))
+    c.loop-half.invariant
+
+pub returns-in-At : goal.returns-in-At
+returns-in-At c =
+    let e = c.if-half-party.false in
+    let said = c.lookup-said.ensures in (
+      find_own c.args.words.now
+          c.args.bytes.now c.args.party c.args.name.now c.in-At.is (said.0 ∙ rw e),
+      said.1 ∙ rw e,
+    )
+
+pub loop-half-smaller : goal.loop-half-smaller
+loop-half-smaller c =
+    rw c.if-half-party.false (left_less _ c.requires.readable_2.0.party)
+
+pub loop-half-preserved : goal.loop-half-preserved
+loop-half-preserved c =
+    let e = c.if-half-party.false in
+    let said = c.lookup-said.ensures in
+    inr (refl, sym (said.0 ∙ rw e) ∙ c.in-Nothing.is, said.1 ∙ rw e)

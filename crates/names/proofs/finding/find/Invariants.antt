@@ -1,0 +1,13 @@
+use Prim.Native.Nat.{◌-◌}
+use mathlib.Core.Path.{◌≡◌}
+use mathlib.Core.Logic.{◌⊎◌}
+use Rattle.names.specs.Call.{probe_of, free_of, lookup_of}
+use Rattle.names.specs.declared.NameFound.TheVariants.{Nothing}
+use Rattle.names.proofs.finding.find.Given as goal
+
+abbrev pub invariant-loop-half : goal.invariant-loop-half
+invariant-loop-half l =
+    (l.half ≡ l.party) ⊎ ((l.half ≡ 1 - l.party) × (lookup_of l.words l.bytes l.party l.name ≡ Nothing) × (l.free ≡ free_of (probe_of l.words l.bytes l.party l.name)))
+
+abbrev pub decreases-loop-half : goal.decreases-loop-half
+decreases-loop-half l = left l.party l.half

@@ -1,0 +1,15 @@
+-- A text's first bad sequence goes first; else it is read.
+use Rattle.numbers.specs.Call.{given}
+use Rattle.numbers.proofs.Call.{not_utf8_holds, served}
+use mathlib.Core.Path.{sym, ap, ◌∙◌}
+use Rattle.numbers.proofs.by_grammar.Goals as goal
+
+pub returns-in-Bad : goal.returns-in-Bad
+returns-in-Bad c =
+    sym (not_utf8_holds _ c.requires _ (sym c.first_bad.ensures ∙ c.in-Bad.is))
+
+pub returns-in-Good : goal.returns-in-Good
+returns-in-Good c =
+    c.serve.ensures
+    ∙ ap given c.parse_number.ensures
+    ∙ sym (served _ c.requires (sym c.first_bad.ensures ∙ c.in-Good.is))

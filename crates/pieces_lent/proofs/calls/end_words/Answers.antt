@@ -1,0 +1,20 @@
+-- Words that are a code are served by the call on their marks; others are refused.
+use mathlib.Core.Path.{sym, ◌∙◌}
+use lib.ListN.{length}
+use Rattle.pieces_calls.specs.Answers.{end_in}
+use Rattle.pieces_lent.specs.Calls.{lent, end_for}
+use Rattle.pieces_lent.proofs.Served.{served, unserved}
+use Rattle.pieces_lent.proofs.calls.end_words.Goals as goal
+
+pub returns-in-Standing : goal.returns-in-Standing
+unfolding end_for
+returns-in-Standing c =
+    served (lent c.args.words c.args.buf.now) (λ m. end_in m c.args.buf.now (length c.args.text.now))
+    c.args.text.now (sym c.decode-seen.ensures
+    ∙ c.in-Standing.is) c.worded.ensures c.end_call.ensures
+
+pub returns-in-Outside : goal.returns-in-Outside
+unfolding end_for
+returns-in-Outside c =
+    unserved (lent c.args.words c.args.buf.now) (λ m. end_in m c.args.buf.now (length c.args.text.now))
+    c.args.text.now (sym c.decode-seen.ensures ∙ c.in-Outside.is) c.refuse.ensures

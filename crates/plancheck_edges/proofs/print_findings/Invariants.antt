@@ -1,0 +1,9 @@
+-- The invariant: the findings before this one are printed.
+use Prim.Native.Nat.{◌-◌, ◌≤◌}
+use Rattle.plancheck_edges.proofs.print_findings.Given as goal
+
+abbrev pub invariant-loop-i : goal.invariant-loop-i
+invariant-loop-i l = l.i ≤ l.told
+
+abbrev pub decreases-loop-i : goal.decreases-loop-i
+decreases-loop-i l = l.told - l.i
