@@ -8,7 +8,7 @@ use Rattle.spellings.proofs.characters.hex_part.Goals as goal
 pub overflow_add-result : goal.overflow_add-result
 overflow_add-result c =
     let t = c.args.t.now in
-    let good = c.well-formed in omega (
+    let good = c.well_formed in omega (
       arith,
       part_place t c.args.from
           c.args.to _ _ _ c.requires.0 c.requires.1 (sym (ap scalar_of c.hex_value.ensures)
