@@ -57,10 +57,10 @@ overflow_add-n c =
     omega (
       arith,
       c.put_piece-n.ensures.0,
-      put_room c.args.records.now c.args.source.now c.args.text.now turn.inv
+      put_room c.args.records.now c.args.source.now c.args.text.now turn.invariant
           c.requires.true_in_bounds c.turn_at-turn.ensures c.words_at-w.ensures
           c.body_of.ensures,
-      put_length c.args.records.now c.args.source.now c.args.text.now turn.inv
+      put_length c.args.records.now c.args.source.now c.args.text.now turn.invariant
           c.requires.true_in_bounds,
     )
 
@@ -73,7 +73,7 @@ loop-p-smaller c = omega (arith, c.turn_at-turn.ensures.from, c.turn_at-turn.ens
 pub loop-p-preserved : goal.loop-p-preserved
 loop-p-preserved c =
     let turn = c.loop-p in
-    put_on c.args.records.now c.args.source.now c.args.text.now turn.inv c.requires.true_in_bounds
+    put_on c.args.records.now c.args.source.now c.args.text.now turn.invariant c.requires.true_in_bounds
     c.turn_at-turn.ensures c.words_at-w.ensures
     c.body_of.ensures c.put_piece-n.ensures.1 c.put_piece-n.ensures.0
 

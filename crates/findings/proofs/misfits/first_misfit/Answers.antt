@@ -26,12 +26,12 @@ line_from-line-requires-in-loop-k c = c.loop-k.invariant.here
 pub slice_bounds-is_misfit-end : goal.slice_bounds-is_misfit-end
 slice_bounds-is_misfit-end c =
     let loop = c.loop-k in
-    sym loop.inv.wide
+    sym loop.invariant.wide
 
 pub slice_bounds-is_misfit-end-in-loop-k : goal.slice_bounds-is_misfit-end-in-loop-k
 slice_bounds-is_misfit-end-in-loop-k c =
     let loop = c.loop-k in
-    sym loop.inv.far
+    sym loop.invariant.far
 
 pub is_misfit-requires : goal.is_misfit-requires
 is_misfit-requires c =
@@ -46,17 +46,17 @@ returns-then-is_misfit c =
     let loop-test = c.loop-k-test in
     let row-at2 = c.row_at-row in
     let line-from2 = c.line_from-line-in-loop-k in
-    passing_hit _ _ loop.inv loop-test.taken row-at2.ensures line-from2.ensures (sym c.is_misfit.ensures ∙ c.if-is_misfit.true)
+    passing_hit _ _ loop.invariant loop-test.taken row-at2.ensures line-from2.ensures (sym c.is_misfit.ensures ∙ c.if-is_misfit.true)
 
 pub slice_bounds-note-end : goal.slice_bounds-note-end
 slice_bounds-note-end c =
     let loop = c.loop-k in
-    sym loop.inv.wide
+    sym loop.invariant.wide
 
 pub slice_bounds-note-end-in-loop-k : goal.slice_bounds-note-end-in-loop-k
 slice_bounds-note-end-in-loop-k c =
     let loop = c.loop-k in
-    sym loop.inv.far
+    sym loop.invariant.far
 
 pub overflow_sub-at : goal.overflow_sub-at
 overflow_sub-at c =

@@ -28,7 +28,7 @@ overflow_add-a-then-odd-ne0 c =
     let loop = c.loop-i in
     let decode-at = c.decode_at in
     let code = c.before.code-1 in
-    let v = code.given in omega (arith, (char_at args.part.now loop.i v.0.0 v.0.1.0 (sym v.1 ∙ decode-at.ensures) loop.inv.0).inside)
+    let v = code.given in omega (arith, (char_at args.part.now loop.i v.0.0 v.0.1.0 (sym v.1 ∙ decode-at.ensures) loop.invariant.0).inside)
 
 pub overflow_cast-a-then-odd-ne0 : goal.overflow_cast-a-then-odd-ne0
 overflow_cast-a-then-odd-ne0 c =
@@ -36,7 +36,7 @@ overflow_cast-a-then-odd-ne0 c =
     let loop = c.loop-i in
     let decode-at = c.decode_at in
     let code = c.before.code-1 in
-    let v = code.given in omega (arith, (char_at args.part.now loop.i v.0.0 v.0.1.0 (sym v.1 ∙ decode-at.ensures) loop.inv.0).inside)
+    let v = code.given in omega (arith, (char_at args.part.now loop.i v.0.0 v.0.1.0 (sym v.1 ∙ decode-at.ensures) loop.invariant.0).inside)
 
 pub returns-then-odd-ne0 : goal.returns-then-odd-ne0
 returns-then-odd-ne0 c =
@@ -70,17 +70,17 @@ loop-i-preserved c =
 pub returns-in-Bad : goal.returns-in-Bad
 returns-in-Bad c =
     let loop = c.loop-i in
-    sym (odd_turn _ _ _ (sym c.in-Bad.is ∙ c.decode_at.ensures)) ∙ loop.inv.1
+    sym (odd_turn _ _ _ (sym c.in-Bad.is ∙ c.decode_at.ensures)) ∙ loop.invariant.1
 
 pub returns-in-Cut : goal.returns-in-Cut
 returns-in-Cut c =
     let loop = c.loop-i in
-    sym (odd_turn _ _ _ (sym c.in-Cut.is ∙ c.decode_at.ensures)) ∙ loop.inv.1
+    sym (odd_turn _ _ _ (sym c.in-Cut.is ∙ c.decode_at.ensures)) ∙ loop.invariant.1
 
 pub returns-in-End : goal.returns-in-End
 returns-in-End c =
     let loop = c.loop-i in
-    sym (odd_turn _ _ _ (sym c.in-End.is ∙ c.decode_at.ensures)) ∙ loop.inv.1
+    sym (odd_turn _ _ _ (sym c.in-End.is ∙ c.decode_at.ensures)) ∙ loop.invariant.1
 
 pub returns : goal.returns
 returns c = odd_end _ _ _ c.loop-i-test.false ∙ c.loop-i.invariant.1

@@ -29,7 +29,7 @@ lay-n-requires-in-loop-p c =
     let loop-test = c.loop-p-test in
     let list-told = c.list_told in
     let lay = c.lay-n in
-    let g = loop.inv in
+    let g = loop.invariant in
     let t = list-told.result in
     let h = held_more g.held (listed t) lay.ensures in
     (omega (arith, g.few, h.found, length-append g.done (listed t), listed_few t, loop-test.taken, c.good.1.0.1), held_errors h)

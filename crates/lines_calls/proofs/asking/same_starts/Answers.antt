@@ -38,7 +38,7 @@ loop-at-smaller c = omega (arith, c.find-at-in-loop-at.ensures)
 pub loop-at-preserved : goal.loop-at-preserved
 loop-at-preserved c = let a = c.args in
     let l = c.loop-at in
-    comparing_next a.text.now a.index.now l.j l.at l.inv c.loop-at-test.true
+    comparing_next a.text.now a.index.now l.j l.at l.invariant c.loop-at-test.true
     c.if-j-index.false c.wide.ensures c.if-wide-at.false c.find-at-in-loop-at.ensures
 
 pub returns : goal.returns

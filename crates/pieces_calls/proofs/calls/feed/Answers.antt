@@ -70,8 +70,8 @@ pub returns-then-at-piece : goal.returns-then-at-piece
 returns-then-at-piece c =
     let l = c.loop-i in
     let there = passes l.marks l.buf l.text
-    c.args.piece.now l.i c.ahead-run.result l.inv.1 c.ahead-run.ensures _ _ c.pass-here.ensures in
-    answers _ _ _ _ _ (fed-all _ c.args.piece.now (l.i + c.ahead-run.result) (omega arith) ∙ there.1 ∙ l.inv.3) refl l.inv.2
+    c.args.piece.now l.i c.ahead-run.result l.invariant.1 c.ahead-run.ensures _ _ c.pass-here.ensures in
+    answers _ _ _ _ _ (fed-all _ c.args.piece.now (l.i + c.ahead-run.result) (omega arith) ∙ there.1 ∙ l.invariant.3) refl l.invariant.2
 
 pub overflow_add-taken : goal.overflow_add-taken
 overflow_add-taken c =
@@ -93,7 +93,7 @@ pub turn-turned-requires : goal.turn-turned-requires
 turn-turned-requires c =
     let l = c.loop-i in
     let there = passes l.marks l.buf l.text c.args.piece.now
-    l.i c.ahead-run.result l.inv.1 c.ahead-run.ensures _ _ c.pass-here.ensures in
+    l.i c.ahead-run.result l.invariant.1 c.ahead-run.ensures _ _ c.pass-here.ensures in
     there.0
 
 pub shape_of-buf-then-not-is_more : goal.shape_of-buf-then-not-is_more
@@ -109,12 +109,12 @@ pub returns-then-not-is_more : goal.returns-then-not-is_more
 returns-then-not-is_more c =
     let l = c.loop-i in
     let there = passes l.marks l.buf l.text c.args.piece.now l.i c.ahead-run.result
-    l.inv.1 c.ahead-run.ensures _ _ c.pass-here.ensures in
+    l.invariant.1 c.ahead-run.ensures _ _ c.pass-here.ensures in
     let inside = run_within (kept c.loop-i.marks.stage)
     c.args.piece.now c.loop-i.i c.ahead-run.result c.loop-i.invariant.0 c.ahead-run.ensures.0 in
     let f = fed_off _ c.args.piece.now (l.i + c.ahead-run.result) (omega arith) _ _ _ l.text c.turn-turned.result.got
     (sym c.is_more.ensures ∙ not-true _ c.if-not-is_more.true-raw) c.turn-turned.ensures.0 c.turn-turned.ensures.1 in
-    answers _ _ _ _ _ (f.0 ∙ there.1 ∙ l.inv.3) f.1 l.inv.2
+    answers _ _ _ _ _ (f.0 ∙ there.1 ∙ l.invariant.3) f.1 l.invariant.2
 
 pub loop-i-smaller : goal.loop-i-smaller
 loop-i-smaller c =
@@ -124,19 +124,19 @@ loop-i-smaller c =
     omega (
       arith,
       run_within (kept turn.loop.marks.stage) turn.before.before.before.before.args.piece.now
-          turn.loop.i looked.ahead.result turn.loop.inv.0 looked.ahead.ensures.0,
+          turn.loop.i looked.ahead.result turn.loop.invariant.0 looked.ahead.ensures.0,
     )
 
 pub loop-i-preserved : goal.loop-i-preserved
 loop-i-preserved c =
     let l = c.loop-i in
     let there = passes l.marks l.buf l.text c.args.piece.now l.i c.ahead-run.result
-    l.inv.1 c.ahead-run.ensures _ _ c.pass-here.ensures in
+    l.invariant.1 c.ahead-run.ensures _ _ c.pass-here.ensures in
     let inside = run_within (kept c.loop-i.marks.stage)
     c.args.piece.now c.loop-i.i c.ahead-run.result c.loop-i.invariant.0 c.ahead-run.ensures.0 in
     let f = fed_on _ c.args.piece.now (l.i + c.ahead-run.result) (omega arith) _ _ _ l.text c.turn-turned.result.got
     (sym c.is_more.ensures ∙ not-false _ c.if-not-is_more.false-raw) c.turn-turned.ensures.0 c.turn-turned.ensures.1 in
-    (omega arith, subst (Sound _ _) (sym f.2) (turn_sound _ _ _ there.0 _ _ _ f.0), f.2 ∙ l.inv.2, f.1 ∙ there.1 ∙ l.inv.3)
+    (omega arith, subst (Sound _ _) (sym f.2) (turn_sound _ _ _ there.0 _ _ _ f.0), f.2 ∙ l.invariant.2, f.1 ∙ there.1 ∙ l.invariant.3)
 
 pub returns : goal.returns
 returns c = answers _ _ _ _ _

@@ -28,7 +28,7 @@ loop-pieces-preserved c =
           c.loop-pieces-test.true
           c.if-reading.false c.if-source-reading.false
           c.piece_end-to.ensures c.hand_over-now.ensures
-          c.next_size-size.ensures) ∙ l.inv.3,
+          c.next_size-size.ensures) ∙ l.invariant.3,
     )
 
 pub returns : goal.returns

@@ -20,7 +20,7 @@ loop-calls-preserved c =
       omega arith,
       ap (hand_end (l.calls - 1)) c.call_end-now.ensures
           ∙ sym (end_on l.calls (standing l.now l.records l.counts l.texts)
-          c.loop-calls-test.true c.if-reading.false) ∙ l.inv.3,
+          c.loop-calls-test.true c.if-reading.false) ∙ l.invariant.3,
     )
 
 pub returns : goal.returns

@@ -11,14 +11,14 @@ pub returns-then-reading : goal.returns-then-reading
 returns-then-reading c =
     let l = c.loop-calls in
     sym (piece_over _ _ l.calls (standing l.now l.records l.counts l.texts)
-    c.loop-calls-test.true c.call_piece-now.ensures c.if-reading.true) ∙ l.inv.3
+    c.loop-calls-test.true c.call_piece-now.ensures c.if-reading.true) ∙ l.invariant.3
 
 pub returns-then-to-reading : goal.returns-then-to-reading
 returns-then-to-reading c =
     let l = c.loop-calls in
     sym (piece_taken _ _ l.calls (standing l.now l.records l.counts l.texts)
     c.loop-calls-test.true
-    c.call_piece-now.ensures c.if-reading.false c.if-to-reading.true) ∙ l.inv.3
+    c.call_piece-now.ensures c.if-reading.false c.if-to-reading.true) ∙ l.invariant.3
 
 pub loop-calls-preserved : goal.loop-calls-preserved
 loop-calls-preserved c =
@@ -28,7 +28,7 @@ loop-calls-preserved c =
       omega arith,
       sym (piece_on _ _ l.calls (standing l.now l.records l.counts l.texts)
           c.loop-calls-test.true
-          c.call_piece-now.ensures c.if-reading.false c.if-to-reading.false) ∙ l.inv.3,
+          c.call_piece-now.ensures c.if-reading.false c.if-to-reading.false) ∙ l.invariant.3,
     )
 
 pub returns : goal.returns

@@ -53,12 +53,12 @@ loop-text-preserved c =
     let r = room c.before.before.before.before.before.before in
     let raw = c.args.raw.now in
     let old = c.args.text.now in
-    let wrote = block_over raw old l.i l.i c.requires r (omega arith) (omega arith) l.inv.2.wrote c.copy_block.ensures in (
+    let wrote = block_over raw old l.i l.i c.requires r (omega arith) (omega arith) l.invariant.2.wrote c.copy_block.ensures in (
       ap length wrote ∙ length-written (take (l.i + block) raw) old (omega (arith, c.requires, length-take (l.i + block) raw)),
       r,
       record {
         inside = r;
-        run = block_on of_line raw l.i block c.line_block.ensures c.loop-text-test.true ∙ l.inv.2.run;
+        run = block_on of_line raw l.i block c.line_block.ensures c.loop-text-test.true ∙ l.invariant.2.run;
         whole = λ h. omega arith;
         wrote = wrote;
       },

@@ -7,6 +7,7 @@ use mathlib.Core.List.{List, [], ◌∷◌}
 use lib.ListN.{drop}
 use denote.Enum.Declared.{tag_of}
 use types.Run.{OneOf, miss}
+use borrow.Enum.Refused.{opened}
 use Rattle.laws.specs.Quoted.{code}
 use Rattle.laws.specs.Texts.{span}
 use Rattle.byte_runs.specs.Runs.{plain}
@@ -79,4 +80,4 @@ pub returns-in-InHash : goal.returns-in-InHash
 returns-in-InHash c = along _ _ (sym c.in-InHash.is) _ _ c.word_end-in-InHash.ensures
 
 pub returns-in_default : goal.returns-in_default
-returns-in_default c = let f = c.args in none f.phase c.in_default.in_default-own.keys7 f.at (drop f.at f.s.now)
+returns-in_default c = let f = c.args in none f.phase (opened c.in_default.in_default-own.keys7) f.at (drop f.at f.s.now)

@@ -3,7 +3,6 @@ use native.Mathlib.Omega.{arith}
 use Prim.Native.Nat.{ℕ, ◌+◌, ◌-◌, ◌≤◌, ◌<◌}
 use mathlib.Core.Path.{◌≡◌, refl, ap, subst}
 use mathlib.Core.Bool.{false}
-use mathlib.Core.Logic.{⊎_elim}
 use lib.Dec.{ltb}
 use lib.ListN.{length, drop}
 use borrow.Author.Tests.{ltb-true, ltb-false, not-false}
@@ -15,6 +14,7 @@ use Rattle.steps.proofs.search.delimiter_end.Tie as tie
 use Rattle.steps.proofs.search.delimiter_end.Lts as lts
 use Rattle.steps.proofs.search.delimiter_end.Reads as reads
 use Rattle.steps.proofs.search.delimiter_end.Goals as goal
+use Rattle.steps.proofs.search.delimiter_end.Goals.{then-not-refuted+else-known-n+else-agreed_far, else-not-refuted}
 
 -- up to the place that was found
 clear : (c : lts.After-find_pair tie.the-claims reads.Pre reads.Post goal.the-invariant-loop-i goal.the-decreases-loop-i) (k : ℕ) → c.args.from ≤ k → k < c.find_pair-i.result
@@ -35,17 +35,17 @@ some c =
     omega (arith, c.requires.1, byte_in c.args.line.now 0 0 refl c.requires.2.0)
 
 -- past a place that was looked at and is none
-module _ (c : tie.Else1 invariant-loop decreases-loop) where
-  clear-past : begins (unreturned (entry-of c.before).args.line.now) (drop c.before.find-pair.result (entry-of c.before).args.s.now) ≡ false
-      → (k : ℕ) → (entry-of c.before).args.from ≤ k → k < c.before.find-pair.result + 1
-      → begins (unreturned (entry-of c.before).args.line.now) (drop k (entry-of c.before).args.s.now) ≡ false
-  clear-past none k h b =
-      let f = (entry-of c.before).args in
-      let r = c.before.find-pair.result in
-      by_bool (ltb k r)
-      (λ e. clear c.before k h (ltb-true k r e))
-      (λ e. let q : r ≡ k = omega (arith, ltb-false k r e, b) in
-      subst (λ (i : ℕ). begins (unreturned f.line.now) (drop i f.s.now) ≡ false) q none)
+clear-past : (c : lts.Else1 tie.the-claims reads.Pre reads.Post goal.the-invariant-loop-i goal.the-decreases-loop-i)
+    → begins (unreturned c.args.line.now) (drop c.find_pair-i.result c.args.s.now) ≡ false
+    → (k : ℕ) → c.args.from ≤ k → k < c.find_pair-i.result + 1
+    → begins (unreturned c.args.line.now) (drop k c.args.s.now) ≡ false
+clear-past c none k h b =
+    let f = c.args in
+    let r = c.find_pair-i.result in
+    by_bool (ltb k r)
+    (λ e. clear c.before k h (ltb-true k r e))
+    (λ e. let q : r ≡ k = omega (arith, ltb-false k r e, b) in
+    subst (λ (i : ℕ). begins (unreturned f.line.now) (drop i f.s.now) ≡ false) q none)
 
 -- what was compared and is no delimiter is not known whole
 more : (c : lts.Else3 tie.the-claims reads.Pre reads.Post goal.the-invariant-loop-i goal.the-decreases-loop-i) → c.compared-known.result.count < length (unreturned c.args.line.now)
@@ -130,7 +130,7 @@ returns-then-agreed_far c =
     let e = c.linear_end.ensures in (
       e.0,
       λ k h m. by_bool (ltb k past)
-          (λ t. clear-past c none k h (ltb-true k past t))
+          (λ t. clear-past c.before.before.before.before.before.before.before.before.before none k h (ltb-true k past t))
           (λ t. e.1 k (ltb-false k past t) m),
     )
 
@@ -145,18 +145,20 @@ loop-i-preserved c =
     let l = c.loop-i in
     let first : c.args.from ≤ c.find_pair-i.result + 1 = omega (arith, l.invariant.0, c.find_pair-i.ensures.0) in
     let last : c.find_pair-i.result + 1 ≤ length c.args.s.now = omega (arith, fits c.before.before.before, some c.before.before.before) in
-    ⊎_elim
-    (λ w. let e = w.1.ensures.0 in
-    let few : w.1.result.count < length (unreturned c.args.line.now) = omega (arith, c.requires.1, w.3.left, e.knows.begun.few) in
-    (first, last, rw w.6 few, rw w.6 e.knows, clear-past c (e.missed few)))
-    (λ w. (
-      first,
-      last,
-      rw w.1 l.invariant.2,
-      rw w.1 l.invariant.3,
-      clear-past c (c.refuted.ensures (not-false _ w.0.left)),
-    ))
-    c.if-not-refuted.branch
+    elim c.if-not-refuted.branch [
+      then-not-refuted+else-known-n+else-agreed_far w ↦
+        let e = w.compared-known.ensures.0 in
+        let few : w.compared-known.result.count < length (unreturned c.args.line.now)
+            = omega (arith, c.requires.1, w.if-known-n.false, e.knows.begun.few) in
+        (first, last, rw w.known-is few, rw w.known-is e.knows, clear-past c.before.before.before (e.missed few))
+    | else-not-refuted w ↦ (
+        first,
+        last,
+        rw w.known-is l.invariant.2,
+        rw w.known-is l.invariant.3,
+        clear-past c.before.before.before (c.refuted.ensures w.if-not-refuted.false),
+      )
+    ]
 
 pub returns : goal.returns
 returns c =

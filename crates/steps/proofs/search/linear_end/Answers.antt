@@ -124,14 +124,14 @@ loop-at-preserved c =
     let inside : l.at + off + 1 ≤ length s = omega arith in
     let m = c.moved_along-m.result in
     let moves = c.moved_along-m.ensures in (
-      omega (arith, l.inv.0),
+      omega (arith, l.invariant.0),
       near c.before.before,
       few,
       e.knows,
       omega (arith, (as_few d s l.at off inside e.stands (omega arith) m.by m.kept moves.0).0),
       stood d s l.at off inside e.stands (omega arith) m.by m.kept moves.0,
       stays_there d s l.at off inside e.stands (omega arith) m.by m.kept moves.0 m.start m.period moves.1,
-      clear_on d s l.at off inside e.stands (omega arith) m.by m.kept moves.0 f.from l.inv.7 (e.missed few),
+      clear_on d s l.at off inside e.stands (omega arith) m.by m.kept moves.0 f.from l.invariant.7 (e.missed few),
     )
 
 pub returns : goal.returns
