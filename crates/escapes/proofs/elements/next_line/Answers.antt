@@ -15,7 +15,7 @@ overflow_add-i c =
 pub returns-then-starts_at : goal.returns-then-starts_at
 returns-then-starts_at c =
     let raw = c.args.raw.now in
-    let s = sym c.if-starts_at.true ∙ c.starts_at.ensures in let e = c.spaces_end.ensures in
+    let s = sym c.if-starts_at.true ∙ c.starts_at.ensures in let e = c.spaces_end-i.ensures in
     ahead_goes_on raw c.args.from _ e s (seen_goes_on raw _ _ c.spaces_end.ensures (past_newline raw c.args.from _ e s))
 
 pub returns : goal.returns

@@ -48,8 +48,8 @@ overflow_add-plus c =
       arith,
       c.put_lone.ensures.0,
       first_room (lone (not c.args.first) (code " ")) (lone c.args.turn.pair (code "+"))
-          (shown c.args.turn.form c.args.t.now) c.args.out.now c.requires c.put_lone.ensures.1
-          c.put_lone.ensures.0,
+          (shown c.args.turn.form c.args.t.now) c.args.out.now c.requires c.put_lone-gap.ensures.1
+          c.put_lone-gap.ensures.0,
     )
 
 pub slice_bounds-put_shown-count : goal.slice_bounds-put_shown-count
@@ -58,8 +58,8 @@ slice_bounds-put_shown-count c =
     omega (
       arith,
       second_room (lone (not c.args.first) (code " ")) (lone c.args.turn.pair (code "+"))
-          (shown c.args.turn.form c.args.t.now) c.args.out.now c.requires c.put_lone.ensures.1
-          c.put_lone.ensures.0 c.put_lone.ensures.1 c.put_lone.ensures.0,
+          (shown c.args.turn.form c.args.t.now) c.args.out.now c.requires c.put_lone-gap.ensures.1
+          c.put_lone-gap.ensures.0 c.put_lone.ensures.1 c.put_lone.ensures.0,
     )
 
 pub slice_bounds-put_shown-start : goal.slice_bounds-put_shown-start
@@ -68,16 +68,16 @@ slice_bounds-put_shown-start c =
     omega (
       arith,
       second_room (lone (not c.args.first) (code " ")) (lone c.args.turn.pair (code "+"))
-          (shown c.args.turn.form c.args.t.now) c.args.out.now c.requires c.put_lone.ensures.1
-          c.put_lone.ensures.0 c.put_lone.ensures.1 c.put_lone.ensures.0,
+          (shown c.args.turn.form c.args.t.now) c.args.out.now c.requires c.put_lone-gap.ensures.1
+          c.put_lone-gap.ensures.0 c.put_lone.ensures.1 c.put_lone.ensures.0,
     )
 
 pub put_shown-requires : goal.put_shown-requires
 unfolding piece
 put_shown-requires c =
     second-part (lone (not c.args.first) (code " ")) (lone c.args.turn.pair (code "+")) (shown c.args.turn.form c.args.t.now)
-    c.args.out.now c.requires c.put_lone.ensures.1
-    c.put_lone.ensures.0 c.put_lone.ensures.1
+    c.args.out.now c.requires c.put_lone-gap.ensures.1
+    c.put_lone-gap.ensures.0 c.put_lone.ensures.1
     c.put_lone.ensures.0
 
 pub overflow_add-result : goal.overflow_add-result
@@ -88,8 +88,8 @@ overflow_add-result c =
       c.put_shown.ensures.0,
       second_room (lone (not c.args.first) (code " ")) (lone c.args.turn.pair (code "+"))
           (shown c.args.turn.form c.args.t.now) c.args.out.now c.requires
-          c.put_lone.ensures.1
-          c.put_lone.ensures.0
+          c.put_lone-gap.ensures.1
+          c.put_lone-gap.ensures.0
           c.put_lone.ensures.1 c.put_lone.ensures.0,
     )
 
@@ -97,8 +97,8 @@ pub shape_of-out : goal.shape_of-out
 unfolding piece
 shape_of-out c =
     third_length (lone (not c.args.first) (code " ")) (lone c.args.turn.pair (code "+")) (shown c.args.turn.form c.args.t.now)
-    c.args.out.now c.requires c.put_lone.ensures.1
-    c.put_lone.ensures.0
+    c.args.out.now c.requires c.put_lone-gap.ensures.1
+    c.put_lone-gap.ensures.0
     c.put_lone.ensures.1 c.put_lone.ensures.0
     c.put_shown.ensures.1 c.put_shown.ensures.0
 
@@ -107,14 +107,14 @@ unfolding piece
 returns c =
     (
       third_size (lone (not c.args.first) (code " ")) (lone c.args.turn.pair (code "+")) (shown c.args.turn.form c.args.t.now)
-          c.args.out.now c.requires c.put_lone.ensures.1
-          c.put_lone.ensures.0
+          c.args.out.now c.requires c.put_lone-gap.ensures.1
+          c.put_lone-gap.ensures.0
           c.put_lone.ensures.1 c.put_lone.ensures.0
           c.put_shown.ensures.1 c.put_shown.ensures.0,
       third_is (lone (not c.args.first) (code " "))
           (lone c.args.turn.pair (code "+")) (shown c.args.turn.form c.args.t.now) c.args.out.now c.requires
-          c.put_lone.ensures.1
-          c.put_lone.ensures.0
+          c.put_lone-gap.ensures.1
+          c.put_lone-gap.ensures.0
           c.put_lone.ensures.1 c.put_lone.ensures.0
           c.put_shown.ensures.1 c.put_shown.ensures.0,
     )

@@ -13,7 +13,7 @@ pub joins-requires : goal.joins-requires
 joins-requires c =
     (
       here_right c.args.records.now c.args.source.now c.args.text.now c.args.first c.args.p c.requires.0 c.requires.1
-          c.words_at.ensures,
+          c.words_at-e.ensures,
       ap (is_right c.args.source.now c.args.text.now) c.words_at.ensures ∙ right_at
           c.args.records.now c.args.source.now c.args.text.now _ c.requires.1 c.if-next-count.true,
     )
@@ -21,24 +21,24 @@ joins-requires c =
 pub returns-then-joins : goal.returns-then-joins
 returns-then-joins c =
     said_pair c.args.records.now c.args.source.now c.args.text.now c.args.first c.args.p c.requires.0 c.requires.1
-    c.words_at.ensures c.if-next-count.true c.words_at.ensures c.joins.ensures
+    c.words_at-e.ensures c.if-next-count.true c.words_at.ensures c.joins.ensures
     c.if-joins.true
 
 pub body_of-requires : goal.body_of-requires
 body_of-requires c =
     here_right c.args.records.now c.args.source.now c.args.text.now c.args.first c.args.p c.requires.0 c.requires.1
-    c.words_at.ensures
+    c.words_at-e.ensures
 
 pub form_for-requires : goal.form_for-requires
 form_for-requires c =
-    ap first_bad c.body_of.ensures ∙ body_good c.args.source.now c.args.text.now c.words_at.result
+    ap first_bad c.body_of.ensures ∙ body_good c.args.source.now c.args.text.now c.words_at-e.result
     (here_right c.args.records.now c.args.source.now c.args.text.now c.args.first c.args.p c.requires.0 c.requires.1
-    c.words_at.ensures)
+    c.words_at-e.ensures)
 
 pub returns-then-next-count : goal.returns-then-next-count
 returns-then-next-count c =
     said_more c.args.records.now c.args.source.now c.args.text.now c.args.first c.args.p c.requires.0 c.requires.1
-    c.words_at.ensures c.if-next-count.true
+    c.words_at-e.ensures c.if-next-count.true
     c.words_at.ensures c.joins.ensures c.if-joins.false c.body_of.ensures
     c.form_for.ensures
 

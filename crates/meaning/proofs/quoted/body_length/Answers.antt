@@ -4,5 +4,5 @@ use Rattle.meaning.proofs.quoted.body_length.Goals as goal
 
 pub returns : goal.returns
 returns c = body_after c.args.raw.now
-    c.rest.result.now c.rest.result.now c.rest-body.result.now c.here_line.result
-    c.rest.ensures c.here_line.ensures c.rest.ensures c.rest-body.ensures
+    c.rest-inside.result.now c.rest.result.now c.rest-body.result.now c.here_line.result
+    c.rest-inside.ensures c.here_line.ensures c.rest.ensures c.rest-body.ensures
