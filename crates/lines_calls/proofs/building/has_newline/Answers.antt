@@ -3,12 +3,12 @@ use native.Mathlib.Omega.{arith}
 use Prim.Native.Nat.{ℕ, ◌+◌, ◌-◌, ◌<◌}
 use mathlib.Core.Path.{◌≡◌, sym, ap, subst, ◌∙◌}
 use mathlib.Core.Bool.{true, false, true≢false}
-use mathlib.Core.Logic.{⊎_elim}
 use lib.ListN.{length}
 use native.Mathlib.Nat.{add-zero}
 use Rattle.lines_calls.specs.Left.{left, block}
 use Rattle.lines_calls.proofs.Left.{none_next}
 use Rattle.lines_calls.proofs.building.has_newline.Goals as goal
+use Rattle.lines_calls.proofs.building.has_newline.Goals.{then-text-at-eq10, else-text-at-eq10}
 
 pub loop-j-init : goal.loop-j-init
 loop-j-init c = (omega arith, λ n. ap (left c.args.text.now) (sym (add-zero c.args.at)))
@@ -17,8 +17,13 @@ pub loop-j-preserved : goal.loop-j-preserved
 loop-j-preserved c =
     let a = c.args in
     let l = c.loop-j in
-    let h : a.at + l.j < length a.text.now = omega arith in
-    (omega arith, λ n. ⊎_elim (λ t. absurd (true≢false (sym t.1 ∙ n))) (λ t. none_next a.text.now a.at l.j h (l.invariant.1 (sym t.1 ∙ n)) t.0.left) c.if-text-at-eq10.branch)
+    let h : a.at + l.j < length a.text.now = omega arith in (
+      omega arith,
+      λ n. elim c.if-text-at-eq10.branch [
+        | then-text-at-eq10 w ↦ absurd (true≢false (sym w.found-is ∙ n))
+        | else-text-at-eq10 w ↦ none_next a.text.now a.at l.j h (l.invariant.1 (sym w.found-is ∙ n)) w.if-text-at-eq10.false
+      ],
+    )
 
 pub returns : goal.returns
 returns c =

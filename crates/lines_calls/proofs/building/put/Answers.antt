@@ -10,30 +10,28 @@ pub loop-i-init : goal.loop-i-init
 loop-i-init c = (omega arith, storing_start c.args.text.now (set c.args.index.now 0 0) 1 0)
 
 pub put_block-n-requires : goal.put_block-n-requires
-put_block-n-requires c =
-    (
-      omega arith,
-      c.requires.0,
-      storing_fits c.args.text.now (set c.args.index.now 0 0) 1 0
-          c.loop-i.n c.loop-i.i c.loop-i.invariant.1 (first_fits c.args.text.now c.args.index.now c.requires.1),
-    )
+put_block-n-requires c = (
+  omega arith,
+  c.requires.0,
+  storing_fits c.args.text.now (set c.args.index.now 0 0) 1 0
+      c.loop-i.n c.loop-i.i c.loop-i.invariant.1 (first_fits c.args.text.now c.args.index.now c.requires.1),
+)
 
 pub loop-i-preserved : goal.loop-i-preserved
 loop-i-preserved c = (
   omega arith,
   storing_then c.args.text.now
       c.loop-i.invariant.1 c.put_block-n.ensures,
-    )
+)
 
 pub put_bytes-requires : goal.put_bytes-requires
-put_bytes-requires c =
-    (
-      c.loop-i.invariant.0,
-      omega arith,
-      c.requires.0,
-      storing_fits c.args.text.now (set c.args.index.now 0 0) 1 0
-          c.loop-i.n c.loop-i.i c.loop-i.invariant.1 (first_fits c.args.text.now c.args.index.now c.requires.1),
-    )
+put_bytes-requires c = (
+  c.loop-i.invariant.0,
+  omega arith,
+  c.requires.0,
+  storing_fits c.args.text.now (set c.args.index.now 0 0) 1 0
+      c.loop-i.n c.loop-i.i c.loop-i.invariant.1 (first_fits c.args.text.now c.args.index.now c.requires.1),
+)
 
 pub shape_of-index : goal.shape_of-index
 shape_of-index c = c.put_bytes.ensures.size ∙ c.loop-i.invariant.1.size

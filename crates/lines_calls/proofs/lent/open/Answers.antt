@@ -8,7 +8,7 @@ put_state-requires c = c.if-words-eq-LINE_STATE_WORDS.true
 pub returns-then-words-eq-LINE_STATE_WORDS : goal.returns-then-words-eq-LINE_STATE_WORDS
 returns-then-words-eq-LINE_STATE_WORDS c = let a = c.args in
     opens a.words.now a.index.now c.if-words-eq-LINE_STATE_WORDS.true
-    c.«open».ensures c.put_state.ensures
+    c.open-t.ensures c.put_state.ensures
 
 pub returns-else-words-eq-LINE_STATE_WORDS : goal.returns-else-words-eq-LINE_STATE_WORDS
 returns-else-words-eq-LINE_STATE_WORDS c = opens_not c.args.words.now c.args.index.now c.if-words-eq-LINE_STATE_WORDS.false
