@@ -18,27 +18,27 @@ overflow_sub-from c =
       arith,
       used_of c.args.words.now
           c.args.bytes.now c.args.party c.args.name.now c.word-n.ensures c.word-from.ensures,
-      c.requires.party_bound.1.1,
+      c.requires.party_bound,
     )
 
 pub returns-then-from-name : goal.returns-then-from-name
 returns-then-from-name c = new_long _ _ _ _ c.word-n.ensures c.if-n-ge-HALF_NAMES.false
-    c.word-from.ensures c.requires.party_bound.1.1 c.if-from-name.true
+    c.word-from.ensures c.requires.party_bound c.if-from-name.true
 
 pub put-requires : goal.put-requires
 put-requires c =
     let q = c.requires in
     let u = used_of c.args.words.now
     c.args.bytes.now c.args.party c.args.name.now c.word-n.ensures c.word-from.ensures in record {
-      table_words_in_bounds = q.1.1.0.words;
-      party_bound = q.1.1.0.party;
-      slot_bound = rw q.0 (free_small c.args.words.now
-              c.args.bytes.now c.args.name.now c.args.party looks (slot_of c.args.name.now) (slot_small _));
-      tag_lt_hashes_aslot = rw q.1.0 (mod-lt _ (omega arith));
+      table_words_in_bounds = q.readable.words;
+      party_bound = q.readable.party;
+      slot_bound = rw q.slot_value (free_small c.args.words.now
+          c.args.bytes.now c.args.name.now c.args.party looks (slot_of c.args.name.now) (slot_small _));
+      tag_lt_hashes_aslot = rw q.tag_value (mod-lt _ (omega arith));
       n_value = c.word-n.ensures;
       from_value = u;
       n_lt_half_names = c.if-n-ge-HALF_NAMES.false;
-      len_bound = omega (arith, u, q.1.1.1, c.if-from-name.false);
+      len_bound = omega (arith, u, q.party_bound, c.if-from-name.false);
     }
 
 pub overflow_add-party-3 : goal.overflow_add-party-3
@@ -48,7 +48,7 @@ overflow_add-party-3 c =
       used_of c.args.words.now c.args.bytes.now c.args.party c.args.name.now
           c.word-n.ensures
           c.word-from.ensures,
-      c.requires.party_bound.1.1,
+      c.requires.party_bound,
     )
 
 pub copy-requires : goal.copy-requires
@@ -58,9 +58,9 @@ copy-requires c =
       arith,
       used_of c.args.words.now c.args.bytes.now
           c.args.party c.args.name.now c.word-n.ensures c.word-from.ensures,
-      q.1.1.1,
-      q.1.1.0.bytes,
-      q.1.1.0.party,
+      q.party_bound,
+      q.readable.bytes,
+      q.readable.party,
       c.if-from-name.false,
     )
 
@@ -69,7 +69,7 @@ returns c =
     let q = c.requires in
     new_put _ _ _ _
     c.word-n.ensures c.if-n-ge-HALF_NAMES.false
-    c.word-from.ensures q.1.1.1 c.if-from-name.false q.0
+    c.word-from.ensures q.party_bound c.if-from-name.false q.slot_value
     (c.put.ensures
-    ∙ ap (λ (t : ℕ). new_words c.args.words.now c.args.party c.args.slot t (length c.args.name.now)) q.1.0)
+    ∙ ap (λ (t : ℕ). new_words c.args.words.now c.args.party c.args.slot t (length c.args.name.now)) q.tag_value)
     c.copy.ensures

@@ -17,12 +17,11 @@ bounds-bytes-at c =
     c.args.at c.args.name.now c.loop-i.i (omega arith) (omega arith)) (omega arith))
 
 pub loop-i-preserved : goal.loop-i-preserved
-loop-i-preserved c =
-    (
-      omega arith,
-      rw (c.loop-i.invariant.1, add-one)
-          (paste-suc c.args.bytes.now c.args.at c.args.name.now c.loop-i.i 0 (omega arith) (omega arith)),
-    )
+loop-i-preserved c = (
+  omega arith,
+  rw (c.loop-i.invariant.1, add-one)
+      (paste-suc c.args.bytes.now c.args.at c.args.name.now c.loop-i.i 0 (omega arith) (omega arith)),
+)
 
 pub shape_of-bytes : goal.shape_of-bytes
 shape_of-bytes c =

@@ -11,4 +11,4 @@ pub bounds-words-base-3 : goal.bounds-words-base-3
 bounds-words-base-3 c = simp length-set (omega arith)
 
 pub returns : goal.returns
-returns c = put_words _ _ _ _ _ c.requires.len_bound.1.1.1.0 c.requires.len_bound.1.1.1.1.0
+returns c = put_words _ _ _ _ _ c.requires.n_value c.requires.from_value

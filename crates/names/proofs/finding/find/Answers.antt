@@ -6,11 +6,8 @@ use mathlib.Core.Path.{refl, sym, ◌∙◌}
 use mathlib.Core.Logic.{◌⊎◌, inl, inr, ⊎_elim}
 use Rattle.names.proofs.Gives.{find_other, find_own}
 use Rattle.names.proofs.Laws.{halves}
+use Rattle.names.proofs.finding.find.Invariants.{left}
 use Rattle.names.proofs.finding.find.Goals as goal
-
--- 1 in the own half, 0 in the other
-abbrev left : ℕ → ℕ → ℕ
-left party half = 1 - ((half - party) + (party - half))
 
 left_less : (p : ℕ) → p < 2 → left p (1 - p) < left p p
 left_less p h = halves (λ q. left q (1 - q) < left q q) (omega arith) (omega arith) p h
@@ -21,8 +18,8 @@ loop-half-init c = inl refl
 pub lookup-said-requires : goal.lookup-said-requires
 lookup-said-requires c =
     let p = c.requires in record {
-      h_value = p.0;
-      readable = ⊎_elim (λ e. rw e p.1.0) (λ e. rw e.0 p.1.1) c.loop-half.invariant;
+      h_value = p.h_value;
+      readable = ⊎_elim (λ e. rw e p.readable) (λ e. rw e.0 p.readable_2) c.loop-half.invariant;
     }
 
 pub returns-then-half-party : goal.returns-then-half-party
@@ -47,7 +44,7 @@ returns-in-At c =
 
 pub loop-half-smaller : goal.loop-half-smaller
 loop-half-smaller c =
-    rw c.if-half-party.false (left_less _ c.requires.readable_2.0.party)
+    rw c.if-half-party.false (left_less _ c.requires.readable.party)
 
 pub loop-half-preserved : goal.loop-half-preserved
 loop-half-preserved c =

@@ -14,14 +14,14 @@ loop-left-init c =
 pub returns-then-v-eq0 : goal.returns-then-v-eq0
 returns-then-v-eq0 c =
     probe_free c.args.words.now c.args.bytes.now c.args.party c.args.name.now
-    c.loop-left.false c.loop-left.s c.word-v.ensures c.loop-left-test.true c.if-v-eq0.true ∙ c.loop-left.invariant.2
+    c.loop-left.left c.loop-left.s c.word-v.ensures c.loop-left-test.true c.if-v-eq0.true ∙ c.loop-left.invariant.2
 
 pub proposes-requires : goal.proposes-requires
 proposes-requires c = record {
-      tag_value = c.loop-left.invariant.1;
-      v_nonzero = omega (arith, c.if-v-eq0.false);
-      readable = c.requires.readable;
-    }
+  tag_value = c.loop-left.invariant.1;
+  v_nonzero = omega (arith, c.if-v-eq0.false);
+  readable = c.requires.readable;
+}
 
 pub overflow_sub-result : goal.overflow_sub-result
 overflow_sub-result c = omega (arith, c.if-v-eq0.false)
@@ -29,20 +29,19 @@ overflow_sub-result c = omega (arith, c.if-v-eq0.false)
 pub returns-then-proposes : goal.returns-then-proposes
 returns-then-proposes c =
     probe_hit c.args.words.now c.args.bytes.now c.args.party c.args.name.now
-    c.loop-left.false c.loop-left.s c.word-v.ensures c.loop-left-test.true
+    c.loop-left.left c.loop-left.s c.word-v.ensures c.loop-left-test.true
     c.if-v-eq0.false (sym c.proposes.ensures ∙ c.if-proposes.true) ∙ c.loop-left.invariant.2
 
 pub loop-left-preserved : goal.loop-left-preserved
-loop-left-preserved c =
-    (
-      next_small _,
-      c.loop-left.invariant.1,
-      probe_miss c.args.words.now c.args.bytes.now c.args.party c.args.name.now
-          c.loop-left.false c.loop-left.s c.word-v.ensures c.loop-left-test.true
-          c.if-v-eq0.false (sym c.proposes.ensures ∙ c.if-proposes.false) ∙ c.loop-left.invariant.2,
-    )
+loop-left-preserved c = (
+  next_small _,
+  c.loop-left.invariant.1,
+  probe_miss c.args.words.now c.args.bytes.now c.args.party c.args.name.now
+      c.loop-left.left c.loop-left.s c.word-v.ensures c.loop-left-test.true
+      c.if-v-eq0.false (sym c.proposes.ensures ∙ c.if-proposes.false) ∙ c.loop-left.invariant.2,
+)
 
 pub returns : goal.returns
 returns c =
     probe_end c.args.words.now c.args.bytes.now
-    c.args.party c.args.name.now c.loop-left.false c.loop-left.s (omega arith) ∙ c.loop-left.invariant.2
+    c.args.party c.args.name.now c.loop-left.left c.loop-left.s (omega arith) ∙ c.loop-left.invariant.2

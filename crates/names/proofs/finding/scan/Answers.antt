@@ -19,13 +19,12 @@ returns-then-bears c =
     c.loop-k-test.true (sym c.bears.ensures ∙ c.if-bears.true) ∙ c.loop-k.invariant.1
 
 pub loop-k-preserved : goal.loop-k-preserved
-loop-k-preserved c =
-    (
-      omega arith,
-      scan_miss c.args.words.now c.args.bytes.now
-          c.args.party c.args.name.now c.word-n.result c.loop-k.k
-          c.loop-k-test.true (sym c.bears.ensures ∙ c.if-bears.false) ∙ c.loop-k.invariant.1,
-    )
+loop-k-preserved c = (
+  omega arith,
+  scan_miss c.args.words.now c.args.bytes.now
+      c.args.party c.args.name.now c.word-n.result c.loop-k.k
+      c.loop-k-test.true (sym c.bears.ensures ∙ c.if-bears.false) ∙ c.loop-k.invariant.1,
+)
 
 pub returns : goal.returns
 returns c =

@@ -9,9 +9,9 @@ returns-then-n-k c = bears_out _ _ _ _ _ c.word-n.ensures c.if-n-k.true
 
 pub name_at-requires : goal.name_at-requires
 name_at-requires c = record {
-      readable = c.requires;
-      k_lt_half_names = omega (arith, c.word-n.ensures);
-    }
+  readable = c.requires;
+  k_lt_half_names = omega (arith, c.word-n.ensures);
+}
 
 pub returns : goal.returns
 returns c = c.equal.ensures ∙ rw c.name_at.ensures (bears-same _ _ _ _ _ c.word-n.ensures c.if-n-k.false)

@@ -8,10 +8,10 @@ returns-then-name_mark-ne-SERVED c = c.nowhere.ensures ∙ place_none _ _ _ (λ 
 
 pub place_at-requires : goal.place_at-requires
 place_at-requires c = let f = mark_facts _ _ _ (sym c.name_mark.ensures ∙ c.if-name_mark-ne-SERVED.false) in record {
-      table_words_in_bounds = (bounds _ _ f.0).words;
-      party_bound = party_of _ f.1;
-      k_lt_half_names = place_of_lem _;
-    }
+  table_words_in_bounds = (bounds _ _ f.0).words;
+  party_bound = party_of _ f.1;
+  k_lt_half_names = place_of_lem _;
+}
 
 pub returns : goal.returns
 returns c = c.place_at.ensures ∙ place_there _ _ _ (sym c.name_mark.ensures ∙ c.if-name_mark-ne-SERVED.false)
