@@ -11,4 +11,4 @@ returns c = (
   c.put_values.ensures
       ∙ ap (λ (v : ℕ). lay (v ∷ 0 ∷ []) c.args.values.now)
       c.value.ensures,
-    )
+)
