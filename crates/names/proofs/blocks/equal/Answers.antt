@@ -32,8 +32,8 @@ pub loop-i-preserved : goal.loop-i-preserved
 loop-i-preserved c =
     let a = c.args in
     let i = c.loop-i.i in
-    agree_eight a.s.now a.t.now (λ j. omega (arith, c.shared_slice_known-1.given j))
-    (λ j. omega (arith, c.shared_slice_known-2-1.given j)) i i (omega arith)
+    agree_eight a.s.now a.t.now (λ j. omega (arith, c.type_inv.s j))
+    (λ j. omega (arith, c.type_inv.t j)) i i (omega arith)
     (sym c.eight.ensures ∙ c.if-eight.false ∙ c.eight-in-loop-i.ensures)
     c.loop-i.invariant
 
@@ -49,8 +49,8 @@ returns c =
     let t = c.args.t.now in
     let last = length s - 8 in
     same_by (λ (x : List ℕ). eight_at x last) s t c.if-s-t.false
-    (λ e j h. agree_eight s t (λ j. omega (arith, c.shared_slice_known-1.given j))
-    (λ j. omega (arith, c.shared_slice_known-2-1.given j)) last c.loop-i.i
+    (λ e j h. agree_eight s t (λ j. omega (arith, c.type_inv.s j))
+    (λ j. omega (arith, c.type_inv.t j)) last c.loop-i.i
     (omega (arith, c.loop-i-test.false)) e c.loop-i.invariant j (omega (arith, h, c.if-s-lt-EIGHT.false)))
     c.eight-2.ensures
     c.eight-3.ensures

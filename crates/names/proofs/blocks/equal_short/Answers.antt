@@ -15,8 +15,8 @@ pub returns : goal.returns
 returns c =
     let s = c.args.s.now in
     let t = c.args.t.now in
-    let more = agree_four s t (λ j. omega (arith, c.shared_slice_known-1.given j))
-    (λ j. omega (arith, c.shared_slice_known-2-1.given j)) in
+    let more = agree_four s t (λ j. omega (arith, c.type_inv.s j))
+    (λ j. omega (arith, c.type_inv.t j)) in
     let first = sym c.four.ensures.0 ∙ c.if-four.false ∙ c.four-2.ensures.0 in
     same_by (λ (x : List ℕ). four_at x (length s - 4)) s t c.requires.s_len
     (λ e j h. more (length s - 4) (0 + 4) (omega (arith, c.requires.s_len_bound)) e

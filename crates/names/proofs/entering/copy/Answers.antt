@@ -1,5 +1,4 @@
 -- After i turns the first i bytes of the name are pasted at the place, and no others.
-use Prim.Native.Nat.{◌-◌}
 use native.Mathlib.Omega.{arith}
 use native.Mathlib.Numerals.{add-one}
 use mathlib.Core.Path.{ap, ◌∙◌}

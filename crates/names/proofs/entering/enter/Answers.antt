@@ -1,20 +1,19 @@
 -- Each return is one arm of `enter_of`; what is found bears the name, so that its number fits 32 bits.
 use native.Mathlib.Omega.{arith}
 use mathlib.Core.Path.{sym, ◌∙◌}
-use borrow.Author.Tests.{not-false, not-true}
 use Rattle.names.proofs.Gives.{enter_new, enter_outside, enter_party, enter_there, find_in, number_small}
 use Rattle.names.proofs.Laws.{bounds, readable}
 use Rattle.names.proofs.entering.enter.Goals as goal
 
 pub returns-then-not-in_bounds : goal.returns-then-not-in_bounds
-returns-then-not-in_bounds c = enter_outside _ _ _ _ (sym c.in_bounds.ensures ∙ not-true _ c.if-not-in_bounds.true-raw)
+returns-then-not-in_bounds c = enter_outside _ _ _ _ (sym c.in_bounds.ensures ∙ c.if-not-in_bounds.true)
 
 pub returns-then-party-ge-PARTIES : goal.returns-then-party-ge-PARTIES
-returns-then-party-ge-PARTIES c = enter_party _ _ _ _ (sym c.in_bounds.ensures ∙ not-false _ c.if-not-in_bounds.false-raw) c.if-party-ge-PARTIES.true
+returns-then-party-ge-PARTIES c = enter_party _ _ _ _ (sym c.in_bounds.ensures ∙ c.if-not-in_bounds.false) c.if-party-ge-PARTIES.true
 
 pub find-found-requires : goal.find-found-requires
 find-found-requires c =
-    let B = bounds _ _ (sym c.in_bounds.ensures ∙ not-false _ c.if-not-in_bounds.false-raw) in record {
+    let B = bounds _ _ (sym c.in_bounds.ensures ∙ c.if-not-in_bounds.false) in record {
       h_value = c.hash-h.ensures;
       readable = readable _ _ B _ c.if-party-ge-PARTIES.false;
       readable_2 = readable _ _ B _ (omega arith);
@@ -24,14 +23,14 @@ pub overflow_cast-result : goal.overflow_cast-result
 overflow_cast-result c =
     omega (
       arith,
-      number_small _ _ _ (bounds _ _ (sym c.in_bounds.ensures ∙ not-false _ c.if-not-in_bounds.false-raw)).few
+      number_small _ _ _ (bounds _ _ (sym c.in_bounds.ensures ∙ c.if-not-in_bounds.false)).few
           (find_in _ _ _ _ c.if-party-ge-PARTIES.false (sym c.find-found.ensures.0 ∙ c.in-At.is)),
     )
 
 pub add-requires : goal.add-requires
 add-requires c =
     let B = bounds _ _ (sym c.in_bounds.ensures
-    ∙ not-false _ c.if-not-in_bounds.false-raw) in
+    ∙ c.if-not-in_bounds.false) in
     let two = c.if-party-ge-PARTIES.false in record {
       slot_value = c.find-found.ensures.1;
       tag_value = c.tag_of.ensures ∙ rw c.hash-h.ensures;
@@ -41,10 +40,10 @@ add-requires c =
 
 pub returns-in-At : goal.returns-in-At
 returns-in-At c =
-    enter_there _ _ _ _ (sym c.in_bounds.ensures ∙ not-false _ c.if-not-in_bounds.false-raw)
+    enter_there _ _ _ _ (sym c.in_bounds.ensures ∙ c.if-not-in_bounds.false)
     c.if-party-ge-PARTIES.false (sym c.find-found.ensures.0 ∙ c.in-At.is)
 
 pub returns-in-Nothing : goal.returns-in-Nothing
 returns-in-Nothing c =
-    enter_new _ _ _ _ (sym c.in_bounds.ensures ∙ not-false _ c.if-not-in_bounds.false-raw)
+    enter_new _ _ _ _ (sym c.in_bounds.ensures ∙ c.if-not-in_bounds.false)
     c.if-party-ge-PARTIES.false (sym c.find-found.ensures.0 ∙ c.in-Nothing.is) c.add.ensures

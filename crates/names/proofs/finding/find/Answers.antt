@@ -1,9 +1,9 @@
 -- The own half is asked first, and the other one only where the own answers nothing, as `or_else` has it: before the second turn that is known,
 -- and the own half's free slot.
-use Prim.Native.Nat.{ℕ, ◌+◌, ◌-◌, ◌<◌}
+use Prim.Native.Nat.{ℕ, ◌-◌, ◌<◌}
 use native.Mathlib.Omega.{arith}
 use mathlib.Core.Path.{refl, sym, ◌∙◌}
-use mathlib.Core.Logic.{◌⊎◌, inl, inr, ⊎_elim}
+use mathlib.Core.Logic.{inl, inr, ⊎_elim}
 use Rattle.names.proofs.Gives.{find_other, find_own}
 use Rattle.names.proofs.Laws.{halves}
 use Rattle.names.proofs.finding.find.Invariants.{left}

@@ -1,5 +1,4 @@
 -- What is left of the hash stays the same while four bytes a turn are taken in; fewer than four are the rest's.
-use Prim.Native.Nat.{◌-◌}
 use native.Mathlib.Omega.{arith}
 use mathlib.Core.Path.{refl, sym, ◌∙◌}
 use Rattle.names.proofs.Laws.{mix_more, mix-rest}

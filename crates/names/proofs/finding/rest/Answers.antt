@@ -1,5 +1,4 @@
 -- What is left of the hash stays the same while the bytes before the place are taken in one by one.
-use Prim.Native.Nat.{◌-◌}
 use native.Mathlib.Omega.{arith}
 use mathlib.Core.Path.{refl, sym, ◌∙◌}
 use Rattle.names.proofs.Laws.{rest_more, rest_all}

@@ -1,5 +1,4 @@
 -- What reading on from entry k finds stays what the whole reading finds, while no entry before k bears the name.
-use Prim.Native.Nat.{◌-◌}
 use native.Mathlib.Omega.{arith}
 use mathlib.Core.Path.{sym, ◌∙◌}
 use Rattle.names.proofs.Laws.{scan_end, scan_hit, scan_miss, scan_start}
