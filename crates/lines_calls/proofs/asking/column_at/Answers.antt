@@ -1,6 +1,6 @@
 -- The loop keeps: from place `at` on, with n counted, the column is the one asked for. Each turn passes one character.
 use native.Mathlib.Omega.{arith}
-use Prim.Native.Nat.{◌-◌, ◌<◌}
+use Prim.Native.Nat.{◌<◌}
 use mathlib.Core.Path.{refl, sym, ◌∙◌}
 use lib.ListN.{drop}
 use Rattle.chars.proofs.Sequences.{further}

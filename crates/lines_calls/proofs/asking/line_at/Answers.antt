@@ -1,7 +1,7 @@
 -- The search keeps: line `low` starts at or before the place, and line `high`, if there is one, past it. In a list that rises no other
 -- line is the last that starts at or before the place (`line_found`).
 use native.Mathlib.Omega.{arith}
-use Prim.Native.Nat.{◌+◌, ◌-◌}
+use Prim.Native.Nat.{◌+◌}
 use mathlib.Core.Path.{◌≡◌}
 use Rattle.lines.proofs.Line.{search_first, line_found}
 use Rattle.lines_calls.proofs.asking.line_at.Goals as goal

@@ -1,5 +1,4 @@
 -- The line is the one that the search finds, and from its start on the rest of the text has the characters that the text has (`since_line`).
-use Prim.Native.Nat.{◌-◌}
 use mathlib.Core.Path.{sym, ◌∙◌}
 use Rattle.lines_calls.proofs.Answers.{index_search, place_past, place_found}
 use Rattle.lines_calls.proofs.asking.place_at.Goals as goal

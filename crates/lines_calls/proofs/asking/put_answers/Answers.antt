@@ -1,6 +1,6 @@
 -- The loop keeps: what is left to answer leads to the memory that all answers lead to.
 use native.Mathlib.Omega.{arith}
-use Prim.Native.Nat.{◌+◌, ◌-◌}
+use Prim.Native.Nat.{◌+◌}
 use mathlib.Core.Path.{refl, ◌∙◌}
 use lib.ListN.{set, length-set}
 use Rattle.lines_calls.proofs.Answers.{locates, answers_next, answers_all}

@@ -1,6 +1,5 @@
 -- The loop goes from one newline byte to the next and keeps that j starts were the same (`Comparing`).
 use native.Mathlib.Omega.{arith}
-use Prim.Native.Nat.{◌-◌}
 use mathlib.Core.Path.{sym}
 use Rattle.lines.specs.Starts.{starts_from}
 use Rattle.lines_calls.proofs.Compared.{same_out, same_other, comparing_start, comparing_out, comparing_other, comparing_next, comparing_end}

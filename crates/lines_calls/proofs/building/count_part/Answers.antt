@@ -1,6 +1,6 @@
 -- The loop keeps: of j bytes n are newline bytes, so n starts fewer are left.
 use native.Mathlib.Omega.{arith}
-use Prim.Native.Nat.{ℕ, ◌+◌, ◌-◌}
+use Prim.Native.Nat.{ℕ, ◌+◌}
 use mathlib.Core.Path.{◌≡◌, ap, ◌∙◌}
 use lib.ListN.{length}
 use Rattle.lines_calls.specs.Left.{left}

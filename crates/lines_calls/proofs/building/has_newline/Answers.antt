@@ -1,8 +1,8 @@
 -- The loop keeps: where none of j bytes was a newline byte, the same starts are left.
 use native.Mathlib.Omega.{arith}
-use Prim.Native.Nat.{ℕ, ◌+◌, ◌-◌, ◌<◌}
+use Prim.Native.Nat.{ℕ, ◌+◌, ◌<◌}
 use mathlib.Core.Path.{◌≡◌, sym, ap, subst, ◌∙◌}
-use mathlib.Core.Bool.{true, false, true≢false}
+use mathlib.Core.Bool.{false, true≢false}
 use lib.ListN.{length}
 use native.Mathlib.Nat.{add-zero}
 use Rattle.lines_calls.specs.Left.{left, block}

@@ -1,6 +1,6 @@
 -- The loop keeps: what is left to store at place i leads to the memory that all starts lead to (`Storing`).
 use native.Mathlib.Omega.{arith}
-use Prim.Native.Nat.{◌-◌, ◌≤◌}
+use Prim.Native.Nat.{◌≤◌}
 use mathlib.Core.Path.{◌∙◌}
 use lib.ListN.{length, set, length-set}
 use Rattle.lines_calls.proofs.Stored.{storing_start, storing_then, storing_fits, stored_all, stored_count, first_fits}

@@ -1,5 +1,4 @@
 -- A block without a newline byte has no start; any other goes byte by byte.
-use Prim.Native.Nat.{◌-◌}
 use Rattle.lines_calls.proofs.Stored.{storing_none}
 use Rattle.lines_calls.proofs.building.put_block.Goals as goal
 

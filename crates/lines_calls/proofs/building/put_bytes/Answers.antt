@@ -1,6 +1,6 @@
 -- The loop keeps: what is left to store at place i leads to the same memory (`Storing`).
 use native.Mathlib.Omega.{arith}
-use Prim.Native.Nat.{ℕ, ◌-◌, ◌<◌}
+use Prim.Native.Nat.{ℕ, ◌<◌}
 use mathlib.Core.Path.{◌≡◌, subst}
 use lib.ListN.{length}
 use Rattle.lines_calls.specs.Left.{Storing}

@@ -1,6 +1,5 @@
 -- By the cases of `end_of`.
 use mathlib.Core.Path.{refl}
-use Prim.Native.Nat.{◌-◌}
 use borrow.Author.Tests.{lt-ltb, le-ltb, eq-eqb, ne_eqb}
 use lib.ListN.{length}
 use Rattle.lines.specs.Pieces.{end_of}

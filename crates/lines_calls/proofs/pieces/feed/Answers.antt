@@ -1,5 +1,4 @@
 -- The loop keeps: what is left of the piece leads where the whole of it leads (`Feeding`).
-use Prim.Native.Nat.{◌-◌}
 use Rattle.lines.proofs.Feeding.{feeding_start, feeding_next, feeding_end}
 use Rattle.lines_calls.proofs.pieces.feed.Goals as goal
 
