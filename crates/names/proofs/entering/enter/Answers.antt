@@ -29,8 +29,7 @@ overflow_cast-result c =
 
 pub add-requires : goal.add-requires
 add-requires c =
-    let B = bounds _ _ (sym c.in_bounds.ensures
-    ∙ c.if-not-in_bounds.false) in
+    let B = bounds _ _ (sym c.in_bounds.ensures ∙ c.if-not-in_bounds.false) in
     let two = c.if-party-ge-PARTIES.false in record {
       slot_value = c.find-found.ensures.1;
       tag_value = c.tag_of.ensures ∙ rw c.hash-h.ensures;
