@@ -23,7 +23,7 @@ use Rattle.items.specs.declared.Outcome.{Outcome}
 use Rattle.items.specs.declared.Outcome.TheVariants.{Token, Str, HereStr, Word, Run, Lined, Keyword, Character, Error, ErrorAt}
 use Rattle.items.specs.declared.Phase.{Phase}
 use Rattle.items.specs.Classes.{first_of}
-use Rattle.items.specs.Items.{Place, unset, range_after, Item, items_of, extent_items, items_from, past_line, after_pound, items, byte_count}
+use Rattle.items.specs.Items.{Place, unset, range_after, Item, items_of, extent_items, items_from, past_line, after_pound, items, byte_count, standing}
 use Rattle.items.specs.Machine.{step_of, on_first, scan_of}
 use Rattle.items.specs.Meaning.{Meaning, run_means, lookup, lower, char_names, unnamed, before_delimiter, nameless, only_one, spelled_out, character_of, char_inside, character_means, meaning_of}
 use Rattle.items.specs.Readers.{SoFar, so_far, eat, got, first_is, read_item, Read}
@@ -131,7 +131,7 @@ module _ (text : List ℕ) where
   number_next : (l : Place) (s : ℕ) (o : Outcome) (i : SoFar) (is : List Item) {js : List Item} → o ≡ Run → numeric (parse_number i.bytes) ≡ true → (b : List ℕ) (c : ℕ) (a : List ℕ)
       → text ≡ b ++ (c ∷ a) → i.at ≡ byte_count b → one_of (codes ";\"|") c ≡ true → Together text (extent_items true l s o i ++ is) js
   unfolding extent_items
-  number_next l s o i is r h b c a t u w = rw r (run_next (parse_number i.bytes) _ s i.at i.bytes is h b c a t u w)
+  number_next l s o i is r h b c a t u w = rw r (run_next (parse_number i.bytes) (range_after true (standing true l) s Run i) s i.at i.bytes is h b c a t u w)
 
   -- one item, and what follows it
   read_next : (turns : ℕ) (l m : Place) (at : ℕ) (before : List ℕ) (cs : List ℕ) (r p : Read) → text ≡ before ++ cs → at ≡ byte_count before → Ate at cs r → AsPlain r p
