@@ -77,19 +77,24 @@ real-exact R p {g} s z l d e f =
     (λ q. simp (infnan_low (g ++ s) (infnan_none l z d), q, k.0, k.1, drop-append_seam g s, e (eqb-true R 10 q)) f)
     (λ q. simp (infnan_low (g ++ s) (infnan_none l z d), q, k.0, k.1, drop-append_seam g s) f)
 
-pub real_low : {R p : ℕ} {s : List ℕ} {r : Real} → R ≤ 16 → RealAt R p s r → capital false s ≡ false → bought.real R p s ≡ AReal r
+-- a sign and what the grammar derives after it
+ureal_low : {R : ℕ} (p : ℕ) {g s : List ℕ} {n : Bool} {r : Real} → R ≤ 16 → Sign g n → URealAt R n (p + length g) s r → bought.real R p (g ++ s) ≡ AReal r
 unfolding bought.real bought.ureal or_else
-real_low l (RealAt.infnan i) c = simp (infnan_exact i c)
-real_low {R} {p} l (RealAt.ureal {g = g} {n = n} z (URealAt.integer {s = s} u)) c =
+ureal_low {R} p {g} {s} {n} l z (URealAt.integer u) =
     real-exact R p s z l (rw append-nil at (head_uint [] u)) (λ q. dec_digits _ _ (rw q at (uint_digits u))) (exact_integer n (p + length g) l u)
-real_low {R} {p} l (RealAt.ureal {g = g} {n = n} z (URealAt.rational {a = a} {b = b} u v)) c =
+ureal_low {R} p {g} {n = n} l z (URealAt.rational {a = a} {b = b} u v) =
     real-exact R p (a ++ code "/" ∷ b) z l (head_uint (code "/" ∷ b) u) (λ q. dec_slash _ _ b (rw q at (uint_digits u)))
     (simp add-zero at (exact_ratio n (p + length g) l u Sign.empty v))
-real_low {R} {p} l (RealAt.ureal {g = g} {s = s} {n = n} {r = r} z (URealAt.decimal e d)) c =
+ureal_low {R} p {g} {s} {n} {r} l z (URealAt.decimal e d) =
     let u : URealAt R n (p + length g) s r = URealAt.decimal e d in
     let h = head_ureal u in
     let k = sign_is s z (head_sign R s l h) in
     simp (infnan_low (g ++ s) (infnan_none l z h), eq-eqb R 10 e, k.0, k.1, drop-append_seam g s, decimal_is d)
+
+pub real_low : {R p : ℕ} {s : List ℕ} {r : Real} → R ≤ 16 → RealAt R p s r → capital false s ≡ false → bought.real R p s ≡ AReal r
+unfolding bought.real or_else
+real_low l (RealAt.infnan i) c = simp (infnan_exact i c)
+real_low l (RealAt.ureal z u) c = ureal_low _ l z u
 
 -- and what the bought reader takes for a real
 sign-negative : (d : List ℕ) → sign d ≡ 0 → negative d ≡ false
