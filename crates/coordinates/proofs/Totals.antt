@@ -1,8 +1,8 @@
 -- Digits as whole numbers up to 2 ^ 53, those past it counted alike, and the answer that they weigh.
-use Rattle.std.proofs.Common.{◌≡◌, ℕ, ◌+◌, ◌^◌, ◌<◌, ◌≤◌, Bool, leb, List, [], ◌∷◌, ◌++◌, ℤ, pos, ◌-ℤ◌, sym, refl, ap, ◌∙◌, le_of_eq, lt_of_lt_of_le, arith, le-leb, leb-false, leb-true}
+use Rattle.std.proofs.Common.{◌≡◌, ℕ, ◌+◌, ◌*◌, ◌^◌, ◌<◌, ◌≤◌, Bool, leb, List, [], ◌∷◌, ◌++◌, ℤ, pos, ◌-ℤ◌, sym, refl, ap, ◌∙◌, le_of_eq, lt_of_lt_of_le, arith, le-leb, leb-false, leb-true}
 use borrow.Author.Tests.{lt-leb}
 use Rattle.laws.proofs.Choice.{by_bool}
-use Rattle.digits.specs.Digits.{value, signed}
+use Rattle.digits.specs.Digits.{value, digit_of, signed}
 use Rattle.digits.proofs.Integers.{value_ge}
 use Rattle.coordinates.specs.Answers.{Answer}
 use Rattle.coordinates.specs.Coordinate.{scaled, outside}
@@ -57,7 +57,7 @@ alike_value m n s h =
 pub value_app : (R n : ℕ) (a b : List ℕ) → value R n (a ++ b) ≡ value R (value R n a) b
 unfolding value
 value_app R n [] b = refl
-value_app R n (c ∷ a) b = value_app R _ a b
+value_app R n (c ∷ a) b = value_app R (n * R + digit_of c) a b
 
 -- what they weigh
 module _ (neg : Bool) (m : ℕ) (z : ℤ) where

@@ -1,6 +1,7 @@
 -- Worked examples: a text and its answer, one table under one statement.
-use Rattle.std.specs.Prelude.{◌≡◌, true, false, List, [], ◌∷◌, map, pos, negsuc, from_bits, refl}
+use Rattle.std.specs.Prelude.{◌≡◌, true, false, List, [], ◌∷◌, map, pos, negsuc, refl}
 use Prim.Native.String.{String}
+use Rattle.std.specs.RustNames.{from_bits}
 use Rattle.std.specs.Float.{fin, binary64}
 use Rattle.std.specs.Float.Ieee.{round}
 use Rattle.laws.specs.Quoted.{codes, within}

@@ -15,7 +15,7 @@ overflow_cast-t c = omega (arith, c.shared_slice_known-in-loop-i-1.given c.loop-
 pub returns-then-d-gt-LAST_DIGIT : goal.returns-then-d-gt-LAST_DIGIT
 returns-then-d-gt-LAST_DIGIT c =
     let inv = c.loop-i.invariant in
-    let w = digit_out _ _ c.wrapping_sub_u64-d.ensures (omega arith) c.if-d-gt-LAST_DIGIT.true in (
+    let w = digit_out _ _ c.wrapping_sub_u64-d.ensures.value (omega arith) c.if-d-gt-LAST_DIGIT.true in (
       sym (inv.0 ∙ decimal_stop _ _ c.loop-i-test.true w),
       sym (inv.1 ∙ run_value_stop _ _ _ c.loop-i-test.true w),
       inv.2,
@@ -25,20 +25,20 @@ pub overflow_mul-v : goal.overflow_mul-v
 overflow_mul-v c =
     let l = c.loop-i-test.true in
     let p = c.requires.0 in
-    let w = digit_in _ _ c.wrapping_sub_u64-d.ensures c.if-d-gt-LAST_DIGIT.false in
+    let w = digit_in _ _ c.wrapping_sub_u64-d.ensures.value c.if-d-gt-LAST_DIGIT.false in
     omega (arith, run_holds _ _ _ c.loop-i.invariant.2 w.0 (omega arith))
 
 pub overflow_add-v : goal.overflow_add-v
 overflow_add-v c =
     let l = c.loop-i-test.true in
     let p = c.requires.0 in
-    let w = digit_in _ _ c.wrapping_sub_u64-d.ensures c.if-d-gt-LAST_DIGIT.false in
+    let w = digit_in _ _ c.wrapping_sub_u64-d.ensures.value c.if-d-gt-LAST_DIGIT.false in
     omega (arith, run_holds _ _ _ c.loop-i.invariant.2 w.0 (omega arith), w.1)
 
 pub loop-i-preserved : goal.loop-i-preserved
 loop-i-preserved c =
     let inv = c.loop-i.invariant in
-    let w = digit_in _ _ c.wrapping_sub_u64-d.ensures c.if-d-gt-LAST_DIGIT.false in
+    let w = digit_in _ _ c.wrapping_sub_u64-d.ensures.value c.if-d-gt-LAST_DIGIT.false in
     rw w.1
     (inv.0 ∙ decimal_hit _ _ c.loop-i-test.true w.0, inv.1 ∙ run_value_more _ _ _ c.loop-i-test.true w.0, run_grows _ _ _ inv.2 w.0)
 
