@@ -18,8 +18,8 @@ returns-then-records-gt-WORD c =
 pub returns-else-records-gt-WORD : goal.returns-else-records-gt-WORD
 returns-else-records-gt-WORD c =
     plan_yes c.args.records.now (replicate 1 0)
-    c.plan.new.nodes c.args.nodes.now c.plan.new.nodes c.in-Got._p c.in-Got.v
-    c.in-Got._kind (rw c.in-Got.is at c.plan.ensures) (omega (arith, c.if-nodes-v.false))
+    c.plan-r.new.nodes c.args.nodes.now c.plan.new.nodes c.in-Got._p c.in-Got.v
+    c.in-Got._kind (rw c.in-Got.is at c.plan-r.ensures) (omega (arith, c.if-nodes-v.false))
     c.if-records-gt-WORD.false c.plan.result c.plan.ensures
 
 pub returns-in-Failed : goal.returns-in-Failed

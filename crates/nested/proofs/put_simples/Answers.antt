@@ -7,12 +7,11 @@ use Rattle.nested.proofs.Runs.{run_none, run_more}
 use Rattle.nested.proofs.put_simples.Goals as goal
 
 pub loop-at-init : goal.loop-at-init
-loop-at-init c =
-    (
-      refl,
-      omega arith,
-      run_none c.args.records.now c.args.from c.args.w c.args.nodes.now (omega (arith, c.requires.0, c.requires.1)),
-    )
+loop-at-init c = (
+  refl,
+  omega arith,
+  run_none c.args.records.now c.args.from c.args.w c.args.nodes.now (omega (arith, c.requires.0, c.requires.1)),
+)
 
 pub simple_at-kind-requires : goal.simple_at-kind-requires
 simple_at-kind-requires c = omega (arith, c.least-limit.ensures.0, c.requires.0)
@@ -32,15 +31,14 @@ overflow_add-v c =
     omega (arith, c.loop-at.invariant.1, c.requires.2, c.least-limit.ensures.0)
 
 pub loop-at-preserved : goal.loop-at-preserved
-loop-at-preserved c =
-    (
-      c.lay.auto.0 ∙ c.loop-at.invariant.0,
-      omega (arith, c.loop-at.invariant.1),
-      run_more c.args.records.now c.args.from c.loop-at.at c.simple_at-kind.result
-          (omega (arith, c.loop-at-test.true, c.least-limit.ensures.0, c.requires.0)) (c.simple_at-kind.ensures
-          c.if-kind-eq-NO_SIMPLE.false) c.args.w c.loop-at.v c.args.nodes.now c.loop-at.nodes c.lay.new.nodes
-          c.loop-at.invariant.0 c.loop-at.invariant.2 (omega (arith, c.loop-at.invariant.1, c.loop-at.invariant.2.simples.count)) c.lay.ensures,
-    )
+loop-at-preserved c = (
+  c.lay.auto.nodes ∙ c.loop-at.invariant.0,
+  omega (arith, c.loop-at.invariant.1),
+  run_more c.args.records.now c.args.from c.loop-at.at c.simple_at-kind.result
+      (omega (arith, c.loop-at-test.true, c.least-limit.ensures.0, c.requires.0)) (c.simple_at-kind.ensures
+      c.if-kind-eq-NO_SIMPLE.false) c.args.w c.loop-at.v c.args.nodes.now c.loop-at.nodes c.lay.new.nodes
+      c.loop-at.invariant.0 c.loop-at.invariant.2 (omega (arith, c.loop-at.invariant.1, c.loop-at.invariant.2.simples.count)) c.lay.ensures,
+)
 
 pub shape_of-nodes : goal.shape_of-nodes
 shape_of-nodes c = c.loop-at.invariant.0

@@ -27,7 +27,7 @@ returns-then-k-eq-CHARACTER_LITERAL c = simp (
   lt-leb _ _ c.if-k-le-UNQUOTE_SPLICE_SYNTAX.false,
   lt-leb _ _ c.if-k-le-REQUIRE.false,
   eq-eqb _ _ c.if-k-eq-CHARACTER_LITERAL.true,
-    )
+)
 
 pub returns-then-k-eq-DATUM_COMMENT : goal.returns-then-k-eq-DATUM_COMMENT
 unfolding sort_of
@@ -38,7 +38,7 @@ returns-then-k-eq-DATUM_COMMENT c = simp (
   lt-leb _ _ c.if-k-le-REQUIRE.false,
   ne_eqb _ _ c.if-k-eq-CHARACTER_LITERAL.false,
   eq-eqb _ _ c.if-k-eq-DATUM_COMMENT.true,
-    )
+)
 
 pub returns-then-k-eq-COMMENT : goal.returns-then-k-eq-COMMENT
 unfolding sort_of
