@@ -9,6 +9,8 @@
 // digits before the dot, those after it, those of the exponent). A figure is what it has (NOTHING, VALUE, PLACES), 1 for a minus sign,
 // and then the value's magnitude and 0, or where the digits start and end in the text. The first figure of an infinity, of a NaN and
 // of an implied 1 is a sign alone. Whatever is not there is 0.
+#![tactic(auto)]
+
 ghost use Rattle.std.specs.Prelude.{◌≡◌, false, ◌≤◌, length, nat_abs, [], ◌∷◌};
 ghost use Rattle.laws.specs.Lent.{written};
 ghost use Rattle.chars.specs.Encode.{lay};
