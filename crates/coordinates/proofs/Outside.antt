@@ -1,6 +1,6 @@
 -- 28 in the request's words: of a text that is not refused with 20 or 21, exactly if it is not one decimal or its m or s lies outside; of a
 -- record besides exactly if it is no Number.
-use Rattle.std.proofs.Common.{◌≡◌, ℕ, ◌-◌, ◌≤◌, Bool, true, false, eqb, leb, ◌⊎◌, List, length, take, drop, sym, refl, ◌∙◌, inl, inr, le-ltb, eq-eqb, ne_eqb, eqb-true, le-leb, leb-false, leb-true}
+use Rattle.std.proofs.Common.{◌≡◌, ℕ, ◌-◌, ◌≤◌, eqb, leb, ◌⊎◌, List, length, take, drop, sym, refl, ◌∙◌, inl, inr, le-ltb, ne_eqb, le-leb, leb-false}
 use borrow.Author.Tests.{lt-leb, eqb-false}
 use Rattle.laws.specs.Choice.{if◌then◌else◌}
 use Rattle.laws.proofs.Choice.{by_bool, impossible}
@@ -12,7 +12,7 @@ use Rattle.numbers.specs.declared.MaybePoint.{MaybePoint}
 use Rattle.numbers.specs.declared.MaybePoint.TheVariants.{APoint, NoPoint}
 use Rattle.numbers.specs.Reals.{one_decimal}
 use Rattle.items.specs.Kinds as kind
-use Rattle.coordinates.specs.Answers.{Answer, float, refused}
+use Rattle.coordinates.specs.Answers.{Answer}
 use Rattle.coordinates.specs.Coordinate.{all_digits, scale, most_digits, in_range, scaled, outside, of_point, of_decimal, judged, coordinate, record_coordinate}
 use Rattle.coordinates.specs.Means.{Outside, no_decimal, too_many_digits, out_of_range}
 

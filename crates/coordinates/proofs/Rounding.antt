@@ -1,5 +1,5 @@
 -- `round` at binary64 is what specs/Nearest states over whole numbers, for a fraction in the normal range.
-use Rattle.std.proofs.Common.{◌≡◌, ℕ, zero, suc, ◌+◌, ◌-◌, ◌*◌, ◌/◌, ◌%◌, ◌^◌, ◌<◌, ◌≤◌, Bool, not, T, eqb, leb, ◌⊎◌, pos, sym, refl, ap, ◌∙◌, subst, inl, inr, le_trans, le_of_eq, lt_of_le_of_lt, mul-le-mul_right, mod-lt, zero-lt-suc, mul_assoc, suc-mul, mul_comm, div-lt_iff_lt-mul, mul-le-mul, mul-le-mul_left, mul-pos, div-add-mod', le-div_iff_mul-le, zero-mul, div-le_self, arith, lit<, lit≤, eqb→eq, leb→le, pow_pos, pow-add, shl_lt}
+use Rattle.std.proofs.Common.{◌≡◌, ℕ, zero, suc, ◌+◌, ◌-◌, ◌*◌, ◌/◌, ◌%◌, ◌^◌, ◌<◌, ◌≤◌, Bool, not, T, eqb, ◌⊎◌, pos, sym, refl, ap, ◌∙◌, subst, inl, inr, le_trans, le_of_eq, lt_of_le_of_lt, mul-le-mul_right, mod-lt, zero-lt-suc, mul_assoc, suc-mul, mul_comm, div-lt_iff_lt-mul, mul-le-mul, mul-le-mul_left, mul-pos, div-add-mod', le-div_iff_mul-le, zero-mul, div-le_self, arith, lit<, lit≤, eqb→eq, leb→le, pow_pos, pow-add, shl_lt}
 use Prim.Native.Nat.{compare, Ordering}
 use native.Mathlib.Nat.{div-div-eq-div-mul}
 use native.Mathlib.Nat.{pow-le-pow_right}

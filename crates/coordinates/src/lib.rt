@@ -1,6 +1,8 @@
 // Coordinates: a text that is one decimal, as a float of 64 bits, the exact value rounded once (specs/Coordinate says which texts have a
 // coordinate, specs/Means and specs/Nearest what it is, over whole numbers). The digits as a whole number up to 2^53 and a power of ten up
 // to 10^22 are both exact in a float, so one multiplication or one division rounds once.
+#![tactic(auto)]
+
 ghost use Rattle.std.specs.Prelude.{◌≡◌, length, ◌==◌};
 ghost use Rattle.laws.specs.Texts.{span};
 ghost use Rattle.chars.specs.Utf8.{ascii};

@@ -3,7 +3,7 @@ use Rattle.laws.specs.Texts.{span}
 use Rattle.laws.proofs.Runs.{span_hit, span_stop, span_end, span_le}
 use Rattle.chars.specs.Utf8.{ascii}
 use Rattle.chars.proofs.Ascii.{ascii_yes, ascii_no}
-use Rattle.std.proofs.Common.{◌≡◌, ◌-◌, ◌<◌, length, sym, ◌∙◌, zero-add, arith, eq-eqb, ne_eqb}
+use Rattle.std.proofs.Common.{◌≡◌, ◌<◌, length, sym, ◌∙◌, zero-add, arith, eq-eqb, ne_eqb}
 use Rattle.coordinates.proofs.is_ascii.Goals as goal
 
 pub loop-i-init : goal.loop-i-init

@@ -5,7 +5,7 @@ use Rattle.digits.proofs.DecimalRuns.{run_value_stop, run_value_end}
 use Rattle.laws.proofs.Choice.{within_is}
 use Rattle.coordinates.specs.Inner.{capped}
 use Rattle.coordinates.proofs.Counted.{more_fits, more_held, run_capped}
-use Rattle.std.proofs.Common.{◌-◌, sym, refl, ap, ◌∙◌, arith, rules}
+use Rattle.std.proofs.Common.{sym, refl, ap, ◌∙◌, arith, rules}
 use Rattle.coordinates.proofs.runs.long_run.Goals as goal
 
 pub loop-i-init : goal.loop-i-init

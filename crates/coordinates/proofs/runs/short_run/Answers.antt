@@ -3,14 +3,11 @@
 use Rattle.digits.proofs.Digits.{decimal_hit, decimal_stop, run_end}
 use Rattle.digits.proofs.DecimalRuns.{run_grows, run_holds, run_value_more, run_value_stop, run_value_end}
 use Rattle.coordinates.proofs.Counted.{digit_in, digit_out}
-use Rattle.std.proofs.Common.{◌-◌, sym, refl, ◌∙◌, arith}
+use Rattle.std.proofs.Common.{sym, refl, ◌∙◌, arith}
 use Rattle.coordinates.proofs.runs.short_run.Goals as goal
 
 pub loop-i-init : goal.loop-i-init
 loop-i-init c = (refl, refl, c.requires.1)
-
-pub overflow_cast-t : goal.overflow_cast-t
-overflow_cast-t c = omega (arith, c.shared_slice_known-in-loop-i-1.given c.loop-i.i)
 
 pub returns-then-d-gt-LAST_DIGIT : goal.returns-then-d-gt-LAST_DIGIT
 returns-then-d-gt-LAST_DIGIT c =

@@ -1,17 +1,8 @@
 -- Each arm is a power's exact value, an odd number of units times a power of two.
-use Rattle.std.proofs.Common.{◌≡◌, ℕ, zero, suc, ◌<◌, sym, ap, arith}
+use Rattle.std.proofs.Common.{sym, ap, arith}
 use lib.Ieee
 use Rattle.coordinates.specs.Inner.{ten_to}
 use Rattle.coordinates.proofs.scaling.power.Goals as goal
-
--- none of the numbers below n
-abbrev Others : ℕ → ℕ → Type 0
-Others zero k = Unit {0}
-Others (suc n) k = Others n k × (k ≡ n → ⊥)
-
-none : (n k : ℕ) → k < n → Others n k → ⊥
-none zero k h o = omega arith
-none (suc n) k h o = let d = o.1 in none n k (omega arith) o.0
 
 pub returns-in-0 : goal.returns-in-0
 unfolding Ieee.of_bits ten_to
@@ -106,4 +97,4 @@ unfolding Ieee.of_bits ten_to
 returns-in-22 c = ap ten_to (sym c.in-22.is)
 
 pub returns-in_default : goal.returns-in_default
-returns-in_default c = absurd (none 23 _ (omega arith) c.in_default.in_default-own.rest)
+returns-in_default c = absurd (omega arith)
