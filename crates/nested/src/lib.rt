@@ -5,6 +5,8 @@
 // `datum` and `sequence` call each other: a datum holds a sequence and a sequence holds data. A sequence is a loop, so the stack
 // is bounded by the depth. The simple data that a bracket starts with are read as one run, and a list of simple data alone needs no call.
 // Nothing may be written on refusal, so `build` reads twice: first into no room, which counts, then into the nodes.
+#![tactic(auto)]
+
 ghost use Rattle.std.specs.Prelude.{◌≡◌, true, false, ◌+◌, ◌*◌, ◌-◌, ◌<◌, ◌≤◌, length};
 ghost use Rattle.nested.specs.Items.{count_of};
 ghost use Rattle.nested.specs.Grammar.{deepest};

@@ -2,7 +2,6 @@
 -- next node wherever the next record is below the limit.
 use native.Mathlib.Omega.{arith}
 use mathlib.Core.Path.{refl, ◌∙◌}
-use Prim.Native.Nat.{◌-◌}
 use Rattle.nested.proofs.Runs.{run_none, run_more}
 use Rattle.nested.proofs.put_simples.Goals as goal
 

@@ -1,7 +1,5 @@
 -- The invariant: what lies behind is a run of simple data.
 use native.Mathlib.Omega.{arith}
-use borrow.Author.Tests.{not-false}
-use Prim.Native.Nat.{◌-◌}
 use Rattle.nested.proofs.Runs.{simples_none, simples_more}
 use Rattle.nested.proofs.simples_end.Goals as goal
 
@@ -16,7 +14,7 @@ returns-then-not-is_simple_at c = c.loop-at.invariant
 
 pub loop-at-preserved : goal.loop-at-preserved
 loop-at-preserved c =
-    let q = c.is_simple_at.ensures (not-false _ c.if-not-is_simple_at.false-raw) in
+    let q = c.is_simple_at.ensures c.if-not-is_simple_at.false in
     simples_more c.args.records.now c.args.from c.loop-at.at
     q.0 (omega (arith, c.loop-at-test.true, c.requires.0)) q.1 c.loop-at.invariant
 

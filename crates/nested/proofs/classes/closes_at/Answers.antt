@@ -1,14 +1,10 @@
 -- The record is inside, its kind is the closing bracket's, and its detail is the one that closes s: so `class_of` has it (law `closes_said`).
 use native.Mathlib.Omega.{arith}
 use mathlib.Core.Path.{◌∙◌}
-use Prim.Native.Nat.{◌+◌, ◌*◌}
 use borrow.Author.Tests.{eqb-true}
 use Rattle.laws.proofs.Choice.{no_yes}
 use Rattle.nested.proofs.Table.{closes_said}
 use Rattle.nested.proofs.classes.closes_at.Goals as goal
-
-pub overflow_cast-result : goal.overflow_cast-result
-overflow_cast-result c = omega (arith, c.shared_slice_known-then-records-p-eq-CLOSE_PAREN-1.given (c.args.at * 10 + 1))
 
 pub returns-then-records-p-eq-CLOSE_PAREN : goal.returns-then-records-p-eq-CLOSE_PAREN
 returns-then-records-p-eq-CLOSE_PAREN c =
