@@ -35,11 +35,11 @@ mutual
 
 -- ---- rows of trees
 
-shown_map : {b c n : ℕ} {xs ys : List Item} {ns : List Node} → Shown b ys n ns → ((p m : ℕ) → At b ys p m → At c xs p m) → Shown c xs n ns
+shown_map : {b c : ℕ} {xs ys : List Item} {n : ℕ} {ns : List Node} → Shown b ys n ns → ((p m : ℕ) → At b ys p m → At c xs p m) → Shown c xs n ns
 shown_map empty f = empty
 shown_map (tree {n} {i} a s r e) f = tree (f i n a) (shown_map s f) (shown_map r f) e
 
-shown_join : {b n : ℕ} {xs : List Item} {ms : List Node} → Shown b xs n ms → (ns : List Node) → Shown b xs n ns → Shown b xs n (ms ++ ns)
+shown_join : {b : ℕ} {xs : List Item} {n : ℕ} {ms : List Node} → Shown b xs n ms → (ns : List Node) → Shown b xs n ns → Shown b xs n (ms ++ ns)
 shown_join empty ns h = h
 shown_join (tree {k} {i} {bs} {rs} a s r e) ns h =
     tree a s (shown_join r ns h)

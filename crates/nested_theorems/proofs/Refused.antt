@@ -5,16 +5,15 @@ use native.Mathlib.Omega.{arith}
 use mathlib.Core.Path.{◌≡◌, refl, sym, ap, subst, ◌∙◌}
 use mathlib.Core.Bool.{Bool, true, false, cond}
 use mathlib.Core.List.{List, [], ◌∷◌, ◌++◌, append_assoc, append-nil}
-use lib.Dec.{eqb}
 use lib.ListN.{length, get_or, take, length-append, get_or-append}
 use lib.Seq.{length-take-le}
 use borrow.Author.Tests.{eq-eqb}
 use Rattle.laws.proofs.Choice.{impossible}
 use Rattle.refusal.specs.Refusals as refusal
 use Rattle.items.specs.Items.{record_words}
-use Rattle.nested.specs.Items.{Item, item, items_from, items_of, count_of, class_of, class_at}
+use Rattle.nested.specs.Items.{Item, item, items_from, items_of, count_of, class_at}
 use Rattle.nested.specs.Grammar.{Node, Reading}
-use Rattle.nested.specs.Reader.{Level, level, Levels, state, Result, Nodes, No, start, after, wrong, ending, run, read_on}
+use Rattle.nested.specs.Reader.{Level, level, Levels, state, Result, Nodes, No, start, wrong, ending, run, read_on}
 use Rattle.nested.specs.Order.{at_record, at_end}
 use Rattle.nested.specs.Lent.{fits, outcome, given, nested_of, words_of, spliced}
 use Rattle.nested.specs.declared.Class.{Class}

@@ -1,6 +1,6 @@
 -- Where a node's children and its next sibling stand: the nodes beneath it, as many as it says, follow it and are a row of trees, its children
 -- with all beneath them; the row goes on after these.
-use Prim.Native.Nat.{ℕ, ◌+◌, ◌≤◌}
+use Prim.Native.Nat.{ℕ, ◌≤◌}
 use native.Mathlib.Omega.{arith}
 use mathlib.Core.Path.{◌≡◌, refl, sym, ap, subst, ◌∙◌}
 use mathlib.Core.List.{List, [], ◌∷◌, ◌++◌}

@@ -5,7 +5,7 @@ use Rattle.refusal.specs.Refusals as refusal
 use Rattle.items.specs.Items.{record_words}
 use Rattle.nested.specs.Items.{Item, item, items_of, count_of, class_at}
 use Rattle.nested.specs.Grammar.{Node, Reading}
-use Rattle.nested.specs.Reader.{Level, level, Levels, state, start, after}
+use Rattle.nested.specs.Reader.{level, Levels, state, start, after}
 use Rattle.nested.specs.Order.{at_record, at_end}
 use Rattle.nested.specs.Lent.{fits}
 use Rattle.nested.specs.declared.Frame.{Frame}
