@@ -1,4 +1,6 @@
 // The call of the crate `nested` for programs in C and Rust: its answer as a number and one value.
+#![tactic(auto)]
+
 ghost use Rattle.std.specs.Prelude.{◌≡◌, [], ◌∷◌};
 ghost use Rattle.chars.specs.Encode.{lay};
 ghost use Rattle.nested.specs.Lent.{nest_number, nest_value, nested_of};
