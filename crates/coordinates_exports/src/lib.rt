@@ -1,4 +1,6 @@
 // What C and Rust call of the crate `coordinates`: the answer is a number, its value and what a refusal comes with go to lent memory.
+#![tactic(auto)]
+
 ghost use Rattle.std.specs.Prelude.{◌≡◌};
 ghost use Rattle.coordinates.specs.Answers.{answered};
 ghost use Rattle.coordinates.specs.Coordinate.{coordinate, record_coordinate};

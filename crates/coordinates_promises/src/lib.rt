@@ -1,3 +1,5 @@
+#![tactic(auto)]
+
 // What the coordinate calls must answer for a few inputs, computed from the definitions that their contracts cite, and what no program
 // that meets them can do. It has no code. Each edit of must-fail/ puts a wrong answer in the place of the right one, and the computation
 // refuses it.

@@ -1,3 +1,5 @@
+#![tactic(auto)]
+
 // What `nested::build` and `mihadrena_nest` promise, tried on wrong answers. It has no code. specs/ computes whole answers from the
 // definitions that their contracts cite; each edit of must-fail/ puts a wrong answer in the place of a right one, and the computation
 // refuses it. proofs/ rules out wrong programs outright.

@@ -1,5 +1,7 @@
 // The number call with a choice of reader for programs in C and Rust: its answer as a number, and a number's parts as the words that
 // crate numbers_words lays out.
+#![tactic(auto)]
+
 ghost use Rattle.std.specs.Prelude.{◌≡◌};
 ghost use Rattle.chars.specs.Encode.{lay};
 ghost use Rattle.numbers_words.specs.Words.{flattened, number_or};
