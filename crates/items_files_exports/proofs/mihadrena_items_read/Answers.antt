@@ -6,7 +6,7 @@ pub returns : goal.returns
 returns c = let all =
     told _ _ c.read.ensures
     c.tell_read-told.ensures.0 c.tell_read-told.ensures.1 c.put_value.ensures in record {
-      value = all.0.0;
-      values_after = all.0.1;
-      records_after = all.1;
+      value = all.0;
+      values_after = all.1.0;
+      records_after = all.1.1;
     }

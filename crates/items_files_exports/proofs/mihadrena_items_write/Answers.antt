@@ -6,7 +6,7 @@ pub returns : goal.returns
 returns c = let all =
     told _ _ c.write.ensures
     c.tell_write-told.ensures.0 c.tell_write-told.ensures.1 c.put_value.ensures in record {
-      value = all.0.0;
-      values_after = all.0.1;
-      out_after = all.1;
+      value = all.0;
+      values_after = all.1.0;
+      out_after = all.1.1;
     }

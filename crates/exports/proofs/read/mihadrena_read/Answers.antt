@@ -6,8 +6,8 @@ pub returns : goal.returns
 returns c = let all =
     told _ _ c.read.ensures
     c.answer-w.ensures.0 c.answer-w.ensures.1 c.put_values.ensures in record {
-      value = all.0.0.0;
-      values_after = all.0.0.1;
-      records_after = all.0.1;
-      text_after = all.1;
+      value = all.0;
+      values_after = all.1.0;
+      records_after = all.1.1.0;
+      text_after = all.1.1.1;
     }

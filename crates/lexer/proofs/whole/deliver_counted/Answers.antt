@@ -14,15 +14,16 @@ returns-then-text-bytes c =
     c.args.text.now c.count-needed.result c.count-needed.ensures c.if-recs-items.false c.if-text-bytes.true
 
 pub write-requires : goal.write-requires
-write-requires c =
-    (
-      c.requires,
+write-requires c = let rest =
       room (all_items c.args.source.now c.args.spot) c.args.recs.now c.args.text.now
-          c.count-needed.result c.count-needed.ensures c.if-recs-items.false c.if-text-bytes.false,
-    )
+          c.count-needed.result c.count-needed.ensures c.if-recs-items.false c.if-text-bytes.false in record {
+      source_len_bound = c.requires;
+      spot_in_bounds = rest.0;
+      spot_in_bounds_2 = rest.1;
+    }
 
 pub returns : goal.returns
 returns c =
     delivered (all_items c.args.source.now c.args.spot) c.args.recs.now c.args.text.now
     c.count-needed.result c.count-needed.ensures c.if-recs-items.false
-    c.if-text-bytes.false c.write.ensures.text_after.0 c.write.ensures.text_after.1
+    c.if-text-bytes.false c.write.ensures.recs_after c.write.ensures.text_after

@@ -17,21 +17,21 @@ use Rattle.lexer.proofs.whole.write.Lts as lts
 use Rattle.lexer.proofs.whole.write.Reads as reads
 use Rattle.lexer.proofs.whole.write.Goals as goal
 
-fit : (c : lts.After-slice_known3 tie.the-claims reads.Pre reads.Post goal.the-invariant-loop-p goal.the-decreases-loop-p) → Roomy c.args.source.now
+fit : (c : lts.After-slice_known3 tie.the-claims reads.Pre reads.Post goal.the-invariant-loop-p goal.the-decreases-loop-p tie.handed_clauses) → Roomy c.args.source.now
     c.args.spot
     c.args.recs.now
     c.args.text.now
 fit c =
-    record { rows = c.requires.spot_in_bounds_2.0; bytes = c.requires.spot_in_bounds_2.1 }
+    record { rows = c.requires.spot_in_bounds; bytes = c.requires.spot_in_bounds_2 }
 
-told : (c : lts.After-slice_known3 tie.the-claims reads.Pre reads.Post goal.the-invariant-loop-p goal.the-decreases-loop-p) → Writing c.args.source.now c.args.spot c.args.recs.now c.args.text.now
+told : (c : lts.After-slice_known3 tie.the-claims reads.Pre reads.Post goal.the-invariant-loop-p goal.the-decreases-loop-p tie.handed_clauses) → Writing c.args.source.now c.args.spot c.args.recs.now c.args.text.now
     c.put_known-told.new.recs c.loop-p.text
     (told_to c.loop-p.p c.put_known-told.result.at c.loop-p.w c.put_known-told.result.words)
     c.loop-p.free c.put_known-told.result.depth c.put_known-told.result.words
 told c =
     c.put_known-told.ensures.1.on c.args.spot c.args.recs.now c.args.text.now c.loop-p.text (fit c) c.loop-p.invariant
 
-stood : (c : lts.After-spot_past tie.the-claims reads.Pre reads.Post goal.the-invariant-loop-p goal.the-decreases-loop-p) → Writing c.args.source.now
+stood : (c : lts.After-spot_past tie.the-claims reads.Pre reads.Post goal.the-invariant-loop-p goal.the-decreases-loop-p tie.handed_clauses) → Writing c.args.source.now
     c.args.spot c.args.recs.now c.args.text.now
     c.put_known-told.new.recs c.loop-p.text c.spot_past-p.result
     c.loop-p.free c.put_known-told.result.depth
@@ -41,38 +41,38 @@ stood c =
     subst (λ (q : Spot). Writing c.args.source.now c.args.spot c.args.recs.now c.args.text.now
     there.new.1.1.0 c.loop-p.text q c.loop-p.free there.result.depth there.result.words) (sym c.spot_past-p.ensures) (told c.before.before.before)
 
-one : (c : lts.After-known_told tie.the-claims reads.Pre reads.Post goal.the-invariant-loop-p goal.the-decreases-loop-p) → One c.in-One.r c.in-One.q
+one : (c : lts.After-known_told tie.the-claims reads.Pre reads.Post goal.the-invariant-loop-p goal.the-decreases-loop-p tie.handed_clauses) → One c.r-1.given.0.0 c.r-1.given.0.1.0
     ≡ found_of c.loop-p.free (next_at c.args.source.now c.spot_past-p.result)
-one c = sym c.in-One.is ∙ c.next_item.ensures
+one c = sym c.r-1.given.1 ∙ c.next_item.ensures
 
-fits : (c : lts.After-known_told tie.the-claims reads.Pre reads.Post goal.the-invariant-loop-p goal.the-decreases-loop-p) → (c.put_known-told.result.words + record_words ≤ length c.put_known-told.new.recs)
-    × (c.loop-p.free + length (bytes_for c.args.source.now c.in-One.r) ≤ length c.loop-p.text)
+fits : (c : lts.After-known_told tie.the-claims reads.Pre reads.Post goal.the-invariant-loop-p goal.the-decreases-loop-p tie.handed_clauses) → (c.put_known-told.result.words + record_words ≤ length c.put_known-told.new.recs)
+    × (c.loop-p.free + length (bytes_for c.args.source.now c.r-1.given.0.0) ≤ length c.loop-p.text)
 fits c =
     room c.args.source.now c.args.spot c.args.recs.now c.args.text.now (fit c.before.before.before.before.before) (stood c.before.before)
-    c.in-One.r c.in-One.q (one c)
+    c.r-1.given.0.0 c.r-1.given.0.1.0 (one c)
 
-same : (c : lts.After-known_told tie.the-claims reads.Pre reads.Post goal.the-invariant-loop-p goal.the-decreases-loop-p) → length c.put_known-told.new.recs ≡ length c.args.recs.now
+same : (c : lts.After-known_told tie.the-claims reads.Pre reads.Post goal.the-invariant-loop-p goal.the-decreases-loop-p tie.handed_clauses) → length c.put_known-told.new.recs ≡ length c.args.recs.now
 same c =
     recs-length c.args.source.now c.args.spot c.args.recs.now c.args.text.now (fit c.before.before.before.before.before) (stood c.before.before)
 
 pub loop-p-init : goal.loop-p-init
 loop-p-init c =
     writing c.args.source.now
-    c.args.spot c.args.recs.now c.args.text.now (record { rows = c.requires.spot_in_bounds_2.0; bytes = c.requires.spot_in_bounds_2.1 })
+    c.args.spot c.args.recs.now c.args.text.now (record { rows = c.requires.spot_in_bounds; bytes = c.requires.spot_in_bounds_2 })
 
 pub put_known-told-requires : goal.put_known-told-requires
 put_known-told-requires c =
     (
-      c.requires.source_len_bound,
+      c.requires.source_len_bound.0,
       record {
         start = c.args.spot;
         recs₀ = c.args.recs.now;
         text₀ = c.args.text.now;
         text = c.loop-p.text;
-        roomy = record { rows = c.requires.spot_in_bounds_2.0; bytes = c.requires.spot_in_bounds_2.1 };
+        roomy = record { rows = c.requires.spot_in_bounds; bytes = c.requires.spot_in_bounds_2 };
         writing = c.loop-p.invariant;
       },
-      c.requires.spot_in_bounds,
+      c.requires.source_len_bound.1,
     )
 
 pub shape_of-recs-then-source-told : goal.shape_of-recs-then-source-told
@@ -86,15 +86,17 @@ shape_of-text-then-source-told c =
 pub returns-then-source-told : goal.returns-then-source-told
 returns-then-source-told c =
     let there = c.put_known-told.result in
-    let e = past_end c.args.source.now (told_to c.loop-p.p there.at c.loop-p.w there.words) c.loop-p.free c.if-source-told.true in (
-      c.taken.ensures
+    let e = past_end c.args.source.now (told_to c.loop-p.p there.at c.loop-p.w there.words) c.loop-p.free c.if-source-told.true in let rest =
+      writing_end c.args.source.now c.args.spot c.args.recs.now c.args.text.now (fit c.before.before.before.before) (told c.before.before.before.before) e in record {
+      value = c.taken.ensures
           ∙ written_all c.args.source.now c.args.spot c.args.recs.now c.args.text.now (fit c.before.before.before.before)
-          (told c.before.before.before.before) _ refl e,
-      writing_end c.args.source.now c.args.spot c.args.recs.now c.args.text.now (fit c.before.before.before.before) (told c.before.before.before.before) e,
-    )
+          (told c.before.before.before.before) _ refl e;
+      recs_after = rest.0;
+      text_after = rest.1;
+    }
 
 pub next_item-requires : goal.next_item-requires
-next_item-requires c = (c.requires.source_len_bound, (stood c.before).going.behind)
+next_item-requires c = (c.requires.source_len_bound.0, (stood c.before).going.behind)
 
 pub offset_bounds-recs-w : goal.offset_bounds-recs-w
 offset_bounds-recs-w c = omega (arith, fits c.before, same c.before)
@@ -154,10 +156,12 @@ shape_of-text-in-End c =
 
 pub returns-in-End : goal.returns-in-End
 returns-in-End c =
-    let e = sym c.in-End.is ∙ c.next_item.ensures in (
-      c.taken-in-End.ensures
-          ∙ written_all c.args.source.now c.args.spot c.args.recs.now c.args.text.now
-          (fit c.before.before.before.before.before.before.before) (stood c.before.before.before.before) _ refl e,
+    let e = sym c.in-End.is ∙ c.next_item.ensures in let rest =
       writing_end c.args.source.now c.args.spot c.args.recs.now c.args.text.now
-          (fit c.before.before.before.before.before.before.before) (stood c.before.before.before.before) e,
-    )
+          (fit c.before.before.before.before.before.before.before) (stood c.before.before.before.before) e in record {
+      value = c.taken-in-End.ensures
+          ∙ written_all c.args.source.now c.args.spot c.args.recs.now c.args.text.now
+          (fit c.before.before.before.before.before.before.before) (stood c.before.before.before.before) _ refl e;
+      recs_after = rest.0;
+      text_after = rest.1;
+    }

@@ -12,17 +12,18 @@ pub write-n-requires : goal.write-n-requires
 write-n-requires c =
     let good : Good ≡ first_bad c.args.part.now = sym c.in-Good.is ∙ c.seen.ensures in
     let opens =
-    opens_at c.args.part.now c.args.mode c.args.skip c.spot_at.result c.first_place-at.result c.spot_at.ensures c.first_place-at.ensures in record {
-      source_len_bound = c.requires.part_len_bound;
-      spot_in_bounds = sym good;
-      spot_in_bounds_2 = good_room c.args.part.now c.args.mode c.args.skip good c.spot_at.result opens
-          c.args.recs.now c.args.text.now c.requires.part_in_bounds_2.0 c.requires.part_in_bounds_2.1;
+    opens_at c.args.part.now c.args.mode c.args.skip c.spot_at.result c.first_place-at.result c.spot_at.ensures c.first_place-at.ensures in let rest =
+      good_room c.args.part.now c.args.mode c.args.skip good c.spot_at.result opens
+          c.args.recs.now c.args.text.now c.requires.part_in_bounds c.requires.part_in_bounds_2 in record {
+      source_len_bound = (c.requires.part_len_bound.0, sym good);
+      spot_in_bounds = rest.0;
+      spot_in_bounds_2 = rest.1;
     }
 
 pub not_utf8-requires : goal.not_utf8-requires
 not_utf8-requires c =
     let bad : Bad c.in-Bad.at ≡ first_bad c.args.part.now = sym c.in-Bad.is ∙ c.seen.ensures in
-    bad_short c.args.part.now c.args.mode c.args.skip c.in-Bad.at bad c.requires.part_len_bound
+    bad_short c.args.part.now c.args.mode c.args.skip c.in-Bad.at bad c.requires.part_len_bound.0
 
 pub returns-in-Good : goal.returns-in-Good
 returns-in-Good c =
@@ -30,9 +31,9 @@ returns-in-Good c =
     let opens =
     opens_at c.args.part.now c.args.mode c.args.skip c.spot_at.result c.first_place-at.result c.spot_at.ensures c.first_place-at.ensures in record {
       value = good_part c.args.part.now c.args.mode c.args.skip good c.spot_at.result opens
-          c.write-n.result c.read_well.result c.write-n.ensures.0 c.read_well.ensures;
-      recs_after = good_records c.args.part.now c.args.mode c.args.skip good c.spot_at.result opens c.args.recs.now c.write-n.ensures.text_after.0;
-      text_after = good_texts c.args.part.now c.args.mode c.args.skip good c.spot_at.result opens c.args.text.now c.write-n.ensures.text_after.1;
+          c.write-n.result c.read_well.result c.write-n.ensures.value c.read_well.ensures;
+      recs_after = good_records c.args.part.now c.args.mode c.args.skip good c.spot_at.result opens c.args.recs.now c.write-n.ensures.recs_after;
+      text_after = good_texts c.args.part.now c.args.mode c.args.skip good c.spot_at.result opens c.args.text.now c.write-n.ensures.text_after;
     }
 
 pub returns-in-Bad : goal.returns-in-Bad

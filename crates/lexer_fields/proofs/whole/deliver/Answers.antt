@@ -15,4 +15,4 @@ pub returns : goal.returns
 returns c =
     ample c.args.source.now c.args.ends.now c.args.mode c.args.skip c.args.rows.now c.args.recs.now c.args.text.now
     c.requires.fine c.if-rows-ends.false c.if-recs-source.false c.if-text-source.false c.write-done.result
-    c.write-done.ensures.0 c.write-done.ensures.text_after.0 c.write-done.ensures.text_after.1.0 c.write-done.ensures.text_after.1.1
+    c.write-done.ensures.value c.write-done.ensures.rows_after c.write-done.ensures.recs_after c.write-done.ensures.text_after

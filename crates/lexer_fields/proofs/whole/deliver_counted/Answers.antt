@@ -29,4 +29,4 @@ pub returns : goal.returns
 returns c =
     delivered c.args.source.now c.args.ends.now c.args.mode c.args.skip c.args.rows.now c.args.recs.now c.args.text.now
     c.count-needed.result c.count-needed.ensures c.if-rows-ends.false c.if-recs-items.false c.if-text-bytes.false
-    c.write.ensures.text_after.0 c.write.ensures.text_after.1.0 c.write.ensures.text_after.1.1
+    c.write.ensures.rows_after c.write.ensures.recs_after c.write.ensures.text_after

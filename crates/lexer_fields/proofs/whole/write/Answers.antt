@@ -9,7 +9,7 @@ use Rattle.lexer_fields.proofs.Writing.{writing, writing_on, writing_end, fit, r
 use Rattle.lexer_fields.proofs.whole.write.Goals as goal
 
 pub loop-i-init : goal.loop-i-init
-loop-i-init c = writing c.requires.0 c.requires.room.1
+loop-i-init c = writing c.requires.fine c.requires.room
 
 pub offset_bounds-ends-i : goal.offset_bounds-ends-i
 offset_bounds-ends-i c = omega (arith, c.good, c.loop-i-test.true)
@@ -31,92 +31,92 @@ slice_bounds-part-end c = omega (arith, bounds c.loop-i.invariant.at c.loop-i-te
 
 pub offset_bounds-recs-w : goal.offset_bounds-recs-w
 offset_bounds-recs-w c =
-    omega (arith, fit c.requires.0 c.requires.room.1 c.loop-i.invariant c.loop-i-test.true, recs_same c.requires.0 c.requires.room.1 c.loop-i.invariant)
+    omega (arith, fit c.requires.fine c.requires.room c.loop-i.invariant c.loop-i-test.true, recs_same c.requires.fine c.requires.room c.loop-i.invariant)
 
 pub slice_bounds-write_part-count : goal.slice_bounds-write_part-count
 slice_bounds-write_part-count c =
-    omega (arith, fit c.requires.0 c.requires.room.1 c.loop-i.invariant c.loop-i-test.true)
+    omega (arith, fit c.requires.fine c.requires.room c.loop-i.invariant c.loop-i-test.true)
 
 pub slice_bounds-write_part-start : goal.slice_bounds-write_part-start
 slice_bounds-write_part-start c =
-    omega (arith, fit c.requires.0 c.requires.room.1 c.loop-i.invariant c.loop-i-test.true)
+    omega (arith, fit c.requires.fine c.requires.room c.loop-i.invariant c.loop-i-test.true)
 
 pub slice_bounds-write_part-end : goal.slice_bounds-write_part-end
 slice_bounds-write_part-end c =
-    omega (arith, fit c.requires.0 c.requires.room.1 c.loop-i.invariant c.loop-i-test.true)
+    omega (arith, fit c.requires.fine c.requires.room c.loop-i.invariant c.loop-i-test.true)
 
 pub slice_bounds-write_part-count-in-loop-i : goal.slice_bounds-write_part-count-in-loop-i
 slice_bounds-write_part-count-in-loop-i c =
-    omega (arith, fit c.requires.0 c.requires.room.1 c.loop-i.invariant c.loop-i-test.true)
+    omega (arith, fit c.requires.fine c.requires.room c.loop-i.invariant c.loop-i-test.true)
 
 pub slice_bounds-write_part-start-in-loop-i : goal.slice_bounds-write_part-start-in-loop-i
 slice_bounds-write_part-start-in-loop-i c =
-    omega (arith, fit c.requires.0 c.requires.room.1 c.loop-i.invariant c.loop-i-test.true)
+    omega (arith, fit c.requires.fine c.requires.room c.loop-i.invariant c.loop-i-test.true)
 
 pub slice_bounds-write_part-end-in-loop-i : goal.slice_bounds-write_part-end-in-loop-i
 slice_bounds-write_part-end-in-loop-i c =
-    omega (arith, fit c.requires.0 c.requires.room.1 c.loop-i.invariant c.loop-i-test.true)
+    omega (arith, fit c.requires.fine c.requires.room c.loop-i.invariant c.loop-i-test.true)
 
 pub write_part-p-requires : goal.write_part-p-requires
 write_part-p-requires c =
     let l = c.loop-i in
-    let room = fit c.requires.0 c.requires.room.1 c.loop-i.invariant c.loop-i-test.true in record {
-      part_len_bound = short l.invariant.at c.loop-i-test.true c.requires.0;
-      part_in_bounds = this_known l.invariant.at c.loop-i-test.true c.args.known c.requires.room.0;
-      part_in_bounds_2 = (omega (arith, room.1, length_part l.recs l.w), omega (arith, room.2, length_part l.text l.free));
+    let room = fit c.requires.fine c.requires.room c.loop-i.invariant c.loop-i-test.true in record {
+      part_len_bound = (short l.invariant.at c.loop-i-test.true c.requires.fine, this_known l.invariant.at c.loop-i-test.true c.args.known c.requires.all_known);
+      part_in_bounds = omega (arith, room.1, length_part l.recs l.w);
+      part_in_bounds_2 = omega (arith, room.2, length_part l.text l.free);
     }
 
 pub overflow_mul-i : goal.overflow_mul-i
 overflow_mul-i c =
-    let room = fit c.requires.0 c.requires.room.1 c.loop-i.invariant c.loop-i-test.true in
-    omega (arith, room.0, rows_same c.requires.0 c.requires.room.1 c.loop-i.invariant)
+    let room = fit c.requires.fine c.requires.room c.loop-i.invariant c.loop-i-test.true in
+    omega (arith, room.0, rows_same c.requires.fine c.requires.room c.loop-i.invariant)
 
 pub offset_bounds-rows-i : goal.offset_bounds-rows-i
 offset_bounds-rows-i c =
-    let room = fit c.requires.0 c.requires.room.1 c.loop-i.invariant c.loop-i-test.true in
-    omega (arith, room.0, rows_same c.requires.0 c.requires.room.1 c.loop-i.invariant)
+    let room = fit c.requires.fine c.requires.room c.loop-i.invariant c.loop-i-test.true in
+    omega (arith, room.0, rows_same c.requires.fine c.requires.room c.loop-i.invariant)
 
 pub slice_bounds-put_row-count : goal.slice_bounds-put_row-count
 slice_bounds-put_row-count c =
-    let room = fit c.requires.0 c.requires.room.1 c.loop-i.invariant c.loop-i-test.true in
+    let room = fit c.requires.fine c.requires.room c.loop-i.invariant c.loop-i-test.true in
     omega (arith, room.0)
 
 pub slice_bounds-put_row-start : goal.slice_bounds-put_row-start
 slice_bounds-put_row-start c =
-    let room = fit c.requires.0 c.requires.room.1 c.loop-i.invariant c.loop-i-test.true in
+    let room = fit c.requires.fine c.requires.room c.loop-i.invariant c.loop-i-test.true in
     omega (arith, room.0)
 
 pub slice_bounds-put_row-end : goal.slice_bounds-put_row-end
 slice_bounds-put_row-end c =
-    let room = fit c.requires.0 c.requires.room.1 c.loop-i.invariant c.loop-i-test.true in
+    let room = fit c.requires.fine c.requires.room c.loop-i.invariant c.loop-i-test.true in
     omega (arith, room.0)
 
 pub overflow_cast-n : goal.overflow_cast-n
 overflow_cast-n c =
-    let room = fit c.requires.0 c.requires.room.1 c.loop-i.invariant c.loop-i-test.true in
+    let room = fit c.requires.fine c.requires.room c.loop-i.invariant c.loop-i-test.true in
     omega (arith, room.3)
 
 pub overflow_cast-free : goal.overflow_cast-free
 overflow_cast-free c =
-    let room = fit c.requires.0 c.requires.room.1 c.loop-i.invariant c.loop-i-test.true in
+    let room = fit c.requires.fine c.requires.room c.loop-i.invariant c.loop-i-test.true in
     omega (arith, room.4)
 
 pub put_row-requires : goal.put_row-requires
 put_row-requires c =
-    let room = fit c.requires.0 c.requires.room.1 c.loop-i.invariant c.loop-i-test.true in
+    let room = fit c.requires.fine c.requires.room c.loop-i.invariant c.loop-i-test.true in
     omega (arith, room.0, length_part c.loop-i.rows (c.loop-i.i * row_words))
 
 pub overflow_add-n : goal.overflow_add-n
 overflow_add-n c =
-    omega (arith, sums c.loop-i.invariant.at c.loop-i-test.true c.requires.0 c.write_part-p.result c.write_part-p.ensures.0)
+    omega (arith, sums c.loop-i.invariant.at c.loop-i-test.true c.requires.fine c.write_part-p.result c.write_part-p.ensures.value)
 
 pub overflow_mul-w : goal.overflow_mul-w
 overflow_mul-w c =
-    omega (arith, sums c.loop-i.invariant.at c.loop-i-test.true c.requires.0 c.write_part-p.result c.write_part-p.ensures.0)
+    omega (arith, sums c.loop-i.invariant.at c.loop-i-test.true c.requires.fine c.write_part-p.result c.write_part-p.ensures.value)
 
 pub overflow_add-free : goal.overflow_add-free
 overflow_add-free c =
-    omega (arith, sums c.loop-i.invariant.at c.loop-i-test.true c.requires.0 c.write_part-p.result c.write_part-p.ensures.0)
+    omega (arith, sums c.loop-i.invariant.at c.loop-i-test.true c.requires.fine c.write_part-p.result c.write_part-p.ensures.value)
 
 pub overflow_add-i : goal.overflow_add-i
 overflow_add-i c =
@@ -127,21 +127,21 @@ loop-i-smaller c = omega (arith, c.loop-i-test.true)
 
 pub loop-i-preserved : goal.loop-i-preserved
 loop-i-preserved c =
-    writing_on c.requires.0 c.requires.room.1 c.loop-i.invariant c.loop-i-test.true c.write_part-p.result
-    c.write_part-p.ensures.0 c.write_part-p.ensures.text_after.0 c.write_part-p.ensures.text_after.1 c.put_row.ensures
+    writing_on c.requires.fine c.requires.room c.loop-i.invariant c.loop-i-test.true c.write_part-p.result
+    c.write_part-p.ensures.value c.write_part-p.ensures.recs_after c.write_part-p.ensures.text_after c.put_row.ensures
 
 pub shape_of-rows : goal.shape_of-rows
-shape_of-rows c = rows_same c.requires.0 c.requires.room.1 c.loop-i.invariant
+shape_of-rows c = rows_same c.requires.fine c.requires.room c.loop-i.invariant
 
 pub shape_of-recs : goal.shape_of-recs
-shape_of-recs c = recs_same c.requires.0 c.requires.room.1 c.loop-i.invariant
+shape_of-recs c = recs_same c.requires.fine c.requires.room c.loop-i.invariant
 
 pub shape_of-text : goal.shape_of-text
-shape_of-text c = text_same c.requires.0 c.requires.room.1 c.loop-i.invariant
+shape_of-text c = text_same c.requires.fine c.requires.room c.loop-i.invariant
 
 pub returns : goal.returns
 returns c =
-    let all = writing_end c.requires.0 c.requires.room.1 c.loop-i.invariant c.loop-i-test.false in record {
+    let all = writing_end c.requires.fine c.requires.room c.loop-i.invariant c.loop-i-test.false in record {
       value = total c.loop-i.invariant.at c.loop-i-test.false;
       rows_after = all.0;
       recs_after = all.1;
