@@ -14,10 +14,10 @@ use Rattle.lexer.proofs.glance.quick_quoted.Lts as lts
 use Rattle.lexer.proofs.glance.quick_quoted.Reads as reads
 use Rattle.lexer.proofs.glance.quick_quoted.Goals as goal
 
-closing : (c : lts.After-known_told tie.the-claims reads.Pre reads.Post) → ClosesAt c.args.source.now c.requires.1.quotes (c.args.at + 1) c.end-1.given.0.0
+closing : (c : lts.Past-After-known_told tie.the-claims reads.Pre reads.Post) → ClosesAt c.args.source.now c.requires.1.quotes (c.args.at + 1) c.in-At.end
 closing c =
     let k = c.requires.1.quotes in
-    subst (Closes c.args.source.now k (c.args.at + 1)) c.end-1.given.1 (c.quoted_ending.ensures k c.requires.1.closes)
+    subst (Closes c.args.source.now k (c.args.at + 1)) c.in-At.is (c.quoted_ending.ensures k c.requires.1.closes)
 
 pub overflow_add-from : goal.overflow_add-from
 overflow_add-from c = omega (arith, c.requires.0, c.requires.1.some)

@@ -12,11 +12,11 @@ use Rattle.lexer.proofs.glance.quick_run.Lts as lts
 use Rattle.lexer.proofs.glance.quick_run.Reads as reads
 use Rattle.lexer.proofs.glance.quick_run.Goals as goal
 
-within : (c : lts.After-known_told tie.the-claims reads.Pre reads.Post) → Spans c.args.source.now c.args.at c.end-1.given.0.0
+within : (c : lts.Past-After-known_told tie.the-claims reads.Pre reads.Post) → Spans c.args.source.now c.args.at c.in-At.end
 within c =
-    spans c.args.source.now c.args.report c.args.at (c.args.at + 1) c.end-1.given.0.0 Run ph.InRun c.requires.1
-    (ends_here c.args.source.now c.args.report c.args.at (c.args.at + 1) ph.InRun Run c.end-1.given.0.0 c.requires.1 (subst (λ (y : Ending). EndsAs
-    c.args.source.now c.args.report ph.InRun Run (c.args.at + 1) y) c.end-1.given.1 c.run_ending.ensures)) c.requires.0
+    spans c.args.source.now c.args.report c.args.at (c.args.at + 1) c.in-At.end Run ph.InRun c.requires.1
+    (ends_here c.args.source.now c.args.report c.args.at (c.args.at + 1) ph.InRun Run c.in-At.end c.requires.1 (subst (λ (y : Ending). EndsAs
+    c.args.source.now c.args.report ph.InRun Run (c.args.at + 1) y) c.in-At.is c.run_ending.ensures)) c.requires.0
 
 pub overflow_add-at : goal.overflow_add-at
 overflow_add-at c = omega (arith, c.requires.0, begins_inside c.args.source.now c.args.at (c.args.at + 1) ph.InRun c.requires.1)

@@ -13,12 +13,12 @@ use Rattle.lexer.proofs.glance.quick_word.Lts as lts
 use Rattle.lexer.proofs.glance.quick_word.Reads as reads
 use Rattle.lexer.proofs.glance.quick_word.Goals as goal
 
-within : (c : lts.After-known_told tie.the-claims reads.Pre reads.Post) → Spans c.args.source.now c.args.at c.end-1.given.0.0
+within : (c : lts.Past-After-known_told tie.the-claims reads.Pre reads.Post) → Spans c.args.source.now c.args.at c.in-At.end
 within c =
-    spans c.args.source.now false c.args.at (c.args.at + 1) c.end-1.given.0.0 Word ph.InWord c.requires.1
+    spans c.args.source.now false c.args.at (c.args.at + 1) c.in-At.end Word ph.InWord c.requires.1
     (ends_here c.args.source.now false c.args.at (c.args.at + 1) ph.InWord Word
-    c.end-1.given.0.0 c.requires.1 (subst (λ (y : Ending). EndsAs c.args.source.now false ph.InWord Word (c.args.at + 1) y)
-    c.end-1.given.1 (c.word_ending.ensures false)))
+    c.in-At.end c.requires.1 (subst (λ (y : Ending). EndsAs c.args.source.now false ph.InWord Word (c.args.at + 1) y)
+    c.in-At.is (c.word_ending.ensures false)))
     c.requires.0
 
 pub overflow_add-at : goal.overflow_add-at

@@ -12,16 +12,16 @@ use Rattle.lexer.proofs.glance.rare_word.Lts as lts
 use Rattle.lexer.proofs.glance.rare_word.Reads as reads
 use Rattle.lexer.proofs.glance.rare_word.Goals as goal
 
-there : (c : lts.After-known_told tie.the-claims reads.Pre reads.Post) → WordedTo c.args.source.now
-    c.args.at (ending.At c.end-1.given.0.0)
+there : (c : lts.Past-After-known_told tie.the-claims reads.Pre reads.Post) → WordedTo c.args.source.now
+    c.args.at (ending.At c.in-At.end)
 there c =
-    subst (WordedTo c.args.source.now c.args.at) c.end-1.given.1 c.rare_ending.ensures
+    subst (WordedTo c.args.source.now c.args.at) c.in-At.is c.rare_ending.ensures
 
-within : (c : lts.After-known_told tie.the-claims reads.Pre reads.Post) → Spans c.args.source.now c.args.at c.end-1.given.0.0
+within : (c : lts.Past-After-known_told tie.the-claims reads.Pre reads.Post) → Spans c.args.source.now c.args.at c.in-At.end
 within c =
     let w = there c in
-    spans c.args.source.now false c.args.at w.0 c.end-1.given.0.0 Word ph.InWord w.1.0.begins
-    (ends_here c.args.source.now false c.args.at w.0 ph.InWord Word c.end-1.given.0.0 w.1.0.begins (w.1.1 false)) c.requires.0
+    spans c.args.source.now false c.args.at w.0 c.in-At.end Word ph.InWord w.1.0.begins
+    (ends_here c.args.source.now false c.args.at w.0 ph.InWord Word c.in-At.end w.1.0.begins (w.1.1 false)) c.requires.0
 
 pub slice_bounds-tell_word-count : goal.slice_bounds-tell_word-count
 slice_bounds-tell_word-count c = omega (arith, (within c.before).some)

@@ -23,20 +23,20 @@ use Rattle.lexer.proofs.glance.skim_at.Lts as lts
 use Rattle.lexer.proofs.glance.skim_at.Reads as reads
 use Rattle.lexer.proofs.glance.skim_at.Goals as goal
 
-letter : (c : lts.Then4 tie.the-claims reads.Pre reads.Post) → Begins c.args.source.now c.args.at (c.args.at + 1) ph.InWord
+letter : (c : lts.Past-Then4 tie.the-claims reads.Pre reads.Post) → Begins c.args.source.now c.args.at (c.args.at + 1) ph.InWord
 letter c =
     let b = get_or c.args.source.now c.args.at 0 in
-    let other : b ≡ code "`" → ⊥ = c.in_default-1.rest.0.0.0.1 in
-    let low : code "c" ≤ b = omega (arith, c.if-this-lt96.false) in
-    let high : b ≤ code "z" = omega (arith, c.if-this-lt123.true) in
+    let other : b ≡ code "`" → ⊥ = c.in-97-to-122.in_default-own.rest.0.0.0.1 in
+    let low : code "c" ≤ b = omega (arith, c.in-97-to-122.if-this-lt96-own.false) in
+    let high : b ≤ code "z" = omega (arith, c.in-97-to-122.if-this-lt123-own.true) in
     begins c.args.source.now c.args.at b ph.InWord c.requires.1 refl (omega arith) (letter_solid b low high) (letter_first b low high)
 
-digit : (c : lts.Then2 tie.the-claims reads.Pre reads.Post) → Begins c.args.source.now c.args.at
+digit : (c : lts.Past-Then2 tie.the-claims reads.Pre reads.Post) → Begins c.args.source.now c.args.at
     (c.args.at + 1) ph.InRun
 digit c =
     let b = get_or c.args.source.now c.args.at 0 in
-    let low : code "0" ≤ b = omega (arith, c.if-this-lt48.false) in
-    let high : b ≤ code "9" = omega (arith, c.if-this-lt58.true) in
+    let low : code "0" ≤ b = omega (arith, c.in-48-to-57.if-this-lt48-own.false) in
+    let high : b ≤ code "9" = omega (arith, c.in-48-to-57.if-this-lt58-own.true) in
     begins c.args.source.now c.args.at b ph.InRun c.requires.1 refl (omega arith) (digit_solid b low high) (digit_first b low high)
 
 pub quoted_ending-requires : goal.quoted_ending-requires

@@ -2,4 +2,4 @@
 use Rattle.lexer.proofs.opening.start.Goals as goal
 
 pub returns : goal.returns
-returns c = rw c.start_of_lem.ensures
+returns c = rw c.start_of.ensures

@@ -27,9 +27,9 @@ stood c =
     subst (λ (q : Spot). Counting c.args.source.now c.args.spot q c.loop-p.free c.count_told-told.result.items)
     (sym c.spot_past-p.ensures) (told c.before.before.before)
 
-one : (c : lts.After-known_told tie.the-claims reads.Pre reads.Post goal.the-invariant-loop-p goal.the-decreases-loop-p) → One c.r-1.given.0.0 c.r-1.given.0.1.0
+one : (c : lts.Past-After-known_told tie.the-claims reads.Pre reads.Post goal.the-invariant-loop-p goal.the-decreases-loop-p) → One c.in-One.r c.in-One.q
     ≡ found_of c.loop-p.free (next_at c.args.source.now c.spot_past-p.result)
-one c = sym c.r-1.given.1 ∙ c.next_item.ensures
+one c = sym c.in-One.is ∙ c.next_item.ensures
 
 pub loop-p-init : goal.loop-p-init
 loop-p-init c = record { done = []; going = going c.args.source.now c.args.spot; count = refl }

@@ -17,20 +17,20 @@ use Rattle.lexer.proofs.whole.put_rare.Lts as lts
 use Rattle.lexer.proofs.whole.put_rare.Reads as reads
 use Rattle.lexer.proofs.whole.put_rare.Goals as goal
 
-item-told : (c : lts.After-known_told tie.the-claims reads.Pre reads.Post goal.the-invariant-loop-at goal.the-decreases-loop-at) → GlanceAt c.args.source.now c.args.p.report c.args.p.skip
-    c.loop-at.at (Item c.m-1.given.0.0 c.m-1.given.0.1.0 c.m-1.given.0.1.1.0)
+item-told : (c : lts.Past-After-known_told tie.the-claims reads.Pre reads.Post goal.the-invariant-loop-at goal.the-decreases-loop-at) → GlanceAt c.args.source.now c.args.p.report c.args.p.skip
+    c.loop-at.at (Item c.in-Item.m c.in-Item.start c.in-Item.end)
 item-told c =
     let a = c.args in
-    subst (λ (q : Quick). GlanceAt a.source.now a.p.report a.p.skip c.loop-at.at q) c.m-1.given.1 (c.quick_rare.ensures a.p.skip)
+    subst (λ (q : Quick). GlanceAt a.source.now a.p.report a.p.skip c.loop-at.at q) c.in-Item.is (c.quick_rare.ensures a.p.skip)
 
-item_room : (c : lts.After-known_told tie.the-claims reads.Pre reads.Post goal.the-invariant-loop-at goal.the-decreases-loop-at) → c.loop-at.w + record_words ≤ length c.loop-at.recs
+item_room : (c : lts.Past-After-known_told tie.the-claims reads.Pre reads.Post goal.the-invariant-loop-at goal.the-decreases-loop-at) → c.loop-at.w + record_words ≤ length c.loop-at.recs
 item_room c =
     let a = c.args in
     let t = item-told c in
     told_room a.source.now a.p a.recs.now a.free a.deep a.from c.requires.1
-    c.loop-at.at c.loop-at.invariant.1 c.m-1.given.0.1.0 c.m-1.given.0.1.1.0 c.m-1.given.0.0 (t.0, t.1, t.2)
+    c.loop-at.at c.loop-at.invariant.1 c.in-Item.start c.in-Item.end c.in-Item.m (t.0, t.1, t.2)
 
-item-same : (c : lts.After-known_told tie.the-claims reads.Pre reads.Post goal.the-invariant-loop-at goal.the-decreases-loop-at) → length c.loop-at.recs ≡ length c.args.recs.now
+item-same : (c : lts.Past-After-known_told tie.the-claims reads.Pre reads.Post goal.the-invariant-loop-at goal.the-decreases-loop-at) → length c.loop-at.recs ≡ length c.args.recs.now
 item-same c =
     let a = c.args in
     told-length a.source.now a.p a.recs.now a.free a.deep a.from c.requires.1 c.loop-at.at c.loop-at.invariant.1

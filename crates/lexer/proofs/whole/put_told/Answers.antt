@@ -17,37 +17,37 @@ use Rattle.lexer.proofs.whole.put_told.Lts as lts
 use Rattle.lexer.proofs.whole.put_told.Reads as reads
 use Rattle.lexer.proofs.whole.put_told.Goals as goal
 
-item-told : (c : lts.After-known_told tie.the-claims reads.Pre reads.Post goal.the-invariant-loop-at goal.the-decreases-loop-at) → GlanceAt c.args.source.now c.args.p.report c.args.p.skip
-    c.loop-at.at (Item c.m-1.given.0.0 c.m-1.given.0.1.0 c.m-1.given.0.1.1.0)
+item-told : (c : lts.Past-After-known_told tie.the-claims reads.Pre reads.Post goal.the-invariant-loop-at goal.the-decreases-loop-at) → GlanceAt c.args.source.now c.args.p.report c.args.p.skip
+    c.loop-at.at (Item c.in-Item.m c.in-Item.start c.in-Item.end)
 item-told c =
     subst (λ (q : Quick). GlanceAt c.args.source.now c.args.p.report c.args.p.skip c.loop-at.at q)
-    c.m-1.given.1 c.quick_at.ensures
+    c.in-Item.is c.quick_at.ensures
 
-item_room : (c : lts.After-known_told tie.the-claims reads.Pre reads.Post goal.the-invariant-loop-at goal.the-decreases-loop-at) → c.loop-at.w + record_words ≤ length c.loop-at.recs
+item_room : (c : lts.Past-After-known_told tie.the-claims reads.Pre reads.Post goal.the-invariant-loop-at goal.the-decreases-loop-at) → c.loop-at.w + record_words ≤ length c.loop-at.recs
 item_room c =
     let t = item-told c in
     told_room c.args.source.now c.args.p c.args.recs.now c.args.free c.args.deep c.args.from c.requires.1
-    c.loop-at.at c.loop-at.invariant.1 c.m-1.given.0.1.0 c.m-1.given.0.1.1.0 c.m-1.given.0.0 (t.0, t.1, t.2)
+    c.loop-at.at c.loop-at.invariant.1 c.in-Item.start c.in-Item.end c.in-Item.m (t.0, t.1, t.2)
 
-item-same : (c : lts.After-known_told tie.the-claims reads.Pre reads.Post goal.the-invariant-loop-at goal.the-decreases-loop-at) → length c.loop-at.recs ≡ length c.args.recs.now
+item-same : (c : lts.Past-After-known_told tie.the-claims reads.Pre reads.Post goal.the-invariant-loop-at goal.the-decreases-loop-at) → length c.loop-at.recs ≡ length c.args.recs.now
 item-same c =
     told-length c.args.source.now c.args.p c.args.recs.now c.args.free c.args.deep c.args.from c.requires.1
     c.loop-at.at c.loop-at.invariant.1
 
-bracket-told : (c : lts.After-known_told2 tie.the-claims reads.Pre reads.Post goal.the-invariant-loop-at goal.the-decreases-loop-at) → GlanceAt c.args.source.now
+bracket-told : (c : lts.Past-After-known_told2 tie.the-claims reads.Pre reads.Post goal.the-invariant-loop-at goal.the-decreases-loop-at) → GlanceAt c.args.source.now
     c.args.p.report c.args.p.skip
-    c.loop-at.at (Bracket c.m-in-Bracket-1.given.0.0 c.m-in-Bracket-1.given.0.1.0 c.m-in-Bracket-1.given.0.1.1.0)
+    c.loop-at.at (Bracket c.in-Bracket.m c.in-Bracket.start c.in-Bracket.end)
 bracket-told c =
     subst (λ (q : Quick). GlanceAt c.args.source.now c.args.p.report c.args.p.skip c.loop-at.at q)
-    c.m-in-Bracket-1.given.1 c.quick_at.ensures
+    c.in-Bracket.is c.quick_at.ensures
 
-bracket-room : (c : lts.After-known_told2 tie.the-claims reads.Pre reads.Post goal.the-invariant-loop-at goal.the-decreases-loop-at) → c.loop-at.w + record_words ≤ length c.loop-at.recs
+bracket-room : (c : lts.Past-After-known_told2 tie.the-claims reads.Pre reads.Post goal.the-invariant-loop-at goal.the-decreases-loop-at) → c.loop-at.w + record_words ≤ length c.loop-at.recs
 bracket-room c =
     let t = bracket-told c in
     told_room c.args.source.now c.args.p c.args.recs.now c.args.free c.args.deep c.args.from c.requires.1
-    c.loop-at.at c.loop-at.invariant.1 c.m-in-Bracket-1.given.0.1.0 c.m-in-Bracket-1.given.0.1.1.0 c.m-in-Bracket-1.given.0.0 (t.0, t.1, t.2)
+    c.loop-at.at c.loop-at.invariant.1 c.in-Bracket.start c.in-Bracket.end c.in-Bracket.m (t.0, t.1, t.2)
 
-bracket-same : (c : lts.After-known_told2 tie.the-claims reads.Pre reads.Post goal.the-invariant-loop-at goal.the-decreases-loop-at) → length c.loop-at.recs ≡ length c.args.recs.now
+bracket-same : (c : lts.Past-After-known_told2 tie.the-claims reads.Pre reads.Post goal.the-invariant-loop-at goal.the-decreases-loop-at) → length c.loop-at.recs ≡ length c.args.recs.now
 bracket-same c =
     told-length c.args.source.now c.args.p c.args.recs.now c.args.free c.args.deep c.args.from c.requires.1
     c.loop-at.at c.loop-at.invariant.1

@@ -41,17 +41,17 @@ stood c =
     subst (λ (q : Spot). Writing c.args.source.now c.args.spot c.args.recs.now c.args.text.now
     there.new.1.1.0 c.loop-p.text q c.loop-p.free there.result.depth there.result.words) (sym c.spot_past-p.ensures) (told c.before.before.before)
 
-one : (c : lts.After-known_told tie.the-claims reads.Pre reads.Post goal.the-invariant-loop-p goal.the-decreases-loop-p tie.handed_clauses) → One c.r-1.given.0.0 c.r-1.given.0.1.0
+one : (c : lts.Past-After-known_told tie.the-claims reads.Pre reads.Post goal.the-invariant-loop-p goal.the-decreases-loop-p tie.handed_clauses) → One c.in-One.r c.in-One.q
     ≡ found_of c.loop-p.free (next_at c.args.source.now c.spot_past-p.result)
-one c = sym c.r-1.given.1 ∙ c.next_item.ensures
+one c = sym c.in-One.is ∙ c.next_item.ensures
 
-fits : (c : lts.After-known_told tie.the-claims reads.Pre reads.Post goal.the-invariant-loop-p goal.the-decreases-loop-p tie.handed_clauses) → (c.put_known-told.result.words + record_words ≤ length c.put_known-told.new.recs)
-    × (c.loop-p.free + length (bytes_for c.args.source.now c.r-1.given.0.0) ≤ length c.loop-p.text)
+fits : (c : lts.Past-After-known_told tie.the-claims reads.Pre reads.Post goal.the-invariant-loop-p goal.the-decreases-loop-p tie.handed_clauses) → (c.put_known-told.result.words + record_words ≤ length c.put_known-told.new.recs)
+    × (c.loop-p.free + length (bytes_for c.args.source.now c.in-One.r) ≤ length c.loop-p.text)
 fits c =
     room c.args.source.now c.args.spot c.args.recs.now c.args.text.now (fit c.before.before.before.before.before) (stood c.before.before)
-    c.r-1.given.0.0 c.r-1.given.0.1.0 (one c)
+    c.in-One.r c.in-One.q (one c)
 
-same : (c : lts.After-known_told tie.the-claims reads.Pre reads.Post goal.the-invariant-loop-p goal.the-decreases-loop-p tie.handed_clauses) → length c.put_known-told.new.recs ≡ length c.args.recs.now
+same : (c : lts.Past-After-known_told tie.the-claims reads.Pre reads.Post goal.the-invariant-loop-p goal.the-decreases-loop-p tie.handed_clauses) → length c.put_known-told.new.recs ≡ length c.args.recs.now
 same c =
     recs-length c.args.source.now c.args.spot c.args.recs.now c.args.text.now (fit c.before.before.before.before.before) (stood c.before.before)
 
