@@ -27,7 +27,7 @@ letter : (c : lts.Past-Then4 tie.the-claims reads.Pre reads.Post) → Begins c.a
 letter c =
     let b = get_or c.args.source.now c.args.at 0 in
     let other : b ≡ code "`" → ⊥ = c.in-97-to-122.in_default-own.rest.0.0.0.1 in
-    let low : code "c" ≤ b = omega (arith, c.in-97-to-122.if-this-lt96-own.false) in
+    let low : code "a" ≤ b = omega (arith, c.in-97-to-122.if-this-lt96-own.false) in
     let high : b ≤ code "z" = omega (arith, c.in-97-to-122.if-this-lt123-own.true) in
     begins c.args.source.now c.args.at b ph.InWord c.requires.1 refl (omega arith) (letter_solid b low high) (letter_first b low high)
 

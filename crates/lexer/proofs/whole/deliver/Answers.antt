@@ -9,5 +9,5 @@ returns c =
     let f = c.args in
     let done = c.write-done in
     ample (all_items f.source.now f.spot) f.recs.now f.text.now
-    done.result done.ensures.0 f.source.now c.requires.1 c.if-recs-source.false
-    c.if-text-source.false done.ensures.1.0 done.ensures.1.1
+    done.result done.ensures.value f.source.now c.requires.1 c.if-recs-source.false
+    c.if-text-source.false done.ensures.recs_after done.ensures.text_after

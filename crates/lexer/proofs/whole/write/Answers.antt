@@ -39,7 +39,7 @@ stood : (c : lts.After-spot_past tie.the-claims reads.Pre reads.Post goal.the-in
 stood c =
     let there = c.put_known-told in
     subst (λ (q : Spot). Writing c.args.source.now c.args.spot c.args.recs.now c.args.text.now
-    there.new.1.1.0 c.loop-p.text q c.loop-p.free there.result.depth there.result.words) (sym c.spot_past-p.ensures) (told c.before.before.before)
+    there.new.recs c.loop-p.text q c.loop-p.free there.result.depth there.result.words) (sym c.spot_past-p.ensures) (told c.before.before.before)
 
 one : (c : lts.Past-After-known_told tie.the-claims reads.Pre reads.Post goal.the-invariant-loop-p goal.the-decreases-loop-p tie.handed_clauses) → One c.in-One.r c.in-One.q
     ≡ found_of c.loop-p.free (next_at c.args.source.now c.spot_past-p.result)
@@ -108,7 +108,7 @@ pub slice_bounds-put-start : goal.slice_bounds-put-start
 slice_bounds-put-start c = omega (arith, fits c.before)
 
 pub put-requires : goal.put-requires
-put-requires c = let t = c.put_known-told in omega (arith, fits c.before.before, length_part t.last.1.1.0 t.result.words)
+put-requires c = let t = c.put_known-told in omega (arith, fits c.before.before, length_part t.new.recs t.result.words)
 
 pub slice_bounds-put_text-count : goal.slice_bounds-put_text-count
 slice_bounds-put_text-count c = omega (arith, fits c.before.before.before.before.before)
