@@ -1,5 +1,7 @@
 // The periods of a text, by its greatest suffix: how far a text may be moved along itself before it can agree with itself again. A search that moves a
 // text so ends in time that grows with what is searched alone (M. Crochemore, "String-matching on ordered alphabets", 1992). Internal.
+#![tactic(auto)]
+
 ghost use Rattle.std.specs.Prelude.{◌≡◌, true, false, ◌+◌, ◌*◌, ◌≤◌, ◌<◌, length};
 ghost use Rattle.byte_periods.specs.Periods.{byte, Suffixed, Repeats, Moves, Stays};
 

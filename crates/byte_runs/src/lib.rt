@@ -1,5 +1,7 @@
 // Texts as bytes, by the definitions of laws/specs/Texts: where a byte stands, how far a run goes, and how two texts compare. Each function answers what
 // the definition that its contract names says of the text, or of the text from a place on. Internal.
+#![tactic(auto)]
+
 ghost use Rattle.std.specs.Prelude.{◌≡◌, drop};
 ghost use Rattle.laws.specs.Texts.{starts, begins, same};
 

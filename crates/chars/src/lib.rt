@@ -1,5 +1,6 @@
 // Characters out of bytes and back: UTF-8 as RFC 3629 has it, and document 01's blanks. Reads a text as bytes, whole or one byte at a
 // time, and answers characters by their code points; writes a character's bytes into lent memory. What the characters mean is for others.
+#![tactic(auto)]
 
 // Where the byte machine stands within a character: how many bytes it still wants, the range of the next of them, and the code so far.
 // At need 0 it stands between two characters.

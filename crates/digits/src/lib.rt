@@ -1,6 +1,8 @@
 // Digits, signs and integers of the number grammar (R7RS 7.1.1), and the hexadecimal digits of escapes and `#\x` characters (document
 // 01, "Rules that bite"): specs/Digits and specs/Hex say what each function answers. A part of a text is a slice that starts where the
 // text starts, so that an index is a place of the text, and the place where the part starts. Internal: the number call is in `numbers`.
+#![tactic(auto)]
+
 ghost use Rattle.std.specs.Prelude.{◌≡◌, ◌+◌, ◌^◌, ◌≤◌, ◌<◌, length, drop};
 ghost use Rattle.laws.specs.Quoted.{within};
 ghost use Rattle.digits.specs.Digits.{digit_of, digits, sign, uinteger, value, run_value, short, short_in_any, fit, signed, top, whole_of, integer};

@@ -2,6 +2,8 @@
 // element> and <symbol element>). Reads the bytes of an item whose extent is known, and writes the text into lent memory or counts its
 // bytes: what `unescape` of items/specs/Meaning says. Where an escape is wrong the item is an error and has no text. Internal: used by the
 // lexer and the pieces.
+#![tactic(auto)]
+
 ghost use Rattle.std.specs.Prelude.{◌≡◌, true, ◌+◌, ◌≤◌, length, drop};
 ghost use Rattle.laws.specs.Lent.{written};
 ghost use Rattle.laws.specs.Quoted.{code};

@@ -1,5 +1,7 @@
 // The values that a call for C and Rust tells beside its number: they go to the front of the memory that is lent for them, or, where that has
 // too little room, nowhere.
+#![tactic(auto)]
+
 ghost use Rattle.std.specs.Prelude.{◌≡◌, [], ◌∷◌};
 ghost use Rattle.chars.specs.Encode.{lay};
 

@@ -5,6 +5,7 @@
 // of the piece calls cite it, for states that no call made. proofs/ shows that it gives exactly the definition's items, however a text is
 // cut. The code of its steps is in crate `steps`. `kinds` has the numbers of kinds, errors, details and text sources for all code, `modes`
 // has the modes.
+#![tactic(auto)]
 
 pub mod kinds;
 pub mod modes;

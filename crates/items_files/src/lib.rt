@@ -1,5 +1,7 @@
 // Item files: a list of records as numbers in groups of seven bits, and back (02 (x)). specs/Layout says which numbers an item has,
 // specs/Groups how a number is stored, specs/Write and specs/Read what the two calls answer and write.
+#![tactic(auto)]
+
 ghost use Rattle.std.specs.Prelude.{◌≡◌};
 ghost use Rattle.items_files.specs.Answers.{wrote, got, outcome};
 ghost use Rattle.items_files.specs.Write.{write_of};

@@ -1,4 +1,6 @@
 // The calls of the crate `items_files` for programs in C and Rust: each answer as a number and one value.
+#![tactic(auto)]
+
 ghost use Rattle.std.specs.Prelude.{◌≡◌, [], ◌∷◌};
 ghost use Rattle.chars.specs.Encode.{lay};
 ghost use Rattle.items_files.specs.Answers.{wrote, got};

@@ -1,3 +1,4 @@
 // What `items_files::write` and `items_files::read` and their calls for C promise, tried on wrong answers. It has no code. specs/ computes
 // whole answers from the definitions that the contracts cite; each edit of must-fail/ puts a wrong answer in the place of a right one, and
 // the computation refuses it. proofs/ shows that the contracts permit one answer, and rules out wrong programs outright.
+#![tactic(auto)]

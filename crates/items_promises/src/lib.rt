@@ -3,3 +3,4 @@
 // is always the same. It has no code. Each edit of must-fail/ puts a wrong answer in the place of the right one, and the computation
 // refuses it. A contract leaves one answer for each input (the theorems `..-one-answer`), so a row rules out every other.
 // docs/contracts/ says which call each of them is for, CONTRIBUTING.md how one is added.
+#![tactic(auto)]

@@ -1,5 +1,7 @@
 // What the bytes of an extent tell at one look: the item of a word, a number run or a string that is no more than that, for the whole-text
 // call (`lexer`) and for the piece calls (`pieces_quick`). Where they tell nothing the item is read as any other.
+#![tactic(auto)]
+
 ghost use Rattle.std.specs.Prelude.{◌≡◌, ◌+◌, ◌<◌, length};
 ghost use Rattle.items.specs.declared.Outcome.TheVariants.{Word, Run, Str};
 ghost use Rattle.meaning.specs.Meant.{means};

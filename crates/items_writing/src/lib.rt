@@ -5,6 +5,8 @@
 // No memory is needed but the result's: the records are gone over three times, to judge them, to measure the result and to put it. What is
 // written next is a turn: one item, or a pair such as `+foo` in one word. Whether a name reads back bare the machine of the lexer says
 // (crate steps), over the name and one step more.
+#![tactic(auto)]
+
 ghost use Rattle.std.specs.Prelude.{◌≡◌, true, ◌≤◌, length};
 ghost use Rattle.laws.specs.Lent.{written};
 ghost use Rattle.items_writing.specs.Records.{records_in};

@@ -1,4 +1,6 @@
 // The call of the crate `items_writing` for programs in C and Rust: its answer as a number and one value.
+#![tactic(auto)]
+
 ghost use Rattle.std.specs.Prelude.{◌≡◌};
 ghost use Rattle.items_writing.specs.Call.{write_of, answered};
 ghost use Rattle.items_writing_exports.specs.Write.{number_of, value_of, sees, seen};

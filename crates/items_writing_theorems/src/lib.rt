@@ -3,3 +3,4 @@
 // the same for plans whose names and strings were edited (`edited_round_trip`, `edited_settled`); proofs/Calls that the records of such a
 // text are never refused 48 or 47 (`written_back`); proofs/Trips all of it of the calls with their memories (`read_written`,
 // `Written-Read`, `written_again`). It has no code.
+#![tactic(auto)]

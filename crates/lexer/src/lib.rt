@@ -2,6 +2,8 @@
 // `text_of`, `text_mark` and `text_and_mark` hand back an item's text; `open` and `next_at` give one item a call, and crate `reader` holds
 // the source beside its position. Which items a text has is document 01's "An item", defined in crate `items`; what each call answers is
 // defined in specs/ of this crate and in items/specs/Whole.
+#![tactic(auto)]
+
 use items::{Nine, Phase, Record};
 use meaning::Range;
 

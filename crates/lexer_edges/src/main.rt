@@ -1,6 +1,8 @@
 // The whole-text call at its edges, run: each case prints what the call answers, then all words of the record memory and all bytes of the
 // text memory, so that the file `stdout` shows what was written and that the rest stayed. What it has to print is worked out by hand
 // from document 01. Refusal 20 wants a text of 4 GiB and is not run; `pieces_edges` shows it in pieces.
+#![tactic(auto)]
+
 ghost use Rattle.std.specs.Prelude.{◌*◌, ◌≤◌, length};
 ghost use Rattle.items.specs.Items.{record_words};
 

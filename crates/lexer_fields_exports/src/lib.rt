@@ -1,4 +1,6 @@
 // The call of the crate `lexer_fields` for programs in C and Rust: its answer as a number and two values.
+#![tactic(auto)]
+
 ghost use Rattle.std.specs.Prelude.{◌≡◌};
 ghost use Rattle.chars.specs.Encode.{lay};
 ghost use Rattle.lexer_fields.specs.Answers.{answer_of};

@@ -1,4 +1,6 @@
 // Lists the items of standard input: document 01, "Program `lexlist`". Crate `lexlist_listing` says what is printed.
+#![tactic(auto)]
+
 use libc::STDIN_FILENO;
 
 fn main() {

@@ -1,4 +1,6 @@
 // Runs the listing of `lexlist` on the files of data/, each under its name, by the same calls on a descriptor.
+#![tactic(auto)]
+
 use libc::STDOUT_FILENO;
 
 fn print(text: &[u8]) {

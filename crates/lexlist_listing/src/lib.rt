@@ -1,6 +1,8 @@
 // Lists the items of what is read from a descriptor on standard output, a line each: kind, start and end, and for an error its place. The
 // text is read in pieces, in plain mode, comments kept. The last line is `end` and the count of items, `refused` and the refusal's
 // number and place, or `unread` where the input cannot be read. Program `lexlist` lists standard input, and `lexlist_edges` some files.
+#![tactic(auto)]
+
 ghost use Rattle.std.specs.Prelude.{◌≡◌, ◌≤◌, length};
 ghost use Rattle.lexlist_listing.specs.declared.Heard.TheVariants.{Refused};
 ghost use Rattle.lexlist_listing.specs.Counted.{heed, is_over, PieceListed, EndListed};

@@ -3,6 +3,8 @@
 //
 // Here are the types, what the calls answer (specs/) and the theorems about it (proofs/); the calls themselves are the crates
 // lines_calls.
+#![tactic(auto)]
+
 use chars::Begun;
 
 // Served with a count, or refused with document 01's number and what comes with it.

@@ -1,6 +1,8 @@
 // The calls about lines for C and Rust, over slices and numbers alone, which is all that C passes on. An answer is a number, 0 or the
 // refusal's, and two values in lent memory: the count, or line and column, or what the refusal comes with, and 0 where there is no second.
 // Where there is no room for two values, they are left as they were. What the calls answer is the crate lines.
+#![tactic(auto)]
+
 ghost use Rattle.std.specs.Prelude.{◌≡◌, [], ◌∷◌, length};
 ghost use Rattle.chars.specs.Encode.{lay};
 ghost use Rattle.lines.specs.Starts.{told_of, build_of};

@@ -2,6 +2,8 @@
 // sets, and the nine words of a record. Reads the extent's bytes, wherever they lie, and answers numbers. The rules are document 01's,
 // "An item"; crate `items` defines them (specs/Meaning and specs/Items). The whole-text call and the pieces both call these functions,
 // which are internal to the reader.
+#![tactic(auto)]
+
 ghost use Rattle.std.specs.Prelude.{◌≡◌, ◌&&◌, ◌+◌, ◌≤◌, ◌<◌, ◌^◌, length, ltb};
 ghost use Rattle.laws.specs.Quoted.{code};
 ghost use Rattle.items.specs.Readers.{first_is};

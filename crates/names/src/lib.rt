@@ -3,6 +3,8 @@
 // `name_mark`, `place_of` and `name_of` go from a number back to its name. A name is bytes: a caller passes the text of an identifier as
 // the text call gives it. What the table means and what each call does to it is specs/Book.antt; how it lies in memory is
 // specs/Layout.antt, and specs/Call.antt is what the contracts cite. docs/NAMES.md has the memory and its bounds in words.
+#![tactic(auto)]
+
 mod blocks;
 mod entering;
 mod finding;

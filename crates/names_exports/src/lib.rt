@@ -1,5 +1,7 @@
 // The calls of the crate `names` for programs in C and Rust: an answer is a mark, 0 or a refusal's number, and what it comes with goes to
 // lent numbers, which are 0 where the call is refused.
+#![tactic(auto)]
+
 ghost use Rattle.std.specs.Prelude.{◌≡◌};
 ghost use Rattle.names.specs.Call.{opening, open_of, enter_of, mark_of, place_of};
 ghost use Rattle.names.specs.Layout.{placed};

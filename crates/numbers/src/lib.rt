@@ -2,6 +2,8 @@
 // which name the departures). It answers the number's parts, with places of the text for digits and no float; or that the text is no
 // number; or that a denominator is zero. A part of the text is a slice that starts where the text starts, so that an index is a place of
 // the text, and the place where the part starts.
+#![tactic(auto)]
+
 ghost use Rattle.std.specs.Prelude.{◌≡◌, ◌≤◌, length, drop};
 ghost use Rattle.numbers.specs.Grammar.{zero_int, zero_real, zero_parts, judged, radix_mark, prefix, parse_number};
 ghost use Rattle.refusal.specs.Refusals.{limit};

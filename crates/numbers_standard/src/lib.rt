@@ -2,6 +2,8 @@
 // with a choice of reader (specs/Call). What the two readers share is crate numbers'. Crate numbers_difference proves that this reader is the
 // standard's grammar, and on which texts the two differ. A part of the text is a slice that starts where the text starts, so that an
 // index is a place of the text, and the place where the part starts.
+#![tactic(auto)]
+
 ghost use Rattle.std.specs.Prelude.{◌≡◌, ◌≤◌, length};
 ghost use Rattle.refusal.specs.Refusals.{limit};
 ghost use Rattle.numbers.specs.Call.{answered};

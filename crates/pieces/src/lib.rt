@@ -4,6 +4,8 @@
 // Here are the types, what they mean, and the theorems: specs/Expected says, on the definition of items alone, what all calls together
 // give for a text however it is cut; specs/Calls says what one call does with a state, and proofs/ that the two agree. The calls
 // themselves are the crate pieces_calls.
+#![tactic(auto)]
+
 use chars::Begun;
 use items::{Phase, Record};
 

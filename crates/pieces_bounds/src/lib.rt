@@ -1,4 +1,6 @@
 // Whether a state is within the field bounds: refusal 27 is for those outside. docs/STATE.md lists the bounds.
+#![tactic(auto)]
+
 ghost use Rattle.std.specs.Prelude.{◌≡◌, ◌&&◌, List, ℕ, ◌+◌, ◌-◌, ◌*◌, ◌^◌, ◌≤◌, leb};
 ghost use Rattle.items.specs.Whole.{limit};
 ghost use Rattle.pieces.specs.Bounds.{is_place, part_bounds, done_bounds, phase_bounds, beyond_bounds, held_bounds, stop_bounds, stage_bounds, number_bounds, is_in_bounds};

@@ -1,5 +1,7 @@
 // Reads a text by the piece calls under a cutting, and writes down what they give: an aid of the programs that run the piece calls, and
 // no part of the reader. What it writes down is said by the calls' definition: specs/Notes.
+#![tactic(auto)]
+
 use pieces::State;
 
 mod handing;

@@ -2,6 +2,8 @@
 // single piece calls: each refusal that a call may give, waiting items, stops that stand, and states that no call made. What it has to print
 // is worked out from document 01, and for the fields of a state from docs/STATE.md.
 // Two rules are not run: 20, which wants a text of 4 GiB, and so 20 before 21 and 23 at one byte.
+#![tactic(auto)]
+
 use pieces_cuttings::Cutting;
 
 mod calls;

@@ -1,6 +1,8 @@
 // The end call of the crate `pieces_lent`, quick where most calls are made: where no item is held, and where a word, a number, a string, an
 // identifier in vertical lines, a boolean, a comment to the end of its line or a token ends with the text (`end_quickly`). Any other state
 // the crate `pieces_lent` answers. The crate `exports` puts the answers into the words that are lent.
+#![tactic(auto)]
+
 ghost use Rattle.std.specs.Prelude.{◌≡◌, ◌≤◌, length, take};
 ghost use Rattle.pieces.specs.Expected.{longest};
 ghost use Rattle.pieces_quick.specs.Words.{spot_of};

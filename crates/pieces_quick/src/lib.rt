@@ -2,6 +2,8 @@
 // string, an identifier in vertical lines or a comment to the end of its line, past a number sign or past a token. It goes from spot to spot
 // (crate `pieces_spots`) to an item or to the end of the piece (`quickly`). Where it stops short, and for words that it does not know, the
 // crate `pieces_lent` goes on (`plainly`). The crate `exports` puts the answers into the words that are lent.
+#![tactic(auto)]
+
 ghost use Rattle.std.specs.Prelude.{◌≡◌, true, ◌≤◌, length};
 ghost use Rattle.pieces.specs.Expected.{longest};
 ghost use Rattle.pieces_lent.specs.Stood.{Stood};

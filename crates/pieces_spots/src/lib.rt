@@ -1,6 +1,8 @@
 // From spot to spot in a piece: a spot is where the reader stands between two characters, as numbers. A move goes past blanks, into an item,
 // past the bytes that leave it in its phase or past a byte that closes it, on bytes of ASCII and letters of two bytes, and the spot that it
 // comes to feeds on as the one that it left (specs/Spots: `Onward`). Where a move does not tell it stays. The crate `pieces_quick` makes the piece call of them.
+#![tactic(auto)]
+
 mod comments;
 mod ending;
 mod first_byte;

@@ -1,5 +1,7 @@
 // What `plancheck` prints of the plans that are its arguments, by the same calls, and a last line with its status. The plans are those of
 // examples/bad, and a clean one.
+#![tactic(auto)]
+
 ghost use Rattle.std.specs.Prelude.{◌≤◌, ◌<◌};
 
 use findings::FindAnswer;

@@ -1,5 +1,6 @@
 // The numbers that calls answer, each once: what they give where they serve, and the refusals, in place of what was asked for.
 // specs/Refusals has the same numbers for the definitions, include/mihadrena.h for C. It has no code.
+#![tactic(auto)]
 
 // ---- what a call answers that was not refused
 

@@ -2,6 +2,8 @@
 // it, or with the refusal that document 01 gives, and every text is read again here by the proved calls, whole and in pieces. The program
 // prints how many answers it met, or the first text whose answer differs. docs/REPLAY.md says how the lists were made;
 // compare/replay/src/frame.rs says how they are written.
+#![tactic(auto)]
+
 use frame::{FrameHead, HEAD};
 use judge::Verdict;
 use libc::STDOUT_FILENO;

@@ -2,6 +2,8 @@
 // item from its first character to its end. Document 01 and the Rust say what an item is; crate `items` has their definition and the
 // machine, and each contract here cites the machine. Nothing is decoded: a step finds where the item ends and what it turned out to be.
 // Internal: `meaning`, `lexer`, the crates of pieces and `items_writing` stand on it.
+#![tactic(auto)]
+
 use items::Outcome;
 
 mod comments;

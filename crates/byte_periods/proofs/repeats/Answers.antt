@@ -15,6 +15,7 @@ module _ (w : List ℕ) (p n r : ℕ) (agree : Agree w 0 p n r) where
       let i : k + p ≡ p + k = omega arith in
       let z : 0 + k ≡ k = omega arith in
       ap (byte w) i ∙ sym (agree.1 k (omega arith)) ∙ ap (byte w) z
+
   not-all : (r ≡ n → ⊥) → Repeats (byte w) n p → ⊥
   not-all e all =
       let h : r < n = omega (arith, agree.0) in

@@ -28,7 +28,7 @@ pub loop-i-preserved : goal.loop-i-preserved
 loop-i-preserved c = (
   c.loop-i.invariant.0 ∙ value_more _ _ _ _ _ c.loop-i-test.true c.digit-d.ensures,
   product_fits _ _ c.digit-d.ensures _ _ c.requires.0 c.if-d-radix.false,
-    )
+)
 
 pub returns : goal.returns
 returns c = rw (c.loop-i.invariant.0 ∙ value_end _ _ _ _ c.loop-i-test.false) (fit_fits _ c.loop-i.invariant.1)

@@ -15,9 +15,9 @@ returns-then-not-is_told c = rw (rw c.read_words-t.ensures.0 at (sym c.is_told.e
 
 pub put_style-requires : goal.put_style-requires
 put_style-requires c = record {
-      place = (c.read_words-t.ensures.1, c.read_words-t.ensures.2);
-      place_2 = c.read_words-t.ensures.3;
-    }
+  place = (c.read_words-t.ensures.1, c.read_words-t.ensures.2);
+  place_2 = c.read_words-t.ensures.3;
+}
 
 pub returns : goal.returns
 unfolding rendered

@@ -9,12 +9,11 @@ pub loop-i-init : goal.loop-i-init
 loop-i-init c = (omega arith, left_start)
 
 pub loop-i-preserved : goal.loop-i-preserved
-loop-i-preserved c =
-    (
-      omega arith,
-      left_on c.loop-i.invariant.1 (filled_on c.args.t c.args.source.now c.args.text.now c.loop-i.i
-          c.loop-i-test.true) c.put_inserted-next.ensures,
-    )
+loop-i-preserved c = (
+  omega arith,
+  left_on c.loop-i.invariant.1 (filled_on c.args.t c.args.source.now c.args.text.now c.loop-i.i
+      c.loop-i-test.true) c.put_inserted-next.ensures,
+)
 
 pub shape_of-out : goal.shape_of-out
 shape_of-out c = c.loop-i.invariant.1.room

@@ -17,20 +17,18 @@ overflow_add-result c =
     )
 
 pub returns-then-begins_at : goal.returns-then-begins_at
-returns-then-begins_at c =
-    (
-      behind_here c.args.key.now c.args.t.now c.loop-i.i c.loop-i.start c.loop-i-test.true
-          (sym c.begins_at.ensures ∙ c.if-begins_at.true) ∙ c.loop-i.invariant.1,
-      key_fits c.args.key.now c.args.t.now c.loop-i.i c.loop-i.start c.loop-i-test.true (sym c.begins_at.ensures ∙ c.if-begins_at.true),
-    )
+returns-then-begins_at c = (
+  behind_here c.args.key.now c.args.t.now c.loop-i.i c.loop-i.start c.loop-i-test.true
+      (sym c.begins_at.ensures ∙ c.if-begins_at.true) ∙ c.loop-i.invariant.1,
+  key_fits c.args.key.now c.args.t.now c.loop-i.i c.loop-i.start c.loop-i-test.true (sym c.begins_at.ensures ∙ c.if-begins_at.true),
+)
 
 pub loop-i-preserved : goal.loop-i-preserved
-loop-i-preserved c =
-    (
-      omega arith,
-      behind_on c.args.key.now c.args.t.now c.loop-i.i c.loop-i.start c.loop-i-test.true
-          (sym c.begins_at.ensures ∙ c.if-begins_at.false) ∙ c.loop-i.invariant.1,
-    )
+loop-i-preserved c = (
+  omega arith,
+  behind_on c.args.key.now c.args.t.now c.loop-i.i c.loop-i.start c.loop-i-test.true
+      (sym c.begins_at.ensures ∙ c.if-begins_at.false) ∙ c.loop-i.invariant.1,
+)
 
 pub returns : goal.returns
 returns c =

@@ -22,29 +22,27 @@ returns-then-t c =
 
 pub returns-then-t-gt1 : goal.returns-then-t-gt1
 unfolding variant_of
-returns-then-t-gt1 c =
-    (
-      rw (
-        sym c.is_by_detail.ensures ∙ c.if-is_by_detail.false,
-        sym c.is_by_second.ensures ∙ c.if-is_by_second.true,
-        le-ltb _ _ c.if-t.false,
-        lt-ltb _ _ c.if-t-gt1.true,
-      ),
-      omega arith,
-    )
+returns-then-t-gt1 c = (
+  rw (
+    sym c.is_by_detail.ensures ∙ c.if-is_by_detail.false,
+    sym c.is_by_second.ensures ∙ c.if-is_by_second.true,
+    le-ltb _ _ c.if-t.false,
+    lt-ltb _ _ c.if-t-gt1.true,
+  ),
+  omega arith,
+)
 
 pub returns-else-t-gt1 : goal.returns-else-t-gt1
 unfolding variant_of
-returns-else-t-gt1 c =
-    (
-      rw (
-        sym c.is_by_detail.ensures ∙ c.if-is_by_detail.false,
-        sym c.is_by_second.ensures ∙ c.if-is_by_second.true,
-        le-ltb _ _ c.if-t.false,
-        le-ltb _ _ c.if-t-gt1.false,
-      ),
-      omega arith,
-    )
+returns-else-t-gt1 c = (
+  rw (
+    sym c.is_by_detail.ensures ∙ c.if-is_by_detail.false,
+    sym c.is_by_second.ensures ∙ c.if-is_by_second.true,
+    le-ltb _ _ c.if-t.false,
+    le-ltb _ _ c.if-t-gt1.false,
+  ),
+  omega arith,
+)
 
 pub returns-else-is_by_second : goal.returns-else-is_by_second
 unfolding variant_of

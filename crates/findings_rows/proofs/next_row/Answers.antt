@@ -4,12 +4,11 @@ use Rattle.findings_rows.proofs.Mends.{next_in_lem, slip_is, fine_is, end_is}
 use Rattle.findings_rows.proofs.next_row.Goals as goal
 
 pub mend-requires : goal.mend-requires
-mend-requires c =
-    (
-      c.requires,
-      (next_in_lem c.args.source.now c.args.spot c.in-One.r c.in-One.q
-          (sym c.in-One.is ∙ c.next_item.ensures)).0,
-    )
+mend-requires c = (
+  c.requires,
+  (next_in_lem c.args.source.now c.args.spot c.in-One.r c.in-One.q
+      (sym c.in-One.is ∙ c.next_item.ensures)).0,
+)
 
 pub returns-then-is_slip : goal.returns-then-is_slip
 returns-then-is_slip c =

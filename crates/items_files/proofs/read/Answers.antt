@@ -9,13 +9,12 @@ returns-then-records-items c =
     reads_short c.args.file.now c.args.records.now (sym (ap counted c.in-Words.is) ∙ c.scan-seen.ensures) c.if-records-items.true
 
 pub fill-requires : goal.fill-requires
-fill-requires c =
-    (
-      reads_sound c.args.file.now c.args.records.now
-          (sym (ap counted c.in-Words.is) ∙ c.scan-seen.ensures),
-      reads_fit c.args.file.now c.args.records.now (sym (ap counted c.in-Words.is) ∙ c.scan-seen.ensures)
-          (λ i. (c.shared_slice_known-1.given i).fits) c.if-records-items.false,
-    )
+fill-requires c = (
+  reads_sound c.args.file.now c.args.records.now
+      (sym (ap counted c.in-Words.is) ∙ c.scan-seen.ensures),
+  reads_fit c.args.file.now c.args.records.now (sym (ap counted c.in-Words.is) ∙ c.scan-seen.ensures)
+      (λ i. (c.shared_slice_known-1.given i).fits) c.if-records-items.false,
+)
 
 pub returns-in-Cut : goal.returns-in-Cut
 returns-in-Cut c =

@@ -79,7 +79,7 @@ loop-p-preserved c = (
     turn_size c.turn_at-turn.ensures c.words_at-w.ensures c.body_of.ensures,
     c.piece_length-n.ensures,
   ),
-    )
+)
 
 pub returns : goal.returns
 returns c =

@@ -19,12 +19,12 @@ returns-then-out-n c =
 
 pub put-requires : goal.put-requires
 put-requires c = record {
-      all_right = answer_right c.args.records.now c.args.source.now c.args.text.now c.args.out.now
-          c.judge.ensures c.in-Fine.is;
-      true_in_bounds = answer_room c.args.records.now
-          c.args.source.now c.args.text.now c.args.out.now c.judge.ensures
-          c.in-Fine.is c.measure-n.ensures c.if-n-gt-LIMIT.false c.if-out-n.false;
-    }
+  all_right = answer_right c.args.records.now c.args.source.now c.args.text.now c.args.out.now
+      c.judge.ensures c.in-Fine.is;
+  true_in_bounds = answer_room c.args.records.now
+      c.args.source.now c.args.text.now c.args.out.now c.judge.ensures
+      c.in-Fine.is c.measure-n.ensures c.if-n-gt-LIMIT.false c.if-out-n.false;
+}
 
 pub returns-else-out-n : goal.returns-else-out-n
 returns-else-out-n c =

@@ -15,7 +15,7 @@ returns-then-splits c = rw (
   eq-eqb _ _ c.if-kind-ne-IDENTIFIER.false,
   sym c.splits.ensures ∙ c.if-splits.true,
   c.two.ensures,
-    )
+)
 
 pub returns : goal.returns
 unfolding word_means
@@ -24,4 +24,4 @@ returns c = rw (
   eq-eqb _ _ c.if-kind-ne-IDENTIFIER.false,
   sym c.splits.ensures ∙ c.if-splits.false,
   c.one-2.ensures,
-    )
+)

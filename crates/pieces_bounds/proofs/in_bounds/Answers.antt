@@ -23,4 +23,4 @@ returns c = λ buf. simp (
   sym c.number_bounds.ensures ∙ not-false _ c.if-not-number_bounds.false-raw,
   sym c.part_bounds.ensures ∙ not-false _ c.if-not-part_bounds.false-raw,
   c.stage_bounds.ensures,
-    )
+)

@@ -8,14 +8,13 @@ use Rattle.pieces_quick.proofs.Answering.{before_byte, item_feeds}
 use Rattle.pieces_quick.proofs.from_comment.Goals as goal
 
 pub give_comment-requires : goal.give_comment-requires
-give_comment-requires c =
-    (
-      before_byte c.args.w c.requires.1.left c.requires.1.ready c.args.s c.args.buf.now c.args.text.now c.args.piece.now c.requires.0 c.requires.1.sound
-          c.requires.3.inside (omega (arith, c.requires.3.inside)),
-      c.requires.2,
-      c.requires.3.which,
-      c.requires.3.detail,
-    )
+give_comment-requires c = (
+  before_byte c.args.w c.requires.1.left c.requires.1.ready c.args.s c.args.buf.now c.args.text.now c.args.piece.now c.requires.0 c.requires.1.sound
+      c.requires.3.inside (omega (arith, c.requires.3.inside)),
+  c.requires.2,
+  c.requires.3.which,
+  c.requires.3.detail,
+)
 
 pub returns-in-Given : goal.returns-in-Given
 returns-in-Given c =

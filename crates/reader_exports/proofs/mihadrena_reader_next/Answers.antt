@@ -18,12 +18,11 @@ pub position_in-requires : goal.position_in-requires
 position_in-requires c = sym c.is_position.ensures ∙ not-false _ c.if-not-is_position.false-raw
 
 pub tell_next-requires : goal.tell_next-requires
-tell_next-requires c =
-    (
-      position_length _ (sym c.is_position.ensures ∙ not-false _ c.if-not-is_position.false-raw),
-      room_record _ (length c.args.values.now)
-          (sym c.is_room.ensures ∙ not-false _ c.if-not-is_room.false-raw),
-    )
+tell_next-requires c = (
+  position_length _ (sym c.is_position.ensures ∙ not-false _ c.if-not-is_position.false-raw),
+  room_record _ (length c.args.values.now)
+      (sym c.is_room.ensures ∙ not-false _ c.if-not-is_room.false-raw),
+)
 
 pub returns : goal.returns
 returns c =

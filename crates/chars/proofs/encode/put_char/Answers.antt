@@ -28,19 +28,19 @@ returns-then-code-lt-TWO_FROM c = lay_bytes c.args.code c.args.text.now _
 
 pub bounds-text-0-then-code-lt-THREE_FROM : goal.bounds-text-0-then-code-lt-THREE_FROM
 bounds-text-0-then-code-lt-THREE_FROM c = omega (
-      arith,
-      c.if-text-char_width.false,
-      c.char_width.ensures,
-      width_two c.args.code c.if-code-lt-TWO_FROM.false,
-    )
+  arith,
+  c.if-text-char_width.false,
+  c.char_width.ensures,
+  width_two c.args.code c.if-code-lt-TWO_FROM.false,
+)
 
 pub bounds-text-1 : goal.bounds-text-1
 bounds-text-1 c = simp length-set (omega (
-      arith,
-      c.if-text-char_width.false,
-      c.char_width.ensures,
-      width_two c.args.code c.if-code-lt-TWO_FROM.false,
-    ))
+  arith,
+  c.if-text-char_width.false,
+  c.char_width.ensures,
+  width_two c.args.code c.if-code-lt-TWO_FROM.false,
+))
 
 pub returns-then-code-lt-THREE_FROM : goal.returns-then-code-lt-THREE_FROM
 returns-then-code-lt-THREE_FROM c = rw c.later.ensures (lay_bytes c.args.code c.args.text.now _ (two c.args.code)
@@ -49,27 +49,27 @@ returns-then-code-lt-THREE_FROM c = rw c.later.ensures (lay_bytes c.args.code c.
 
 pub bounds-text-0-then-code-lt-FOUR_FROM : goal.bounds-text-0-then-code-lt-FOUR_FROM
 bounds-text-0-then-code-lt-FOUR_FROM c = omega (
-      arith,
-      c.if-text-char_width.false,
-      c.char_width.ensures,
-      width_three c.args.code c.if-code-lt-THREE_FROM.false,
-    )
+  arith,
+  c.if-text-char_width.false,
+  c.char_width.ensures,
+  width_three c.args.code c.if-code-lt-THREE_FROM.false,
+)
 
 pub bounds-text-1-then-code-lt-FOUR_FROM : goal.bounds-text-1-then-code-lt-FOUR_FROM
 bounds-text-1-then-code-lt-FOUR_FROM c = simp length-set (omega (
-      arith,
-      c.if-text-char_width.false,
-      c.char_width.ensures,
-      width_three c.args.code c.if-code-lt-THREE_FROM.false,
-    ))
+  arith,
+  c.if-text-char_width.false,
+  c.char_width.ensures,
+  width_three c.args.code c.if-code-lt-THREE_FROM.false,
+))
 
 pub bounds-text-2 : goal.bounds-text-2
 bounds-text-2 c = simp length-set (omega (
-      arith,
-      c.if-text-char_width.false,
-      c.char_width.ensures,
-      width_three c.args.code c.if-code-lt-THREE_FROM.false,
-    ))
+  arith,
+  c.if-text-char_width.false,
+  c.char_width.ensures,
+  width_three c.args.code c.if-code-lt-THREE_FROM.false,
+))
 
 pub returns-then-code-lt-FOUR_FROM : goal.returns-then-code-lt-FOUR_FROM
 returns-then-code-lt-FOUR_FROM c = rw (c.later-then-code-lt-FOUR_FROM-2.ensures, c.later-then-code-lt-FOUR_FROM.ensures) (lay_bytes c.args.code c.args.text.now _ (three c.args.code)
@@ -82,35 +82,35 @@ overflow_cast-text-2 c = ⊎_elim (λ h. omega arith) (λ h. omega arith)
 
 pub bounds-text-0-2 : goal.bounds-text-0-2
 bounds-text-0-2 c = omega (
-      arith,
-      c.if-text-char_width.false,
-      c.char_width.ensures,
-      width_four c.args.code c.if-code-lt-FOUR_FROM.false,
-    )
+  arith,
+  c.if-text-char_width.false,
+  c.char_width.ensures,
+  width_four c.args.code c.if-code-lt-FOUR_FROM.false,
+)
 
 pub bounds-text-1-2 : goal.bounds-text-1-2
 bounds-text-1-2 c = simp length-set (omega (
-      arith,
-      c.if-text-char_width.false,
-      c.char_width.ensures,
-      width_four c.args.code c.if-code-lt-FOUR_FROM.false,
-    ))
+  arith,
+  c.if-text-char_width.false,
+  c.char_width.ensures,
+  width_four c.args.code c.if-code-lt-FOUR_FROM.false,
+))
 
 pub bounds-text-2-2 : goal.bounds-text-2-2
 bounds-text-2-2 c = simp length-set (omega (
-      arith,
-      c.if-text-char_width.false,
-      c.char_width.ensures,
-      width_four c.args.code c.if-code-lt-FOUR_FROM.false,
-    ))
+  arith,
+  c.if-text-char_width.false,
+  c.char_width.ensures,
+  width_four c.args.code c.if-code-lt-FOUR_FROM.false,
+))
 
 pub bounds-text-3 : goal.bounds-text-3
 bounds-text-3 c = simp length-set (omega (
-      arith,
-      c.if-text-char_width.false,
-      c.char_width.ensures,
-      width_four c.args.code c.if-code-lt-FOUR_FROM.false,
-    ))
+  arith,
+  c.if-text-char_width.false,
+  c.char_width.ensures,
+  width_four c.args.code c.if-code-lt-FOUR_FROM.false,
+))
 
 pub returns : goal.returns
 returns c = rw (c.later-4.ensures, c.later-3.ensures, c.later-2.ensures) (lay_bytes c.args.code c.args.text.now _

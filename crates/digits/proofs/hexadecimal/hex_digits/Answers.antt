@@ -25,7 +25,7 @@ loop-i-preserved c = (
       ∙ hex_more _ _ _ _ c.loop-i-test.true
       c.digit-d.ensures c.if-d-ge-RADIX.false c.if-next-ge-OVERFLOW_FROM.false,
   c.if-next-ge-OVERFLOW_FROM.false,
-    )
+)
 
 pub returns : goal.returns
 returns c = hex_end _ _ _ c.loop-i-test.false ∙ sym c.loop-i.invariant.0

@@ -19,7 +19,7 @@ loop-i-init c = (
     ap (λ (ds : List ℕ). unescape_hex c.args.k c.args.closer ds (drop c.args.from c.args.raw.now))
         (sym (digits_none c.args.raw.now c.args.from)),
   ),
-    )
+)
 
 pub returns-then-b-closer : goal.returns-then-b-closer
 returns-then-b-closer c = let l = c.loop-i in let a = c.args in

@@ -33,11 +33,10 @@ returns-then-is_closing c =
     (sym c.is_state.ensures ∙ not-false _ c.if-not-is_state.false-raw) c.words_in-state.ensures c.end_on.ensures
 
 pub end_plainly-requires : goal.end_plainly-requires
-end_plainly-requires c =
-    (
-      state_words_lem (length c.args.buf.now) _ (sym c.is_state.ensures ∙ not-false _ c.if-not-is_state.false-raw),
-      room_record _ (length c.args.values.now) (sym c.is_room.ensures ∙ not-false _ c.if-not-is_room.false-raw),
-    )
+end_plainly-requires c = (
+  state_words_lem (length c.args.buf.now) _ (sym c.is_state.ensures ∙ not-false _ c.if-not-is_state.false-raw),
+  room_record _ (length c.args.values.now) (sym c.is_room.ensures ∙ not-false _ c.if-not-is_room.false-raw),
+)
 
 pub returns : goal.returns
 returns c =

@@ -39,13 +39,12 @@ returns-then-is_served c =
     c.words_in-state.ensures c.read_on.ensures
 
 pub read_plainly-requires : goal.read_plainly-requires
-read_plainly-requires c =
-    (
-      state_words_lem (length c.args.buf.now) _ (sym c.is_state.ensures ∙ not-false _ c.if-not-is_state.false-raw),
-      room_record _ (length c.args.values.now) (sym c.is_room.ensures ∙ not-false _ c.if-not-is_room.false-raw),
-      omega arith,
-      no_yes,
-    )
+read_plainly-requires c = (
+  state_words_lem (length c.args.buf.now) _ (sym c.is_state.ensures ∙ not-false _ c.if-not-is_state.false-raw),
+  room_record _ (length c.args.values.now) (sym c.is_room.ensures ∙ not-false _ c.if-not-is_room.false-raw),
+  omega arith,
+  no_yes,
+)
 
 pub returns : goal.returns
 returns c =

@@ -19,13 +19,12 @@ returns-then-columns_of-gt0 c =
     ∙ flat_not _ _ _ (rw (c.columns_of.ensures, c.seen_at-u.ensures.0) at c.if-columns_of-gt0.true))
 
 pub loop-i-preserved : goal.loop-i-preserved
-loop-i-preserved c =
-    (
-      omega arith,
-      rw c.seen_at-u.ensures.0
-          (sym (flat_on _ _ _ (rw (c.columns_of.ensures, c.seen_at-u.ensures.0) at c.if-columns_of-gt0.false))
-          ∙ sym (ap is_nil (walked_on (under_one 94) c.args.t.now c.loop-i.i c.loop-i-test.true)) ∙ c.loop-i.invariant.1),
-    )
+loop-i-preserved c = (
+  omega arith,
+  rw c.seen_at-u.ensures.0
+      (sym (flat_on _ _ _ (rw (c.columns_of.ensures, c.seen_at-u.ensures.0) at c.if-columns_of-gt0.false))
+      ∙ sym (ap is_nil (walked_on (under_one 94) c.args.t.now c.loop-i.i c.loop-i-test.true)) ∙ c.loop-i.invariant.1),
+)
 
 pub returns : goal.returns
 unfolding is_nil

@@ -14,12 +14,11 @@ returns-then-is_within c =
     sym (c.loop-k.invariant.1 ∙ kind_here c.args.c c.loop-k.k c.range_row-row.ensures c.loop-k-test.true (sym c.is_within.ensures ∙ c.if-is_within.true))
 
 pub loop-k-preserved : goal.loop-k-preserved
-loop-k-preserved c =
-    (
-      omega arith,
-      c.loop-k.invariant.1 ∙ rw (add-one c.loop-k.k)
-          (kind_later c.args.c c.loop-k.k c.range_row-row.ensures c.loop-k-test.true (sym c.is_within.ensures ∙ c.if-is_within.false)),
-    )
+loop-k-preserved c = (
+  omega arith,
+  c.loop-k.invariant.1 ∙ rw (add-one c.loop-k.k)
+      (kind_later c.args.c c.loop-k.k c.range_row-row.ensures c.loop-k-test.true (sym c.is_within.ensures ∙ c.if-is_within.false)),
+)
 
 pub returns : goal.returns
 returns c = sym (c.loop-k.invariant.1 ∙ kind_other c.args.c c.loop-k.k c.loop-k-test.false)

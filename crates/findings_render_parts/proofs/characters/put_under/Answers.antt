@@ -14,13 +14,12 @@ seen_at-u-requires c = c.loop-i-test.true
 
 pub loop-i-preserved : goal.loop-i-preserved
 unfolding under_one
-loop-i-preserved c =
-    (
-      omega arith,
-      rw c.seen_at-u.ensures.0
-          (left_on c.loop-i.invariant.1 (walked_on (under_one c.args.mark) c.args.t.now c.loop-i.i c.loop-i-test.true)
-          (rw c.seen_at-u.ensures.0 at c.put_under_one-next.ensures)),
-    )
+loop-i-preserved c = (
+  omega arith,
+  rw c.seen_at-u.ensures.0
+      (left_on c.loop-i.invariant.1 (walked_on (under_one c.args.mark) c.args.t.now c.loop-i.i c.loop-i-test.true)
+      (rw c.seen_at-u.ensures.0 at c.put_under_one-next.ensures)),
+)
 
 pub shape_of-out : goal.shape_of-out
 shape_of-out c = c.loop-i.invariant.1.room

@@ -12,10 +12,10 @@ pub returns-then-at-lt-GREATEST_USIZE : goal.returns-then-at-lt-GREATEST_USIZE
 returns-then-at-lt-GREATEST_USIZE c = (
   beyond_below c.args.at (omega arith),
   sym (set_out c.args.out.now c.args.at c.args.b c.if-at-out.false),
-    )
+)
 
 pub returns : goal.returns
 returns c = (
   beyond-top c.args.at (omega arith),
   sym (set_out c.args.out.now c.args.at c.args.b c.if-at-out.false),
-    )
+)

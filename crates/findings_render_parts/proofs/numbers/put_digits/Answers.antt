@@ -8,12 +8,11 @@ pub loop-left-init : goal.loop-left-init
 loop-left-init c = (omega arith, left_start)
 
 pub loop-left-preserved : goal.loop-left-preserved
-loop-left-preserved c =
-    (
-      omega arith,
-      left_on c.loop-left.invariant.1 (rw c.digit_at.ensures
-          (digits_on c.args.hex c.loop-left.false c.args.n c.loop-left-test.true)) c.put_byte-next.ensures,
-    )
+loop-left-preserved c = (
+  omega arith,
+  left_on c.loop-left.invariant.1 (rw c.digit_at.ensures
+      (digits_on c.args.hex c.loop-left.false c.args.n c.loop-left-test.true)) c.put_byte-next.ensures,
+)
 
 pub shape_of-out : goal.shape_of-out
 shape_of-out c = c.loop-left.invariant.1.room

@@ -11,12 +11,11 @@ unfolding count_in
 loop-i-init c = (omega arith, refl, omega arith)
 
 pub loop-i-preserved : goal.loop-i-preserved
-loop-i-preserved c =
-    (
-      omega arith,
-      rw (count_on_lem c.args.low c.args.high c.args.s.now c.args.from c.loop-i.i, ← c.hit-found.ensures.0, ← c.loop-i.invariant.1),
-      omega arith,
-    )
+loop-i-preserved c = (
+  omega arith,
+  rw (count_on_lem c.args.low c.args.high c.args.s.now c.args.from c.loop-i.i, ← c.hit-found.ensures.0, ← c.loop-i.invariant.1),
+  omega arith,
+)
 
 pub returns : goal.returns
 returns c =

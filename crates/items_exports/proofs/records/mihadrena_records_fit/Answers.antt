@@ -28,12 +28,11 @@ loop-left-smaller c = omega (arith, c.loop-left-test.true)
 
 -- src/records.rt:130:5
 pub loop-left-preserved : goal.loop-left-preserved
-loop-left-preserved c =
-    (
-      omega (arith, c.loop-left.invariant.0),
-      fit_earlier c.args.records.now c.args.source c.args.text c.loop-left.false c.loop-left-test.true
-          (sym c.record_fits.ensures ∙ not-false _ c.if-not-record_fits.false-raw) ∙ c.loop-left.invariant.1,
-    )
+loop-left-preserved c = (
+  omega (arith, c.loop-left.invariant.0),
+  fit_earlier c.args.records.now c.args.source c.args.text c.loop-left.false c.loop-left-test.true
+      (sym c.record_fits.ensures ∙ not-false _ c.if-not-record_fits.false-raw) ∙ c.loop-left.invariant.1,
+)
 
 -- src/records.rt:125:1
 pub returns : goal.returns

@@ -27,12 +27,11 @@ loop-left-smaller c = omega (arith, c.loop-left-test.true)
 
 -- src/records.rt:54:5
 pub loop-left-preserved : goal.loop-left-preserved
-loop-left-preserved c =
-    (
-      omega (arith, c.loop-left.invariant.0),
-      open_earlier c.args.records.now c.args.depth c.args.none c.loop-left.false c.loop-left-test.true
-          (sym c.opens_inside.ensures ∙ c.if-opens_inside.false) ∙ c.loop-left.invariant.1,
-    )
+loop-left-preserved c = (
+  omega (arith, c.loop-left.invariant.0),
+  open_earlier c.args.records.now c.args.depth c.args.none c.loop-left.false c.loop-left-test.true
+      (sym c.opens_inside.ensures ∙ c.if-opens_inside.false) ∙ c.loop-left.invariant.1,
+)
 
 -- src/records.rt:49:1
 pub returns : goal.returns

@@ -39,17 +39,16 @@ slice_bounds-put_numbers-start c =
     )
 
 pub put_numbers-count-requires : goal.put_numbers-count-requires
-put_numbers-count-requires c =
-    (
-      ap (λ (l : List ℕ). length l) c.numbers_of-ns.ensures,
-      omega (
-        arith,
-        filing_room c.args.words.now c.args.out.now c.requires.0 c.requires.2 c.loop-i.invariant c.loop-i-test.true
-            c.record_at-record.result c.record_at-record.ensures,
-        ap (λ (l : List ℕ). length (images l)) c.numbers_of-ns.ensures,
-        length_part c.loop-i.out c.loop-i.at,
-      ),
-    )
+put_numbers-count-requires c = (
+  ap (λ (l : List ℕ). length l) c.numbers_of-ns.ensures,
+  omega (
+    arith,
+    filing_room c.args.words.now c.args.out.now c.requires.0 c.requires.2 c.loop-i.invariant c.loop-i-test.true
+        c.record_at-record.result c.record_at-record.ensures,
+    ap (λ (l : List ℕ). length (images l)) c.numbers_of-ns.ensures,
+    length_part c.loop-i.out c.loop-i.at,
+  ),
+)
 
 pub overflow_add-at : goal.overflow_add-at
 overflow_add-at c =

@@ -46,9 +46,8 @@ shape_of-out c =
     laid_length c.args.mark c.args.t.now c.loop-i.invariant c.requires
 
 pub returns : goal.returns
-returns c =
-    (
-      laid_size c.args.mark c.args.t.now c.loop-i.invariant c.requires c.loop-i-test.false,
-      laid_end c.args.mark c.args.t.now
-          c.loop-i.invariant c.requires c.loop-i-test.false,
-    )
+returns c = (
+  laid_size c.args.mark c.args.t.now c.loop-i.invariant c.requires c.loop-i-test.false,
+  laid_end c.args.mark c.args.t.now
+      c.loop-i.invariant c.requires c.loop-i-test.false,
+)

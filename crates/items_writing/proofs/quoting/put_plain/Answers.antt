@@ -10,13 +10,12 @@ pub loop-i-init : goal.loop-i-init
 loop-i-init c = (omega arith, refl, refl)
 
 pub loop-i-preserved : goal.loop-i-preserved
-loop-i-preserved c =
-    (
-      omega arith,
-      simp length-set (omega arith),
-      copied_on c.args.t.now c.args.out.now c.loop-i.i
-          c.loop-i.invariant.2 (omega arith) (omega arith),
-    )
+loop-i-preserved c = (
+  omega arith,
+  simp length-set (omega arith),
+  copied_on c.args.t.now c.args.out.now c.loop-i.i
+      c.loop-i.invariant.2 (omega arith) (omega arith),
+)
 
 pub returns : goal.returns
 returns c = (omega arith, copied_all c.args.t.now c.args.out.now c.loop-i.i c.loop-i.invariant.2 (omega arith))

@@ -57,17 +57,16 @@ overflow_add-result c =
     )
 
 pub returns : goal.returns
-returns c =
-    (
-      third_size (c.args.mark ∷ []) (escaped_by c.args.mark c.args.t.now) (c.args.mark ∷ []) c.args.out.now c.requires
-          c.put_lone-start.ensures.1
-          c.put_lone-start.ensures.0
-          c.put_escaped.ensures.1 c.put_escaped.ensures.0
-          c.put_lone.ensures.1 c.put_lone.ensures.0,
-      third_is (c.args.mark ∷ [])
-          (escaped_by c.args.mark c.args.t.now) (c.args.mark ∷ []) c.args.out.now c.requires
-          c.put_lone-start.ensures.1
-          c.put_lone-start.ensures.0
-          c.put_escaped.ensures.1 c.put_escaped.ensures.0
-          c.put_lone.ensures.1 c.put_lone.ensures.0,
-    )
+returns c = (
+  third_size (c.args.mark ∷ []) (escaped_by c.args.mark c.args.t.now) (c.args.mark ∷ []) c.args.out.now c.requires
+      c.put_lone-start.ensures.1
+      c.put_lone-start.ensures.0
+      c.put_escaped.ensures.1 c.put_escaped.ensures.0
+      c.put_lone.ensures.1 c.put_lone.ensures.0,
+  third_is (c.args.mark ∷ [])
+      (escaped_by c.args.mark c.args.t.now) (c.args.mark ∷ []) c.args.out.now c.requires
+      c.put_lone-start.ensures.1
+      c.put_lone-start.ensures.0
+      c.put_escaped.ensures.1 c.put_escaped.ensures.0
+      c.put_lone.ensures.1 c.put_lone.ensures.0,
+)

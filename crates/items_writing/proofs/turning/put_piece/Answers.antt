@@ -104,17 +104,16 @@ shape_of-out c =
 
 pub returns : goal.returns
 unfolding piece
-returns c =
-    (
-      third_size (lone (not c.args.first) (code " ")) (lone c.args.turn.pair (code "+")) (shown c.args.turn.form c.args.t.now)
-          c.args.out.now c.requires c.put_lone-gap.ensures.1
-          c.put_lone-gap.ensures.0
-          c.put_lone.ensures.1 c.put_lone.ensures.0
-          c.put_shown.ensures.1 c.put_shown.ensures.0,
-      third_is (lone (not c.args.first) (code " "))
-          (lone c.args.turn.pair (code "+")) (shown c.args.turn.form c.args.t.now) c.args.out.now c.requires
-          c.put_lone-gap.ensures.1
-          c.put_lone-gap.ensures.0
-          c.put_lone.ensures.1 c.put_lone.ensures.0
-          c.put_shown.ensures.1 c.put_shown.ensures.0,
-    )
+returns c = (
+  third_size (lone (not c.args.first) (code " ")) (lone c.args.turn.pair (code "+")) (shown c.args.turn.form c.args.t.now)
+      c.args.out.now c.requires c.put_lone-gap.ensures.1
+      c.put_lone-gap.ensures.0
+      c.put_lone.ensures.1 c.put_lone.ensures.0
+      c.put_shown.ensures.1 c.put_shown.ensures.0,
+  third_is (lone (not c.args.first) (code " "))
+      (lone c.args.turn.pair (code "+")) (shown c.args.turn.form c.args.t.now) c.args.out.now c.requires
+      c.put_lone-gap.ensures.1
+      c.put_lone-gap.ensures.0
+      c.put_lone.ensures.1 c.put_lone.ensures.0
+      c.put_shown.ensures.1 c.put_shown.ensures.0,
+)

@@ -10,13 +10,12 @@ pub words_at-e-requires : goal.words_at-e-requires
 words_at-e-requires c = c.requires.0
 
 pub joins-requires : goal.joins-requires
-joins-requires c =
-    (
-      here_right c.args.records.now c.args.source.now c.args.text.now c.args.first c.args.p c.requires.0 c.requires.1
-          c.words_at-e.ensures,
-      ap (is_right c.args.source.now c.args.text.now) c.words_at.ensures ∙ right_at
-          c.args.records.now c.args.source.now c.args.text.now _ c.requires.1 c.if-next-count.true,
-    )
+joins-requires c = (
+  here_right c.args.records.now c.args.source.now c.args.text.now c.args.first c.args.p c.requires.0 c.requires.1
+      c.words_at-e.ensures,
+  ap (is_right c.args.source.now c.args.text.now) c.words_at.ensures ∙ right_at
+      c.args.records.now c.args.source.now c.args.text.now _ c.requires.1 c.if-next-count.true,
+)
 
 pub returns-then-joins : goal.returns-then-joins
 returns-then-joins c =

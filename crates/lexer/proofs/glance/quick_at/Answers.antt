@@ -19,21 +19,19 @@ use Rattle.lexer.proofs.Quotings.{quoting}
 use Rattle.lexer.proofs.glance.quick_at.Goals as goal
 
 pub quick_quoted-requires : goal.quick_quoted-requires
-quick_quoted-requires c =
-    (
-      c.requires.0,
-      quoting c.args.source.now c.args.at Double c.requires.1 c.in-34.is,
-      good_past c.args.source.now c.args.at c.requires.2 c.requires.1 (omega (arith, c.in-34.is)),
-    )
+quick_quoted-requires c = (
+  c.requires.0,
+  quoting c.args.source.now c.args.at Double c.requires.1 c.in-34.is,
+  good_past c.args.source.now c.args.at c.requires.2 c.requires.1 (omega (arith, c.in-34.is)),
+)
 
 pub quick_line-requires : goal.quick_line-requires
 unfolding first_of starts_run is_blank
-quick_line-requires c =
-    (
-      c.requires.0,
-      begins c.args.source.now c.args.at (code ";") ph.InLine c.requires.1 c.in-59.is (omega arith) refl refl,
-      good_past c.args.source.now c.args.at c.requires.2 c.requires.1 (omega (arith, c.in-59.is)),
-    )
+quick_line-requires c = (
+  c.requires.0,
+  begins c.args.source.now c.args.at (code ";") ph.InLine c.requires.1 c.in-59.is (omega arith) refl refl,
+  good_past c.args.source.now c.args.at c.requires.2 c.requires.1 (omega (arith, c.in-59.is)),
+)
 
 pub quick_hash-requires : goal.quick_hash-requires
 quick_hash-requires c = (c.requires.0, record { some = c.requires.1; sharp = c.in-35.is }, c.requires.2)

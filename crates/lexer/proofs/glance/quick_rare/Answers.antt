@@ -12,12 +12,11 @@ use Rattle.lexer.proofs.Quotings.{quoting}
 use Rattle.lexer.proofs.glance.quick_rare.Goals as goal
 
 pub quick_quoted-requires : goal.quick_quoted-requires
-quick_quoted-requires c =
-    (
-      c.requires.0,
-      quoting c.args.source.now c.args.at Lines c.requires.1 c.in-124.is,
-      good_past c.args.source.now c.args.at c.requires.2 c.requires.1 (omega (arith, c.in-124.is)),
-    )
+quick_quoted-requires c = (
+  c.requires.0,
+  quoting c.args.source.now c.args.at Lines c.requires.1 c.in-124.is,
+  good_past c.args.source.now c.args.at c.requires.2 c.requires.1 (omega (arith, c.in-124.is)),
+)
 
 pub quick_run-requires : goal.quick_run-requires
 unfolding first_of starts_run is_blank

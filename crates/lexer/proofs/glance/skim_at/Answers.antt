@@ -45,12 +45,11 @@ quoted_ending-requires c =
 
 pub skim_line-requires : goal.skim_line-requires
 unfolding first_of starts_run is_blank
-skim_line-requires c =
-    (
-      c.requires.0,
-      begins c.args.source.now c.args.at (code ";") ph.InLine c.requires.1 c.in-59.is (omega arith) refl refl,
-      good_past c.args.source.now c.args.at c.requires.2 c.requires.1 (omega (arith, c.in-59.is)),
-    )
+skim_line-requires c = (
+  c.requires.0,
+  begins c.args.source.now c.args.at (code ";") ph.InLine c.requires.1 c.in-59.is (omega arith) refl refl,
+  good_past c.args.source.now c.args.at c.requires.2 c.requires.1 (omega (arith, c.in-59.is)),
+)
 
 pub skim_hash-requires : goal.skim_hash-requires
 skim_hash-requires c = (c.requires.0, record { some = c.requires.1; sharp = c.in-35.is }, c.requires.2)
@@ -63,75 +62,67 @@ word_ending-requires c = omega (arith, c.requires.1)
 
 pub returns-in-40 : goal.returns-in-40
 unfolding first_of starts_run is_blank
-returns-in-40 c =
-    (
-      means kind.OpenParen kind.Round Nowhere,
-      single_told c.args.source.now c.args.report
-          c.args.skip c.args.at (code "(") kind.OpenParen kind.Round c.requires.1 c.in-40.is (omega arith) refl refl refl,
-    )
+returns-in-40 c = (
+  means kind.OpenParen kind.Round Nowhere,
+  single_told c.args.source.now c.args.report
+      c.args.skip c.args.at (code "(") kind.OpenParen kind.Round c.requires.1 c.in-40.is (omega arith) refl refl refl,
+)
 
 pub returns-in-41 : goal.returns-in-41
 unfolding first_of starts_run is_blank
-returns-in-41 c =
-    (
-      means kind.CloseParen kind.Round Nowhere,
-      single_told c.args.source.now c.args.report
-          c.args.skip c.args.at (code ")") kind.CloseParen kind.Round c.requires.1 c.in-41.is (omega arith) refl refl refl,
-    )
+returns-in-41 c = (
+  means kind.CloseParen kind.Round Nowhere,
+  single_told c.args.source.now c.args.report
+      c.args.skip c.args.at (code ")") kind.CloseParen kind.Round c.requires.1 c.in-41.is (omega arith) refl refl refl,
+)
 
 pub returns-in-91 : goal.returns-in-91
 unfolding first_of starts_run is_blank
-returns-in-91 c =
-    (
-      means kind.OpenParen kind.Square Nowhere,
-      single_told c.args.source.now c.args.report
-          c.args.skip c.args.at (code "[") kind.OpenParen kind.Square c.requires.1 c.in-91.is (omega arith) refl refl refl,
-    )
+returns-in-91 c = (
+  means kind.OpenParen kind.Square Nowhere,
+  single_told c.args.source.now c.args.report
+      c.args.skip c.args.at (code "[") kind.OpenParen kind.Square c.requires.1 c.in-91.is (omega arith) refl refl refl,
+)
 
 pub returns-in-93 : goal.returns-in-93
 unfolding first_of starts_run is_blank
-returns-in-93 c =
-    (
-      means kind.CloseParen kind.Square Nowhere,
-      single_told c.args.source.now c.args.report
-          c.args.skip c.args.at (code "]") kind.CloseParen kind.Square c.requires.1 c.in-93.is (omega arith) refl refl refl,
-    )
+returns-in-93 c = (
+  means kind.CloseParen kind.Square Nowhere,
+  single_told c.args.source.now c.args.report
+      c.args.skip c.args.at (code "]") kind.CloseParen kind.Square c.requires.1 c.in-93.is (omega arith) refl refl refl,
+)
 
 pub returns-in-123 : goal.returns-in-123
 unfolding first_of starts_run is_blank
-returns-in-123 c =
-    (
-      means kind.OpenParen kind.Curly Nowhere,
-      single_told c.args.source.now c.args.report
-          c.args.skip c.args.at (code "{") kind.OpenParen kind.Curly c.requires.1 c.in-123.is (omega arith) refl refl refl,
-    )
+returns-in-123 c = (
+  means kind.OpenParen kind.Curly Nowhere,
+  single_told c.args.source.now c.args.report
+      c.args.skip c.args.at (code "{") kind.OpenParen kind.Curly c.requires.1 c.in-123.is (omega arith) refl refl refl,
+)
 
 pub returns-in-125 : goal.returns-in-125
 unfolding first_of starts_run is_blank
-returns-in-125 c =
-    (
-      means kind.CloseParen kind.Curly Nowhere,
-      single_told c.args.source.now c.args.report
-          c.args.skip c.args.at (code "}") kind.CloseParen kind.Curly c.requires.1 c.in-125.is (omega arith) refl refl refl,
-    )
+returns-in-125 c = (
+  means kind.CloseParen kind.Curly Nowhere,
+  single_told c.args.source.now c.args.report
+      c.args.skip c.args.at (code "}") kind.CloseParen kind.Curly c.requires.1 c.in-125.is (omega arith) refl refl refl,
+)
 
 pub returns-in-39 : goal.returns-in-39
 unfolding first_of starts_run is_blank
-returns-in-39 c =
-    (
-      means kind.QuoteTick 0 Nowhere,
-      single_told c.args.source.now
-          c.args.report c.args.skip c.args.at (code "'") kind.QuoteTick 0 c.requires.1 c.in-39.is (omega arith) refl refl refl,
-    )
+returns-in-39 c = (
+  means kind.QuoteTick 0 Nowhere,
+  single_told c.args.source.now
+      c.args.report c.args.skip c.args.at (code "'") kind.QuoteTick 0 c.requires.1 c.in-39.is (omega arith) refl refl refl,
+)
 
 pub returns-in-96 : goal.returns-in-96
 unfolding first_of starts_run is_blank
-returns-in-96 c =
-    (
-      means kind.QuasiQuote 0 Nowhere,
-      single_told c.args.source.now
-          c.args.report c.args.skip c.args.at (code "`") kind.QuasiQuote 0 c.requires.1 c.in-96.is (omega arith) refl refl refl,
-    )
+returns-in-96 c = (
+  means kind.QuasiQuote 0 Nowhere,
+  single_told c.args.source.now
+      c.args.report c.args.skip c.args.at (code "`") kind.QuasiQuote 0 c.requires.1 c.in-96.is (omega arith) refl refl refl,
+)
 
 pub returns-in-34 : goal.returns-in-34
 returns-in-34 c =

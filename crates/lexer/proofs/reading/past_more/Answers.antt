@@ -28,11 +28,10 @@ overflow_add-at c =
     omega (arith, some c.before, span_le blank (drop a s), length-drop a s)
 
 pub loop-n-preserved : goal.loop-n-preserved
-loop-n-preserved c =
-    (
-      omega (arith, c.loop-n.invariant.0),
-      blanks c.args.source.now 1 c.loop-n.at (some c.before) ∙ c.loop-n.invariant.1,
-    )
+loop-n-preserved c = (
+  omega (arith, c.loop-n.invariant.0),
+  blanks c.args.source.now 1 c.loop-n.at (some c.before) ∙ c.loop-n.invariant.1,
+)
 
 pub returns-else-blank_at : goal.returns-else-blank_at
 returns-else-blank_at c = c.loop-n.invariant

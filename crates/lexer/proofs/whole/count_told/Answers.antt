@@ -24,13 +24,12 @@ loop-at-smaller c =
     c.past_blanks-at-in-At.result c.past_blanks-at-in-At.ensures c.loop-at.invariant.0
 
 pub loop-at-preserved : goal.loop-at-preserved
-loop-at-preserved c =
-    (
-      omega (arith, c.loop-at.invariant.0),
-      counted_on c.args.source.now c.args.p c.args.from c.requires.1 c.loop-at.at c.loop-at.invariant.1
-          c.skim_at.result c.in-At.end c.in-At.is c.skim_at.ensures
-          c.past_blanks-at-in-At.result c.past_blanks-at-in-At.ensures c.loop-at.invariant.0,
-    )
+loop-at-preserved c = (
+  omega (arith, c.loop-at.invariant.0),
+  counted_on c.args.source.now c.args.p c.args.from c.requires.1 c.loop-at.at c.loop-at.invariant.1
+      c.skim_at.result c.in-At.end c.in-At.is c.skim_at.ensures
+      c.past_blanks-at-in-At.result c.past_blanks-at-in-At.ensures c.loop-at.invariant.0,
+)
 
 pub returns-in-Unknown : goal.returns-in-Unknown
 returns-in-Unknown c = c.loop-at.invariant.1

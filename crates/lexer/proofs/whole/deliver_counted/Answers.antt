@@ -15,8 +15,8 @@ returns-then-text-bytes c =
 
 pub write-requires : goal.write-requires
 write-requires c = let rest =
-      room (all_items c.args.source.now c.args.spot) c.args.recs.now c.args.text.now
-          c.count-needed.result c.count-needed.ensures c.if-recs-items.false c.if-text-bytes.false in record {
+    room (all_items c.args.source.now c.args.spot) c.args.recs.now c.args.text.now
+    c.count-needed.result c.count-needed.ensures c.if-recs-items.false c.if-text-bytes.false in record {
       source_len_bound = c.requires;
       spot_in_bounds = rest.0;
       spot_in_bounds_2 = rest.1;

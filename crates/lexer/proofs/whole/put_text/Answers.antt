@@ -18,16 +18,15 @@ pub slice_bounds-decode-end : goal.slice_bounds-decode-end
 slice_bounds-decode-end c = omega (arith, c.requires)
 
 pub decode-requires : goal.decode-requires
-decode-requires c =
-    (
-      part_long c.args.source.now c.args.r.start c.args.r.end c.requires.0 c.requires.1,
-      omega (
-        arith,
-        c.requires.2,
-        ap length (decodes c.args.source.now
-            c.args.r c.quotes.result c.if-r-eq-IN_MEMORY.true c.quotes.ensures),
-      ),
-    )
+decode-requires c = (
+  part_long c.args.source.now c.args.r.start c.args.r.end c.requires.0 c.requires.1,
+  omega (
+    arith,
+    c.requires.2,
+    ap length (decodes c.args.source.now
+        c.args.r c.quotes.result c.if-r-eq-IN_MEMORY.true c.quotes.ensures),
+  ),
+)
 
 pub returns-then-r-eq-IN_MEMORY : goal.returns-then-r-eq-IN_MEMORY
 returns-then-r-eq-IN_MEMORY c =

@@ -53,12 +53,11 @@ bracket-same c =
     c.loop-at.at c.loop-at.invariant.1
 
 pub loop-at-init : goal.loop-at-init
-loop-at-init c =
-    (
-      omega arith,
-      none_told c.args.source.now c.args.p c.args.recs.now c.args.free c.args.deep c.args.from c.past_blanks-at.result
-          c.past_blanks-at.ensures,
-    )
+loop-at-init c = (
+  omega arith,
+  none_told c.args.source.now c.args.p c.args.recs.now c.args.free c.args.deep c.args.from c.past_blanks-at.result
+      c.past_blanks-at.ensures,
+)
 
 pub quick_at-requires : goal.quick_at-requires
 quick_at-requires c = (c.requires.0, c.loop-at-test.true, c.requires.2)

@@ -61,19 +61,18 @@ loop-p-init c =
     c.args.spot c.args.recs.now c.args.text.now (record { rows = c.requires.spot_in_bounds; bytes = c.requires.spot_in_bounds_2 })
 
 pub put_known-told-requires : goal.put_known-told-requires
-put_known-told-requires c =
-    (
-      c.requires.source_len_bound.0,
-      record {
-        start = c.args.spot;
-        recs₀ = c.args.recs.now;
-        text₀ = c.args.text.now;
-        text = c.loop-p.text;
-        roomy = record { rows = c.requires.spot_in_bounds; bytes = c.requires.spot_in_bounds_2 };
-        writing = c.loop-p.invariant;
-      },
-      c.requires.source_len_bound.1,
-    )
+put_known-told-requires c = (
+  c.requires.source_len_bound.0,
+  record {
+    start = c.args.spot;
+    recs₀ = c.args.recs.now;
+    text₀ = c.args.text.now;
+    text = c.loop-p.text;
+    roomy = record { rows = c.requires.spot_in_bounds; bytes = c.requires.spot_in_bounds_2 };
+    writing = c.loop-p.invariant;
+  },
+  c.requires.source_len_bound.1,
+)
 
 pub shape_of-recs-then-source-told : goal.shape_of-recs-then-source-told
 shape_of-recs-then-source-told c =
@@ -87,7 +86,7 @@ pub returns-then-source-told : goal.returns-then-source-told
 returns-then-source-told c =
     let there = c.put_known-told.result in
     let e = past_end c.args.source.now (told_to c.loop-p.p there.at c.loop-p.w there.words) c.loop-p.free c.if-source-told.true in let rest =
-      writing_end c.args.source.now c.args.spot c.args.recs.now c.args.text.now (fit c.before.before.before.before) (told c.before.before.before.before) e in record {
+    writing_end c.args.source.now c.args.spot c.args.recs.now c.args.text.now (fit c.before.before.before.before) (told c.before.before.before.before) e in record {
       value = c.taken.ensures
           ∙ written_all c.args.source.now c.args.spot c.args.recs.now c.args.text.now (fit c.before.before.before.before)
           (told c.before.before.before.before) _ refl e;
@@ -157,8 +156,8 @@ shape_of-text-in-End c =
 pub returns-in-End : goal.returns-in-End
 returns-in-End c =
     let e = sym c.in-End.is ∙ c.next_item.ensures in let rest =
-      writing_end c.args.source.now c.args.spot c.args.recs.now c.args.text.now
-          (fit c.before.before.before.before.before.before.before) (stood c.before.before.before.before) e in record {
+    writing_end c.args.source.now c.args.spot c.args.recs.now c.args.text.now
+    (fit c.before.before.before.before.before.before.before) (stood c.before.before.before.before) e in record {
       value = c.taken-in-End.ensures
           ∙ written_all c.args.source.now c.args.spot c.args.recs.now c.args.text.now
           (fit c.before.before.before.before.before.before.before) (stood c.before.before.before.before) _ refl e;

@@ -13,8 +13,8 @@ write-n-requires c =
     let good : Good ≡ first_bad c.args.part.now = sym c.in-Good.is ∙ c.seen.ensures in
     let opens =
     opens_at c.args.part.now c.args.mode c.args.skip c.spot_at.result c.first_place-at.result c.spot_at.ensures c.first_place-at.ensures in let rest =
-      good_room c.args.part.now c.args.mode c.args.skip good c.spot_at.result opens
-          c.args.recs.now c.args.text.now c.requires.part_in_bounds c.requires.part_in_bounds_2 in record {
+    good_room c.args.part.now c.args.mode c.args.skip good c.spot_at.result opens
+    c.args.recs.now c.args.text.now c.requires.part_in_bounds c.requires.part_in_bounds_2 in record {
       source_len_bound = (c.requires.part_len_bound.0, sym good);
       spot_in_bounds = rest.0;
       spot_in_bounds_2 = rest.1;

@@ -47,11 +47,10 @@ pub loop-i-smaller : goal.loop-i-smaller
 loop-i-smaller c = omega (arith, c.loop-i-test.true)
 
 pub loop-i-preserved : goal.loop-i-preserved
-loop-i-preserved c =
-    (
-      c.loop-i.invariant.0 ++ (this c.loop-i.invariant.1 c.loop-i-test.true ∷ []),
-      moves_on c.loop-i.invariant.1 c.loop-i-test.true c.count_part-p.result c.count_part-p.ensures,
-    )
+loop-i-preserved c = (
+  c.loop-i.invariant.0 ++ (this c.loop-i.invariant.1 c.loop-i-test.true ∷ []),
+  moves_on c.loop-i.invariant.1 c.loop-i-test.true c.count_part-p.result c.count_part-p.ensures,
+)
 
 pub returns : goal.returns
 returns c = total c.loop-i.invariant.1 c.loop-i-test.false

@@ -5,11 +5,11 @@ use Rattle.lexer_fields.proofs.whole.deliver.Goals as goal
 
 pub write-done-requires : goal.write-done-requires
 write-done-requires c = record {
-      fine = c.requires.fine;
-      all_known = c.requires.all_known;
-      room = ample_room c.args.source.now c.args.ends.now c.args.mode c.args.skip c.args.rows.now c.args.recs.now c.args.text.now
-            c.requires.fine c.if-rows-ends.false c.if-recs-source.false c.if-text-source.false;
-    }
+  fine = c.requires.fine;
+  all_known = c.requires.all_known;
+  room = ample_room c.args.source.now c.args.ends.now c.args.mode c.args.skip c.args.rows.now c.args.recs.now c.args.text.now
+      c.requires.fine c.if-rows-ends.false c.if-recs-source.false c.if-text-source.false;
+}
 
 pub returns : goal.returns
 returns c =

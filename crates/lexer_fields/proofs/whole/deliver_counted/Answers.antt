@@ -19,11 +19,11 @@ returns-then-text-bytes c =
 
 pub write-requires : goal.write-requires
 write-requires c = record {
-      fine = c.requires.fine;
-      all_known = c.requires.all_known;
-      room = room c.args.source.now c.args.ends.now c.args.mode c.args.skip c.args.rows.now c.args.recs.now c.args.text.now
-            c.count-needed.result c.count-needed.ensures c.if-rows-ends.false c.if-recs-items.false c.if-text-bytes.false;
-    }
+  fine = c.requires.fine;
+  all_known = c.requires.all_known;
+  room = room c.args.source.now c.args.ends.now c.args.mode c.args.skip c.args.rows.now c.args.recs.now c.args.text.now
+      c.count-needed.result c.count-needed.ensures c.if-rows-ends.false c.if-recs-items.false c.if-text-bytes.false;
+}
 
 pub returns : goal.returns
 returns c =

@@ -11,7 +11,7 @@ returns-then-length-eq0 c = simp (
   sym c.has_escape.ensures ∙ c.if-has_escape.true,
   sym c.decoded_length-length.ensures,
   c.if-length-eq0.true,
-    ) c.between.ensures
+) c.between.ensures
 
 pub returns-then-has_escape : goal.returns-then-has_escape
 unfolding lined_text
@@ -19,7 +19,7 @@ returns-then-has_escape c = simp (
   sym c.has_escape.ensures ∙ c.if-has_escape.true,
   sym c.decoded_length-length.ensures,
   lt-ltb 0 c.decoded_length-length.result (omega arith),
-    )
+)
 
 pub returns : goal.returns
 unfolding lined_text

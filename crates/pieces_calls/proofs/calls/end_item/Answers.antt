@@ -20,13 +20,12 @@ slice_bounds-finish-end-2 c =
     sym (length-take-le c.args.m.len c.args.buf.now (omega arith))
 
 pub ends-requires : goal.ends-requires
-ends-requires c =
-    (
-      c.requires.0,
-      subst OutcomeFits (sym c.finish-what.ensures) (finish_fits (state_of c.args.m c.args.buf.now)
-          c.requires.0.full c.requires.0.small c.requires.0.some c.args.phase c.requires.1),
-      tt,
-    )
+ends-requires c = (
+  c.requires.0,
+  subst OutcomeFits (sym c.finish-what.ensures) (finish_fits (state_of c.args.m c.args.buf.now)
+      c.requires.0.full c.requires.0.small c.requires.0.some c.args.phase c.requires.1),
+  tt,
+)
 
 pub returns : goal.returns
 returns c =

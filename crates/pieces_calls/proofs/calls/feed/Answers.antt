@@ -48,20 +48,19 @@ slice_bounds-pass-end c =
     )
 
 pub pass-here-requires : goal.pass-here-requires
-pass-here-requires c =
-    (
-      c.loop-i.invariant.1.full,
-      omega (
-        arith,
-        c.ahead-run.ensures.1,
-        length-take (c.loop-i.i + c.ahead-run.result - c.loop-i.i) (drop c.loop-i.i c.args.piece.now),
-      ),
-      omega (
-        arith,
-        c.ahead-run.ensures.2,
-        length-take (c.loop-i.i + c.ahead-run.result - c.loop-i.i) (drop c.loop-i.i c.args.piece.now),
-      ),
-    )
+pass-here-requires c = (
+  c.loop-i.invariant.1.full,
+  omega (
+    arith,
+    c.ahead-run.ensures.1,
+    length-take (c.loop-i.i + c.ahead-run.result - c.loop-i.i) (drop c.loop-i.i c.args.piece.now),
+  ),
+  omega (
+    arith,
+    c.ahead-run.ensures.2,
+    length-take (c.loop-i.i + c.ahead-run.result - c.loop-i.i) (drop c.loop-i.i c.args.piece.now),
+  ),
+)
 
 pub shape_of-text-then-at-piece : goal.shape_of-text-then-at-piece
 shape_of-text-then-at-piece c = ap length c.loop-i.invariant.2

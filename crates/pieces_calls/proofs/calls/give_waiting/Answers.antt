@@ -14,8 +14,7 @@ beyond-next-requires c =
     (c.requires.0.full, c.requires.1)
 
 pub returns : goal.returns
-returns c =
-    (
-      reply_both 0 c.give_second-record.ensures.0 (rw c.extent.ensures at c.beyond-next.ensures),
-      c.give_second-record.ensures.1,
-    )
+returns c = (
+  reply_both 0 c.give_second-record.ensures.0 (rw c.extent.ensures at c.beyond-next.ensures),
+  c.give_second-record.ensures.1,
+)

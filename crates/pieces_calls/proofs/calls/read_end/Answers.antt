@@ -30,15 +30,14 @@ returns-then-text-lt-LONGEST c =
     (ltb (length c.args.text.now) longest) _ _ (lt-ltb _ _ c.if-text-lt-LONGEST.true) (rw c.refuse-then-text-lt-LONGEST.ensures (refl, refl)))
 
 pub end_item-requires : goal.end_item-requires
-end_item-requires c =
-    (
-      subst (λ (x : Marks). HoldsItem x c.args.buf.now c.args.text.now (0))
-          (sym c.declare-in-Pound.ensures) (held_declared _ _ _ _ (held_pound (state_of c.args.m c.args.buf.now)
-          c.args.text.now c.requires c.if-text-lt-LONGEST.false (sane (state_of c.args.m c.args.buf.now)
-          (sym (c.in_bounds.ensures c.args.buf.now) ∙ not-false _ c.if-not-in_bounds.false-raw)
-          (ap reads_on c.in-Pound.is)) c.in-Pound.is)),
-      refl,
-    )
+end_item-requires c = (
+  subst (λ (x : Marks). HoldsItem x c.args.buf.now c.args.text.now (0))
+      (sym c.declare-in-Pound.ensures) (held_declared _ _ _ _ (held_pound (state_of c.args.m c.args.buf.now)
+      c.args.text.now c.requires c.if-text-lt-LONGEST.false (sane (state_of c.args.m c.args.buf.now)
+      (sym (c.in_bounds.ensures c.args.buf.now) ∙ not-false _ c.if-not-in_bounds.false-raw)
+      (ap reads_on c.in-Pound.is)) c.in-Pound.is)),
+  refl,
+)
 
 pub end_item-requires-in-Busy : goal.end_item-requires-in-Busy
 end_item-requires-in-Busy c =

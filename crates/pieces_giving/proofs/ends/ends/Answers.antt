@@ -13,28 +13,26 @@ pub slice_bounds-shown_after-end-2 : goal.slice_bounds-shown_after-end-2
 slice_bounds-shown_after-end-2 c = sym (length-take-le c.args.m.len c.args.buf.now (omega arith))
 
 pub shown_after-shown-requires : goal.shown_after-shown-requires
-shown_after-shown-requires c =
-    (
-      omega (arith, length-take-le c.args.m.len c.args.buf.now (omega arith)),
-      c.requires.0.far,
-      c.requires.0.from,
-      c.requires.0.to,
-      c.requires.1,
-    )
+shown_after-shown-requires c = (
+  omega (arith, length-take-le c.args.m.len c.args.buf.now (omega arith)),
+  c.requires.0.far,
+  c.requires.0.from,
+  c.requires.0.to,
+  c.requires.1,
+)
 
 pub slice_bounds-last_after-end-2 : goal.slice_bounds-last_after-end-2
 slice_bounds-last_after-end-2 c =
     sym (length-take-le c.args.m.len c.args.buf.now (omega arith))
 
 pub last_after-last-requires : goal.last_after-last-requires
-last_after-last-requires c =
-    (
-      omega (arith, length-take-le c.args.m.len c.args.buf.now (omega arith)),
-      c.requires.0.far,
-      c.requires.0.from,
-      c.requires.0.to,
-      c.requires.1,
-    )
+last_after-last-requires c = (
+  omega (arith, length-take-le c.args.m.len c.args.buf.now (omega arith)),
+  c.requires.0.far,
+  c.requires.0.from,
+  c.requires.0.to,
+  c.requires.1,
+)
 
 pub slice_bounds-meaning-end-2 : goal.slice_bounds-meaning-end-2
 slice_bounds-meaning-end-2 c =

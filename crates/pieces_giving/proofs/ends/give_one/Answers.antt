@@ -14,7 +14,7 @@ pub returns-then-skips : goal.returns-then-skips
 returns-then-skips c = rw (
   sym c.skips.ensures ∙ c.if-skips.true,
   c.go_on.ensures,
-    ) (ap on c.beyond.ensures, refl)
+) (ap on c.beyond.ensures, refl)
 
 pub extent-requires : goal.extent-requires
 extent-requires c = (omega arith, omega arith)

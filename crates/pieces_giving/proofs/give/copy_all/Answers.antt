@@ -10,13 +10,12 @@ pub loop-i-init : goal.loop-i-init
 loop-i-init c = (omega arith, refl, refl)
 
 pub loop-i-preserved : goal.loop-i-preserved
-loop-i-preserved c =
-    (
-      omega arith,
-      simp length-set (omega arith),
-      copied_next c.args.raw.now
-          c.args.text.now c.loop-i.text c.loop-i.i (omega arith) (omega arith) c.loop-i.invariant.2,
-    )
+loop-i-preserved c = (
+  omega arith,
+  simp length-set (omega arith),
+  copied_next c.args.raw.now
+      c.args.text.now c.loop-i.text c.loop-i.i (omega arith) (omega arith) c.loop-i.invariant.2,
+)
 
 pub returns : goal.returns
 returns c = copied_end c.args.raw.now c.args.text.now _ _ c.loop-i-test.false c.loop-i.invariant.2

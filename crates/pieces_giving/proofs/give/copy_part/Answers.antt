@@ -59,10 +59,9 @@ copy_all-requires-2 c =
     )
 
 pub returns : goal.returns
-returns c =
-    (
-      length_full c.args.raw.now
-          c.args.from c.args.count (omega (arith, c.past-left.ensures)),
-      c.copy_all-2.ensures
-          ∙ ap (λ (l : List ℕ). written l c.args.text.now) (part_full c.args.raw.now c.args.from c.args.count),
-    )
+returns c = (
+  length_full c.args.raw.now
+      c.args.from c.args.count (omega (arith, c.past-left.ensures)),
+  c.copy_all-2.ensures
+      ∙ ap (λ (l : List ℕ). written l c.args.text.now) (part_full c.args.raw.now c.args.from c.args.count),
+)

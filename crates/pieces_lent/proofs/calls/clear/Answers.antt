@@ -24,7 +24,7 @@ loop-i-preserved c = (
   length-set c.loop-i.buf c.loop-i.i 0 ∙ c.loop-i.invariant.0,
   omega arith,
   one_more c.loop-i.buf c.loop-i.i c.loop-i-test.true c.loop-i.invariant.2,
-    )
+)
 
 pub shape_of-buf : goal.shape_of-buf
 shape_of-buf c = c.loop-i.invariant.0

@@ -19,7 +19,7 @@ returns-then-words-gt-YES-2 c = simp (
   sym c.narrow.ensures ∙ not-false _ c.if-not-narrow.false-raw,
   le-leb _ _ c.if-words-gt-YES.false,
   lt-leb _ _ c.if-words-gt-YES-2.true,
-    )
+)
 
 pub returns-then-words-ge-STAGES : goal.returns-then-words-ge-STAGES
 unfolding is_code
@@ -36,7 +36,7 @@ stand-marks-requires c = (
   c.if-words-ge-STAGES.false,
   narrowed _ (sym c.narrow.ensures
       ∙ not-false _ c.if-not-narrow.false-raw),
-    )
+)
 
 pub returns-then-not-same_row : goal.returns-then-not-same_row
 unfolding is_code

@@ -24,7 +24,7 @@ returns-then-words-ge-BYTE_END c = simp (
   lt-ltb _ _ c.if-words-ge-NARROW_END-2.false,
   lt-ltb _ _ c.if-words-ge-NARROW_END-3.false,
   le-ltb _ _ c.if-words-ge-BYTE_END.true,
-    )
+)
 
 pub returns-then-words-ge-BYTE_END-2 : goal.returns-then-words-ge-BYTE_END-2
 unfolding narrow

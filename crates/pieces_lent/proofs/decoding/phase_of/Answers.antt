@@ -22,7 +22,7 @@ outcome_of-requires c = (
       c.in_default.in_default-own.rest.0.0.1) c.in_default.in_default-own.rest.0.1) c.in_default.in_default-own.rest.1,
   search rules,
   search rules,
-    )
+)
 
 pub returns-in-7 : goal.returns-in-7
 unfolding stage_of

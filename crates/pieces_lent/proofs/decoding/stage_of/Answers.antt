@@ -12,7 +12,7 @@ phase_of-requires c = let h : 0 ≤ c.args.row.stage = omega arith in (
       c.in_default.in_default-own.rest.0.0.0.0.1) c.in_default.in_default-own.rest.0.0.0.1) c.in_default.in_default-own.rest.0.0.1) c.in_default.in_default-own.rest.0.1) c.in_default.in_default-own.rest.1,
   search rules,
   search rules,
-    )
+)
 
 pub returns-in-0 : goal.returns-in-0
 unfolding stage_of

@@ -12,8 +12,7 @@ returns-then-f-eq-IDLE c =
     )
 
 pub returns : goal.returns
-returns c =
-    (
-      refl,
-      λ w left k d R e. after_solid w left R c.args.s c.args.buf.now c.requires.0 c.args.b k d e c.args.f (c.requires.3.begins (omega arith)) _ refl,
-    )
+returns c = (
+  refl,
+  λ w left k d R e. after_solid w left R c.args.s c.args.buf.now c.requires.0 c.args.b k d e c.args.f (c.requires.3.begins (omega arith)) _ refl,
+)

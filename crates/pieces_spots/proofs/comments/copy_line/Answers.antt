@@ -39,12 +39,11 @@ copy_all-requires c =
     c.copy_blocks-i.ensures.0 c.copy_blocks-i.ensures.1 c.line_rest-n.ensures
 
 pub returns-then-n-lt-BLOCK : goal.returns-then-n-lt-BLOCK
-returns-then-n-lt-BLOCK c =
-    (
-      count_at c.before.before.before.before.before.before,
-      line_short c.args.raw.now c.args.text.now c.requires
-          c.copy_blocks-i.ensures.0 c.copy_blocks-i.ensures.1 c.line_rest-n.ensures (omega arith) c.copy_all.ensures,
-    )
+returns-then-n-lt-BLOCK c = (
+  count_at c.before.before.before.before.before.before,
+  line_short c.args.raw.now c.args.text.now c.requires
+      c.copy_blocks-i.ensures.0 c.copy_blocks-i.ensures.1 c.line_rest-n.ensures (omega arith) c.copy_all.ensures,
+)
 
 pub slice_bounds-copy_block-count : goal.slice_bounds-copy_block-count
 slice_bounds-copy_block-count c = omega (arith, inside-at c.before.before)
@@ -69,9 +68,8 @@ copy_block-requires c =
     )
 
 pub returns : goal.returns
-returns c =
-    (
-      count_at c.before.before.before.before.before.before.before,
-      line_long c.args.raw.now c.args.text.now c.requires
-          c.copy_blocks-i.ensures.0 c.copy_blocks-i.ensures.1 c.line_rest-n.ensures (omega arith) c.copy_block.ensures,
-    )
+returns c = (
+  count_at c.before.before.before.before.before.before.before,
+  line_long c.args.raw.now c.args.text.now c.requires
+      c.copy_blocks-i.ensures.0 c.copy_blocks-i.ensures.1 c.line_rest-n.ensures (omega arith) c.copy_block.ensures,
+)

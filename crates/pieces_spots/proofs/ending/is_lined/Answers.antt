@@ -23,4 +23,4 @@ returns c = λ e. (
     eq-eqb _ _ c.if-raw-ne124.false,
     e,
   ),
-    )
+)

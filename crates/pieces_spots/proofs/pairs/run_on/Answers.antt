@@ -20,7 +20,7 @@ returns-then-ran-eq-IN_RUN c = (
   c.run-ran.ensures.0,
   along c.args.piece.now _ _ _ _ _ _ c.loop-ran.invariant.1
       c.run-ran.ensures.1,
-    )
+)
 
 pub has_pair-requires : goal.has_pair-requires
 has_pair-requires c = c.run-ran.ensures.0.inside
@@ -33,7 +33,7 @@ returns-then-not-has_pair c = (
   c.run-ran.ensures.0,
   along c.args.piece.now _ _ _ _ _ _
       c.loop-ran.invariant.1 c.run-ran.ensures.1,
-    )
+)
 
 pub pass_pair-t-requires : goal.pass_pair-t-requires
 pass_pair-t-requires c = (c.run-ran.ensures.0, c.has_pair.ensures (not-false _ c.if-not-has_pair.false-raw))
@@ -44,7 +44,7 @@ loop-ran-smaller c = omega (
   c.run-ran.ensures.2,
   c.pass_pair-t.ensures.2,
   (c.has_pair.ensures (not-false _ c.if-not-has_pair.false-raw)).inside,
-    )
+)
 
 pub loop-ran-preserved : goal.loop-ran-preserved
 loop-ran-preserved c =

@@ -12,13 +12,12 @@ on_first-requires c =
     (c.requires.0.full, c.requires.1)
 
 pub on_pound-requires : goal.on_pound-requires
-on_pound-requires c =
-    (
-      held_pound (state_of c.args.m c.args.buf.now) c.args.text.now c.requires.0.full
-          c.requires.0.room (sane (state_of c.args.m c.args.buf.now) c.requires.0.bounded c.requires.0.calm)
-          c.in-Pound.is,
-      c.requires.1,
-    )
+on_pound-requires c = (
+  held_pound (state_of c.args.m c.args.buf.now) c.args.text.now c.requires.0.full
+      c.requires.0.room (sane (state_of c.args.m c.args.buf.now) c.requires.0.bounded c.requires.0.calm)
+      c.in-Pound.is,
+  c.requires.1,
+)
 
 pub on_line-requires : goal.on_line-requires
 on_line-requires c =

@@ -25,14 +25,13 @@ eat-requires c =
     (c.requires.0.full, c.requires.0.small, c.requires.1)
 
 pub ends-requires : goal.ends-requires
-ends-requires c =
-    (
-      c.requires.0,
-      stop_fits (state_of c.args.m c.args.buf.now) c.requires.0.full c.requires.0.small c.requires.0.some
-          c.args.phase c.requires.2 c.args.c (omega (arith, c.requires.0.ends))
-          c.requires.1.far _ (sym c.step.ensures ∙ c.in-Stop.is),
-      c.requires.1,
-    )
+ends-requires c = (
+  c.requires.0,
+  stop_fits (state_of c.args.m c.args.buf.now) c.requires.0.full c.requires.0.small c.requires.0.some
+      c.args.phase c.requires.2 c.args.c (omega (arith, c.requires.0.ends))
+      c.requires.1.far _ (sym c.step.ensures ∙ c.in-Stop.is),
+  c.requires.1,
+)
 
 pub returns-in-Eat : goal.returns-in-Eat
 returns-in-Eat c =

@@ -23,13 +23,12 @@ overflow_add-part c =
     omega (arith, (sane (state_of c.args.m c.args.buf.now) c.requires.bounded c.requires.calm).numbers.far)
 
 pub on_char-requires : goal.on_char-requires
-on_char-requires c =
-    (
-      c.requires,
-      char_fits (state_of c.args.m c.args.buf.now) (sane (state_of c.args.m c.args.buf.now)
-          c.requires.bounded c.requires.calm) c.args.b _ c.if-m-part-ge-LIMIT.false
-          (sym c.byte_step.ensures ∙ c.in-Char.is),
-    )
+on_char-requires c = (
+  c.requires,
+  char_fits (state_of c.args.m c.args.buf.now) (sane (state_of c.args.m c.args.buf.now)
+      c.requires.bounded c.requires.calm) c.args.b _ c.if-m-part-ge-LIMIT.false
+      (sym c.byte_step.ensures ∙ c.in-Char.is),
+)
 
 pub returns-in-More : goal.returns-in-More
 unfolding turn_of

@@ -22,7 +22,7 @@ loop-k-preserved c = (
   omega arith,
   c.loop-k.invariant.1
       ∙ named_later _ c.loop-k.k c.loop-k-test.true (sym c.is_name.ensures ∙ c.if-is_name.false),
-    )
+)
 
 pub returns : goal.returns
 returns c = sym (c.loop-k.invariant.1 ∙ named_never _ c.loop-k.k c.loop-k-test.false)

@@ -44,4 +44,4 @@ returns-in_default c = simp (
   ne_eqb _ _ c.in_default.in_default-own.rest.0.1,
   ne_eqb _ _ c.in_default.in_default-own.rest.1,
   c.read_hash_value.ensures,
-    )
+)

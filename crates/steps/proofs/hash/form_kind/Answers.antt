@@ -15,7 +15,7 @@ returns-then-raw-le-CHARACTER_MARK c = simp (
   sym c.begins_with.ensures ∙ c.if-begins_with.false,
   sym c.begins_with-2.ensures ∙ c.if-begins_with-2.true,
   le-leb _ _ c.if-raw-le-CHARACTER_MARK.true,
-    )
+)
 
 pub returns-then-begins_with-2 : goal.returns-then-begins_with-2
 unfolding form_kind bytes_of utf8
@@ -23,7 +23,7 @@ returns-then-begins_with-2 c = simp (
   sym c.begins_with.ensures ∙ c.if-begins_with.false,
   sym c.begins_with-2.ensures ∙ c.if-begins_with-2.true,
   lt-leb _ _ c.if-raw-le-CHARACTER_MARK.false,
-    )
+)
 
 pub returns-then-equal : goal.returns-then-equal
 unfolding form_kind bytes_of utf8

@@ -10,4 +10,4 @@ returns c = simp (
   c.form_kind.ensures,
   c.quote_kind.ensures,
   c.bool_kind.ensures,
-    )
+)

@@ -14,7 +14,7 @@ returns-then-equal-2 c = simp (
   sym c.equal.ensures ∙ c.if-equal.false,
   sym c.equal-2.ensures ∙ c.if-equal-2.true,
   c.decided-then-equal-2.ensures,
-    )
+)
 
 pub returns-then-equal-3 : goal.returns-then-equal-3
 unfolding quote_kind bytes_of utf8

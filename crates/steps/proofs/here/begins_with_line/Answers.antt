@@ -18,7 +18,7 @@ loop-i-preserved-then-line-i-eq13 c = (
       ∙ ap (λ (l : List ℕ). begins l (drop c.loop-i.j c.args.text.now))
       (unreturned_skip _ _ c.loop-i-test.true c.if-line-i-eq13.true),
   omega arith,
-    )
+)
 
 pub returns-then-text-j : goal.returns-then-text-j
 returns-then-text-j c = sym (c.loop-i.invariant.1 ∙ line_short _ _ _ _ c.loop-i-test.true c.if-line-i-eq13.false c.if-text-j.true)
@@ -29,13 +29,12 @@ returns-then-line-i c =
     ∙ line_differ _ _ _ _ c.loop-i-test.true c.if-line-i-eq13.false c.if-text-j.false c.if-line-i.true)
 
 pub loop-i-preserved : goal.loop-i-preserved
-loop-i-preserved c =
-    (
-      omega arith,
-      c.loop-i.invariant.1
-          ∙ line_more _ _ _ _ c.loop-i-test.true c.if-line-i-eq13.false c.if-text-j.false c.if-line-i.false,
-      omega arith,
-    )
+loop-i-preserved c = (
+  omega arith,
+  c.loop-i.invariant.1
+      ∙ line_more _ _ _ _ c.loop-i-test.true c.if-line-i-eq13.false c.if-text-j.false c.if-line-i.false,
+  omega arith,
+)
 
 pub returns : goal.returns
 returns c = sym (c.loop-i.invariant.1 ∙ line_all _ c.args.text.now _ c.loop-i.j c.loop-i-test.false)

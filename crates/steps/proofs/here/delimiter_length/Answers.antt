@@ -18,7 +18,7 @@ slice_bounds-unreturned_length-start c = omega (
   c.find-newline.ensures,
   before_le (code "\n") (drop 3 c.args.raw.now),
   length-drop 3 c.args.raw.now,
-    )
+)
 
 pub slice_bounds-unreturned_length-end : goal.slice_bounds-unreturned_length-end
 slice_bounds-unreturned_length-end c = omega (arith, c.find-newline.ensures, before_le (code "\n") (drop 3 c.args.raw.now), length-drop 3 c.args.raw.now)

@@ -16,7 +16,7 @@ loop-i-preserved-then-line-i-eq13 c = (
   c.loop-i.invariant.1 ∙ ap (λ (l : List ℕ). c.loop-i.n + length l)
       (unreturned_skip _ _ c.loop-i-test.true c.if-line-i-eq13.true),
   omega arith,
-    )
+)
 
 pub loop-i-preserved : goal.loop-i-preserved
 loop-i-preserved c = (omega arith, c.loop-i.invariant.1 ∙ count_on_lem _ _ _ c.loop-i-test.true c.if-line-i-eq13.false, omega arith)

@@ -29,4 +29,4 @@ returns-in_default c = simp (
   ne_eqb _ _ (λ h. c.in_default.in_default-own.rest.1 (inr (inl h))),
   ne_eqb _ _ (λ h. c.in_default.in_default-own.rest.1 (inr (inr h))),
   c.delim_of.ensures,
-    )
+)

@@ -22,7 +22,7 @@ returns-then-raw-n-eq124 c = simp (
   ne_eqb _ _ c.if-raw-eq43.false,
   eq-eqb _ _ c.if-raw-ne124.false,
   eq-eqb _ _ c.if-raw-n-eq124.true,
-    )
+)
 
 pub returns : goal.returns
 unfolding lined_of
@@ -31,4 +31,4 @@ returns c = simp (
   ne_eqb _ _ c.if-raw-eq43.false,
   eq-eqb _ _ c.if-raw-ne124.false,
   ne_eqb _ _ c.if-raw-n-eq124.false,
-    )
+)

@@ -23,4 +23,4 @@ returns-in_default c = λ raw. simp (
   ne_eqb _ _ (λ h. c.in_default.in_default-own.rest.0.1 (inr h)),
   ne_eqb _ _ c.in_default.in_default-own.rest.1,
   c.char_width.ensures,
-    )
+)

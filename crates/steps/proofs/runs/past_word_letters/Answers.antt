@@ -20,7 +20,7 @@ fits c = omega (
   c.loop-from.invariant.0,
   past_fits _ _ (letter c),
   length-drop c.loop-from.i c.args.s.now,
-    )
+)
 
 pub loop-from-init : goal.loop-from-init
 loop-from-init c = (c.requires, passes_none _ ph.InWord _ c.requires)

@@ -146,12 +146,12 @@ loop-i-preserved c =
     let first : c.args.from ≤ c.find_pair-i.result + 1 = omega (arith, l.invariant.0, c.find_pair-i.ensures.0) in
     let last : c.find_pair-i.result + 1 ≤ length c.args.s.now = omega (arith, fits c.before.before.before, some c.before.before.before) in
     elim c.if-not-refuted.branch [
-      then-not-refuted+else-known-n+else-agreed_far w ↦
-        let e = w.compared-known.ensures.0 in
-        let few : w.compared-known.result.count < length (unreturned c.args.line.now)
-            = omega (arith, c.requires.1, w.if-known-n.false, e.knows.begun.few) in
-        (first, last, rw w.known-is few, rw w.known-is e.knows, clear-past c.before.before.before (e.missed few))
-    | else-not-refuted w ↦ (
+      | then-not-refuted+else-known-n+else-agreed_far w ↦
+          let e = w.compared-known.ensures.0 in
+          let few : w.compared-known.result.count < length (unreturned c.args.line.now)
+          = omega (arith, c.requires.1, w.if-known-n.false, e.knows.begun.few) in
+          (first, last, rw w.known-is few, rw w.known-is e.knows, clear-past c.before.before.before (e.missed few))
+      | else-not-refuted w ↦ (
         first,
         last,
         rw w.known-is l.invariant.2,

@@ -17,7 +17,7 @@ returns-then-bars_run c = simp (
   sym c.stays_run.ensures ∙ c.if-stays_run.false,
   sym c.ends_run.ensures ∙ c.if-ends_run.false,
   sym c.bars_run.ensures ∙ c.if-bars_run.true,
-    )
+)
 
 pub returns : goal.returns
 unfolding in_run
@@ -26,4 +26,4 @@ returns c = simp (
   sym c.ends_run.ensures ∙ c.if-ends_run.false,
   sym c.bars_run.ensures ∙ c.if-bars_run.false,
   c.enter_word.ensures,
-    )
+)

@@ -63,4 +63,4 @@ returns-in_default c = simp (
   ne_eqb _ _ (λ h. c.in_default.in_default-own.rest.1 (inl h)),
   ne_eqb _ _ (λ h. c.in_default.in_default-own.rest.1 (inr h)),
   c.is_digit.ensures,
-    )
+)
