@@ -6,7 +6,7 @@ use Rattle.items_files.proofs.Laid.{laying_start, laying_room, laying_length, la
 use Rattle.items_files.proofs.storing.put_numbers.Goals as goal
 
 pub loop-k-init : goal.loop-k-init
-loop-k-init c = laying_start c.args.t1 c.args.out.now
+loop-k-init c = laying_start c.args.ns c.args.out.now
 
 pub offset_bounds-ns-k : goal.offset_bounds-ns-k
 offset_bounds-ns-k c = omega (arith, c.loop-k-test.true)
@@ -16,17 +16,17 @@ bounds-ns-k c = c.loop-k-test.true
 
 pub slice_bounds-put_number-count : goal.slice_bounds-put_number-count
 slice_bounds-put_number-count c =
-    omega (arith, laying_room c.args.t1 c.requires.1 c.loop-k.invariant (omega (arith, c.requires.0, c.loop-k-test.true)))
+    omega (arith, laying_room c.args.ns c.requires.1 c.loop-k.invariant (omega (arith, c.requires.0, c.loop-k-test.true)))
 
 pub slice_bounds-put_number-start : goal.slice_bounds-put_number-start
 slice_bounds-put_number-start c =
-    omega (arith, laying_room c.args.t1 c.requires.1 c.loop-k.invariant (omega (arith, c.requires.0, c.loop-k-test.true)))
+    omega (arith, laying_room c.args.ns c.requires.1 c.loop-k.invariant (omega (arith, c.requires.0, c.loop-k-test.true)))
 
 pub put_number-count-requires : goal.put_number-count-requires
 put_number-count-requires c =
     omega (
       arith,
-      laying_room c.args.t1 c.requires.1 c.loop-k.invariant (omega (arith, c.requires.0, c.loop-k-test.true)),
+      laying_room c.args.ns c.requires.1 c.loop-k.invariant (omega (arith, c.requires.0, c.loop-k-test.true)),
       length_part c.loop-k.out c.loop-k.at,
     )
 
@@ -35,8 +35,8 @@ overflow_add-at c =
     omega (
       arith,
       c.put_number-count.ensures.0,
-      laying_room c.args.t1 c.requires.1 c.loop-k.invariant (omega (arith, c.requires.0, c.loop-k-test.true)),
-      laying_length c.args.t1 c.requires.1 c.loop-k.invariant,
+      laying_room c.args.ns c.requires.1 c.loop-k.invariant (omega (arith, c.requires.0, c.loop-k-test.true)),
+      laying_length c.args.ns c.requires.1 c.loop-k.invariant,
     )
 
 pub overflow_add-k : goal.overflow_add-k
@@ -47,12 +47,12 @@ loop-k-smaller c = omega (arith, c.loop-k-test.true)
 
 pub loop-k-preserved : goal.loop-k-preserved
 loop-k-preserved c =
-    laying_turn c.args.t1 c.requires.1 c.loop-k.invariant (omega (arith, c.requires.0, c.loop-k-test.true))
+    laying_turn c.args.ns c.requires.1 c.loop-k.invariant (omega (arith, c.requires.0, c.loop-k-test.true))
     c.put_number-count.ensures.0 c.put_number-count.ensures.1
 
 pub shape_of-out : goal.shape_of-out
-shape_of-out c = laying_length c.args.t1 c.requires.1 c.loop-k.invariant
+shape_of-out c = laying_length c.args.ns c.requires.1 c.loop-k.invariant
 
 pub returns : goal.returns
 returns c =
-    laying_end c.args.t1 c.requires.1 c.loop-k.invariant (omega (arith, c.requires.0, c.loop-k-test.false))
+    laying_end c.args.ns c.requires.1 c.loop-k.invariant (omega (arith, c.requires.0, c.loop-k-test.false))

@@ -97,11 +97,11 @@ turn-turned-requires c =
 
 pub shape_of-buf-then-not-is_more : goal.shape_of-buf-then-not-is_more
 shape_of-buf-then-not-is_more c =
-    c.turn-turned.kept.1.0 ∙ c.pass-here.kept.1.0 ∙ c.loop-i.invariant.1.full
+    c.turn-turned.auto.buf ∙ c.pass-here.auto.buf ∙ c.loop-i.invariant.1.full
     ∙ sym c.requires.full
 
 pub shape_of-text-then-not-is_more : goal.shape_of-text-then-not-is_more
-shape_of-text-then-not-is_more c = c.turn-turned.kept.1.1.0 ∙ ap length
+shape_of-text-then-not-is_more c = c.turn-turned.auto.text ∙ ap length
     c.loop-i.invariant.2
 
 pub returns-then-not-is_more : goal.returns-then-not-is_more
@@ -117,14 +117,8 @@ returns-then-not-is_more c =
 
 pub loop-i-smaller : goal.loop-i-smaller
 loop-i-smaller c =
-    let looked =
-    ahead_of c in
-    let turn = looked.before.before in
-    omega (
-      arith,
-      run_within (kept turn.loop.marks.stage) turn.before.before.before.before.args.piece.now
-          turn.loop.i looked.ahead.result turn.loop.invariant.0 looked.ahead.ensures.0,
-    )
+    let l = c.loop-i in
+    omega (arith, run_within (kept l.marks.stage) c.args.piece.now l.i c.ahead-run.result l.invariant.0 c.ahead-run.ensures.0)
 
 pub loop-i-preserved : goal.loop-i-preserved
 loop-i-preserved c =
