@@ -39,7 +39,7 @@ install: plancheck
 	$(filled) dist/mihadrena.pc.in > $(to)/lib/pkgconfig/mihadrena.pc
 	$(filled) dist/mihadrena-config.cmake.in > $(to)/lib/cmake/mihadrena/mihadrena-config.cmake
 	$(filled) dist/mihadrena-config-version.cmake.in > $(to)/lib/cmake/mihadrena/mihadrena-config-version.cmake
-	cp NOTICE docs/*.md $(to)/share/doc/mihadrena/
+	cp NOTICE $(to)/share/doc/mihadrena/
 
 version:
 	@echo $(version)

@@ -36,7 +36,7 @@ extern "C" {
 
 /* The version, as CHANGELOG.md and the Rust crate have it. Records, states and the archive are of one version. */
 #define MIHADRENA_VERSION_MAJOR 0
-#define MIHADRENA_VERSION_MINOR 27
+#define MIHADRENA_VERSION_MINOR 26
 #define MIHADRENA_VERSION_PATCH 0
 
 /* The version of the archive that is linked: major * 65536 + minor * 256 + patch. */
@@ -139,10 +139,10 @@ MIHADRENA_ASSERT(sizeof(mihadrena_record) == 4 * MIHADRENA_RECORD_WORDS, "a reco
 #define MIHADRENA_SERVED 0
 
 /* A refused call changes nothing that it was lent but its values; of mihadrena_number and mihadrena_number_by the first word, of the
- * coordinate calls `place`, of the name table's calls the numbers that they tell, which are then 0; of mihadrena_find `records`, which is
- * working memory. Reading in pieces, a stop (20, 21 and 23) changes the state too, and mihadrena_open makes a plain state of a mode that is
- * none. With each stands what it comes with: a call that is lent values puts that into values[0], a second number into values[1], which is
- * 0 where there is none; a piece or end call has the bytes taken there. */
+ * coordinate calls `place`, of the name table's calls the numbers that they tell, which are then 0. Reading in pieces, a stop (20, 21 and
+ * 23) changes the state too, and mihadrena_open makes a plain state of a mode that is none. With each stands what it comes with: a call
+ * that is lent values puts that into values[0], a second number into values[1], which is 0 where there is none; a piece or end call has
+ * the bytes taken there. */
 #define MIHADRENA_TOO_LONG 20      /* the text exceeds MIHADRENA_LONGEST bytes: MIHADRENA_LONGEST */
 #define MIHADRENA_NOT_UTF8 21      /* bytes aren't UTF-8: the start of the first bad sequence */
 #define MIHADRENA_TOO_FEW 22       /* records or text memory are too few: items and text bytes needed; of mihadrena_write the bytes needed */
@@ -295,8 +295,7 @@ uint32_t mihadrena_read_fields(const uint8_t *source, size_t source_length, cons
 #define MIHADRENA_PIECE_VALUES 2
 
 /* The state of a reading, which the caller keeps from call to call. docs/STATE.md says what its words mean, and outside which bounds a
- * state is refused with MIHADRENA_OUT_OF_BOUNDS: none that the calls made is. Bytes and words that are all 0 are a fresh state of plain mode,
- * comments kept: a forgotten opening is not refused. */
+ * state is refused with MIHADRENA_OUT_OF_BOUNDS: none that the calls made is. */
 #define MIHADRENA_STATE_BYTES 4096
 #define MIHADRENA_STATE_WORDS 19
 #define MIHADRENA_STATE_SIZE 4248
@@ -317,8 +316,8 @@ typedef struct mihadrena_told {
 MIHADRENA_ASSERT(sizeof(mihadrena_told) == 8 * MIHADRENA_PIECE_VALUES, "these are two values");
 
 /* Opens a state, in a mode, with comments kept or skipped, and writes it whole: MIHADRENA_SERVED, or MIHADRENA_NO_MODE for another mode,
- * with a plain state, comments kept or skipped as was passed; what that comes with is the `mode` that was passed. Before that
- * MIHADRENA_OUT_OF_BOUNDS, and nothing is written, if the two slices have not the lengths of a state's.
+ * with a plain state; what that comes with is the `mode` that was passed. Before that MIHADRENA_OUT_OF_BOUNDS, and nothing is written, if
+ * the two slices have not the lengths of a state's.
  *
  *     mihadrena_state state;
  *     mihadrena_open(MIHADRENA_REPORT, false, state.bytes, MIHADRENA_STATE_BYTES,
@@ -329,7 +328,7 @@ uint32_t mihadrena_open(uint32_t mode, bool skip_comments, uint8_t *bytes, size_
 /* Reads on in a piece: takes the fewest bytes from its front that make an item ready, or all of them. An item is ready once a character
  * behind it was read. Call it again with what was not taken, until it answers MIHADRENA_MORE. A call costs a fixed part and what the
  * bytes that it takes cost, however long the piece is: a text may be lent whole. Pieces of 64 bytes cost hardly more than those of 4,096,
- * 60.9 and 57.8 instructions a byte of a plan; byte by byte it is 254.2 (docs/SPEED.md).
+ * 61.3 and 58.2 instructions a byte of a plan; byte by byte it is 257.3 (docs/SPEED.md).
  *
  * MIHADRENA_ITEM: the item's record goes to `record`, its text, a number's digits too, to the front of `text` (MIHADRENA_IN_MEMORY); no
  * other byte of `text` changes. MIHADRENA_MORE changes neither. values[0] is 0, values[1] is how many bytes were taken.
@@ -357,7 +356,7 @@ uint32_t mihadrena_piece(uint8_t *bytes, size_t bytes_length, uint64_t *words, s
                          uint32_t *record, size_t record_length, uint64_t *values, size_t values_length);
 
 /* Declares the end of the text and gives the next item, until it answers MIHADRENA_FINISHED. It refuses, and writes, as a piece call does,
- * but for MIHADRENA_AFTER_END, and takes nothing; MIHADRENA_NOT_UTF8 also where the end cuts a character.
+ * and takes nothing; MIHADRENA_NOT_UTF8 also where the end cuts a character.
  *
  *     uint32_t answer = mihadrena_end(state.bytes, MIHADRENA_STATE_BYTES, state.words, MIHADRENA_STATE_WORDS, text, sizeof text,
  *                                     (uint32_t *)&record, MIHADRENA_RECORD_WORDS, values, MIHADRENA_PIECE_VALUES);
@@ -578,8 +577,8 @@ static inline uint32_t mihadrena_coordinate_of(const mihadrena_record *record, c
 }
 
 /* The value of a record's number, a decimal or an integer: a corner is also written 6892014. A decimal has the value of its coordinate, an
- * integer up to 9,007,199,254,740,992 its own, zero with its sign; any other number, one with a prefix as #x10 too, and any other kind is
- * MIHADRENA_NO_COORDINATE. All else is as with mihadrena_record_coordinate.
+ * integer up to 9,007,199,254,740,992 its own, zero with its sign; any other number and any other kind is MIHADRENA_NO_COORDINATE. All else
+ * is as with mihadrena_record_coordinate.
  *
  *     mihadrena_record_value((const uint8_t *)"(corner 6892014)", 16, MIHADRENA_NUMBER, 8, 15, &value, &place);
  *     // MIHADRENA_SERVED, value == 6892014.0
@@ -814,8 +813,7 @@ MIHADRENA_ASSERT(sizeof(mihadrena_finding) == 4 * MIHADRENA_FINDING_WORDS, "a fi
  *
  * MIHADRENA_SERVED: values[0] is how many findings there are, be they written or not, and values[1] how many of them are errors. A text that
  * is too long (20) or not UTF-8 (21) has one finding that says so, and is served. MIHADRENA_TOO_FEW: `records` is too short; values[0] is how
- * many records are needed, values[1] is 0, `findings` stays as it was, and `records` has the rows that fit. With no room for both values
- * none is written.
+ * many records are needed, values[1] is 0, and `findings` stays as it was. With no room for both values none is written.
  *
  *     uint32_t records[7 * MIHADRENA_RECORD_WORDS];
  *     mihadrena_finding findings[1];
@@ -887,8 +885,8 @@ uint32_t mihadrena_items_write(const uint32_t *records, size_t records_length, u
  *
  * Any bytes may be given: every call ends in one of these answers, after at most two passes over the file. A file that is served has items
  * whose starts and ends do not go back, and no more is known of it: its kinds may be none that a lexer gives, and its places may lie past
- * any source. mihadrena_nest looks at kinds and details, writing a plan back at kinds (MIHADRENA_ALIEN), each up to the first record that it
- * refuses; mihadrena_text_mark looks at a text's places.
+ * any source. mihadrena_nest looks at kinds and details (MIHADRENA_ALIEN), and so does writing a plan back; mihadrena_text_mark looks at a
+ * text's places.
  *
  *     const uint8_t twice[] = {28, 128, 0};
  *     mihadrena_items_read(twice, 3, (uint32_t *)records, 0, values, MIHADRENA_ITEMS_VALUES);

@@ -57,11 +57,11 @@ static inline uint32_t mihadrena_read_all(mihadrena_plan *plan, uint32_t mode, b
 }
 
 /* mihadrena_nest over the records that mihadrena_read_all gave. A refusal's record is in `place`. Where the reading was refused with
- * MIHADRENA_TOO_FEW so is this; after another refusal there are no records, and this is served with no nodes. */
+ * MIHADRENA_TOO_FEW so is this. */
 static inline uint32_t mihadrena_nest_all(mihadrena_plan *plan)
 {
     uint64_t value = 0;
-    if (plan->records_room < plan->items || plan->text_room < plan->text_bytes) return MIHADRENA_TOO_FEW;
+    if (plan->records_room < plan->items) return MIHADRENA_TOO_FEW;
     uint32_t answer = mihadrena_nest((const uint32_t *)mihadrena_shown(plan->records), plan->items * MIHADRENA_RECORD_WORDS,
                                      (uint32_t *)mihadrena_lent(plan->nodes), plan->nodes_room * MIHADRENA_NODE_WORDS,
                                      &value, MIHADRENA_NEST_VALUES);
@@ -137,10 +137,8 @@ typedef struct mihadrena_reading {
     uint64_t place;          /* what a refusal comes with */
 } mihadrena_reading;
 
-/* mihadrena_open. The mode that is none goes to `place`. */
 static inline uint32_t mihadrena_reading_open(mihadrena_reading *reading, uint32_t mode, bool skip_comments)
 {
-    reading->place = mode == MIHADRENA_PLAIN || mode == MIHADRENA_REPORT ? 0 : mode;
     return mihadrena_open(mode, skip_comments, reading->state.bytes, MIHADRENA_STATE_BYTES, reading->state.words, MIHADRENA_STATE_WORDS);
 }
 

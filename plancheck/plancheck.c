@@ -20,10 +20,9 @@ static const char usage[] =
     "  --json       an object of JSON for each finding\n"
     "  --plain      the terminals read in plain mode: what they read otherwise (W07) is an error\n"
     "  --color=WHEN colours: auto, on a terminal and without NO_COLOR; always; never\n"
-    "  --max N      tell at most N findings of a file (100; at most 1000000)\n"
+    "  --max N      tell at most N findings of a file (100)\n"
     "  --help, --version\n"
-    "Options stand before the files; after -- every word is a file. FILE - is the standard input, and so is none.\n"
-    "Status: 0 nothing found, 1 findings, 2 a file cannot be read, the output cannot be written, no memory, or usage.\n";
+    "FILE - is the standard input, and so is none. Status: 0 nothing found, 1 findings, 2 a file cannot be read, or usage.\n";
 
 static uint32_t style = MIHADRENA_STYLE_FULL;
 static bool plain, colour, progress;
@@ -47,18 +46,8 @@ static void *room(void *memory, size_t n)
 
 static int failed(const char *name)
 {
-    int why = errno;
     fflush(stdout);
-    fprintf(stderr, "plancheck: %s: %s\n", name, strerror(why));
-    return FAILED;
-}
-
-/* The status, once all that was printed is written. */
-static int ended(int status)
-{
-    if (fflush(stdout) == 0 && !ferror(stdout))
-        return status;
-    fprintf(stderr, "plancheck: %s\n", strerror(errno));
+    fprintf(stderr, "plancheck: %s: %s\n", name, strerror(errno));
     return FAILED;
 }
 
@@ -145,7 +134,7 @@ static int check_named(const char *name)
     return status;
 }
 
-/* A line of progress, on a terminal, once a second is over; where findings are printed there too, their files are the progress. */
+/* A line of progress, on a terminal, once a second is over. */
 static void tell_progress(int done, int all, time_t start)
 {
     if (!progress || time(NULL) - start < 2)
@@ -154,9 +143,9 @@ static void tell_progress(int done, int all, time_t start)
     fprintf(stderr, "\rplancheck: %d of %d files%s", done, all, done == all ? "\n" : "");
 }
 
-static int misused(const char *word)
+static int misused(void)
 {
-    fprintf(stderr, "plancheck: cannot use `%s`\n%s", word, usage);
+    fputs(usage, stderr);
     return FAILED;
 }
 
@@ -180,15 +169,15 @@ int main(int count, char **words)
         } else if (strcmp(words[i], "--max") == 0 && i + 1 < count) {
             most = strtoul(words[++i], &end, 10);
             if (*end != '\0' || end == words[i] || most > 1000000)
-                return misused(words[i]);
+                return misused();
         } else if (strcmp(words[i], "--help") == 0) {
             fputs(usage, stdout);
-            return ended(CLEAN);
+            return CLEAN;
         } else if (strcmp(words[i], "--version") == 0) {
             printf("plancheck %d.%d.%d\n", MIHADRENA_VERSION_MAJOR, MIHADRENA_VERSION_MINOR, MIHADRENA_VERSION_PATCH);
-            return ended(CLEAN);
+            return CLEAN;
         } else {
-            return misused(words[i]);
+            return misused();
         }
     }
     if (strcmp(when, "always") == 0)
@@ -196,11 +185,11 @@ int main(int count, char **words)
     else if (strcmp(when, "auto") == 0)
         colour = isatty(STDOUT_FILENO) && (getenv("NO_COLOR") == NULL || *getenv("NO_COLOR") == '\0');
     else if (strcmp(when, "never") != 0)
-        return misused(when);
+        return misused();
     source = room(NULL, source_room = 65536);
     out = room(NULL, out_room = 4096);
     findings = room(NULL, (findings_room = most * MIHADRENA_FINDING_WORDS) * sizeof *findings);
-    progress = count - i > 1 && isatty(STDERR_FILENO) && !isatty(STDOUT_FILENO);
+    progress = count - i > 1 && isatty(STDERR_FILENO);
     time_t start = time(NULL);
     if (i == count)
         status = check_named("-");
@@ -209,5 +198,9 @@ int main(int count, char **words)
         status = one > status ? one : status;
         tell_progress(i + 1 - first, count - first, start);
     }
-    return ended(status);
+    if (fflush(stdout) != 0 || ferror(stdout)) {
+        fprintf(stderr, "plancheck: %s\n", strerror(errno));
+        return FAILED;
+    }
+    return status;
 }

@@ -332,19 +332,12 @@ static void nothing_lent(void)
     uint32_t answer = mihadrena_read_all(&plan, MIHADRENA_REPORT, false);
     expect(answer == MIHADRENA_TOO_FEW && plan.items == 3 && plan.text_bytes == 1 && plan.place == 0, "what a plan needs");
     expect(mihadrena_nest_all(&plan) == MIHADRENA_TOO_FEW, "no nodes of records that did not fit");
-    mihadrena_record records[3] = {{0}};
-    plan.records = records;
-    plan.records_room = 3;
-    expect(mihadrena_read_all(&plan, MIHADRENA_REPORT, false) == MIHADRENA_TOO_FEW, "a text that does not fit");
-    expect(mihadrena_nest_all(&plan) == MIHADRENA_TOO_FEW, "no nodes of records that were not written");
     answer = mihadrena_read_all(&plan, 2, false);
     expect(answer == MIHADRENA_NO_MODE && plan.items == 0 && plan.place == 2, "what a refusal comes with");
     static mihadrena_reading reading;
     const uint8_t *piece = NULL;
     length = 0;
-    expect(mihadrena_reading_open(&reading, 2, false) == MIHADRENA_NO_MODE && reading.place == 2, "what opening comes with");
     expect(mihadrena_reading_open(&reading, MIHADRENA_REPORT, false) == MIHADRENA_SERVED, "mihadrena_reading_open");
-    expect(reading.place == 0, "nothing that opening comes with");
     expect(mihadrena_reading_step(&reading, &piece, &length) == MIHADRENA_MORE && piece == NULL, "an empty piece");
     expect(mihadrena_reading_end(&reading) == MIHADRENA_FINISHED, "mihadrena_reading_end");
 }

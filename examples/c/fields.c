@@ -1,5 +1,5 @@
-/* Reads a table of stand cards in one call: a line is a card, and its fields have tabs between them, as many as in the first line. Prints
- * each field under the name that the first line gives it: what its items are, or what is wrong with it. Report mode, comments left out.
+/* Reads a table of stand cards in one call: a line is a card, and its fields have tabs between them. Prints each field under the name that
+ * the first line gives it: what its items are, or what is wrong with it. Report mode, comments left out.
  *
  *     fields FILE
  */
@@ -37,25 +37,15 @@ static void *memory(size_t count, size_t size)
     return got;
 }
 
-/* The end of a line, at a place. */
-static void end_line(table *t, size_t at)
-{
-    if (t->columns == 0)
-        t->columns = t->parts;
-    if (t->parts % t->columns != 0)
-        fail("another number of fields than in the first line, before byte", at);
-}
-
-/* A part is a field with the tab or newline behind it, which is a blank and makes no item. The last line may have no newline. */
+/* A part is a field with the tab or newline behind it, which is a blank and makes no item. */
 static void cut(table *t)
 {
     t->ends = memory(t->length, sizeof *t->ends);
     for (size_t at = 0; at < t->length; at++) {
-        bool last = at + 1 == t->length;
-        if (t->source[at] == '\t' || t->source[at] == '\n' || last)
+        if (t->source[at] == '\t' || t->source[at] == '\n')
             t->ends[t->parts++] = (uint32_t)(at + 1);
-        if (t->source[at] == '\n' || last)
-            end_line(t, at + 1);
+        if (t->source[at] == '\n' && t->columns == 0)
+            t->columns = t->parts;
     }
 }
 
@@ -80,11 +70,10 @@ static void print_item(const mihadrena_record *record, const uint8_t *part, size
         return;
     }
     const uint8_t *own = mihadrena_text(record, part, length, text, bytes);
-    putchar(' ');
     if (own != NULL)
-        fwrite(own, 1, record->text_end - record->text_start, stdout);
+        printf(" %.*s", (int)(record->text_end - record->text_start), (const char *)own);
     else
-        fwrite(part + record->start, 1, record->end - record->start, stdout);
+        printf(" %.*s", (int)(record->end - record->start), (const char *)part + record->start);
 }
 
 static void print_part(const table *t, size_t i)

@@ -1,6 +1,5 @@
 /* A program to start from: it reads a plan in report mode and lists its stands with their names, the corners of their outlines as doubles,
- * and at line and column what is wrong: errors, brackets, stands without a name and corners without two coordinates. A dot or a quote mark
- * out of place is for mihadrena_nest to tell.
+ * and whatever is wrong, at line and column.
  *
  *     terminal FILE             the plan is read whole
  *     terminal --pieces FILE    it comes in pieces of 512 bytes, each forgotten but for as many bytes as an item may have
@@ -131,28 +130,13 @@ static void heed_bracket(terminal *t, const mihadrena_record *item)
         tell(t, item->start, mihadrena_message(MIHADRENA_WRONG_CLOSE));
 }
 
-/* A list that is not what it has to be, before a bracket that opens another or closes it. */
-static void tell_missing(terminal *t, const mihadrena_record *item)
-{
-    if (t->in == CORNER)
-        tell(t, item->start, "a corner has two coordinates");
-    else if (t->in == STAND)
-        tell(t, item->start, "a stand has a name");
-}
-
-static void open_list(terminal *t, const mihadrena_record *item)
-{
-    tell_missing(t, item);
-    t->in = item->detail <= MIHADRENA_CURLY ? HEAD : OTHER;
-}
-
 static void close_list(terminal *t, const mihadrena_record *item)
 {
     expect_none_waits(t, item->start);
     if (t->in == CORNER && t->coordinates == 2)
         printf("  corner %.2f %.2f\n", t->corner[0], t->corner[1]);
-    else
-        tell_missing(t, item);
+    else if (t->in == CORNER)
+        tell(t, item->start, "a corner has two coordinates");
     t->in = OTHER;
 }
 
@@ -166,7 +150,7 @@ static void take(terminal *t, const mihadrena_record *item, const uint8_t *spell
     } else if (is_dropped(t, item)) {
         return;
     } else if (item->kind == MIHADRENA_OPEN_PAREN) {
-        open_list(t, item);
+        t->in = item->detail <= MIHADRENA_CURLY ? HEAD : OTHER;
     } else if (item->kind == MIHADRENA_CLOSE_PAREN) {
         close_list(t, item);
     } else if (t->in == HEAD) {

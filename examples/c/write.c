@@ -151,14 +151,12 @@ static uint8_t *spliced(const plan *old, const plan *new, size_t *length)
     uint8_t *out = NULL;
     size_t at = 0;
     *length = 0;
-    for (size_t i = 0, items; i <= old->count; i += items) {
+    for (size_t i = 0; i <= old->count; i++) {
         bool last = i == old->count;
-        /* a pair's two items have one extent, and are written together */
-        items = i + 1 < old->count && old->records[i].start == old->records[i + 1].start ? 2 : 1;
-        if (!last && memcmp(&old->records[i], &new->records[i], items * sizeof *old->records) == 0)
+        if (!last && memcmp(&old->records[i], &new->records[i], sizeof *old->records) == 0)
             continue;
         size_t end = last ? old->length : old->records[i].start, word_length = 0;
-        uint8_t *word = last ? memory(0, 1) : written(new, new->records + i, items, &word_length);
+        uint8_t *word = last ? memory(0, 1) : written(new, new->records + i, 1, &word_length);
         out = realloc(out, *length + (end - at) + word_length + 1);
         if (out == NULL)
             fail("no memory for", *length);
@@ -171,24 +169,15 @@ static uint8_t *spliced(const plan *old, const plan *new, size_t *length)
     return out;
 }
 
-static void print_line(char mark, const uint8_t *line, const uint8_t *end)
-{
-    putchar(mark);
-    fwrite(line, 1, (size_t)(end - line), stdout);
-    putchar('\n');
-}
-
-/* Prints the lines in which two texts differ, one of each. */
+/* Prints the lines in which two texts differ, one of each; they have the same number of lines. */
 static void print_difference(const uint8_t *old, size_t old_length, const uint8_t *new, size_t new_length)
 {
     for (const uint8_t *a = old, *b = new; a < old + old_length && b < new + new_length;) {
         const uint8_t *a_end = memchr(a, '\n', (size_t)(old + old_length - a)), *b_end = memchr(b, '\n', (size_t)(new + new_length - b));
         a_end = a_end == NULL ? old + old_length : a_end;
         b_end = b_end == NULL ? new + new_length : b_end;
-        if (a_end - a != b_end - b || memcmp(a, b, (size_t)(a_end - a)) != 0) {
-            print_line('-', a, a_end);
-            print_line('+', b, b_end);
-        }
+        if (a_end - a != b_end - b || memcmp(a, b, (size_t)(a_end - a)) != 0)
+            printf("-%.*s\n+%.*s\n", (int)(a_end - a), (const char *)a, (int)(b_end - b), (const char *)b);
         a = a_end + 1;
         b = b_end + 1;
     }
@@ -209,8 +198,7 @@ int main(int count, char **words)
     set_volume(&edited);
 
     uint8_t *whole = written(&edited, edited.records, edited.count, &new_length);
-    fwrite(whole, 1, new_length, stdout);
-    putchar('\n');
+    printf("%.*s\n", (int)new_length, (const char *)whole);
     plan back = read_plan(whole, new_length);
     if (!same_items(&edited, &back))
         fail("the written plan has other items than", edited.count);

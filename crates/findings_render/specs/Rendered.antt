@@ -1,5 +1,5 @@
 -- A finding's bytes. In full:
---     01.scm:2:11: warning: terminals that read in plain mode do not take this for a number [W07]
+--     01.scm:2:11: warning: terminals that read in plain mode take this number for a name [W07]
 --         2 |   (corner 6892014.7;gps
 --           |           ^^^^^^^^^
 --           = help: put a blank before the `;`

@@ -22,19 +22,17 @@ pub struct ToldFinding {
     pub to: usize,
 }
 
-const LENGTH: usize = 2940;
+const LENGTH: usize = 2628;
 
 // A piece for each text, ended by a zero byte: the code with its variant, `.` for the message, `?` for the help or `!` for the note at the
 // second place, and the text. In it stand for: @ the place's text; & the second place's; % the detail as a number; $ as a character; * and ~
 // in hexadecimal digits; < and > what stands in the place before and behind so many bytes and one more.
 const TEXTS: [u8; LENGTH] = *b"\
     E010.unexpected character in `@`\0\
-    E020.this text is not closed\0\
-    E020?put a `\"` where it ends; a here-string ends with its word on a line alone\0\
+    E020.this text is not closed: a `\"` is missing\0\
     E022.this text goes on over the line's end: is its closing quote missing?\0\
     E022!quotes are paired from the front, and this one is left over\0\
-    E030.a name in vertical lines must begin and end with `|`\0\
-    E030?put a `|` where it ends, or a blank before its first one\0\
+    E030.this name is not closed: a `|` is missing\0\
     E040.this comment is not closed: `|#` is missing\0\
     E050.after `\\` and blanks the line must end\0\
     E050?to write a backslash, type it twice: `\\\\`\0\
@@ -58,7 +56,7 @@ const TEXTS: [u8; LENGTH] = *b"\
     E200.the plan has more than 4,294,967,295 bytes\0\
     E200?split it into several files\0\
     E210.byte 0x~ is not UTF-8: was the plan saved in another encoding?\0\
-    E210?save it as UTF-8; nothing else of the plan was checked\0\
+    E210?save it as UTF-8; nothing after this place was read\0\
     E400.this bracket is never closed\0\
     E401.% brackets are never closed; the last is this one\0\
     E402.this bracket is probably the one that is never closed\0\
@@ -73,18 +71,17 @@ const TEXTS: [u8; LENGTH] = *b"\
     E430?remove it, or write after it what it belongs to\0\
     E440.lists lie more than 64 deep here\0\
     W010.a comma in a number makes it a name\0\
-    W010?write it with a dot, <.>; between two numbers type a blank\0\
+    W010?write it with a dot: <.>\0\
     W020.this begins like a number and is read as a name\0\
-    W020?mend the number, take away a comma behind it, or write |..| around a name that begins so\0\
+    W020?mend the number, or write |..| around a name that begins so\0\
     W030.this typographic quote does not begin a text\0\
-    W030?type the straight quote `\"`, or write |..| around a name that has this one\0\
+    W030?type the straight quote `\"`\0\
     W040.this typographic dash is no minus sign\0\
     W040?type the hyphen `-`\0\
     W050.the invisible character U+* makes this another name\0\
     W050?remove it; a byte order mark goes if the plan is saved as UTF-8 without BOM\0\
     W060.this text goes on over the line's end and a `(`: is its closing quote missing?\0\
-    W060?put a `\"` where it ends, or write `\\n` for the line's end\0\
-    W070.terminals that read in plain mode do not take this for a number\0\
+    W070.terminals that read in plain mode take this number for a name\0\
     W070?put a blank before the `$`\0\
 ";
 

@@ -33,14 +33,14 @@ pub record Rows : Type 0 where
   -- the column counts characters; the return before the newline is not shown; a tab stands under a tab
   pub full : of_style 0 finding source
       ≡ codes "a:1:9: warning: this begins like a number and is read as a name [W02]\n    1 | (b" ++ bytes_of (codes "ø") ++ codes "\t\"\t\" 14m\n      |    \t \t  ^^^\n"
-      ++ codes "      = help: mend the number, take away a comma behind it, or write |..| around a name that begins so\n"
+      ++ codes "      = help: mend the number, or write |..| around a name that begins so\n"
   -- the second place has a line of its own
   pub brief : of_style 1 wrong_close (codes "[a)\n)") ≡ codes "a:2:1: error: `)` cannot close `[` [E41]\na:1:1: note: opened here\n"
   -- a byte of no character, and a quote in a name
   pub object : rendered (2 ∷ 21 ∷ 0xE5 ∷ 1 ∷ 1 ∷ 0 ∷ 0 ∷ []) (0x61 ∷ 0xE5 ∷ []) (codes "\"a" ++ (0xE5 ∷ [])) 2 false
       ≡ codes "{\"file\":\"\\\"a\\ufffd\",\"line\":1,\"column\":2,\"end_line\":1,\"end_column\":2,\"byte\":1,\"end_byte\":1,"
       ++ codes "\"severity\":\"error\",\"code\":\"E21\",\"message\":\"byte 0xE5 is not UTF-8: was the plan saved in another encoding?\","
-      ++ codes "\"help\":\"save it as UTF-8; nothing else of the plan was checked\",\"see\":null}\n"
+      ++ codes "\"help\":\"save it as UTF-8; nothing after this place was read\",\"see\":null}\n"
   -- what does not fit is counted, and not written
   pub short : (counted (of_style 1 finding source) ≡ 70) × (over (of_style 1 finding source) (replicate 5 9) ≡ codes "a:1:9")
   -- what is not told has no bytes, and no other style has any

@@ -5,7 +5,7 @@ abbrev major : ℕ
 major = 0
 
 abbrev minor : ℕ
-minor = 27
+minor = 26
 
 abbrev patch : ℕ
 patch = 0

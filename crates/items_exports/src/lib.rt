@@ -11,7 +11,7 @@ pub use nodes::{mihadrena_first_child, mihadrena_next_sibling};
 pub use records::{mihadrena_opener, mihadrena_records_fit};
 
 // Major, minor and patch number; the last two have eight bits each.
-const VERSION: u32 = 0x00_1B_00;
+const VERSION: u32 = 0x00_1A_00;
 
 // The archive's version.
 #[unsafe(no_mangle)]

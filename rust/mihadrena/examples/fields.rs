@@ -1,13 +1,12 @@
-//! Reads a table of stand cards in one call: a line is a card, and its fields have tabs between them, as many as in the first line. Prints
-//! each field under the name that the first line gives it: what its items are, or what is wrong with it. Report mode, comments left out.
+//! Reads a table of stand cards in one call: a line is a card, and its fields have tabs between them. Prints each field under the name that
+//! the first line gives it: what its items are, or what is wrong with it. Report mode, comments left out.
 use mihadrena::{Fields, Item, Items, Kind, NoFields, Options, Record, Refusal, Row};
 
 const CARDS: &[u8] = include_bytes!("../../../examples/cards.tsv");
 
-/// A part is a field with the tab or newline behind it, which is a blank and makes no item. The last line may have no newline.
+/// A part is a field with the tab or newline behind it, which is a blank and makes no item.
 fn ends(cards: &[u8]) -> Vec<u32> {
-    let ends = |&end: &usize| end == cards.len() || matches!(cards[end - 1], b'\t' | b'\n');
-    (1..=cards.len()).filter(ends).map(|end| end as u32).collect()
+    (1..=cards.len()).filter(|&end| matches!(cards[end - 1], b'\t' | b'\n')).map(|end| end as u32).collect()
 }
 
 /// An item of a part: its text, or its bytes; of an error its place in the part.

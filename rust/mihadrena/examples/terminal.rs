@@ -1,6 +1,5 @@
 //! A program to start from: it reads a plan in report mode and lists its stands with their names, the corners of their outlines as floats,
-//! and at line and column what is wrong: errors, brackets, stands without a name and corners without two coordinates. A dot or a quote mark
-//! out of place is for `nest` to tell.
+//! and whatever is wrong, at line and column.
 //!
 //!     terminal FILE             the plan is read whole
 //!     terminal --pieces FILE    it comes in pieces of 512 bytes, each forgotten but for as many bytes as an item may have
@@ -53,10 +52,7 @@ impl Terminal {
         match item.what {
             Err(error) => self.tell(at, error),
             Ok(kind) if self.drops(kind, item.depth) => (),
-            Ok(Kind::OpenParen(_, before)) => {
-                self.tell_missing(at);
-                self.list = if before.is_none() { List::Head } else { List::Other };
-            }
+            Ok(Kind::OpenParen(_, before)) => self.list = if before.is_none() { List::Head } else { List::Other },
             Ok(Kind::CloseParen(_)) => self.close(at),
             Ok(kind) => self.take_in_list(kind, spelling, at),
         }
@@ -131,20 +127,12 @@ impl Terminal {
         }
     }
 
-    /// A list that is not what it has to be, before a bracket that opens another or closes it.
-    fn tell_missing(&mut self, at: Position) {
-        match self.list {
-            List::Corner => self.tell(at, "a corner has two coordinates"),
-            List::Stand => self.tell(at, "a stand has a name"),
-            _ => (),
-        }
-    }
-
     fn close(&mut self, at: Position) {
         self.expect_none_waits(at);
         match (self.list, &self.corner[..]) {
             (List::Corner, [north, east]) => self.out += &format!("  corner {north:.2} {east:.2}\n"),
-            _ => self.tell_missing(at),
+            (List::Corner, _) => self.tell(at, "a corner has two coordinates"),
+            _ => (),
         }
         self.list = List::Other;
     }

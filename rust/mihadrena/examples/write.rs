@@ -86,18 +86,13 @@ impl Plan {
         all(self) == all(other)
     }
 
-    /// The source with each item that is another in the edited plan written by itself in the place of the old one. A pair's two items have
-    /// one extent, and are written together.
+    /// The source with each item that is another in the edited plan written by itself in the place of the old one.
     fn spliced(&self, edited: &Self) -> Result<String, NotWritten> {
-        let (mut out, mut at, mut first) = (String::new(), 0, 0);
-        for old in self.records.chunk_by(|one, next| one.start == next.start) {
-            let new = &edited.records[first..first + old.len()];
-            first += old.len();
-            if old != new {
-                out += &self.source[at..old[0].start as usize];
-                out += &edited.written(new)?;
-                at = old[0].end as usize;
-            }
+        let (mut out, mut at) = (String::new(), 0);
+        for (old, new) in self.records.iter().zip(&edited.records).filter(|(old, new)| old != new) {
+            out += &self.source[at..old.start as usize];
+            out += &edited.written(&[*new])?;
+            at = old.end as usize;
         }
         Ok(out + &self.source[at..])
     }
@@ -129,16 +124,6 @@ fn main() -> Result<(), Box<dyn std::error::Error>> {
 #[test]
 fn the_same_as_in_c() {
     assert_eq!(edited(PLAN).expect("a plan"), include_str!("../../../examples/c/write.out"));
-}
-
-/// A pair of which one item is another now is written whole.
-#[test]
-fn a_pair_is_written_together() {
-    let old = Plan::read("(species +spruce)").expect("a plan");
-    let mut new = old.clone();
-    new.text = b"pine".to_vec();
-    new.records[3] = Record { text_source: raw::IN_MEMORY, text_start: 0, text_end: 4, ..new.records[3] };
-    assert_eq!(old.spliced(&new).expect("a text"), "(species +pine)");
 }
 
 /// A name that ends in a backslash takes what stands behind it with it, and the reading tells.

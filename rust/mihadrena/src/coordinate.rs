@@ -133,7 +133,7 @@ pub fn value<S: AsRef<[u8]> + ?Sized>(text: &S) -> Result<f64, NoCoordinate> {
 }
 
 /// The value of a record's number in its source, a decimal or an integer: a corner is also written `6892014`. A decimal has the value of
-/// its coordinate, an integer up to 9,007,199,254,740,992 its own; one with a prefix, as `#x10`, has none.
+/// its coordinate, an integer up to 9,007,199,254,740,992 its own.
 ///
 /// ```
 /// use mihadrena::{record_value, Items, NoCoordinate, Options, Record};

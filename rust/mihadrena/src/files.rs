@@ -112,9 +112,9 @@ pub fn write_items(records: &[Record], out: &mut [u8]) -> Result<usize, FileRefu
 ///
 /// let mut records = [Record::default(); 2];
 /// // A file made by hand: one Keyword, `#:x`, at 300..303, with its text.
-/// let file = [28, 0, 172, 2, 3, 172, 2, 3, 1, 172, 2, 3, 0];
+/// let file = [28, 0, 172, 2, 3, 172, 2, 3, 1, 174, 2, 1, 0];
 /// assert_eq!(read_items(&file, &mut records), Ok(1));
-/// assert_eq!((records[0].start, records[0].end, records[0].text_start, records[0].text_end), (300, 303, 300, 303));
+/// assert_eq!((records[0].start, records[0].end, records[0].text_start, records[0].text_end), (300, 303, 302, 303));
 /// // The last number is missing.
 /// assert_eq!(read_items(&file[..12], &mut records), Err(FileRefusal::CutShort(9)));
 /// // 0 in two groups.

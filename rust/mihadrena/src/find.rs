@@ -48,7 +48,7 @@ impl Finding {
     /// The second place: an opening bracket, a quote that is left over, the list that starts no further right.
     #[must_use]
     pub fn also(&self) -> Option<Range<usize>> {
-        (self.0.also_start < self.0.also_end).then_some(self.0.also_start as usize..self.0.also_end as usize)
+        (self.0.also_start < self.0.also_end).then(|| self.0.also_start as usize..self.0.also_end as usize)
     }
 
     /// Its seven words.

@@ -11,7 +11,7 @@ const BYTE_WORDS: usize = raw::STATE_BYTES / size_of::<u64>();
 ///
 /// An item is given once a character behind it was pushed, or the end was declared. A quote that is never closed is an item up to the end
 /// of the text: [`Refusal::LongItem`] with the quote's place, once it has more bytes than an item may. A piece of 64 bytes costs hardly more
-/// a byte than one of 4,096; byte by byte it is about four times as much (docs/SPEED.md).
+/// a byte than one of 4,096; byte by byte it is about three times as much (docs/SPEED.md).
 ///
 /// ```
 /// use mihadrena::{Kind, Options, Paren, PieceReader};

@@ -106,8 +106,7 @@ impl Plan {
         self.locate(place).ok()
     }
 
-    /// The items that are errors, each with its place in bytes and at line and column. Of each the characters of its line before it are
-    /// counted; for many errors in one long line ask [`LineIndex::locate_all`](crate::LineIndex::locate_all).
+    /// The items that are errors, each with its place in bytes and at line and column.
     pub fn errors(&self) -> impl Iterator<Item = Found> + '_ {
         self.items().filter_map(|Item { what, place, .. }| {
             let error = what.err()?;

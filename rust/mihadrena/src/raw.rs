@@ -6,7 +6,7 @@
 
 // The version, as the header has it.
 pub const VERSION_MAJOR: u32 = 0;
-pub const VERSION_MINOR: u32 = 27;
+pub const VERSION_MINOR: u32 = 26;
 pub const VERSION_PATCH: u32 = 0;
 
 /// How many words a record has.

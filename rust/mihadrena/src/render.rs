@@ -33,12 +33,12 @@ impl Style {
 /// let mut memory = [raw::Finding::default()];
 /// let findings = find(plan, &mut records, &mut memory)?;
 /// let finding = findings.iter().next().expect("one is told");
-/// let mut out = [0; 300];
+/// let mut out = [0; 200];
 /// let count = render(&finding, plan, "a.scm", Style::Full, false, &mut out);
 /// let wanted = "a.scm:1:9: warning: a comma in a number makes it a name [W01]
 ///     1 | (volume 412,5)
 ///       |         ^^^^^
-///       = help: write it with a dot, 412.5; between two numbers type a blank
+///       = help: write it with a dot: 412.5
 /// ";
 /// assert_eq!(&out[..count], wanted.as_bytes());
 /// # Ok::<(), mihadrena::FewRecords>(())
