@@ -1,4 +1,6 @@
 // What is said of each finding, in one table: a message, a help, a note. How a finding reads as a whole is for crate `findings_render`.
+#![tactic(auto)]
+
 ghost use Rattle.std.specs.Prelude.{◌≡◌, true, ◌&&◌, [], ◌∷◌, ◌≤◌, ◌<◌, length, drop};
 ghost use Rattle.laws.specs.Texts.{begins};
 ghost use Rattle.laws.specs.Quoted.{one_of};

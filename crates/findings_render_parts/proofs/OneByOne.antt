@@ -1,16 +1,16 @@
 -- Bytes laid one after the other are laid together; what is left to lay shrinks from turn to turn of a loop; and what a caller sees of it all.
 use Prim.Native.Nat.{ℕ, zero, suc, ◌+◌, ◌-◌, ◌≤◌, ◌<◌}
 use mathlib.Core.Bool.{Bool, true, false}
-use mathlib.Core.List.{List, [], ◌∷◌, ◌++◌, append_assoc, append-nil}
-use mathlib.Core.Path.{◌≡◌, refl, sym, ap, ◌∙◌}
-use native.Mathlib.Numerals.{add-one, sub-one}
+use mathlib.Core.List.{List, [], ◌∷◌, ◌++◌, append_assoc}
+use mathlib.Core.Path.{◌≡◌, refl, ap, ◌∙◌}
+use native.Mathlib.Numerals.{sub-one}
 use native.Mathlib.Omega.{arith}
-use borrow.Author.Tests.{lt-ltb, le-ltb, le-leb, lt-leb, ltb-true, ltb-false, leb-true}
+use borrow.Author.Tests.{lt-ltb, le-ltb, le-leb, ltb-true, ltb-false, leb-true}
 use lib.Dec.{ltb, leb}
-use lib.ListN.{length, take, drop, set, replicate, length-append, length-set}
+use lib.ListN.{length, set, replicate, length-append, length-set}
 use lib.Seq.{set_out, set_at, take-nil, append_snoc}
 use Rattle.laws.specs.Choice.{if◌then◌else◌}
-use Rattle.laws.proofs.Choice.{if_all, if_is, by_bool}
+use Rattle.laws.proofs.Choice.{if_all, by_bool}
 use Rattle.findings_render_parts.specs.Laid.{top, beyond, past, laid, is_marked, letter, marked_byte, marked, Laid, counted, over}
 
 pub marked_append : (q : Bool) (a b : List ℕ) → marked q (a ++ b) ≡ marked q a ++ marked q b
@@ -127,12 +127,12 @@ laid_out : (at : ℕ) (bs old : List ℕ) → length old ≤ at → laid at bs o
 unfolding laid beyond
 laid_out at [] old h = refl
 laid_out at (b ∷ bs) old h =
-    rw (set_out old at b h) (laid_out _ bs old (if_all (λ (n : ℕ). length old ≤ n) (ltb at top) (omega arith) h))
+    rw (set_out old at b h) (laid_out (beyond at) bs old (if_all (λ (n : ℕ). length old ≤ n) (ltb at top) (omega arith) h))
 
 laid_is : (p bs old : List ℕ) → length (p ++ old) ≤ top → laid (length p) bs (p ++ old) ≡ p ++ over bs old
 unfolding laid over beyond
 laid_is p [] old h = rw (take-nil (length old))
-laid_is p (b ∷ bs) [] h = rw (set_out (p ++ []) (length p) b (omega (arith, length-append p []))) (laid_out _ bs (p ++ [])
+laid_is p (b ∷ bs) [] h = rw (set_out (p ++ []) (length p) b (omega (arith, length-append p []))) (laid_out (beyond (length p)) bs (p ++ [])
     (if_all (λ (n : ℕ). length (p ++ []) ≤ n) (ltb (length p) top) (omega (arith, length-append p [])) (omega (arith, length-append p []))))
 laid_is p (b ∷ bs) (x ∷ old) h =
     let room : length p < top = omega (arith, length-append p (x ∷ old)) in

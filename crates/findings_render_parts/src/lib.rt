@@ -1,5 +1,7 @@
 // What a rendered finding is made of: bytes laid into lent memory, numbers, characters as a terminal shows them, lines and columns. Which of
 // them a finding has is for crate `findings_render`.
+#![tactic(auto)]
+
 pub mod characters;
 pub mod laying;
 pub mod numbers;

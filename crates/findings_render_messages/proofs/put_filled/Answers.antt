@@ -1,5 +1,4 @@
 -- The invariant: the bytes of the text from the place i on are left.
-use Prim.Native.Nat.{◌-◌}
 use native.Mathlib.Omega.{arith}
 use Rattle.findings_render_parts.proofs.OneByOne.{left_start, left_on, left_end}
 use Rattle.findings_render_messages.proofs.Worded.{filled_on, filled_end}

@@ -1,5 +1,4 @@
 -- The invariant: what is sought from this place on is what is sought from the start on.
-use Prim.Native.Nat.{◌-◌}
 use mathlib.Core.Path.{refl, sym, ◌∙◌}
 use native.Mathlib.Omega.{arith}
 use Rattle.findings_render_messages.proofs.Worded.{behind_here, behind_on, behind_end, key_fits}

@@ -1,5 +1,4 @@
 -- The invariant: the characters passed take no column.
-use Prim.Native.Nat.{◌-◌}
 use mathlib.Core.Path.{refl, sym, ap, ◌∙◌}
 use native.Mathlib.Omega.{arith}
 use Rattle.findings_render_parts.specs.Shown.{is_nil, under_one}

@@ -6,4 +6,4 @@ use Rattle.findings_render_parts.proofs.characters.put_as_byte.Goals as goal
 pub returns : goal.returns
 unfolding as_its_byte
 returns c =
-    joined c.put.ensures (joined c.put_digits-told.ensures c.put.ensures)
+    joined c.put-begun.ensures (joined c.put_digits-told.ensures c.put.ensures)

@@ -6,4 +6,4 @@ use Rattle.findings_render_parts.proofs.characters.put_by_number.Goals as goal
 pub returns : goal.returns
 unfolding by_its_number
 returns c =
-    joined c.put.ensures (joined (rw c.hex_count.ensures.0 at c.put_digits-told.ensures) c.put.ensures)
+    joined c.put-begun.ensures (joined (rw c.hex_count.ensures.0 at c.put_digits-told.ensures) c.put.ensures)

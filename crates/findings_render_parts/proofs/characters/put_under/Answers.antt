@@ -1,5 +1,4 @@
 -- The invariant: what stands under the characters from the place i on is left.
-use Prim.Native.Nat.{◌-◌}
 use native.Mathlib.Omega.{arith}
 use Rattle.findings_render_parts.specs.Shown.{under_one}
 use Rattle.findings_render_parts.proofs.OneByOne.{left_start, left_on, left_end}

@@ -1,5 +1,4 @@
 -- The invariant: the bytes from the place i on are left.
-use Prim.Native.Nat.{◌-◌}
 use native.Mathlib.Omega.{arith}
 use Rattle.laws.proofs.Places.{past, here}
 use Rattle.findings_render_parts.proofs.OneByOne.{left_start, left_on, left_end}

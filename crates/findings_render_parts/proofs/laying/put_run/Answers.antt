@@ -7,11 +7,11 @@ loop-left-init c = left_start
 
 pub loop-left-preserved : goal.loop-left-preserved
 loop-left-preserved c =
-    left_on c.loop-left.invariant (run_on c.loop-left.false c.args.b c.loop-left-test.true) c.put_byte-next.ensures
+    left_on c.loop-left.invariant (run_on c.loop-left.left c.args.b c.loop-left-test.true) c.put_byte-next.ensures
 
 pub shape_of-out : goal.shape_of-out
 shape_of-out c = c.loop-left.invariant.room
 
 pub returns : goal.returns
 returns c =
-    left_end c.loop-left.invariant (run_end c.loop-left.false c.args.b c.loop-left-test.false)
+    left_end c.loop-left.invariant (run_end c.loop-left.left c.args.b c.loop-left-test.false)

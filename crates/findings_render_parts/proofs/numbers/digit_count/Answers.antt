@@ -1,5 +1,4 @@
 -- The invariant: the count is that of the powers tried.
-use Prim.Native.Nat.{◌-◌}
 use mathlib.Core.Path.{◌≡◌, refl, ◌∙◌}
 use native.Mathlib.Omega.{arith}
 use Rattle.findings_render_parts.specs.Printed.{tens_up_to, digit_count}

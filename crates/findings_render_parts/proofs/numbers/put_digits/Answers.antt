@@ -11,7 +11,7 @@ pub loop-left-preserved : goal.loop-left-preserved
 loop-left-preserved c = (
   omega arith,
   left_on c.loop-left.invariant.1 (rw c.digit_at.ensures
-      (digits_on c.args.hex c.loop-left.false c.args.n c.loop-left-test.true)) c.put_byte-next.ensures,
+      (digits_on c.args.hex c.loop-left.left c.args.n c.loop-left-test.true)) c.put_byte-next.ensures,
 )
 
 pub shape_of-out : goal.shape_of-out
@@ -19,4 +19,4 @@ shape_of-out c = c.loop-left.invariant.1.room
 
 pub returns : goal.returns
 returns c =
-    left_end c.loop-left.invariant.1 (digits_end c.args.hex c.loop-left.false c.args.n c.loop-left-test.false)
+    left_end c.loop-left.invariant.1 (digits_end c.args.hex c.loop-left.left c.args.n c.loop-left-test.false)

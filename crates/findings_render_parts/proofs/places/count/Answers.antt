@@ -1,5 +1,4 @@
 -- The invariant: the count is that of the bytes passed.
-use Prim.Native.Nat.{◌-◌}
 use mathlib.Core.Path.{◌≡◌, refl}
 use native.Mathlib.Omega.{arith}
 use Rattle.findings_render_parts.specs.Spots.{count_in}

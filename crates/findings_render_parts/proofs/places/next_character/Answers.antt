@@ -1,5 +1,4 @@
 -- The invariant: the run from this place on ends where that from the first on does.
-use Prim.Native.Nat.{◌-◌}
 use mathlib.Core.Path.{sym, ◌∙◌}
 use Rattle.laws.proofs.Runs.{span_hit, span_stop, span_end}
 use Rattle.findings_render_parts.specs.Spots.{later, next_character}
