@@ -1,5 +1,7 @@
 // What a person sees of a finding: its bytes, laid into lent memory as far as they fit, with the count of all of them. Reads the seven words of
 // a finding, the text that it was found in and the name that the text goes by; what is found is for others.
+#![tactic(auto)]
+
 ghost use Rattle.std.specs.Prelude.{◌≡◌, false, get_or};
 ghost use Rattle.findings_render_parts.specs.Laid.{Laid, counted, over};
 ghost use Rattle.findings_render_parts.specs.Spots.{IsPlace};

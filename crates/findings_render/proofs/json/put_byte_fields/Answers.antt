@@ -6,4 +6,4 @@ use Rattle.findings_render.proofs.json.put_byte_fields.Goals as goal
 pub returns : goal.returns
 unfolding byte_fields
 returns c =
-    joined c.put-first.ensures (joined c.put_number.ensures (joined c.put-second.ensures c.put_number.ensures))
+    joined c.put-first.ensures (joined c.put_number-begun.ensures (joined c.put-second.ensures c.put_number.ensures))

@@ -1,5 +1,4 @@
 -- The invariant: the characters from the place i on are left.
-use Prim.Native.Nat.{◌-◌}
 use native.Mathlib.Omega.{arith}
 use Rattle.laws.proofs.Lent.{part_rest}
 use Rattle.findings_render.specs.Json.{name_one}

@@ -7,4 +7,4 @@ pub returns : goal.returns
 unfolding headline
 returns c =
     joined c.put_spot-placed.ensures (joined c.put_severity-weighed.ensures (joined c.put_text-worded.ensures
-    (joined c.put.ensures (joined (rw c.code_of_lem.ensures at c.put-coded.ensures) c.put.ensures))))
+    (joined c.put-opened.ensures (joined (rw c.code_of-code.ensures at c.put-coded.ensures) c.put.ensures))))

@@ -12,4 +12,4 @@ returns-then-not-is_told c = rw (sym c.is_told.ensures ∙ not-true _ c.if-not-i
 pub returns : goal.returns
 unfolding help
 returns c =
-    rw (sym c.is_told.ensures ∙ not-false _ c.if-not-is_told.false-raw) (joined c.put.ensures (joined c.put_text-worded.ensures c.put.ensures))
+    rw (sym c.is_told.ensures ∙ not-false _ c.if-not-is_told.false-raw) (joined c.put-begun.ensures (joined c.put_text-worded.ensures c.put.ensures))

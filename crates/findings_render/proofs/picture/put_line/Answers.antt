@@ -1,19 +1,14 @@
 -- One after the other.
-use mathlib.Core.Path.{ap, ◌∙◌}
+use mathlib.Core.Path.{ap}
 use Rattle.findings_render_parts.specs.Shown.{shown}
 use Rattle.findings_render.specs.Rendered.{line_of}
 use Rattle.findings_render_parts.proofs.OneByOne.{joined, as_laid}
 use Rattle.findings_render.proofs.picture.put_line.Goals as goal
 
-pub shape_of-out : goal.shape_of-out
-shape_of-out c =
-    c.put.auto.0 ∙ c.put_if-ended.auto.0 ∙ c.put_shown-shown.auto.0 ∙ c.put_if-begun.auto.0
-    ∙ c.put.auto.0 ∙ c.put_aligned-numbered.auto.0
-
 pub returns : goal.returns
 unfolding line_of
 returns c =
-    joined c.put_aligned-numbered.ensures (joined c.put.ensures
+    joined c.put_aligned-numbered.ensures (joined c.put-barred.ensures
     (joined (rw c.differ.ensures at c.put_if-begun.ensures)
     (joined (as_laid (ap shown c.part.ensures) c.put_shown-shown.ensures)
     (joined (rw c.differ-2.ensures at c.put_if-ended.ensures) c.put.ensures))))

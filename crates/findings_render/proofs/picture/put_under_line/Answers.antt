@@ -1,19 +1,14 @@
 -- One after the other.
-use mathlib.Core.Path.{ap, ◌∙◌}
+use mathlib.Core.Path.{ap}
 use Rattle.findings_render_parts.specs.Shown.{under, carets}
 use Rattle.findings_render.specs.Rendered.{under_line}
 use Rattle.findings_render_parts.proofs.OneByOne.{joined, as_laid}
 use Rattle.findings_render.proofs.picture.put_under_line.Goals as goal
 
-pub shape_of-out : goal.shape_of-out
-shape_of-out c =
-    c.put.auto.0 ∙ c.put_if-ended.auto.0 ∙ c.put_carets-marked.auto.0 ∙ c.put_if-painted.auto.0
-    ∙ c.put_under-under.auto.0 ∙ c.put_if-begun.auto.0 ∙ c.put.auto.0
-
 pub returns : goal.returns
 unfolding under_line
 returns c =
-    joined c.put.ensures (joined (rw c.differ.ensures at c.put_if-begun.ensures)
+    joined c.put-barred.ensures (joined (rw c.differ.ensures at c.put_if-begun.ensures)
     (joined (as_laid (ap (under 32) c.part.ensures) c.put_under-under.ensures)
     (joined c.put_if-painted.ensures
     (joined (as_laid (ap carets (rw c.lesser.ensures at c.part-2.ensures)) c.put_carets-marked.ensures)

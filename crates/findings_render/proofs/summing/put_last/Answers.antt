@@ -6,4 +6,4 @@ use Rattle.findings_render.proofs.summing.put_last.Goals as goal
 pub returns : goal.returns
 unfolding last
 returns c =
-    joined c.put.ensures (joined c.put-parted.ensures (joined c.put_counts-counted.ensures c.put.ensures))
+    joined c.put-named.ensures (joined c.put-parted.ensures (joined c.put_counts-counted.ensures c.put.ensures))

@@ -11,5 +11,5 @@ returns-then-findings-told c = rw (le-ltb _ _ c.if-findings-told.true) nothing
 pub returns : goal.returns
 unfolding more
 returns c =
-    rw (lt-ltb _ _ c.if-findings-told.false) (joined c.put.ensures (joined c.put-parted.ensures
+    rw (lt-ltb _ _ c.if-findings-told.false) (joined c.put-named.ensures (joined c.put-parted.ensures
     (joined (rw c.minus.ensures at c.put_number-counted.ensures) c.put.ensures)))
