@@ -1,4 +1,6 @@
 // The calls of the crate `findings_render` for programs in C and Rust: what they write and answer is what its functions do.
+#![tactic(auto)]
+
 ghost use Rattle.std.specs.Prelude.{◌≡◌};
 ghost use Rattle.findings_render_parts.specs.Laid.{counted, over};
 ghost use Rattle.findings_render.specs.Called.{rendered};

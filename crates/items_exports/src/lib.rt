@@ -1,6 +1,8 @@
 // Questions about records and nodes that other calls gave, for C and Rust: in which bracket a record lies, what lies beneath a node and
 // beside it, whether stored records lie in what is lent; and the archive's version. Any words may be given: what a question means of them is
 // defined in specs/Records and specs/Nodes. Where there is no such record or node the answer is how many there are.
+#![tactic(auto)]
+
 ghost use Rattle.std.specs.Prelude.{◌≡◌};
 ghost use Rattle.items_exports.specs.Version.{version};
 

@@ -19,7 +19,7 @@ record_fits-requires c = omega (arith, c.loop-left-test.true, c.loop-left.invari
 -- src/records.rt:133:13
 pub returns-then-not-record_fits : goal.returns-then-not-record_fits
 returns-then-not-record_fits c =
-    fit_fails c.args.records.now c.args.source c.args.text c.loop-left.false c.loop-left-test.true
+    fit_fails c.args.records.now c.args.source c.args.text c.loop-left.left c.loop-left-test.true
     (sym c.record_fits.ensures ∙ not-true _ c.if-not-record_fits.true-raw) ∙ c.loop-left.invariant.1
 
 -- src/records.rt:130:5
@@ -30,11 +30,11 @@ loop-left-smaller c = omega (arith, c.loop-left-test.true)
 pub loop-left-preserved : goal.loop-left-preserved
 loop-left-preserved c = (
   omega (arith, c.loop-left.invariant.0),
-  fit_earlier c.args.records.now c.args.source c.args.text c.loop-left.false c.loop-left-test.true
+  fit_earlier c.args.records.now c.args.source c.args.text c.loop-left.left c.loop-left-test.true
       (sym c.record_fits.ensures ∙ not-false _ c.if-not-record_fits.false-raw) ∙ c.loop-left.invariant.1,
 )
 
 -- src/records.rt:125:1
 pub returns : goal.returns
 returns c =
-    fit_none c.args.records.now c.args.source c.args.text c.loop-left.false (omega (arith, c.loop-left-test.false)) ∙ c.loop-left.invariant.1
+    fit_none c.args.records.now c.args.source c.args.text c.loop-left.left (omega (arith, c.loop-left-test.false)) ∙ c.loop-left.invariant.1

@@ -18,7 +18,7 @@ opens_inside-requires c = omega (arith, c.loop-left-test.true, c.loop-left.invar
 -- src/records.rt:57:13
 pub returns-then-opens_inside : goal.returns-then-opens_inside
 returns-then-opens_inside c =
-    open_here c.args.records.now c.args.depth c.args.none c.loop-left.false c.loop-left-test.true
+    open_here c.args.records.now c.args.depth c.args.none c.loop-left.left c.loop-left-test.true
     (sym c.opens_inside.ensures ∙ c.if-opens_inside.true) ∙ c.loop-left.invariant.1
 
 -- src/records.rt:54:5
@@ -29,11 +29,11 @@ loop-left-smaller c = omega (arith, c.loop-left-test.true)
 pub loop-left-preserved : goal.loop-left-preserved
 loop-left-preserved c = (
   omega (arith, c.loop-left.invariant.0),
-  open_earlier c.args.records.now c.args.depth c.args.none c.loop-left.false c.loop-left-test.true
+  open_earlier c.args.records.now c.args.depth c.args.none c.loop-left.left c.loop-left-test.true
       (sym c.opens_inside.ensures ∙ c.if-opens_inside.false) ∙ c.loop-left.invariant.1,
 )
 
 -- src/records.rt:49:1
 pub returns : goal.returns
 returns c =
-    open_none c.args.records.now c.args.depth c.args.none c.loop-left.false (omega (arith, c.loop-left-test.false)) ∙ c.loop-left.invariant.1
+    open_none c.args.records.now c.args.depth c.args.none c.loop-left.left (omega (arith, c.loop-left-test.false)) ∙ c.loop-left.invariant.1
