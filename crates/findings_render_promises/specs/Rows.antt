@@ -1,6 +1,6 @@
 -- Whole answers of `findings_render::render` and `findings_render::summary`: they ensure `r ≡ counted bytes` and `out' ≡ over bytes out`, where the
 -- bytes are `rendered` or `summed`.
-use Rattle.std.specs.Prelude.{ℕ, true, false, List, [], ◌∷◌, ◌++◌, ◌≡◌, refl, replicate}
+use Rattle.std.specs.Prelude.{ℕ, false, List, [], ◌∷◌, ◌++◌, ◌≡◌, refl, replicate}
 use Rattle.laws.specs.Quoted.{codes, within}
 use Rattle.laws.specs.Texts.{span, begins}
 use Rattle.chars.specs.Encode.{is_scalar, utf8, width, encode, bytes_of}
