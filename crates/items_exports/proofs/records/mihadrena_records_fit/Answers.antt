@@ -1,6 +1,5 @@
 use mathlib.Core.Path.{refl, sym, ◌∙◌}
 use native.Mathlib.Omega.{arith}
-use borrow.Author.Tests.{not-true, not-false}
 use Rattle.items_exports.proofs.Back.{fit_fails, fit_earlier, fit_none}
 use Rattle.items_exports.proofs.records.mihadrena_records_fit.Goals as goal
 
@@ -20,7 +19,7 @@ record_fits-requires c = omega (arith, c.loop-left-test.true, c.loop-left.invari
 pub returns-then-not-record_fits : goal.returns-then-not-record_fits
 returns-then-not-record_fits c =
     fit_fails c.args.records.now c.args.source c.args.text c.loop-left.left c.loop-left-test.true
-    (sym c.record_fits.ensures ∙ not-true _ c.if-not-record_fits.true-raw) ∙ c.loop-left.invariant.1
+    (sym c.record_fits.ensures ∙ c.if-not-record_fits.true) ∙ c.loop-left.invariant.1
 
 -- src/records.rt:130:5
 pub loop-left-smaller : goal.loop-left-smaller
@@ -31,7 +30,7 @@ pub loop-left-preserved : goal.loop-left-preserved
 loop-left-preserved c = (
   omega (arith, c.loop-left.invariant.0),
   fit_earlier c.args.records.now c.args.source c.args.text c.loop-left.left c.loop-left-test.true
-      (sym c.record_fits.ensures ∙ not-false _ c.if-not-record_fits.false-raw) ∙ c.loop-left.invariant.1,
+      (sym c.record_fits.ensures ∙ c.if-not-record_fits.false) ∙ c.loop-left.invariant.1,
 )
 
 -- src/records.rt:125:1
