@@ -1,6 +1,5 @@
 -- By the test.
 use mathlib.Core.Path.{sym, ◌∙◌}
-use borrow.Author.Tests.{not-true, not-false}
 use Rattle.findings_render.specs.Json.{see_field}
 use Rattle.findings_render_parts.proofs.OneByOne.{joined, as_quoted}
 use Rattle.findings_render.proofs.json.put_see_field.Goals as goal
@@ -8,10 +7,10 @@ use Rattle.findings_render.proofs.json.put_see_field.Goals as goal
 pub returns-then-not-is_told : goal.returns-then-not-is_told
 unfolding see_field
 returns-then-not-is_told c =
-    rw (sym c.is_told.ensures ∙ not-true _ c.if-not-is_told.true-raw) c.put.ensures
+    rw (sym c.is_told.ensures ∙ c.if-not-is_told.true) c.put.ensures
 
 pub returns : goal.returns
 unfolding see_field
 returns c =
-    rw (sym c.is_told.ensures ∙ not-false _ c.if-not-is_told.false-raw) (joined c.put_spot_fields-placed.ensures
+    rw (sym c.is_told.ensures ∙ c.if-not-is_told.false) (joined c.put_spot_fields-placed.ensures
     (joined c.put_byte_fields-counted.ensures (joined c.put-begun.ensures (joined (as_quoted c.put_text-worded.ensures) c.put-2.ensures))))

@@ -1,15 +1,14 @@
 -- By the test.
 use mathlib.Core.Path.{sym, ◌∙◌}
-use borrow.Author.Tests.{not-true, not-false}
 use Rattle.findings_render.specs.Rendered.{help}
 use Rattle.findings_render_parts.proofs.OneByOne.{nothing, joined}
 use Rattle.findings_render.proofs.lines.put_help.Goals as goal
 
 pub returns-then-not-is_told : goal.returns-then-not-is_told
 unfolding help
-returns-then-not-is_told c = rw (sym c.is_told.ensures ∙ not-true _ c.if-not-is_told.true-raw) nothing
+returns-then-not-is_told c = rw (sym c.is_told.ensures ∙ c.if-not-is_told.true) nothing
 
 pub returns : goal.returns
 unfolding help
 returns c =
-    rw (sym c.is_told.ensures ∙ not-false _ c.if-not-is_told.false-raw) (joined c.put-begun.ensures (joined c.put_text-worded.ensures c.put.ensures))
+    rw (sym c.is_told.ensures ∙ c.if-not-is_told.false) (joined c.put-begun.ensures (joined c.put_text-worded.ensures c.put.ensures))

@@ -1,16 +1,15 @@
 -- By the test.
 use mathlib.Core.Path.{sym, ◌∙◌}
-use borrow.Author.Tests.{not-true, not-false}
 use Rattle.findings_render.specs.Rendered.{note}
 use Rattle.findings_render_parts.proofs.OneByOne.{nothing, joined}
 use Rattle.findings_render.proofs.lines.put_note.Goals as goal
 
 pub returns-then-not-is_told : goal.returns-then-not-is_told
 unfolding note
-returns-then-not-is_told c = rw (sym c.is_told.ensures ∙ not-true _ c.if-not-is_told.true-raw) nothing
+returns-then-not-is_told c = rw (sym c.is_told.ensures ∙ c.if-not-is_told.true) nothing
 
 pub returns : goal.returns
 unfolding note
 returns c =
-    rw (sym c.is_told.ensures ∙ not-false _ c.if-not-is_told.false-raw) (joined c.put_spot-placed.ensures (joined c.put-begun.ensures
+    rw (sym c.is_told.ensures ∙ c.if-not-is_told.false) (joined c.put_spot-placed.ensures (joined c.put-begun.ensures
     (joined c.put_text-worded.ensures (joined c.put-ended.ensures c.put_picture_if.ensures))))
