@@ -8,9 +8,7 @@ use Rattle.findings.proofs.laying.lay.Goals as goal
 pub returns-then-f-eq-ERROR : goal.returns-then-f-eq-ERROR
 unfolding errors_in laid_rows_from
 returns-then-f-eq-ERROR c =
-    let t = c.before.t-1 in
-    let lay-one = c.lay_one in
-    rw t.given.1 (rw (eq-eqb _ _ c.if-f-eq-ERROR.true, lay-one.ensures))
+    rw c.in-One.is (rw (eq-eqb _ _ c.if-f-eq-ERROR.true, c.lay_one.ensures))
 
 pub returns-in-Nothing : goal.returns-in-Nothing
 unfolding errors_in laid_rows_from
@@ -19,6 +17,4 @@ returns-in-Nothing c = rw c.in-Nothing.is (simp add-zero)
 pub returns-else-f-eq-ERROR : goal.returns-else-f-eq-ERROR
 unfolding errors_in laid_rows_from
 returns-else-f-eq-ERROR c =
-    let t = c.before.t-1 in
-    let lay-one = c.lay_one in
-    rw t.given.1 (rw (ne_eqb _ _ c.if-f-eq-ERROR.false, lay-one.ensures, add-zero))
+    rw c.in-One.is (rw (ne_eqb _ _ c.if-f-eq-ERROR.false, c.lay_one.ensures, add-zero))

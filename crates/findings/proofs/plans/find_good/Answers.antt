@@ -7,21 +7,12 @@ use Rattle.findings.proofs.plans.find_good.Goals as goal
 
 pub returns-then-rows-count : goal.returns-then-rows-count
 returns-then-rows-count c =
-    let args = c.args in
-    let rows = c.rows-count in
-    let a = args in
-    let source = a.source.now in
-    too_few source a.rows.now rows.ensures a.findings.now (told_of source (flat (rows_of source))) c.if-rows-count.true
+    let source = c.args.source.now in
+    too_few source c.args.rows.now c.rows-count.ensures c.args.findings.now (told_of source (flat (rows_of source))) c.if-rows-count.true
 
 pub slice_bounds-tell-end-2 : goal.slice_bounds-tell-end-2
-slice_bounds-tell-end-2 c =
-    let args = c.args in
-    let rows = c.rows-count in
-    part_length args.source.now args.rows.now rows.ensures c.if-rows-count.false
+slice_bounds-tell-end-2 c = part_length c.args.source.now c.args.rows.now c.rows-count.ensures c.if-rows-count.false
 
 pub returns : goal.returns
 returns c =
-    let args = c.args in
-    let rows = c.rows-count in
-    let if1 = c.if-rows-count in
-    all_found args.source.now args.rows.now rows.ensures if1.false args.findings.now c.tell-n.ensures
+    all_found c.args.source.now c.args.rows.now c.rows-count.ensures c.if-rows-count.false c.args.findings.now c.tell-n.ensures

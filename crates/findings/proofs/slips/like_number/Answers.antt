@@ -10,17 +10,12 @@ returns-then-is_digit c = rw (← c.byte_at-b.ensures) (rw (sym c.is_digit.ensur
 pub returns-then-leads_number : goal.returns-then-leads_number
 unfolding like_number
 returns-then-leads_number c =
-    let byte_at = c.byte_at in
-    let is_digit = c.is_digit in
-    let if1 = c.if-is_digit in
-    let leads-number = c.leads_number in
-    rw (← byte_at.ensures)
-    (rw (sym is_digit.ensures ∙ if1.false, sym leads-number.ensures ∙ c.if-leads_number.true) (c.is_digit-then-leads_number.ensures ∙ ap is_a_digit c.byte_at.ensures))
+    rw (← c.byte_at-b.ensures)
+    (rw (sym c.is_digit.ensures ∙ c.if-is_digit.false, sym c.leads_number.ensures ∙ c.if-leads_number.true)
+    (c.is_digit-then-leads_number.ensures ∙ ap is_a_digit c.byte_at.ensures))
 
 pub returns : goal.returns
 unfolding like_number
 returns c =
-    let byte_at = c.byte_at-b in
-    let is_digit = c.is_digit in
-    rw (← byte_at.ensures)
-    (rw (sym is_digit.ensures ∙ c.if-is_digit.false, sym c.leads_number.ensures ∙ c.if-leads_number.false))
+    rw (← c.byte_at-b.ensures)
+    (rw (sym c.is_digit.ensures ∙ c.if-is_digit.false, sym c.leads_number.ensures ∙ c.if-leads_number.false))

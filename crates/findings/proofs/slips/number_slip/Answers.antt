@@ -6,22 +6,16 @@ use Rattle.findings.proofs.slips.number_slip.Goals as goal
 pub returns-then-comma_follows : goal.returns-then-comma_follows
 unfolding number_slip
 returns-then-comma_follows c =
-    let row_at = c.row_at-row in
-    let like-number = c.like_number in
-    let if1 = c.if-like_number in
-    let comma_follows_lem = c.comma_follows in
-    let if2 = c.if-comma_follows in
-    rw (← row_at.ensures, ← c.row_at-rest.ensures)
-    (rw (sym like-number.ensures ∙ if1.true, sym comma_follows_lem.ensures ∙ if2.true, ← c.length_of.ensures) c.warn.ensures)
+    rw (← c.row_at-row.ensures, ← c.row_at-rest.ensures)
+    (rw (sym c.like_number.ensures ∙ c.if-like_number.true, sym c.comma_follows.ensures ∙ c.if-comma_follows.true, ← c.length_of.ensures)
+    c.warn.ensures)
 
 pub returns-then-like_number : goal.returns-then-like_number
 unfolding number_slip
 returns-then-like_number c =
-    let row_at = c.row_at-row in
-    let like-number = c.like_number in
-    let if1 = c.if-like_number in
-    rw (← row_at.ensures)
-    (rw (sym like-number.ensures ∙ if1.true, sym c.comma_follows.ensures ∙ c.if-comma_follows.false) c.warn-then-like_number.ensures)
+    rw (← c.row_at-row.ensures)
+    (rw (sym c.like_number.ensures ∙ c.if-like_number.true, sym c.comma_follows.ensures ∙ c.if-comma_follows.false)
+    c.warn-then-like_number.ensures)
 
 pub returns : goal.returns
 unfolding number_slip

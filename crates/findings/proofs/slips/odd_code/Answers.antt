@@ -9,22 +9,22 @@ returns-then-is_quote c = rw (sym c.is_quote.ensures ∙ c.if-is_quote.true)
 
 pub returns-then-is_dash : goal.returns-then-is_dash
 unfolding odd_code
-returns-then-is_dash c =
-    let is_quote_lem = c.is_quote in
-    rw (sym is_quote_lem.ensures ∙ c.if-is_quote.false, sym c.is_dash.ensures ∙ c.if-is_dash.true)
+returns-then-is_dash c = rw (sym c.is_quote.ensures ∙ c.if-is_quote.false, sym c.is_dash.ensures ∙ c.if-is_dash.true)
 
 pub returns-then-is_invisible : goal.returns-then-is_invisible
 unfolding odd_code
 returns-then-is_invisible c =
-    let is_quote_lem = c.is_quote in
-    let if1 = c.if-is_quote in
-    let is-dash = c.is_dash in
-    rw (sym is_quote_lem.ensures ∙ if1.false, sym is-dash.ensures ∙ c.if-is_dash.false, sym c.is_invisible.ensures ∙ c.if-is_invisible.true)
+    rw (
+      sym c.is_quote.ensures ∙ c.if-is_quote.false,
+      sym c.is_dash.ensures ∙ c.if-is_dash.false,
+      sym c.is_invisible.ensures ∙ c.if-is_invisible.true,
+    )
 
 pub returns : goal.returns
 unfolding odd_code
 returns c =
-    let is_quote_lem = c.is_quote in
-    let if1 = c.if-is_quote in
-    let is-dash = c.is_dash in
-    rw (sym is_quote_lem.ensures ∙ if1.false, sym is-dash.ensures ∙ c.if-is_dash.false, sym c.is_invisible.ensures ∙ c.if-is_invisible.false)
+    rw (
+      sym c.is_quote.ensures ∙ c.if-is_quote.false,
+      sym c.is_dash.ensures ∙ c.if-is_dash.false,
+      sym c.is_invisible.ensures ∙ c.if-is_invisible.false,
+    )

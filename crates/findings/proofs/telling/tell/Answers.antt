@@ -14,48 +14,26 @@ loop-p-init c = rows_start _ _ _
 
 pub lay-n-requires : goal.lay-n-requires
 lay-n-requires c =
-    let loop = c.loop-p in
-    let g = loop.invariant in
-    (omega (arith, g.few, g.held.found, c.loop-p-test.true, c.good.1.0.1), held_errors g.held)
+    let g = c.loop-p.invariant in
+    (omega (arith, g.few, g.held.found, c.loop-p-test.true), held_errors g.held)
 
 pub row_told-requires : goal.row_told-requires
-row_told-requires c =
-    let loop-test = c.loop-p-test in
-    loop-test.true
+row_told-requires c = c.loop-p-test.true
 
 pub lay-n-requires-in-loop-p : goal.lay-n-requires-in-loop-p
 lay-n-requires-in-loop-p c =
-    let loop = c.loop-p in
-    let loop-test = c.loop-p-test in
-    let list-told = c.list_told in
-    let lay = c.lay-n in
-    let g = loop.invariant in
-    let t = list-told.result in
-    let h = held_more g.held (listed t) lay.ensures in
-    (omega (arith, g.few, h.found, length-append g.done (listed t), listed_few t, loop-test.taken, c.good.1.0.1), held_errors h)
-
-pub overflow_add-p : goal.overflow_add-p
-overflow_add-p c =
-    let loop-test = c.loop-p-test in
-    omega (arith, loop-test.taken, c.good.1.0.0)
-
-pub loop-p-smaller : goal.loop-p-smaller
-loop-p-smaller c =
-    let loop-test = c.loop-p-test in
-    omega (arith, loop-test.taken)
+    let g = c.loop-p.invariant in
+    let t = c.list_told.result in
+    let h = held_more g.held (listed t) c.lay-n.ensures in
+    (omega (arith, g.few, h.found, length-append g.done (listed t), listed_few t, c.loop-p-test.true), held_errors h)
 
 pub loop-p-preserved : goal.loop-p-preserved
 loop-p-preserved c =
-    let loop = c.loop-p in
-    let loop-test = c.loop-p-test in
-    let list-told = c.list_told in
-    let lay = c.lay-n in
-    let row_told = c.row_told in
-    let g = loop.invariant in
-    let t = list-told.result in
-    let u = row_told.result in
-    rows_turn _ _ _ g t u loop-test.true (rw (list-told.ensures, row_told.ensures))
-    (held_more (held_more g.held (listed t) lay.ensures) (listed u) c.lay-n-in-loop-p.ensures)
+    let g = c.loop-p.invariant in
+    let t = c.list_told.result in
+    let u = c.row_told.result in
+    rows_turn _ _ _ g t u c.loop-p-test.true (rw (c.list_told.ensures, c.row_told.ensures))
+    (held_more (held_more g.held (listed t) c.lay-n.ensures) (listed u) c.lay-n-in-loop-p.ensures)
 
 pub shape_of-findings : goal.shape_of-findings
 shape_of-findings c = ap length c.loop-p.invariant.held.lies ∙ laid_length _ _
@@ -63,7 +41,5 @@ shape_of-findings c = ap length c.loop-p.invariant.held.lies ∙ laid_length _ _
 pub returns : goal.returns
 unfolding told_of
 returns c =
-    let list_of = c.list_of-list in
-    let first-swallower = c.first_swallower-first in
     rows_end _ _ _ c.loop-p.invariant c.loop-p-test.false
-    ∙ rw (list_of.ensures, c.is_left_over-left.ensures, first-swallower.ensures)
+    ∙ rw (c.list_of-list.ensures, c.is_left_over-left.ensures, c.first_swallower-first.ensures)
