@@ -1,6 +1,5 @@
 -- Bytes of characters of one byte or two, told by each byte and the next: RFC 3629, section 4, UTF8-1 and UTF8-2.
-use Rattle.std.specs.Prelude.{ℕ, ◌+◌, ◌<◌, ◌≡◌, Bool, true, false, not, ◌&&◌, ◌||◌, List, leb, ltb, length, get_or}
-use Rattle.laws.specs.Choice.{if◌then◌else◌}
+use Rattle.std.specs.Prelude.{ℕ, ◌+◌, ◌<◌, ◌≡◌, Bool, true, false, not, ◌&&◌, ◌||◌, List, leb, ltb, length, get_or, if◌then◌else◌}
 use Rattle.byte_runs.specs.Runs.{block}
 
 -- the first byte of two

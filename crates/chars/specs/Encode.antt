@@ -1,7 +1,6 @@
 -- Characters as bytes: RFC 3629, section 3, the table of octet sequences.
-use Rattle.std.specs.Prelude.{ℕ, ◌+◌, ◌/◌, ◌%◌, Bool, ◌||◌, List, [], ◌∷◌, ◌++◌, ltb, length}
+use Rattle.std.specs.Prelude.{ℕ, ◌+◌, ◌/◌, ◌%◌, Bool, ◌||◌, List, [], ◌∷◌, ◌++◌, ltb, length, if◌then◌else◌}
 use Prim.Native.String.{String}
-use Rattle.laws.specs.Choice.{if◌then◌else◌}
 use Rattle.laws.specs.Quoted.{codes, within}
 use Rattle.laws.specs.Lent.{written}
 

@@ -1,6 +1,5 @@
 -- UTF-8 as RFC 3629 has it: section 4 says which bytes may stand where, section 3 which bits of a character each of them holds.
-use Rattle.std.specs.Prelude.{ℕ, zero, suc, ◌+◌, ◌-◌, ◌*◌, ◌%◌, List, [], ◌∷◌, Bool}
-use Rattle.laws.specs.Choice.{if◌then◌else◌}
+use Rattle.std.specs.Prelude.{ℕ, zero, suc, ◌+◌, ◌-◌, ◌*◌, ◌%◌, List, [], ◌∷◌, Bool, if◌then◌else◌}
 use Rattle.laws.specs.Quoted.{within}
 use Rattle.chars.specs.declared.Step.{Step}
 use Rattle.chars.specs.declared.Step.TheVariants as step

@@ -1,6 +1,5 @@
 -- A character past ASCII at the front of a text, told by the table of RFC 3629, section 4, without the byte machine.
-use Rattle.std.specs.Prelude.{ℕ, zero, suc, ◌+◌, ◌≤◌, ◌≡◌, List, Bool, false, eqb, drop}
-use Rattle.laws.specs.Choice.{if◌then◌else◌}
+use Rattle.std.specs.Prelude.{ℕ, zero, suc, ◌+◌, ◌≤◌, ◌≡◌, List, Bool, false, eqb, drop, if◌then◌else◌}
 use Rattle.laws.specs.Quoted.{within}
 use Rattle.chars.specs.Blank.{is_blank}
 use Rattle.chars.specs.Utf8.{char, front, sequences, verdict}

@@ -1,8 +1,7 @@
 -- 28 in the request's words: of a text that is not refused with 20 or 21, exactly if it is not one decimal or its m or s lies outside; of a
 -- record besides exactly if it is no Number.
-use Rattle.std.proofs.Common.{◌≡◌, ℕ, ◌-◌, ◌≤◌, eqb, leb, ◌⊎◌, List, length, take, drop, sym, refl, ◌∙◌, inl, inr, le-ltb, ne_eqb, le-leb, leb-false}
+use Rattle.std.proofs.Common.{◌≡◌, ℕ, ◌-◌, ◌≤◌, eqb, leb, ◌⊎◌, List, length, take, drop, sym, refl, ◌∙◌, inl, inr, le-ltb, ne_eqb, le-leb, leb-false, if◌then◌else◌}
 use borrow.Author.Tests.{lt-leb, eqb-false}
-use Rattle.laws.specs.Choice.{if◌then◌else◌}
 use Rattle.laws.proofs.Choice.{by_bool, impossible}
 use Rattle.refusal.specs.Refusals.{limit}
 use Rattle.chars.specs.declared.Utf8.TheVariants as utf8

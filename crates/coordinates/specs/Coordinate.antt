@@ -1,8 +1,7 @@
 -- A coordinate: a text that is one decimal, as a float of 64 bits. Sentences in quotes are those of the request "Coordinates as numbers".
-use Rattle.std.specs.Prelude.{ℕ, suc, ◌-◌, ◌*◌, ◌^◌, Bool, leb, List, ◌++◌, length, take, drop, ℤ, pos, negsuc, ◌-ℤ◌, nat_eq, nat_le, nat_lt}
+use Rattle.std.specs.Prelude.{ℕ, suc, ◌-◌, ◌*◌, ◌^◌, Bool, leb, List, ◌++◌, length, take, drop, ℤ, pos, negsuc, ◌-ℤ◌, nat_eq, nat_le, nat_lt, if◌then◌else◌}
 use Rattle.std.specs.Float.{binary64}
 use Rattle.std.specs.Float.Ieee.{round}
-use Rattle.laws.specs.Choice.{if◌then◌else◌}
 use Rattle.refusal.specs.Refusals.{over_long, not_utf8, out_of_bounds, limit, no_coordinate}
 use Rattle.chars.specs.declared.Utf8.{Utf8}
 use Rattle.chars.specs.declared.Utf8.TheVariants as utf8

@@ -1,7 +1,6 @@
 -- What the functions within answer.
-use Rattle.std.specs.Prelude.{◌≡◌, ℕ, ◌+◌, ◌^◌, ◌<◌, Bool, false, ◌&&◌, List, length, drop, ℤ, pos, ◌-ℤ◌, neg_ℤ, nat_le, Float}
+use Rattle.std.specs.Prelude.{◌≡◌, ℕ, ◌+◌, ◌^◌, ◌<◌, Bool, false, ◌&&◌, List, length, drop, ℤ, pos, ◌-ℤ◌, neg_ℤ, nat_le, Float, if◌then◌else◌}
 use Rattle.std.specs.Float.{fin}
-use Rattle.laws.specs.Choice.{if◌then◌else◌}
 use Rattle.digits.specs.declared.Run.{Run}
 use Rattle.digits.specs.Digits.{digits, sign, negative, value, run_value, short, signed}
 use Rattle.numbers.specs.declared.MaybePoint.{MaybePoint}

@@ -1,6 +1,5 @@
 -- The value of a number: a decimal's is its coordinate, and an integer's that of the decimal that it is with a dot behind it.
-use Rattle.std.specs.Prelude.{ℕ, ◌-◌, Bool, false, List, length, take, drop, nat_eq, nat_le, nat_lt}
-use Rattle.laws.specs.Choice.{if◌then◌else◌}
+use Rattle.std.specs.Prelude.{ℕ, ◌-◌, Bool, false, List, length, take, drop, nat_eq, nat_le, nat_lt, if◌then◌else◌}
 use Rattle.refusal.specs.Refusals.{over_long, out_of_bounds, limit}
 use Rattle.digits.specs.declared.Span.{Span}
 use Rattle.digits.specs.Digits.{sign, negative, uinteger}

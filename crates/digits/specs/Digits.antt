@@ -1,7 +1,6 @@
 -- Digits, signs and integers: R7RS 7.1.1's <digit R>, <sign> and <uinteger R>, and document 01's rule "Integer".
 -- s is a part of a text as a list of bytes, p the place of the text where that part starts, R the radix.
-use Rattle.std.specs.Prelude.{ℕ, ◌+◌, ◌-◌, ◌*◌, ◌^◌, Bool, true, false, ◌&&◌, List, [], ◌∷◌, length, take, drop, ltb, leb, eqb, ℤ, pos, neg_ℤ}
-use Rattle.laws.specs.Choice.{if◌then◌else◌}
+use Rattle.std.specs.Prelude.{ℕ, ◌+◌, ◌-◌, ◌*◌, ◌^◌, Bool, true, false, ◌&&◌, List, [], ◌∷◌, length, take, drop, ltb, leb, eqb, ℤ, pos, neg_ℤ, if◌then◌else◌}
 use Rattle.laws.specs.Quoted.{code, within}
 use Rattle.laws.specs.Texts.{span, starts}
 use Rattle.digits.specs.declared.Span.{Span}

@@ -1,7 +1,6 @@
 -- The hexadecimal digits of an escape or of a character `#\x..`: document 01, "Rules that bite". "One leading `+` is allowed. Digits are
 -- read left to right; the first failing position decides, bad digit before overflow. A lone `+` is a bad digit."
-use Rattle.std.specs.Prelude.{ℕ, ◌+◌, ◌*◌, ◌^◌, List, [], ◌∷◌, ltb, eqb}
-use Rattle.laws.specs.Choice.{if◌then◌else◌}
+use Rattle.std.specs.Prelude.{ℕ, ◌+◌, ◌*◌, ◌^◌, List, [], ◌∷◌, ltb, eqb, if◌then◌else◌}
 use Rattle.laws.specs.Quoted.{code}
 use Rattle.digits.specs.declared.Hex.{Hex}
 use Rattle.digits.specs.declared.Hex.TheVariants.{Value, Wrong}

@@ -1,6 +1,5 @@
 -- What the decoder's functions say of an element. A means of proof: the contracts of `decode` and `decoded_length` cite `unescape` alone.
-use Rattle.std.specs.Prelude.{ℕ, ◌≤◌, ◌≡◌, Bool, true, List, [], ◌∷◌, ◌++◌, length, drop, eqb}
-use Rattle.laws.specs.Choice.{if◌then◌else◌}
+use Rattle.std.specs.Prelude.{ℕ, ◌≤◌, ◌≡◌, Bool, true, List, [], ◌∷◌, ◌++◌, length, drop, eqb, if◌then◌else◌}
 use Rattle.laws.specs.Quoted.{code}
 use Rattle.chars.specs.Encode.{encode, is_scalar}
 use Rattle.items.specs.declared.Quotes.{Quotes}

@@ -1,6 +1,5 @@
 -- The piece calls on memory that the caller lends: the state's bytes and words, the text memory, an item's record and two values.
-use Rattle.std.specs.Prelude.{ℕ, Bool, ◌&&◌, List, [], ◌∷◌, length, get_or, eqb, leb}
-use Rattle.laws.specs.Choice.{if◌then◌else◌}
+use Rattle.std.specs.Prelude.{ℕ, Bool, ◌&&◌, List, [], ◌∷◌, length, get_or, eqb, leb, if◌then◌else◌}
 use Rattle.laws.specs.Lent.{written}
 use Rattle.refusal.specs.Refusals as refusal
 use Rattle.chars.specs.Encode.{lay}

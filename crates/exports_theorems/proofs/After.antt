@@ -1,7 +1,7 @@
 -- A lent call does what the call by value does, `same_piece` and `same_end` of crate `pieces_lent`, so any lent calls add up to what those by value add
 -- up to, with the state lent; and what crate `pieces_any_calls` says of these holds of them.
 use Rattle.refusal.specs.Refusals as refusal
-use Rattle.laws.specs.Choice.{if◌then◌else◌}
+use Rattle.std.specs.Prelude.{if◌then◌else◌}
 use Rattle.items.specs.Whole.{in_report}
 use Rattle.pieces.specs.declared.State.{State as ByValue}
 use Rattle.pieces.specs.Calls.{finished, refused}

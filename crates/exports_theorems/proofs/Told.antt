@@ -9,7 +9,7 @@ use lib.Dec.{eqb, leb, ltb}
 use native.Mathlib.Omega.{arith}
 use borrow.Author.Tests.{eqb-true}
 use Rattle.refusal.specs.Refusals as refusal
-use Rattle.laws.specs.Choice.{if◌then◌else◌}
+use Rattle.std.specs.Prelude.{if◌then◌else◌}
 use Rattle.laws.specs.Quoted.{code}
 use Rattle.laws.proofs.Choice.{by_bool, if_all, if_is, and_true}
 use Rattle.chars.specs.declared.Step.{Step}

@@ -1,7 +1,6 @@
 -- Any calls on a lent state, one after the other, as crate `pieces_any_calls` has them of a state by value: what they took and gave, added up, and the
 -- state that they left.
-use Rattle.std.specs.Prelude.{ℕ, ◌<◌, ◌≡◌, Bool, true, false, List, [], ◌∷◌, ◌++◌, take, leb}
-use Rattle.laws.specs.Choice.{if◌then◌else◌}
+use Rattle.std.specs.Prelude.{ℕ, ◌<◌, ◌≡◌, Bool, true, false, List, [], ◌∷◌, ◌++◌, take, leb, if◌then◌else◌}
 use Rattle.refusal.specs.Refusals as refusal
 use Rattle.pieces.specs.Expected.{longest}
 use Rattle.pieces.specs.Given.{Given}

@@ -1,7 +1,6 @@
 -- A caller that reads a text piece by piece over slices and numbers alone, as specs/Drive of crate `pieces` has one over a state by value. It
 -- asks only for the numbers and the memory that a call leaves.
-use Rattle.std.specs.Prelude.{ℕ, zero, suc, ◌+◌, ◌*◌, Bool, List, [], ◌∷◌, length, take, drop, get_or, eqb}
-use Rattle.laws.specs.Choice.{if◌then◌else◌}
+use Rattle.std.specs.Prelude.{ℕ, zero, suc, ◌+◌, ◌*◌, Bool, List, [], ◌∷◌, length, take, drop, get_or, eqb, if◌then◌else◌}
 use Rattle.refusal.specs.Refusals as refusal
 use Rattle.items.specs.Items.{record_words}
 use Rattle.pieces.specs.Calls.{What, item, more, finished, refused}

@@ -1,6 +1,5 @@
 -- The findings of a plan, and what the call answers.
-use Rattle.std.specs.Prelude.{ℕ, ◌/◌, List, [], ◌∷◌, leb, ltb, length}
-use Rattle.laws.specs.Choice.{if◌then◌else◌}
+use Rattle.std.specs.Prelude.{ℕ, ◌/◌, List, [], ◌∷◌, leb, ltb, length, if◌then◌else◌}
 use Rattle.refusal.specs.Refusals as refusal
 use Rattle.chars.specs.Utf8.{first_bad}
 use Rattle.chars.specs.declared.Utf8.{Utf8}

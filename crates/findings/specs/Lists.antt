@@ -1,7 +1,6 @@
 -- The one finding about lists: after a wrong bracket all others are its consequences. Which refusal it is, and at which row, is the nested
 -- lists' (crate nested); here it gets the place that a foreman looks for.
-use Rattle.std.specs.Prelude.{ℕ, ◌+◌, ◌-◌, Bool, ◌&&◌, ◌||◌, List, [], eqb, leb, ltb}
-use Rattle.laws.specs.Choice.{if◌then◌else◌}
+use Rattle.std.specs.Prelude.{ℕ, ◌+◌, ◌-◌, Bool, ◌&&◌, ◌||◌, List, [], eqb, leb, ltb, if◌then◌else◌}
 use Rattle.laws.specs.Quoted.{within}
 use Rattle.refusal.specs.Refusals as refusal
 use Rattle.items.specs.Kinds as kind

@@ -1,6 +1,5 @@
 -- What the search for a misfit keeps: a value for each depth, of the last bracket that opens there.
-use Rattle.std.specs.Prelude.{ℕ, ◌-◌, Bool, ◌&&◌, List, eqb, leb, ltb, length, get_or, set}
-use Rattle.laws.specs.Choice.{if◌then◌else◌}
+use Rattle.std.specs.Prelude.{ℕ, ◌-◌, Bool, ◌&&◌, List, eqb, leb, ltb, length, get_or, set, if◌then◌else◌}
 use Rattle.laws.specs.Quoted.{within}
 use Rattle.items.specs.Kinds as kind
 use Rattle.nested.specs.Grammar.{deepest}

@@ -1,7 +1,6 @@
 -- The rows of a plan, as `findings_rows` writes them: ten words each. Kind; the detail, which nothing here asks for; the extent; the place;
 -- the error's number, 0 of none, and its detail; a word of nothing; the depth.
-use Rattle.std.specs.Prelude.{ℕ, zero, suc, ◌+◌, ◌*◌, ◌-◌, Bool, List, leb, ltb, get_or, take, drop}
-use Rattle.laws.specs.Choice.{if◌then◌else◌}
+use Rattle.std.specs.Prelude.{ℕ, zero, suc, ◌+◌, ◌*◌, ◌-◌, Bool, List, leb, ltb, get_or, take, drop, if◌then◌else◌}
 use Rattle.items.specs.Kinds as kind
 use Rattle.items.specs.Items.{record_words, depth_after}
 use Rattle.items.specs.Whole.{limit}

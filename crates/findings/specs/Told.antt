@@ -1,6 +1,5 @@
 -- What each row tells, and all that a plan tells: row after row.
-use Rattle.std.specs.Prelude.{ℕ, zero, suc, ◌+◌, Bool, ◌&&◌, List, [], ◌∷◌, ◌++◌, eqb, ltb}
-use Rattle.laws.specs.Choice.{if◌then◌else◌}
+use Rattle.std.specs.Prelude.{ℕ, zero, suc, ◌+◌, Bool, ◌&&◌, List, [], ◌∷◌, ◌++◌, eqb, ltb, if◌then◌else◌}
 use Rattle.laws.specs.Quoted.{code}
 use Rattle.items.specs.Kinds as kind
 use Rattle.nested.specs.Items.{count_of}

@@ -1,6 +1,5 @@
 -- The call: style 0 in full, 1 brief, 2 JSON. Words that have no message have no bytes, and neither has any other style.
-use Rattle.std.specs.Prelude.{ℕ, Bool, true, false, List, [], eqb}
-use Rattle.laws.specs.Choice.{if◌then◌else◌}
+use Rattle.std.specs.Prelude.{ℕ, Bool, true, false, List, [], eqb, if◌then◌else◌}
 use Rattle.laws.specs.Quoted.{code}
 use Rattle.findings_render_messages.specs.declared.ToldFinding.{ToldFinding}
 use Rattle.findings_render_messages.specs.Messages.{told_of, is_told}

@@ -1,6 +1,5 @@
 -- A finding as an object of JSON, on a line of its own (RFC 8259). Where there is no help or no second place, `null` stands.
-use Rattle.std.specs.Prelude.{ℕ, true, List, ◌++◌, eqb, ltb, take}
-use Rattle.laws.specs.Choice.{if◌then◌else◌}
+use Rattle.std.specs.Prelude.{ℕ, true, List, ◌++◌, eqb, ltb, take, if◌then◌else◌}
 use Rattle.laws.specs.Quoted.{codes, code}
 use Rattle.findings_render_parts.specs.declared.Seen.{Seen}
 use Rattle.findings_render_messages.specs.declared.ToldFinding.{ToldFinding}

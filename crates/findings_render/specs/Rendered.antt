@@ -3,8 +3,7 @@
 --         2 |   (corner 6892014.7;gps
 --           |           ^^^^^^^^^
 --           = help: put a blank before the `;`
-use Rattle.std.specs.Prelude.{ℕ, ◌-◌, Bool, not, List, [], ◌∷◌, ◌++◌, eqb, ltb, take, drop}
-use Rattle.laws.specs.Choice.{if◌then◌else◌}
+use Rattle.std.specs.Prelude.{ℕ, ◌-◌, Bool, not, List, [], ◌∷◌, ◌++◌, eqb, ltb, take, drop, if◌then◌else◌}
 use Rattle.laws.specs.Quoted.{codes, code}
 use Rattle.findings_render_messages.specs.declared.ToldFinding.{ToldFinding}
 use Rattle.findings_render_parts.specs.declared.Window.{Window}

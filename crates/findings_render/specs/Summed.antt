@@ -1,6 +1,5 @@
 -- The last lines of a file: how many findings were not told, if not all were, and `FILE: ok` or the counts.
-use Rattle.std.specs.Prelude.{ℕ, ◌-◌, not, List, [], ◌++◌, eqb, ltb}
-use Rattle.laws.specs.Choice.{if◌then◌else◌}
+use Rattle.std.specs.Prelude.{ℕ, ◌-◌, not, List, [], ◌++◌, eqb, ltb, if◌then◌else◌}
 use Rattle.laws.specs.Quoted.{codes}
 use Rattle.findings_render_parts.specs.Printed.{number}
 use Rattle.findings_render.specs.Rendered.{only_if}

@@ -1,6 +1,5 @@
 // A finding's lines: the headline, its picture and help, and the note at the second place.
-ghost use Rattle.std.specs.Prelude.{◌≡◌, false};
-ghost use Rattle.laws.specs.Choice.{if◌then◌else◌};
+ghost use Rattle.std.specs.Prelude.{◌≡◌, false, if◌then◌else◌};
 ghost use Rattle.findings_render_parts.specs.Laid.{Laid};
 ghost use Rattle.findings_render_parts.specs.Spots.{IsPlace};
 ghost use Rattle.findings_render.specs.Rendered.{only_if, is_error, red, magenta, spot, severity_word, severity, headline, help, note, body, lines, picture};

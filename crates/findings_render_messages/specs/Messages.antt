@@ -1,6 +1,5 @@
 -- What is said of each finding, in one table, and how it is filled in.
-use Rattle.std.specs.Prelude.{ℕ, ◌+◌, ◌-◌, ◌/◌, ◌%◌, Bool, true, not, ◌&&◌, List, [], ◌∷◌, ◌++◌, eqb, ltb, length, get_or, take, drop}
-use Rattle.laws.specs.Choice.{if◌then◌else◌}
+use Rattle.std.specs.Prelude.{ℕ, ◌+◌, ◌-◌, ◌/◌, ◌%◌, Bool, true, not, ◌&&◌, List, [], ◌∷◌, ◌++◌, eqb, ltb, length, get_or, take, drop, if◌then◌else◌}
 use Rattle.laws.specs.Quoted.{codes, code, one_of}
 use Rattle.laws.specs.Texts.{before, begins}
 use Rattle.findings_render_messages.specs.declared.ToldFinding.{ToldFinding}

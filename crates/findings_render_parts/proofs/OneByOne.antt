@@ -9,7 +9,7 @@ use borrow.Author.Tests.{lt-ltb, le-ltb, le-leb, ltb-true, ltb-false, leb-true}
 use lib.Dec.{ltb, leb}
 use lib.ListN.{length, set, replicate, length-append, length-set}
 use lib.Seq.{set_out, set_at, take-nil, append_snoc}
-use Rattle.laws.specs.Choice.{if◌then◌else◌}
+use Rattle.std.specs.Prelude.{if◌then◌else◌}
 use Rattle.laws.proofs.Choice.{if_all, by_bool}
 use Rattle.findings_render_parts.specs.Laid.{top, beyond, past, laid, is_marked, letter, marked_byte, marked, Laid, counted, over}
 

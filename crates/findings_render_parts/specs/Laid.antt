@@ -1,6 +1,5 @@
 -- Bytes laid into lent memory from a place on, one after the other, as far as they fit; the place past them is counted all the same.
-use Rattle.std.specs.Prelude.{ℕ, ◌+◌, Bool, ◌&&◌, List, [], ◌∷◌, ◌++◌, ◌≡◌, ltb, leb, eqb, length, take, drop, set}
-use Rattle.laws.specs.Choice.{if◌then◌else◌}
+use Rattle.std.specs.Prelude.{ℕ, ◌+◌, Bool, ◌&&◌, List, [], ◌∷◌, ◌++◌, ◌≡◌, ltb, leb, eqb, length, take, drop, set, if◌then◌else◌}
 use Rattle.laws.specs.Quoted.{code, one_of}
 
 -- the greatest number of 64 bits, at which counting stays

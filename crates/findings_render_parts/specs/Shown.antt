@@ -1,6 +1,5 @@
 -- A text as a terminal shows it, character by character, and how wide it is there. Any bytes have a showing: a byte of no character stands as `<E5>`.
-use Rattle.std.specs.Prelude.{ℕ, zero, suc, ◌+◌, ◌-◌, Bool, true, false, ◌&&◌, List, [], ◌∷◌, ◌++◌, eqb, get_or, take, replicate}
-use Rattle.laws.specs.Choice.{if◌then◌else◌}
+use Rattle.std.specs.Prelude.{ℕ, zero, suc, ◌+◌, ◌-◌, Bool, true, false, ◌&&◌, List, [], ◌∷◌, ◌++◌, eqb, get_or, take, replicate, if◌then◌else◌}
 use Rattle.laws.specs.Quoted.{codes, code, within}
 use Rattle.chars.specs.Utf8.{Front, char, bad, cut, none, front}
 use Rattle.findings_render_parts.specs.declared.Seen.{Seen}

@@ -1,6 +1,5 @@
 -- Lines and columns of a place, both from 1, and the part of its line that a picture shows; on any bytes.
-use Rattle.std.specs.Prelude.{ℕ, zero, suc, ◌+◌, ◌-◌, ◌≤◌, Bool, List, eqb, ltb, leb, length, get_or, drop}
-use Rattle.laws.specs.Choice.{if◌then◌else◌}
+use Rattle.std.specs.Prelude.{ℕ, zero, suc, ◌+◌, ◌-◌, ◌≤◌, Bool, List, eqb, ltb, leb, length, get_or, drop, if◌then◌else◌}
 use Rattle.laws.specs.Quoted.{within}
 use Rattle.laws.specs.Texts.{span, before}
 use Rattle.findings_render_parts.specs.declared.Window.{Window}

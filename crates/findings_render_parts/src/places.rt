@@ -1,6 +1,5 @@
 // Lines and columns, counted from a text's start, and the part of a line that is shown.
-ghost use Rattle.std.specs.Prelude.{◌≡◌, ◌+◌, ◌-◌, ◌≤◌, length};
-ghost use Rattle.laws.specs.Choice.{if◌then◌else◌};
+ghost use Rattle.std.specs.Prelude.{◌≡◌, ◌+◌, ◌-◌, ◌≤◌, length, if◌then◌else◌};
 ghost use Rattle.laws.specs.Quoted.{within};
 ghost use Rattle.findings_render_parts.specs.Spots.{IsPlace, count_in, start_of, line_number, column_number, cut_return, end_of, later, next_character, shown_from, shown_to, window_of};
 

@@ -8,7 +8,7 @@ use lib.Seq.{drop-drop}
 use lib.Dec.{ltb}
 use native.Mathlib.Omega.{arith}
 use borrow.Author.Tests.{lt-leb, lt-ltb, le-ltb}
-use Rattle.laws.specs.Choice.{if◌then◌else◌}
+use Rattle.std.specs.Prelude.{if◌then◌else◌}
 use Rattle.laws.proofs.Choice.{impossible}
 use Rattle.laws.proofs.Places.{here}
 use Rattle.chars.specs.Utf8.{Front, char, bad, cut, none, front, sequences}

@@ -6,7 +6,7 @@ use lib.ListN.{length, get_or, take, drop, length-drop}
 use lib.Seq.{take-suc, take-add, drop-drop, get_or-drop}
 use native.Mathlib.Omega.{arith}
 use borrow.Author.Tests.{le-leb, lt-leb}
-use Rattle.laws.specs.Choice.{if◌then◌else◌}
+use Rattle.std.specs.Prelude.{if◌then◌else◌}
 use Rattle.laws.specs.Quoted.{within}
 use Rattle.laws.proofs.Choice.{if_all, within_below, within_from}
 use Rattle.chars.specs.Encode.{utf8, width}

@@ -1,6 +1,5 @@
 -- The same as the code hands it on: an item in nine words, and the record of a row.
-use Rattle.std.specs.Prelude.{ℕ, suc, ◌-◌, List, length, leb}
-use Rattle.laws.specs.Choice.{if◌then◌else◌}
+use Rattle.std.specs.Prelude.{ℕ, suc, ◌-◌, List, length, leb, if◌then◌else◌}
 use Rattle.items.specs.Kinds as kind
 use Rattle.items.specs.declared.Nine.{Nine}
 use Rattle.items.specs.declared.Record.{Record}

@@ -1,7 +1,6 @@
 -- Rows in lent memory: the first ones that fit are written, whole, from the start, and all of them are counted. It serves the rows of a
 -- plan, ten words each, and its findings, seven words each.
-use Rattle.std.specs.Prelude.{ℕ, ◌+◌, List, [], ◌∷◌, ◌++◌, length, take, drop, leb}
-use Rattle.laws.specs.Choice.{if◌then◌else◌}
+use Rattle.std.specs.Prelude.{ℕ, ◌+◌, List, [], ◌∷◌, ◌++◌, length, take, drop, leb, if◌then◌else◌}
 use Rattle.laws.specs.Lent.{written}
 
 -- the words of some rows, one row after the other

@@ -1,7 +1,6 @@
 -- The mended reading of a plan: its items in report mode, comments skipped. One slip is one finding: after a bad escape the rest of its
 -- string does not come as more errors.
-use Rattle.std.specs.Prelude.{ℕ, zero, suc, ◌+◌, ◌-◌, Bool, true, false, not, ◌&&◌, List, [], ◌∷◌, length, drop, eqb, ltb}
-use Rattle.laws.specs.Choice.{if◌then◌else◌}
+use Rattle.std.specs.Prelude.{ℕ, zero, suc, ◌+◌, ◌-◌, Bool, true, false, not, ◌&&◌, List, [], ◌∷◌, length, drop, eqb, ltb, if◌then◌else◌}
 use Rattle.laws.specs.Quoted.{code, one_of}
 use Rattle.laws.specs.Texts.{starts}
 use Rattle.items.specs.Kinds as kind

@@ -1,6 +1,5 @@
 -- The rows of a plan: ten words each, as a record has them, but an error is an atom to the nested lists.
-use Rattle.std.specs.Prelude.{ℕ, ◌-◌, List, [], ◌∷◌, leb}
-use Rattle.laws.specs.Choice.{if◌then◌else◌}
+use Rattle.std.specs.Prelude.{ℕ, ◌-◌, List, [], ◌∷◌, leb, if◌then◌else◌}
 use Rattle.items.specs.Kinds as kind
 use Rattle.items.specs.Items.{Item, depth_after}
 use Rattle.findings_rows.specs.Mended.{mended_of}

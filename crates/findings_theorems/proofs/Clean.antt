@@ -9,7 +9,7 @@ use lib.ListN.{length, get_or}
 use lib.Dec.{eqb, leb, ltb}
 use native.Mathlib.Omega.{arith}
 use borrow.Author.Tests.{eqb-true, eqb-false, eq-eqb, ltb-true, lt-ltb, leb-true, leb-false}
-use Rattle.laws.specs.Choice.{if◌then◌else◌}
+use Rattle.std.specs.Prelude.{if◌then◌else◌}
 use Rattle.laws.specs.Quoted.{within}
 use Rattle.laws.proofs.Choice.{by_bool, if_all, if_is}
 use Rattle.chars.specs.Utf8.{Sequence, read, broken, short}

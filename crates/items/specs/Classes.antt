@@ -1,7 +1,6 @@
 -- What a character is where it stands: the tests of the Rust's functions, one class type for each place, in the Rust's order.
 -- The readers and the machine go by these classes; where one certain character matters, such as a newline or `{`, they ask for it.
-use Rattle.std.specs.Prelude.{ℕ, Bool, true, false, List, eqb}
-use Rattle.laws.specs.Choice.{if◌then◌else◌}
+use Rattle.std.specs.Prelude.{ℕ, Bool, true, false, List, eqb, if◌then◌else◌}
 use Rattle.laws.specs.Quoted.{code, codes, one_of}
 use Rattle.chars.specs.Blank.{is_blank}
 use Rattle.numbers.specs.Grammar.{parse_number, numeric}

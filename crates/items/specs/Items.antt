@@ -1,6 +1,5 @@
 -- The definition, part 3: the items of a text, their records and their texts. Document 01, "An item".
-use Rattle.std.specs.Prelude.{ℕ, zero, suc, ◌+◌, ◌-◌, Bool, true, false, ◌&&◌, List, [], ◌∷◌, ◌++◌, length, drop, eqb, leb, ltb}
-use Rattle.laws.specs.Choice.{if◌then◌else◌}
+use Rattle.std.specs.Prelude.{ℕ, zero, suc, ◌+◌, ◌-◌, Bool, true, false, ◌&&◌, List, [], ◌∷◌, ◌++◌, length, drop, eqb, leb, ltb, if◌then◌else◌}
 use Rattle.laws.specs.Quoted.{code}
 use Rattle.chars.specs.Encode.{width}
 use Rattle.chars.specs.Blank.{is_blank}

@@ -1,8 +1,7 @@
 -- The machine: what a character does in a phase, what the end of the text makes of a phase, and the scan of one item. A means of
 -- proof. The piece calls' contracts cite it; of states that calls made, pieces' `call_means` says the same without it. `i` is the item so
 -- far, which the code has as a part of the source or in the piece state.
-use Rattle.std.specs.Prelude.{ℕ, ◌+◌, ◌-◌, Bool, List, [], ◌∷◌, length, drop, eqb, leb}
-use Rattle.laws.specs.Choice.{if◌then◌else◌}
+use Rattle.std.specs.Prelude.{ℕ, ◌+◌, ◌-◌, Bool, List, [], ◌∷◌, length, drop, eqb, leb, if◌then◌else◌}
 use Rattle.laws.specs.Quoted.{code}
 use Rattle.digits.specs.Hex.{hex_value, empty}
 use Rattle.items.specs.declared.Quotes.{Quotes}

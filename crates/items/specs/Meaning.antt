@@ -1,7 +1,6 @@
 -- The definition, part 2: kind, detail and text of an item, by its outcome and its bytes. Document 01, "An item".
-use Rattle.std.specs.Prelude.{ℕ, suc, ◌+◌, ◌-◌, Bool, true, false, not, ◌&&◌, ◌||◌, List, [], ◌∷◌, ◌++◌, map, length, get_or, take, drop, eqb, leb, ltb}
+use Rattle.std.specs.Prelude.{ℕ, suc, ◌+◌, ◌-◌, Bool, true, false, not, ◌&&◌, ◌||◌, List, [], ◌∷◌, ◌++◌, map, length, get_or, take, drop, eqb, leb, ltb, if◌then◌else◌}
 use Prim.Native.String.{String}
-use Rattle.laws.specs.Choice.{if◌then◌else◌}
 use Rattle.laws.specs.Quoted.{code, one_of}
 use Rattle.laws.specs.Texts.{span, same}
 use Rattle.chars.specs.Encode.{encode, spelled}

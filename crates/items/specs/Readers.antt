@@ -1,8 +1,7 @@
 -- The definition, part 1: where an item ends, and what it turned out to be. Readers on the characters of a text, shaped like the
 -- functions of the Rust, whose names stand in the headings; where R7RS 7.1.1 has a production, its name stands there too.
 -- A reader is given the item so far and the characters that are left, and says what it got: the outcome, the item, the rest.
-use Rattle.std.specs.Prelude.{ℕ, ◌+◌, ◌-◌, Bool, true, false, List, [], ◌∷◌, ◌++◌, length, get_or, take, drop, eqb, leb, ltb}
-use Rattle.laws.specs.Choice.{if◌then◌else◌}
+use Rattle.std.specs.Prelude.{ℕ, ◌+◌, ◌-◌, Bool, true, false, List, [], ◌∷◌, ◌++◌, length, get_or, take, drop, eqb, leb, ltb, if◌then◌else◌}
 use Rattle.laws.specs.Quoted.{code}
 use Rattle.laws.specs.Texts.{before, begins, same}
 use Rattle.chars.specs.Encode.{width, utf8, is_scalar, spelled}

@@ -1,6 +1,5 @@
 -- The machine over a text: what one character gives, and the end. A means of proof.
-use Rattle.std.specs.Prelude.{ℕ, ◌+◌, Bool, List, [], ◌∷◌, ◌++◌, eqb}
-use Rattle.laws.specs.Choice.{if◌then◌else◌}
+use Rattle.std.specs.Prelude.{ℕ, ◌+◌, Bool, List, [], ◌∷◌, ◌++◌, eqb, if◌then◌else◌}
 use Rattle.laws.specs.Quoted.{code}
 use Rattle.chars.specs.Encode.{width}
 use Rattle.chars.specs.Blank.{is_blank}

@@ -1,6 +1,5 @@
 -- The whole-text call, all of it: what it answers and what both lent memories hold afterwards. Document 01, "Refused calls".
-use Rattle.std.specs.Prelude.{ℕ, ◌/◌, Bool, List, length, eqb, leb, ltb}
-use Rattle.laws.specs.Choice.{if◌then◌else◌}
+use Rattle.std.specs.Prelude.{ℕ, ◌/◌, Bool, List, length, eqb, leb, ltb, if◌then◌else◌}
 use Rattle.laws.specs.Lent.{written}
 use Rattle.refusal.specs.Refusals as refusal
 use Rattle.chars.specs.Utf8.{chars, first_bad}

@@ -1,5 +1,5 @@
 -- A text that breaks off: the records that end before it does cover the part before the extent that its end cuts off.
-use Rattle.laws.specs.Choice.{if◌then◌else◌}
+use Rattle.std.specs.Prelude.{if◌then◌else◌}
 use Rattle.laws.specs.Quoted.{code, codes}
 use Rattle.laws.specs.Texts.{span, begins}
 use Rattle.laws.proofs.Choice.{by_bool, and_true}

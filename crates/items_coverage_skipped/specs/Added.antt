@@ -1,7 +1,6 @@
 -- 02 (xiii), its last sentence: "With comments skipped the same holds once the comments' extents are added." The comments are those that the
 -- definition of items has of the text, no others and none twice.
-use Rattle.std.specs.Prelude.{ℕ, Bool, List, [], ◌∷◌, map, length, eqb}
-use Rattle.laws.specs.Choice.{if◌then◌else◌}
+use Rattle.std.specs.Prelude.{ℕ, Bool, List, [], ◌∷◌, map, length, eqb, if◌then◌else◌}
 use Rattle.chars.specs.Utf8.{sequences, chars}
 use Rattle.items.specs.Kinds as kind
 use Rattle.items.specs.Items.{Item, items, byte_count, ends_before}

@@ -6,7 +6,7 @@ use mathlib.Core.Bool.{Bool, true, false, ◌&&◌, true≢false}
 use mathlib.Core.List.{List, [], ◌∷◌, ◌++◌, append_assoc, append-nil}
 use lib.ListN.{length, drop}
 use lib.Dec.{eqb, ltb}
-use Rattle.laws.specs.Choice.{if◌then◌else◌}
+use Rattle.std.specs.Prelude.{if◌then◌else◌}
 use Rattle.laws.specs.Quoted.{code, codes}
 use Rattle.laws.proofs.Choice.{by_bool, impossible}
 use Rattle.chars.specs.Encode.{utf8, encode, bytes_of}

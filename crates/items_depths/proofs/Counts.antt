@@ -7,7 +7,7 @@ use lib.ListN.{length, get_or, take, length-take}
 use lib.Dec.{eqb, ltb}
 use native.Mathlib.Omega.{arith}
 use borrow.Author.Tests.{eqb-true, ltb-true, ltb-false, lt-ltb}
-use Rattle.laws.specs.Choice.{if◌then◌else◌}
+use Rattle.std.specs.Prelude.{if◌then◌else◌}
 use Rattle.laws.proofs.Choice.{by_bool}
 use Rattle.items.specs.Kinds as kind
 use Rattle.items.specs.Items.{Item, most_open, depth_after, depth_past}

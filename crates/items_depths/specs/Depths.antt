@@ -1,7 +1,6 @@
 -- The depth of a record, by the kinds of the records before it. 02 (vi): "Each record gains the number of open brackets before the item, where a
 -- close with none open leaves it at 0."
-use Rattle.std.specs.Prelude.{ℕ, zero, suc, ◌+◌, ◌*◌, ◌<◌, ◌≡◌, ◌&&◌, List, [], length, get_or, eqb, ltb}
-use Rattle.laws.specs.Choice.{if◌then◌else◌}
+use Rattle.std.specs.Prelude.{ℕ, zero, suc, ◌+◌, ◌*◌, ◌<◌, ◌≡◌, ◌&&◌, List, [], length, get_or, eqb, ltb, if◌then◌else◌}
 use Rattle.items.specs.Kinds as kind
 use Rattle.items.specs.Items.{record_words, own_words}
 use Rattle.pieces.specs.Given.{Given}

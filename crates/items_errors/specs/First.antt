@@ -1,8 +1,7 @@
 -- Which of its hexadecimal digits an item of error 11 points at in report mode (02 (vii)): where the digits start and end is told by the
 -- extent's bytes, and of them it is the first that fails. 01: "`\x` ends at `;`, `\u` also, `\u{` at `}`. One leading `+` is allowed. Digits
 -- are read left to right; the first failing position decides, bad digit before overflow. A lone `+` is a bad digit."
-use Rattle.std.specs.Prelude.{ℕ, ◌+◌, ◌-◌, ◌^◌, ◌≤◌, ◌<◌, ◌≡◌, true, false, ◌&&◌, List, [], ◌∷◌, ◌++◌, length, take, drop, ltb}
-use Rattle.laws.specs.Choice.{if◌then◌else◌}
+use Rattle.std.specs.Prelude.{ℕ, ◌+◌, ◌-◌, ◌^◌, ◌≤◌, ◌<◌, ◌≡◌, true, false, ◌&&◌, List, [], ◌∷◌, ◌++◌, length, take, drop, ltb, if◌then◌else◌}
 use Rattle.laws.specs.Quoted.{code, codes, one_of}
 use Rattle.laws.specs.Texts.{starts, begins}
 use Rattle.chars.specs.Encode.{utf8, width, is_scalar}

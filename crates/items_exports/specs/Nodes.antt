@@ -1,7 +1,6 @@
 -- What the questions about nodes mean, of any words. A node is three words: its kind, its item, and how many nodes lie beneath it, which
 -- follow it; so the node past all these is its next sibling, if there is one.
-use Rattle.std.specs.Prelude.{ℕ, ◌+◌, ◌*◌, ◌-◌, ◌/◌, List, eqb, leb, ltb, length, get_or}
-use Rattle.laws.specs.Choice.{if◌then◌else◌}
+use Rattle.std.specs.Prelude.{ℕ, ◌+◌, ◌*◌, ◌-◌, ◌/◌, List, eqb, leb, ltb, length, get_or, if◌then◌else◌}
 
 -- words past the last whole node are none
 abbrev pub nodes_of : List ℕ → ℕ

@@ -1,6 +1,5 @@
 -- What the questions about records mean, of any words. A record is `record_words` words, by 01's "An item".
-use Rattle.std.specs.Prelude.{ℕ, zero, suc, ◌+◌, ◌*◌, ◌/◌, Bool, true, ◌&&◌, List, eqb, leb, length, get_or}
-use Rattle.laws.specs.Choice.{if◌then◌else◌}
+use Rattle.std.specs.Prelude.{ℕ, zero, suc, ◌+◌, ◌*◌, ◌/◌, Bool, true, ◌&&◌, List, eqb, leb, length, get_or, if◌then◌else◌}
 use Rattle.items.specs.Kinds as kind
 use Rattle.items.specs.Items.{record_words}
 

@@ -8,7 +8,7 @@ use lib.Seq.{take_at, take_all, length-take-le}
 use borrow.Author.Tests.{lt-ltb, le-ltb, ltb-true, ltb-false}
 use Rattle.items.specs.Items.{record_words}
 use Rattle.items_files.specs.Layout.{base, after, first, numbers}
-use Rattle.laws.specs.Choice.{if◌then◌else◌}
+use Rattle.std.specs.Prelude.{if◌then◌else◌}
 use Rattle.items_files.specs.Groups.{image, images}
 use Rattle.laws.specs.Lent.{written}
 use Rattle.laws.proofs.Choice.{impossible}

@@ -10,7 +10,7 @@ use native.Mathlib.Nat.{pow-le-pow_right, pow-suc, mul-le-mul_left, mul-suc, mul
 use lib.ListN.{length, get_or, length-append}
 use lib.Dec.{ltb, leb, eqb}
 use borrow.Author.Tests.{lt-ltb, le-ltb, le-leb, lt-leb, eq-eqb, ne_eqb, eqb-true, eqb-false}
-use Rattle.laws.specs.Choice.{if◌then◌else◌}
+use Rattle.std.specs.Prelude.{if◌then◌else◌}
 use Rattle.items_files.specs.Groups.{most, groups, image}
 use Rattle.items.specs.Items.{record_words, own_words}
 use Rattle.items_files.specs.Layout.{base, after, first}

@@ -1,8 +1,7 @@
 -- The ten numbers of an item (02, (x)): kind, detail, start less the previous item's start, extent length, place start, place length,
 -- text source, text start, text length, depth. So each word of a record is stored less a base: the third less the previous item's
 -- start (0 for the first item), the ends, which are the fourth, sixth and ninth, less the word before, the others whole.
-use Rattle.std.specs.Prelude.{ℕ, ◌+◌, ◌-◌, Bool, true, List, [], ◌∷◌, eqb, ltb}
-use Rattle.laws.specs.Choice.{if◌then◌else◌}
+use Rattle.std.specs.Prelude.{ℕ, ◌+◌, ◌-◌, Bool, true, List, [], ◌∷◌, eqb, ltb, if◌then◌else◌}
 use Rattle.items.specs.Items.{own_words}
 use Rattle.items.specs.declared.Nine.{Nine}
 use Rattle.items.specs.declared.Record.{Record}

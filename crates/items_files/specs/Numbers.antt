@@ -1,7 +1,6 @@
 -- The number that stands at the start of some bytes, with the place after it. The reader of a file (Read) goes byte by byte; the code
 -- goes number by number, and the two are one (proofs/Reader, `reads`).
-use Rattle.std.specs.Prelude.{ℕ, ◌+◌, ◌-◌, ◌*◌, List, [], ◌∷◌, eqb, leb, ltb}
-use Rattle.laws.specs.Choice.{if◌then◌else◌}
+use Rattle.std.specs.Prelude.{ℕ, ◌+◌, ◌-◌, ◌*◌, List, [], ◌∷◌, eqb, leb, ltb, if◌then◌else◌}
 use Rattle.items_files.specs.Groups.{most}
 use Rattle.items_files.specs.declared.Number.{Number}
 use Rattle.items_files.specs.declared.Number.TheVariants.{Whole, Wrong, Cut}

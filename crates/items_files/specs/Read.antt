@@ -1,6 +1,5 @@
 -- The reader of item files, a machine that takes a byte at a time.
-use Rattle.std.specs.Prelude.{ℕ, ◌+◌, ◌-◌, ◌*◌, ◌/◌, Bool, true, false, List, [], ◌∷◌, eqb, leb, ltb, length}
-use Rattle.laws.specs.Choice.{if◌then◌else◌}
+use Rattle.std.specs.Prelude.{ℕ, ◌+◌, ◌-◌, ◌*◌, ◌/◌, Bool, true, false, List, [], ◌∷◌, eqb, leb, ltb, length, if◌then◌else◌}
 use Rattle.laws.specs.Lent.{written}
 use Rattle.items.specs.Items.{record_words}
 use Rattle.refusal.specs.Refusals as refusal

@@ -1,6 +1,5 @@
 -- The writer of item files.
-use Rattle.std.specs.Prelude.{ℕ, ◌+◌, ◌-◌, ◌*◌, ◌/◌, List, [], ◌∷◌, ◌++◌, ltb, length, take}
-use Rattle.laws.specs.Choice.{if◌then◌else◌}
+use Rattle.std.specs.Prelude.{ℕ, ◌+◌, ◌-◌, ◌*◌, ◌/◌, List, [], ◌∷◌, ◌++◌, ltb, length, take, if◌then◌else◌}
 use Rattle.laws.specs.Lent.{written}
 use Rattle.items.specs.Items.{record_words}
 use Rattle.refusal.specs.Refusals as refusal

@@ -3,7 +3,7 @@ use mathlib.Core.Path.{◌≡◌, refl, sym, ap, ◌∙◌}
 use mathlib.Core.List.{List}
 use Prim.Native.Nat.{ℕ}
 use lib.Dec.{eqb}
-use Rattle.laws.specs.Choice.{if◌then◌else◌}
+use Rattle.std.specs.Prelude.{if◌then◌else◌}
 use Rattle.refusal.specs.Refusals.{too_few, cut_short, wrong_number, goes_back}
 use Rattle.items_files.specs.Answers.{Answer, served, refused, wrote, got, Outcome, outcome}
 use Rattle.items_files.specs.declared.StoreAnswer.{StoreAnswer}

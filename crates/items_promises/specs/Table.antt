@@ -1,9 +1,8 @@
 -- E1 to E16 of document 01 on a text's bytes: the answer, every word of the records, every byte of the text memory, and for each number item
 -- what the number call gives for its extent. One table, one statement, by computation. A word more and a byte more are lent than are needed:
 -- both stay.
-use Rattle.std.specs.Prelude.{ℕ, ◌+◌, ◌-◌, ◌≡◌, refl, false, List, [], ◌∷◌, ◌++◌, map, length, take, drop, pos, negsuc, eqb}
+use Rattle.std.specs.Prelude.{ℕ, ◌+◌, ◌-◌, ◌≡◌, refl, false, List, [], ◌∷◌, ◌++◌, map, length, take, drop, pos, negsuc, eqb, if◌then◌else◌}
 use Prim.Native.String.{String}
-use Rattle.laws.specs.Choice.{if◌then◌else◌}
 use Rattle.laws.specs.Texts.{span, starts, begins, same}
 use Rattle.laws.specs.Quoted.{within}
 use Rattle.chars.specs.Encode.{is_scalar, utf8, width, encode, bytes_of, spelled}

@@ -9,7 +9,7 @@ use lib.Seq.{take_all, take_at}
 use lib.Dec.{eqb, leb, ltb}
 use native.Mathlib.Omega.{arith}
 use borrow.Author.Tests.{eqb-true, leb-true, lt-ltb, ltb-true}
-use Rattle.laws.specs.Choice.{if◌then◌else◌}
+use Rattle.std.specs.Prelude.{if◌then◌else◌}
 use Rattle.laws.specs.Quoted.{codes, code, within}
 use Rattle.laws.specs.Texts.{same}
 use Rattle.laws.proofs.Choice.{by_bool, and_true}

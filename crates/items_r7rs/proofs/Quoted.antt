@@ -8,7 +8,7 @@ use lib.ListN.{length, drop}
 use lib.Seq.{drop_at}
 use lib.Dec.{eqb, ltb}
 use borrow.Author.Tests.{eqb-true}
-use Rattle.laws.specs.Choice.{if◌then◌else◌}
+use Rattle.std.specs.Prelude.{if◌then◌else◌}
 use Rattle.laws.specs.Quoted.{codes, code, one_of}
 use Rattle.laws.proofs.Choice.{by_bool}
 use Rattle.chars.specs.Encode.{bytes_of}

@@ -9,7 +9,7 @@ use lib.Seq.{take_all}
 use lib.Dec.{eqb, leb, ltb}
 use native.Mathlib.Omega.{arith}
 use borrow.Author.Tests.{eqb-true, ltb-true, lt-ltb, leb-false}
-use Rattle.laws.specs.Choice.{if◌then◌else◌}
+use Rattle.std.specs.Prelude.{if◌then◌else◌}
 use Rattle.laws.specs.Quoted.{codes, code}
 use Rattle.laws.proofs.Choice.{by_bool, no_yes, and_true, and_no}
 use Rattle.chars.specs.Encode.{utf8, width, bytes_of}

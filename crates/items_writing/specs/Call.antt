@@ -1,7 +1,6 @@
 -- The call, all of it: what it answers and what the lent memory holds afterwards. 02 (viii), "Refusals": "at the first record
 -- concerned, 48 .., else 47 ..; then 20 if the result would pass that limit; 22 last, with the bytes needed; nothing written".
-use Rattle.std.specs.Prelude.{ℕ, true, List, length, ltb}
-use Rattle.laws.specs.Choice.{if◌then◌else◌}
+use Rattle.std.specs.Prelude.{ℕ, true, List, length, ltb, if◌then◌else◌}
 use Rattle.laws.specs.Lent as lent
 use Rattle.refusal.specs.Refusals as refusal
 use Rattle.items_writing.specs.declared.WriteWords.{WriteWords}

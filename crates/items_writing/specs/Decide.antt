@@ -1,7 +1,6 @@
 -- How the code decides whether a word reads back bare: the machine over the word, and one step more. A means of proof: no public contract
 -- cites it.
-use Rattle.std.specs.Prelude.{ℕ, Bool, true, false, not, ◌&&◌, List, [], ◌∷◌, length, eqb, ltb}
-use Rattle.laws.specs.Choice.{if◌then◌else◌}
+use Rattle.std.specs.Prelude.{ℕ, Bool, true, false, not, ◌&&◌, List, [], ◌∷◌, length, eqb, ltb, if◌then◌else◌}
 use Rattle.laws.specs.Quoted.{code, codes}
 use Rattle.laws.specs.Texts.{begins}
 use Rattle.chars.specs.Blank.{is_blank}

@@ -1,6 +1,5 @@
 -- How the code writes: a piece for each turn, of one item or of a pair. A means of proof: no public contract cites it.
-use Rattle.std.specs.Prelude.{ℕ, ◌+◌, ◌≤◌, ◌<◌, ◌≡◌, Bool, true, false, not, ◌&&◌, ◌||◌, List, [], ◌∷◌, ◌++◌, length, eqb}
-use Rattle.laws.specs.Choice.{if◌then◌else◌}
+use Rattle.std.specs.Prelude.{ℕ, ◌+◌, ◌≤◌, ◌<◌, ◌≡◌, Bool, true, false, not, ◌&&◌, ◌||◌, List, [], ◌∷◌, ◌++◌, length, eqb, if◌then◌else◌}
 use Rattle.laws.specs.Quoted.{code}
 use Rattle.refusal.specs.Refusals as refusal
 use Rattle.items.specs.declared.Quotes.TheVariants.{Double, Lines}

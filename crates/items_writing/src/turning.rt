@@ -1,7 +1,6 @@
 // A turn: the next item, or the next two where they are a pair that is written as one word. What it writes is a piece: a space unless it is
 // the first, the plus of a pair, and a text in its form.
-ghost use Rattle.std.specs.Prelude.{◌≡◌, true, ◌≤◌, ◌<◌, length};
-ghost use Rattle.laws.specs.Choice.{if◌then◌else◌};
+ghost use Rattle.std.specs.Prelude.{◌≡◌, true, ◌≤◌, ◌<◌, length, if◌then◌else◌};
 ghost use Rattle.laws.specs.Lent.{written};
 ghost use Rattle.refusal.specs.Refusals as refusal;
 ghost use Rattle.chars.specs.Utf8.{first_bad};

@@ -1,6 +1,5 @@
 -- "Offices edit plans": the items of a text, each with another text. Only identifiers and strings are written by their text.
-use Rattle.std.specs.Prelude.{Bool, ◌||◌, List, [], ◌∷◌, ℕ, eqb}
-use Rattle.laws.specs.Choice.{if◌then◌else◌}
+use Rattle.std.specs.Prelude.{Bool, ◌||◌, List, [], ◌∷◌, ℕ, eqb, if◌then◌else◌}
 use Rattle.items.specs.Kinds as kind
 use Rattle.items_r7rs.specs.Reading.{bytes}
 use Rattle.items_writing.specs.Written.{Entry}

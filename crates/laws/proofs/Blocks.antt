@@ -9,7 +9,7 @@ use lib.Dec.{leb, leb-suc-suc}
 use lib.ListN.{length, get_or, drop, length-drop}
 use lib.Seq.{drop-drop, get_or-drop}
 use borrow.Author.Tests.{le-leb, lt-leb, leb-true}
-use Rattle.laws.specs.Choice.{if◌then◌else◌}
+use Rattle.std.specs.Prelude.{if◌then◌else◌}
 use Rattle.laws.specs.Texts.{span}
 use Rattle.laws.proofs.Runs.{span_le}
 

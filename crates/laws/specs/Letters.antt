@@ -1,6 +1,5 @@
 -- What the number grammar says of single characters: a letter's case, and signs.
-use Rattle.std.specs.Prelude.{ℕ, ◌+◌, Bool, ◌||◌, eqb}
-use Rattle.laws.specs.Choice.{if◌then◌else◌}
+use Rattle.std.specs.Prelude.{ℕ, ◌+◌, Bool, ◌||◌, eqb, if◌then◌else◌}
 use Rattle.laws.specs.Quoted.{code, within}
 
 -- what a letter of ASCII in upper case lacks to its lower case

@@ -1,4 +1,3 @@
-pub mod Choice
 pub mod Quoted
 pub mod Texts
 pub mod Lent

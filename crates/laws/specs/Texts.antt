@@ -1,6 +1,5 @@
 -- Texts as lists of numbers: how far a run goes, and how two texts compare.
-use Rattle.std.specs.Prelude.{ℕ, suc, Bool, true, false, not, ◌&&◌, List, [], ◌∷◌, eqb}
-use Rattle.laws.specs.Choice.{if◌then◌else◌}
+use Rattle.std.specs.Prelude.{ℕ, suc, Bool, true, false, not, ◌&&◌, List, [], ◌∷◌, eqb, if◌then◌else◌}
 
 -- how many elements s starts with that pass the test f
 unfoldable pub span : (ℕ → Bool) → List ℕ → ℕ

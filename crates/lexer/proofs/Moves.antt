@@ -9,7 +9,7 @@ use Rattle.items.proofs.Every.{Every}
 use Rattle.items.proofs.Meanings.{Inside, Meant}
 use Rattle.items.proofs.Splits.{read_forward}
 use Rattle.meaning.specs.Places.{place_in}
-use Rattle.laws.specs.Choice.{if◌then◌else◌}
+use Rattle.std.specs.Prelude.{if◌then◌else◌}
 use Rattle.laws.proofs.Choice.{impossible}
 use Rattle.lexer.specs.Reading.{gives, ends, turn_of, turn, start_from, size_of}
 use Rattle.lexer.specs.declared.Spot.{Spot}

@@ -24,7 +24,7 @@ use Rattle.meaning.specs.declared.Means.{Means}
 use Rattle.meaning.specs.declared.Text.TheVariants.{Nowhere, Source}
 use Rattle.meaning.specs.Places.{range_of}
 use Rattle.meaning.specs.Records.{nine_for}
-use Rattle.laws.specs.Choice.{if◌then◌else◌}
+use Rattle.std.specs.Prelude.{if◌then◌else◌}
 use Rattle.lexer.specs.Glance.{Begins, WordedTo, Glanced, SkimAt}
 use Rattle.items_telling.specs.Tells.{Alone}
 use Rattle.lexer.specs.Writing.{Going, Counting, Counts, Further, told_to}

@@ -1,6 +1,6 @@
 -- A turn of the loop that writes what one look told: its record is written, and nothing of the text memory. So any writing that stood at the
 -- spot before goes on, and past the blanks after the item as well.
-use Rattle.laws.specs.Choice.{if◌then◌else◌}
+use Rattle.std.specs.Prelude.{if◌then◌else◌}
 use Rattle.laws.specs.Lent.{written}
 use Rattle.laws.proofs.Choice.{by_bool}
 use Rattle.chars.specs.Utf8.{chars}

@@ -1,6 +1,5 @@
 -- What the answers of the whole-text call and of the reader mean: document 01's numbers and values.
-use Rattle.std.specs.Prelude.{ℕ, List, length, leb, ltb}
-use Rattle.laws.specs.Choice.{if◌then◌else◌}
+use Rattle.std.specs.Prelude.{ℕ, List, length, leb, ltb, if◌then◌else◌}
 use Rattle.laws.specs.Lent.{written}
 use Rattle.refusal.specs.Refusals as refusal
 use Rattle.items.specs.Items.{depth_after, memory_of, record_of, words_of}

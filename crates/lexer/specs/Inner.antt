@@ -1,6 +1,5 @@
 -- What inner functions of the reader ask of their callers, so that every number fits its word.
-use Rattle.std.specs.Prelude.{ℕ, ◌+◌, ◌-◌, ◌^◌, ◌≤◌, ◌<◌, ◌≡◌, Bool, false, List, [], ◌∷◌, length, take, drop, eqb}
-use Rattle.laws.specs.Choice.{if◌then◌else◌}
+use Rattle.std.specs.Prelude.{ℕ, ◌+◌, ◌-◌, ◌^◌, ◌≤◌, ◌<◌, ◌≡◌, Bool, false, List, [], ◌∷◌, length, take, drop, eqb, if◌then◌else◌}
 use Rattle.chars.specs.Utf8.{chars}
 use Rattle.chars.specs.Encode.{width}
 use Rattle.chars.specs.Blank.{is_blank}

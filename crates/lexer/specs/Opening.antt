@@ -1,6 +1,5 @@
 -- Where reading starts, and what it is refused for. Document 01: the reader "opens under 25, 20, 21".
-use Rattle.std.specs.Prelude.{ℕ, ◌+◌, Bool, false, List, [], ◌∷◌, length, eqb, ltb}
-use Rattle.laws.specs.Choice.{if◌then◌else◌}
+use Rattle.std.specs.Prelude.{ℕ, ◌+◌, Bool, false, List, [], ◌∷◌, length, eqb, ltb, if◌then◌else◌}
 use Rattle.laws.specs.Quoted.{code}
 use Rattle.refusal.specs.Refusals as refusal
 use Rattle.chars.specs.Utf8.{chars, first_bad}

@@ -1,7 +1,6 @@
 -- One item a turn: what stands at a spot of a source, and where reading goes on. Spot and turn are defined for every source and every
 -- spot, one that no call gave too: the characters from a place on are those up to the end or the first bad sequence.
-use Rattle.std.specs.Prelude.{ℕ, zero, suc, ◌+◌, ◌-◌, ◌*◌, Bool, true, false, ◌&&◌, List, [], ◌∷◌, length, drop, eqb}
-use Rattle.laws.specs.Choice.{if◌then◌else◌}
+use Rattle.std.specs.Prelude.{ℕ, zero, suc, ◌+◌, ◌-◌, ◌*◌, Bool, true, false, ◌&&◌, List, [], ◌∷◌, length, drop, eqb, if◌then◌else◌}
 use Rattle.chars.specs.Utf8.{chars}
 use Rattle.chars.specs.Encode.{width}
 use Rattle.chars.specs.Blank.{is_blank}

@@ -1,7 +1,6 @@
 -- The text call: the text of a record, as a part of the source or of the text memory. Document 01: it "answers from the source or the
 -- text memory, as the record says; otherwise 27 and an empty part".
-use Rattle.std.specs.Prelude.{ℕ, ◌-◌, List, [], eqb, leb, length, take, drop}
-use Rattle.laws.specs.Choice.{if◌then◌else◌}
+use Rattle.std.specs.Prelude.{ℕ, ◌-◌, List, [], eqb, leb, length, take, drop, if◌then◌else◌}
 use Rattle.refusal.specs.Refusals as refusal
 
 -- a where the places neither go back nor pass the slice l, else b

@@ -1,7 +1,6 @@
 -- Counting and writing on: what is counted and what the two lent memories hold while the items from a spot on are read, and what a
 -- function promises that counts or writes some more.
-use Rattle.std.specs.Prelude.{ℕ, ◌+◌, ◌*◌, ◌≤◌, ◌<◌, ◌≡◌, false, List, ◌++◌, length, eqb}
-use Rattle.laws.specs.Choice.{if◌then◌else◌}
+use Rattle.std.specs.Prelude.{ℕ, ◌+◌, ◌*◌, ◌≤◌, ◌<◌, ◌≡◌, false, List, ◌++◌, length, eqb, if◌then◌else◌}
 use Rattle.laws.specs.Lent.{written}
 use Rattle.items.specs.Items.{Item, depth_past, record_words, records, texts}
 use Rattle.meaning.specs.Places.{place_in}

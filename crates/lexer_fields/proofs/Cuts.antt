@@ -3,7 +3,7 @@ use Rattle.chars.specs.Utf8.{first_bad}
 use Rattle.chars.specs.declared.Utf8.{Utf8}
 use Rattle.chars.specs.declared.Utf8.TheVariants.{Good, Bad}
 use Rattle.chars.proofs.Cuts.{good_cut}
-use Rattle.laws.specs.Choice.{if◌then◌else◌}
+use Rattle.std.specs.Prelude.{if◌then◌else◌}
 use Rattle.laws.specs.Quoted.{within}
 use Rattle.laws.proofs.Choice.{by_bool, no_yes}
 use Rattle.laws.proofs.Places.{here, past}

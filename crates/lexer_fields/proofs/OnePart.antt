@@ -3,7 +3,7 @@ use Rattle.chars.specs.Utf8.{chars, first_bad}
 use Rattle.chars.specs.Encode.{utf8, bytes_of}
 use Rattle.chars.proofs.Good.{good_bytes_lem}
 use Rattle.laws.specs.Quoted.{code}
-use Rattle.laws.specs.Choice.{if◌then◌else◌}
+use Rattle.std.specs.Prelude.{if◌then◌else◌}
 use Rattle.laws.proofs.Choice.{by_bool, yes_no}
 use Rattle.chars.specs.declared.Utf8.{Utf8}
 use Rattle.chars.specs.declared.Utf8.TheVariants.{Good, Bad}

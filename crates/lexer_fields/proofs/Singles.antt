@@ -3,7 +3,7 @@ use Rattle.refusal.specs.Refusals as refusal
 use Rattle.chars.specs.Utf8.{first_bad}
 use Rattle.chars.specs.declared.Utf8.{Utf8}
 use Rattle.chars.specs.declared.Utf8.TheVariants.{Good, Bad}
-use Rattle.laws.specs.Choice.{if◌then◌else◌}
+use Rattle.std.specs.Prelude.{if◌then◌else◌}
 use Rattle.laws.specs.Lent.{written}
 use Rattle.laws.proofs.Choice.{by_bool, impossible}
 use Rattle.items.specs.Items.{Item, record_words, records, texts}

@@ -1,10 +1,9 @@
 -- What the answers of the call mean, and what its inner functions hand on and ask.
-use Rattle.std.specs.Prelude.{ℕ, ◌*◌, ◌≤◌, ◌≡◌, Bool, true, false, List, [], ◌∷◌, length, get_or}
+use Rattle.std.specs.Prelude.{ℕ, ◌*◌, ◌≤◌, ◌≡◌, Bool, true, false, List, [], ◌∷◌, length, get_or, if◌then◌else◌}
 use Rattle.refusal.specs.Refusals as refusal
 use Rattle.chars.specs.Utf8.{first_bad}
 use Rattle.chars.specs.declared.Utf8.{Utf8}
 use Rattle.chars.specs.declared.Utf8.TheVariants.{Good, Bad}
-use Rattle.laws.specs.Choice.{if◌then◌else◌}
 use Rattle.laws.specs.Quoted.{within}
 use Rattle.items.specs.Items.{record_words, texts}
 use Rattle.items.specs.Whole.{Answer, served, refused, limit, is_mode, in_report}

@@ -1,6 +1,5 @@
 -- Many fields in one call, all of it: what it answers and what the three lent memories hold afterwards. Document 02, (xii).
-use Rattle.std.specs.Prelude.{ℕ, ◌+◌, ◌-◌, ◌/◌, Bool, true, false, List, [], ◌∷◌, ◌++◌, length, take, drop, leb, ltb}
-use Rattle.laws.specs.Choice.{if◌then◌else◌}
+use Rattle.std.specs.Prelude.{ℕ, ◌+◌, ◌-◌, ◌/◌, Bool, true, false, List, [], ◌∷◌, ◌++◌, length, take, drop, leb, ltb, if◌then◌else◌}
 use Rattle.laws.specs.Lent.{written}
 use Rattle.refusal.specs.Refusals as refusal
 use Rattle.chars.specs.Utf8.{first_bad}

@@ -1,9 +1,8 @@
 -- Two answers that a contract permits for one input coincide: the map from the code's answer to numbers and values has a way back.
 -- The other calls of `lexer` and `meaning` ensure `r ≡` a definition, so that there is nothing to show. One exception: `text_of` and `text_and_mark` ensure
 -- which bytes the part has and not where in memory it lies, so two parts with the same bytes are both permitted.
-use Rattle.std.specs.Prelude.{ℕ, ◌≡◌, refl, Bool, List, [], ◌∷◌, get_or, eqb}
+use Rattle.std.specs.Prelude.{ℕ, ◌≡◌, refl, Bool, List, [], ◌∷◌, get_or, eqb, if◌then◌else◌}
 use Rattle.std.proofs.Common.{sym, ap, ◌∙◌}
-use Rattle.laws.specs.Choice.{if◌then◌else◌}
 use Rattle.items.specs.Items.{own_words}
 use Rattle.items.specs.Whole.{Answer, served, refused, Call, call, read_of}
 use Rattle.meaning.specs.Meant.{meant}

@@ -15,7 +15,7 @@ use Rattle.chars.specs.declared.Step.TheVariants as steps
 use Rattle.chars.specs.declared.Utf8.{Utf8}
 use Rattle.chars.specs.declared.Utf8.TheVariants.{Good, Bad}
 use Rattle.chars.proofs.Run.{run_bad}
-use Rattle.laws.specs.Choice.{if◌then◌else◌}
+use Rattle.std.specs.Prelude.{if◌then◌else◌}
 use Rattle.refusal.specs.Refusals.{limit}
 use Rattle.lines.specs.Starts.{newline, starts_from, starts, if_good, build_of}
 use Rattle.lines.specs.Pieces.{Fed, fed, fresh, open_of, moved_of, stopped_of, step_of, noted, fed_of, end_of, pieces, joined}

@@ -1,6 +1,5 @@
 -- The question for many places at once: the index is held against the text once, and each place gets the plain question's answer.
-use Rattle.std.specs.Prelude.{ℕ, ◌*◌, List, [], ◌∷◌, ltb, length}
-use Rattle.laws.specs.Choice.{if◌then◌else◌}
+use Rattle.std.specs.Prelude.{ℕ, ◌*◌, List, [], ◌∷◌, ltb, length, if◌then◌else◌}
 use Rattle.laws.specs.Lent.{written}
 use Rattle.refusal.specs.Refusals.{lines_no_room, alien}
 use Rattle.lines.specs.Starts.{Served, Refused, Outcome, outcome}

@@ -1,7 +1,6 @@
 -- The index of a text that comes in pieces. "From pieces, every refusal comes with the declared end, and the memory then holds the starts
 -- found before any byte that shows 20 or 21, as many as fit."
-use Rattle.std.specs.Prelude.{ℕ, ◌+◌, ◌-◌, List, [], ◌∷◌, ◌++◌, eqb, ltb, length, set, take, drop}
-use Rattle.laws.specs.Choice.{if◌then◌else◌}
+use Rattle.std.specs.Prelude.{ℕ, ◌+◌, ◌-◌, List, [], ◌∷◌, ◌++◌, eqb, ltb, length, set, take, drop, if◌then◌else◌}
 use Rattle.refusal.specs.Refusals.{over_long, not_utf8, out_of_bounds, lines_no_room}
 use Rattle.chars.specs.Utf8.{Sequence, read, broken, short, sequences}
 use Rattle.chars.specs.Machine.{step, start, told}

@@ -1,6 +1,5 @@
 -- "Given an index and a byte place, answer line and column, both from 1, the column in characters."
-use Rattle.std.specs.Prelude.{ℕ, ◌+◌, ◌-◌, ◌≤◌, ◌<◌, Bool, false, List, [], ◌∷◌, leb, ltb, length, get_or}
-use Rattle.laws.specs.Choice.{if◌then◌else◌}
+use Rattle.std.specs.Prelude.{ℕ, ◌+◌, ◌-◌, ◌≤◌, ◌<◌, Bool, false, List, [], ◌∷◌, leb, ltb, length, get_or, if◌then◌else◌}
 use Rattle.laws.specs.Texts.{same}
 use Rattle.refusal.specs.Refusals.{no_place, alien}
 use Rattle.chars.specs.Utf8.{first_bad, Sequence, read, broken, short, sequences}

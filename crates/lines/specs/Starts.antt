@@ -1,7 +1,6 @@
 -- "The byte place of each line start (after every newline byte)": place 0, and the place after every newline byte. The call that builds
 -- the index.
-use Rattle.std.specs.Prelude.{ℕ, ◌+◌, List, [], ◌∷◌, eqb, ltb, length}
-use Rattle.laws.specs.Choice.{if◌then◌else◌}
+use Rattle.std.specs.Prelude.{ℕ, ◌+◌, List, [], ◌∷◌, eqb, ltb, length, if◌then◌else◌}
 use Rattle.laws.specs.Lent.{written}
 use Rattle.refusal.specs.Refusals.{over_long, not_utf8, lines_no_room}
 use Rattle.chars.specs.Utf8.{first_bad}

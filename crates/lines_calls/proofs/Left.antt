@@ -9,7 +9,7 @@ use lib.ListN.{length, get_or, drop, length-drop}
 use lib.Seq.{drop-drop, get_or-drop}
 use lib.Dec.{eqb}
 use borrow.Author.Tests.{eq-eqb, ne_eqb}
-use Rattle.laws.specs.Choice.{if◌then◌else◌}
+use Rattle.std.specs.Prelude.{if◌then◌else◌}
 use Rattle.laws.specs.Texts.{span, before}
 use Rattle.laws.proofs.Choice.{if_all}
 use Rattle.laws.proofs.Places.{past, here}

@@ -1,6 +1,5 @@
 // Builds the index of a whole text: counts its line starts, then stores them, a block of bytes at a time.
-ghost use Rattle.std.specs.Prelude.{◌≡◌, false, ◌+◌, ◌≤◌, eqb, length};
-ghost use Rattle.laws.specs.Choice.{if◌then◌else◌};
+ghost use Rattle.std.specs.Prelude.{◌≡◌, false, ◌+◌, ◌≤◌, eqb, length, if◌then◌else◌};
 ghost use Rattle.laws.specs.Lent.{written};
 ghost use Rattle.refusal.specs.Refusals.{limit};
 ghost use Rattle.lines.specs.Starts.{newline, starts, told_of, outcome, build_of};

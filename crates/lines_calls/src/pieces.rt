@@ -1,7 +1,6 @@
 // The index of a text that comes in pieces, byte by byte: opening, a piece, the declared end, with the state by value. No piece is refused:
 // every refusal comes with the declared end. What the calls do is the crate lines, specs/Pieces.
-ghost use Rattle.std.specs.Prelude.{◌≡◌, ◌≤◌, ◌<◌, ltb, length, set};
-ghost use Rattle.laws.specs.Choice.{if◌then◌else◌};
+ghost use Rattle.std.specs.Prelude.{◌≡◌, ◌≤◌, ◌<◌, ltb, length, set, if◌then◌else◌};
 ghost use Rattle.refusal.specs.Refusals.{limit};
 ghost use Rattle.lines.specs.Starts.{told_of};
 ghost use Rattle.lines.specs.Pieces.{fed, open_of, moved_of, stopped_of, step_of, fed_of, piece_of, end_of};

@@ -14,7 +14,7 @@ use Rattle.laws.specs.Texts.{same}
 use Rattle.laws.specs.Lent.{written}
 use Rattle.laws.proofs.Places.{past, here}
 use Rattle.laws.proofs.Choice.{if_yes, if_no, by_bool, impossible}
-use Rattle.laws.specs.Choice.{if◌then◌else◌}
+use Rattle.std.specs.Prelude.{if◌then◌else◌}
 use Rattle.refusal.specs.Refusals.{out_of_bounds, no_name}
 use Rattle.names.specs.Layout.{count, bound, used, slot, name_at, bears, half_bounds, is_in_bounds, half_names, half_bytes, first_bound}
 use Rattle.names.specs.Layout.{first_slot, index_slots, half_words, table_names, table_bytes, table_words, nowhere, placed, cut, place_at, Readable}

@@ -1,6 +1,5 @@
 -- What the table means: the names that each party entered first, in order; and a call on that. This is the request's text.
-use Rattle.std.specs.Prelude.{ℕ, zero, suc, ◌+◌, ◌*◌, ◌/◌, ◌%◌, List, [], ◌∷◌, ◌++◌, ltb, leb, length, get_or}
-use Rattle.laws.specs.Choice.{if◌then◌else◌}
+use Rattle.std.specs.Prelude.{ℕ, zero, suc, ◌+◌, ◌*◌, ◌/◌, ◌%◌, List, [], ◌∷◌, ◌++◌, ltb, leb, length, get_or, if◌then◌else◌}
 use Rattle.laws.specs.Texts.{same}
 use Rattle.refusal.specs.Refusals.{no_party, no_room, no_name}
 use Rattle.names.specs.Layout.{half_names, half_bytes, table_names, count, name_at}

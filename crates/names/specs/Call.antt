@@ -1,6 +1,5 @@
 -- The calls on the table, each with its answer and the final contents of the lent memory.
-use Rattle.std.specs.Prelude.{ℕ, zero, suc, ◌+◌, ◌-◌, ◌*◌, ◌/◌, ◌%◌, Bool, false, List, [], ◌∷◌, ◌++◌, eqb, ltb, leb, length, take, drop, set, replicate}
-use Rattle.laws.specs.Choice.{if◌then◌else◌}
+use Rattle.std.specs.Prelude.{ℕ, zero, suc, ◌+◌, ◌-◌, ◌*◌, ◌/◌, ◌%◌, Bool, false, List, [], ◌∷◌, ◌++◌, eqb, ltb, leb, length, take, drop, set, replicate, if◌then◌else◌}
 use Rattle.laws.specs.Lent.{written}
 use Rattle.refusal.specs.Refusals.{out_of_bounds, no_party, no_room, no_name}
 use Rattle.names.specs.Layout.{half_names, half_bytes, first_bound, first_slot, index_slots, half_words, table_names, table_bytes, table_words}

@@ -1,6 +1,5 @@
 -- What the answers to a party may depend on, its own half being given: the definitions of docs/NAMES.md, "What each party can learn".
-use Rattle.std.specs.Prelude.{ℕ, ◌+◌, ◌-◌, ◌*◌, Bool, true, false, List, [], ◌∷◌, ◌++◌, eqb, ltb, leb, length}
-use Rattle.laws.specs.Choice.{if◌then◌else◌}
+use Rattle.std.specs.Prelude.{ℕ, ◌+◌, ◌-◌, ◌*◌, Bool, true, false, List, [], ◌∷◌, ◌++◌, eqb, ltb, leb, length, if◌then◌else◌}
 use Rattle.refusal.specs.Refusals.{no_room}
 use Rattle.names.specs.Layout.{half_names, half_bytes}
 use Rattle.names.specs.Call.{enter_of}

@@ -2,8 +2,7 @@
 -- A half's words are the count of its names; the bounds of its names (the bytes of entry k lie from bound k to bound k + 1 of the half's
 -- bytes), one more than it can have names; the slots of an index (0 empty, else an entry and a tag of its name); and one slot behind them
 -- that is never asked.
-use Rattle.std.specs.Prelude.{ℕ, ◌+◌, ◌-◌, ◌*◌, ◌≤◌, ◌<◌, ◌≡◌, refl, Bool, false, List, ltb, leb, length, get_or, take, drop}
-use Rattle.laws.specs.Choice.{if◌then◌else◌}
+use Rattle.std.specs.Prelude.{ℕ, ◌+◌, ◌-◌, ◌*◌, ◌≤◌, ◌<◌, ◌≡◌, refl, Bool, false, List, ltb, leb, length, get_or, take, drop, if◌then◌else◌}
 use Rattle.laws.specs.Texts.{same}
 use Rattle.names.specs.declared.Place.{Place}
 

@@ -3,7 +3,7 @@ use Rattle.numbers.specs.declared.NumberAnswer.{NumberAnswer}
 use Rattle.numbers.specs.declared.Parsed.{Parsed}
 use Rattle.numbers.specs.Call.{answered, given, number, Answer, parts, no_number, error, refused}
 use Rattle.numbers.specs.Grammar.{parse_number}
-use Rattle.laws.specs.Choice.{if◌then◌else◌}
+use Rattle.std.specs.Prelude.{if◌then◌else◌}
 use Rattle.laws.proofs.Choice.{impossible}
 use Rattle.refusal.specs.Refusals.{over_long, not_utf8, limit}
 use Rattle.chars.specs.Utf8.{first_bad}

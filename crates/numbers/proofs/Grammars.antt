@@ -8,7 +8,7 @@ use Rattle.numbers.specs.declared.MaybeParts.{MaybeParts}
 use Rattle.numbers.specs.declared.MaybeParts.TheVariants.{NoParts}
 use Rattle.numbers.specs.Grammar.{just_of, complex_of, polar_of, init}
 use Rattle.numbers.specs.Reals.{decimal, integral_of, rational_of, or_else}
-use Rattle.laws.specs.Choice.{if◌then◌else◌}
+use Rattle.std.specs.Prelude.{if◌then◌else◌}
 use Rattle.laws.specs.Quoted.{codes, code}
 use Rattle.laws.specs.Texts.{before, starts, same}
 use Rattle.laws.proofs.Choice.{by_bool, impossible}

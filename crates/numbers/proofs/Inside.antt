@@ -16,7 +16,7 @@ use Rattle.numbers.specs.Inside.{InSpan, InInt, InPoint, InReal, InParts}
 use Rattle.numbers.specs.Reals.{exponent_marker, exponent, suffix, point_of, dotted, undotted, decimal, point_in, one_decimal, infnan}
 use Rattle.numbers.specs.Reals.{integral_of, rational_of, denominator, exact, or_else, ureal, real}
 use Rattle.numbers.proofs.Judged.{prefix_short}
-use Rattle.laws.specs.Choice.{if◌then◌else◌}
+use Rattle.std.specs.Prelude.{if◌then◌else◌}
 use Rattle.laws.specs.Quoted.{codes, code}
 use Rattle.laws.specs.Texts.{before, starts, same}
 use Rattle.laws.proofs.Choice.{by_bool, if_all, if_is, impossible}

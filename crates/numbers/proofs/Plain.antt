@@ -8,7 +8,7 @@ use Rattle.numbers.specs.declared.MaybeReal.TheVariants.{AReal, NoReal}
 use Rattle.numbers.specs.Reals.{exponent_marker, suffix, point_of, dotted, undotted, decimal, infnan, integral_of, rational_of, denominator, exact, or_else, ureal, real}
 use Rattle.numbers.specs.Grammar.{just_of, ends_i, alone_of, to_sign, starts_e, rectangular, complex, zero_int, zero_real, zero_parts, judged, prefix, parse_number}
 use Rattle.numbers.specs.Plain.{fraction, ratio, unsigned_plain, plain}
-use Rattle.laws.specs.Choice.{if◌then◌else◌}
+use Rattle.std.specs.Prelude.{if◌then◌else◌}
 use Rattle.laws.specs.Quoted.{code, codes, within}
 use Rattle.laws.specs.Texts.{span, before, starts, same}
 use Rattle.laws.proofs.Choice.{by_bool, if_all, and_true, within_is, no_yes}

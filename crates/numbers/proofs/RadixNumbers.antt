@@ -7,7 +7,7 @@ use Rattle.numbers.specs.Grammar.{just_of, complex, radix_mark, prefix}
 use Rattle.numbers.specs.Reals.{decimal, infnan, integral_of, exact, or_else, ureal, real}
 use Rattle.numbers.proofs.Ascii.{Ascii}
 use Rattle.numbers.proofs.Plain.{All, all_map, Calm, Avoids, before_all, no_decimal_lem, one_complex}
-use Rattle.laws.specs.Choice.{if◌then◌else◌}
+use Rattle.std.specs.Prelude.{if◌then◌else◌}
 use Rattle.laws.specs.Quoted.{code, codes, within}
 use Rattle.laws.specs.Texts.{span, before, same}
 use Rattle.laws.proofs.Choice.{by_bool, and_no, no_yes}

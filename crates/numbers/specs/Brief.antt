@@ -1,7 +1,6 @@
 -- Brief numbers: what the code finds of one of the plainest reals in one walk, and when it tells a text's parts by that alone. Means of proof:
 -- Grammar says what a number's parts are.
-use Rattle.std.specs.Prelude.{ℕ, ◌+◌, ◌-◌, ◌^◌, ◌≤◌, ◌<◌, ◌≡◌, Bool, true, false, List, ◌⊎◌, length, get_or, take, drop, ltb, eqb}
-use Rattle.laws.specs.Choice.{if◌then◌else◌}
+use Rattle.std.specs.Prelude.{ℕ, ◌+◌, ◌-◌, ◌^◌, ◌≤◌, ◌<◌, ◌≡◌, Bool, true, false, List, ◌⊎◌, length, get_or, take, drop, ltb, eqb, if◌then◌else◌}
 use Rattle.laws.specs.Quoted.{code}
 use Rattle.laws.specs.Texts.{starts}
 use Rattle.digits.specs.declared.Int.TheVariants.{Small}

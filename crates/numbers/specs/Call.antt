@@ -1,6 +1,5 @@
 -- The number call: "takes one text and, after 20 and 21, gives its parts, `no number`, or error 8" (document 01, "Rules that bite").
-use Rattle.std.specs.Prelude.{ℕ, List, length, ltb}
-use Rattle.laws.specs.Choice.{if◌then◌else◌}
+use Rattle.std.specs.Prelude.{ℕ, List, length, ltb, if◌then◌else◌}
 use Rattle.refusal.specs.Refusals.{over_long, not_utf8, limit}
 use Rattle.chars.specs.declared.Utf8.{Utf8}
 use Rattle.chars.specs.declared.Utf8.TheVariants as utf8

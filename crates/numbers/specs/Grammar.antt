@@ -1,8 +1,7 @@
 -- A number: R7RS 7.1.1's <number>, <prefix R> and <complex R>, a function for a production, under its name.
 -- Where document 01 or the Rust departs from the grammar, a comment begins "Departure" and gives the smallest text that shows it.
 -- s is a part of the text as a list of bytes, p the place of the text where that part starts, R the radix.
-use Rattle.std.specs.Prelude.{ℕ, suc, ◌+◌, ◌-◌, Bool, true, false, ◌||◌, List, [], ◌∷◌, length, get_or, take, drop, ltb, eqb, pos, negsuc}
-use Rattle.laws.specs.Choice.{if◌then◌else◌}
+use Rattle.std.specs.Prelude.{ℕ, suc, ◌+◌, ◌-◌, Bool, true, false, ◌||◌, List, [], ◌∷◌, length, get_or, take, drop, ltb, eqb, pos, negsuc, if◌then◌else◌}
 use Rattle.laws.specs.Quoted.{code, codes}
 use Rattle.laws.specs.Texts.{before, starts, same}
 use Rattle.digits.specs.declared.Int.{Int}

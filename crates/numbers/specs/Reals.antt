@@ -2,8 +2,7 @@
 -- Where document 01 or the Rust departs from the grammar, a comment begins "Departure" and gives the smallest text that shows it.
 -- s is a part of the text as a list of bytes, p the place of the text where that part starts, R the radix, neg whether a minus sign
 -- stands before s. A production is matched by the whole of s.
-use Rattle.std.specs.Prelude.{ℕ, ◌+◌, Bool, false, ◌||◌, List, [], ◌∷◌, length, take, drop, ltb, eqb}
-use Rattle.laws.specs.Choice.{if◌then◌else◌}
+use Rattle.std.specs.Prelude.{ℕ, ◌+◌, Bool, false, ◌||◌, List, [], ◌∷◌, length, take, drop, ltb, eqb, if◌then◌else◌}
 use Rattle.laws.specs.Quoted.{code, codes}
 use Rattle.laws.specs.Texts.{before, starts, same}
 use Rattle.digits.specs.declared.Span.{Span}

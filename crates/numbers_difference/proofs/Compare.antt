@@ -22,7 +22,7 @@ use Rattle.laws.specs.Texts.{before}
 use Rattle.laws.proofs.Choice.{by_bool, yes_no, impossible}
 use Rattle.laws.specs.Quoted.{code}
 use Rattle.numbers_standard.specs.Grammar.{complex, number_parts, parse_standard}
-use Rattle.laws.specs.Choice.{if◌then◌else◌}
+use Rattle.std.specs.Prelude.{if◌then◌else◌}
 use Rattle.numbers.specs.Grammar.{judged, parse_number, polar_of, prefix, zero_parts}
 use Rattle.laws.specs.Letters.{lower, to_lower}
 use Rattle.numbers_standard.specs.Reals.{real}

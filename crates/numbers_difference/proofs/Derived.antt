@@ -23,7 +23,7 @@ use Rattle.laws.proofs.Choice.{by_bool, yes_no}
 use Rattle.laws.specs.Quoted.{code, within}
 use Rattle.numbers.specs.Reals.{decimal, dotted, exponent, exponent_marker, integral_of, or_else, point_of, rational_of, suffix, undotted}
 use Rattle.digits.specs.Digits.{digit_of, digits, negative, sign, span_at, whole_of}
-use Rattle.laws.specs.Choice.{if◌then◌else◌}
+use Rattle.std.specs.Prelude.{if◌then◌else◌}
 use Rattle.numbers_standard.specs.Grammar.{imaginary}
 use Rattle.numbers_standard.specs.Reals.{infnan, ratio, real, ureal}
 use Rattle.laws.specs.Letters.{is_sign, lower}

@@ -14,7 +14,7 @@ use Rattle.numbers.specs.declared.Real.{Real}
 use Rattle.numbers_standard.proofs.Letters.{UpperOf, lower_is}
 use Rattle.laws.proofs.Choice.{by_bool, yes_no, impossible}
 use Rattle.laws.specs.Quoted.{code, codes, within}
-use Rattle.laws.specs.Choice.{if◌then◌else◌}
+use Rattle.std.specs.Prelude.{if◌then◌else◌}
 use Rattle.numbers_standard.specs.Reals.{infnan}
 use Rattle.laws.specs.Letters.{lower}
 use Rattle.laws.specs.Texts.{same}

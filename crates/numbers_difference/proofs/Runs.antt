@@ -12,7 +12,7 @@ use lib.Dec.{eqb, ltb}
 use Rattle.laws.specs.Texts.{before, span}
 use Rattle.laws.proofs.Choice.{by_bool, yes_no}
 use Rattle.digits.specs.Digits.{digit_of, digits, uinteger}
-use Rattle.laws.specs.Choice.{if◌then◌else◌}
+use Rattle.std.specs.Prelude.{if◌then◌else◌}
 use Rattle.numbers_difference.specs.Productions.{Digits, UInteger}
 
 -- every character passes the test

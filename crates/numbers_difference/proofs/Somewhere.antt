@@ -8,7 +8,7 @@ use Prim.Native.Nat.{ℕ}
 use Rattle.laws.proofs.Choice.{by_bool, yes_no}
 use Rattle.laws.specs.Quoted.{code, within}
 use Rattle.digits.specs.Digits.{digit_of}
-use Rattle.laws.specs.Choice.{if◌then◌else◌}
+use Rattle.std.specs.Prelude.{if◌then◌else◌}
 use Rattle.laws.specs.Letters.{is_sign}
 use Rattle.numbers_difference.proofs.Runs.{all, all_head, all_tail}
 use Rattle.numbers_difference.specs.Conditions.{capital, is_capital, is_n, somewhere}

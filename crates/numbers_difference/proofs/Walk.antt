@@ -16,7 +16,7 @@ use Rattle.laws.proofs.Choice.{by_bool, yes_no, impossible}
 use Rattle.laws.specs.Quoted.{code, codes, within}
 use Rattle.digits.specs.Digits.{digit_of, sign}
 use Rattle.numbers.specs.Reals.{exponent_marker}
-use Rattle.laws.specs.Choice.{if◌then◌else◌}
+use Rattle.std.specs.Prelude.{if◌then◌else◌}
 use Rattle.laws.specs.Letters.{is_sign, lower}
 use Rattle.numbers_standard.specs.Grammar.{joint}
 use Rattle.laws.specs.Texts.{span}

@@ -25,7 +25,7 @@ use Rattle.laws.specs.Quoted.{code, within}
 use Rattle.numbers.specs.Grammar.{complex_of, init, just_of, polar_of, prefix, radix_mark, to_sign}
 use Rattle.digits.specs.Digits.{digit_of, sign}
 use Rattle.numbers.specs.Reals.{exponent_marker}
-use Rattle.laws.specs.Choice.{if◌then◌else◌}
+use Rattle.std.specs.Prelude.{if◌then◌else◌}
 use Rattle.laws.specs.Letters.{is_sign, lower, to_lower}
 use Rattle.numbers_standard.specs.Reals.{real}
 use Rattle.numbers_difference.specs.R7rs.{ComplexAt, ImaginaryAt, Infnan, Number, RealAt}

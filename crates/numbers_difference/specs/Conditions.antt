@@ -1,7 +1,6 @@
 -- On which texts the two number readers differ: three conditions on the text's characters and their order. No reader's definition is
 -- used here. What a <number> of R7RS 7.1.1 is stands first, as a shape of text: the productions without parts and places.
-use Rattle.std.specs.Prelude.{ℕ, ◌≡◌, Bool, true, false, ◌&&◌, ◌||◌, List, [], ◌∷◌, ◌++◌, map, ◌⊎◌, eqb}
-use Rattle.laws.specs.Choice.{if◌then◌else◌}
+use Rattle.std.specs.Prelude.{ℕ, ◌≡◌, Bool, true, false, ◌&&◌, ◌||◌, List, [], ◌∷◌, ◌++◌, map, ◌⊎◌, eqb, if◌then◌else◌}
 use Rattle.laws.specs.Quoted.{code, codes}
 use Rattle.laws.specs.Letters.{lower, is_sign}
 use Rattle.numbers_difference.specs.Productions.{Letter, Digits, UInteger, Sign, Prefix}

@@ -1,7 +1,6 @@
 -- The number grammar of R7RS 7.1.1 without <exactness>: a type for a production, a constructor for an alternative. Each says which text
 -- the production derives and which parts it has; p is the place where the text starts, neg whether a minus sign stands before it.
-use Rattle.std.specs.Prelude.{ℕ, ◌+◌, ◌≡◌, Bool, true, false, List, [], ◌∷◌, ◌++◌, map, length, ltb}
-use Rattle.laws.specs.Choice.{if◌then◌else◌}
+use Rattle.std.specs.Prelude.{ℕ, ◌+◌, ◌≡◌, Bool, true, false, List, [], ◌∷◌, ◌++◌, map, length, ltb, if◌then◌else◌}
 use Rattle.laws.specs.Quoted.{code, codes}
 use Rattle.digits.specs.declared.Span.{Span}
 use Rattle.digits.specs.declared.Int.{Int}

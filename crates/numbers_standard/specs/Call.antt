@@ -1,6 +1,5 @@
 -- The number call with a choice of reader: "Refusals: 39 for an unknown choice, before 20 and 21" (document 02, a second number reader).
-use Rattle.std.specs.Prelude.{ℕ, List, length, ltb, eqb}
-use Rattle.laws.specs.Choice.{if◌then◌else◌}
+use Rattle.std.specs.Prelude.{ℕ, List, length, ltb, eqb, if◌then◌else◌}
 use Rattle.refusal.specs.Refusals.{over_long, limit, unknown_choice}
 use Rattle.chars.specs.Utf8.{first_bad}
 use Rattle.numbers.specs.Call.{Answer, refused, answered, given, checked, number}

@@ -1,8 +1,7 @@
 -- A number by the standard: R7RS 7.1.1's <number> without <exactness>, a function for a production, under its name. Crate numbers_difference
 -- has the grammar itself, and the proof that this is it.
 -- s is a part of the text as a list of bytes, p the place of the text where that part starts, R the radix.
-use Rattle.std.specs.Prelude.{ℕ, ◌+◌, ◌-◌, Bool, true, false, not, List, map, length, take, drop, ltb, eqb}
-use Rattle.laws.specs.Choice.{if◌then◌else◌}
+use Rattle.std.specs.Prelude.{ℕ, ◌+◌, ◌-◌, Bool, true, false, not, List, map, length, take, drop, ltb, eqb, if◌then◌else◌}
 use Rattle.laws.specs.Quoted.{code, codes}
 use Rattle.laws.specs.Texts.{span, before, starts, same}
 use Rattle.digits.specs.Digits.{sign}

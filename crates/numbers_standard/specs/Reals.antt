@@ -2,8 +2,7 @@
 -- <uinteger R>, <decimal 10>, <suffix> and <sign> are those of the bought reader (crate numbers), which follows the standard there.
 -- s is a part of the text as a list of bytes, p the place of the text where that part starts, R the radix, neg whether a minus sign
 -- stands before s. A production is matched by the whole of s.
-use Rattle.std.specs.Prelude.{ℕ, ◌+◌, Bool, false, List, map, length, take, drop, ltb, eqb}
-use Rattle.laws.specs.Choice.{if◌then◌else◌}
+use Rattle.std.specs.Prelude.{ℕ, ◌+◌, Bool, false, List, map, length, take, drop, ltb, eqb, if◌then◌else◌}
 use Rattle.laws.specs.Quoted.{code}
 use Rattle.laws.specs.Texts.{before}
 use Rattle.digits.specs.Digits.{sign, negative, whole_of}

@@ -1,6 +1,5 @@
 -- The number call's answer as a number, and a number's parts as words: what C passes on.
-use Rattle.std.specs.Prelude.{ℕ, Bool, true, false, ◌||◌, List, [], ◌∷◌, ◌++◌, length, ltb, eqb, ℤ, pos, negsuc, nat_abs}
-use Rattle.laws.specs.Choice.{if◌then◌else◌}
+use Rattle.std.specs.Prelude.{ℕ, Bool, true, false, ◌||◌, List, [], ◌∷◌, ◌++◌, length, ltb, eqb, ℤ, pos, negsuc, nat_abs, if◌then◌else◌}
 use Rattle.refusal.specs.Refusals.{over_long, not_utf8, too_few}
 use Rattle.digits.specs.declared.Span.{Span}
 use Rattle.digits.specs.declared.Int.{Int}

@@ -15,7 +15,7 @@ use Rattle.items.proofs.Failing.{past_within, Named, character_inside}
 use Rattle.items.specs.Meaning.{character_of, char_inside}
 use Rattle.items.specs.Readers.{SoFar, past_failing}
 use Rattle.items.specs.Whole.{limit}
-use Rattle.laws.specs.Choice.{if◌then◌else◌}
+use Rattle.std.specs.Prelude.{if◌then◌else◌}
 use Rattle.laws.specs.Quoted.{code}
 use Rattle.laws.specs.Lent.{written}
 use Rattle.laws.proofs.Lent.{length-written}

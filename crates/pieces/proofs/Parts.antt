@@ -11,7 +11,7 @@ use Rattle.chars.specs.Machine.{step, start, told, reads}
 use Rattle.chars.proofs.Agree.{reads-front}
 use Rattle.chars.proofs.Chars.{CharAt, char_at}
 use Rattle.chars.proofs.Table.{within_above}
-use Rattle.laws.specs.Choice.{if◌then◌else◌}
+use Rattle.std.specs.Prelude.{if◌then◌else◌}
 use Rattle.laws.proofs.Choice.{by_bool, if_is, within_is}
 use Rattle.pieces.specs.declared.Part.{Part}
 use Rattle.pieces.specs.Bounds.{part_bounds}

@@ -18,7 +18,7 @@ use Rattle.items.specs.Machine.{step_of, finish_of, on_first}
 use Rattle.items.specs.Meaning.{Meaning, meaning_of}
 use Rattle.items.specs.Whole.{limit, is_mode}
 use Rattle.items.proofs.Depth.{depth_slow}
-use Rattle.laws.specs.Choice.{if◌then◌else◌}
+use Rattle.std.specs.Prelude.{if◌then◌else◌}
 use Rattle.laws.specs.Quoted.{code}
 use Rattle.laws.proofs.Choice.{if_all, if_is}
 use Rattle.pieces.specs.declared.Beyond.{Beyond}

@@ -1,7 +1,6 @@
 -- The field bounds of a state: a state outside them is refused with 27. docs/STATE.md lists them. They are what the calls need to read
 -- within the buffer and to give words of 32 bits; no state that the opening call and later calls produced is outside them.
-use Rattle.std.specs.Prelude.{ℕ, ◌+◌, ◌-◌, ◌*◌, ◌^◌, ◌≡◌, Bool, true, false, ◌&&◌, ◌⊎◌, eqb, leb, ltb}
-use Rattle.laws.specs.Choice.{if◌then◌else◌}
+use Rattle.std.specs.Prelude.{ℕ, ◌+◌, ◌-◌, ◌*◌, ◌^◌, ◌≡◌, Bool, true, false, ◌&&◌, ◌⊎◌, eqb, leb, ltb, if◌then◌else◌}
 use Rattle.refusal.specs.Refusals as refusal
 use Rattle.chars.specs.Encode.{width, is_scalar}
 use Rattle.items.specs.Kinds as kind

@@ -1,7 +1,6 @@
 -- What the calls give for a text that comes in pieces, on the definition of items alone: the same items however the text is cut, up to
 -- its end or to the stop. Document 01, "Piecewise". `report` is the mode, `bytes` are all bytes of all pieces.
-use Rattle.std.specs.Prelude.{ℕ, ◌-◌, Bool, List, [], ◌∷◌, ◌++◌, length, eqb, ltb}
-use Rattle.laws.specs.Choice.{if◌then◌else◌}
+use Rattle.std.specs.Prelude.{ℕ, ◌-◌, Bool, List, [], ◌∷◌, ◌++◌, length, eqb, ltb, if◌then◌else◌}
 use Rattle.refusal.specs.Refusals as refusal
 use Rattle.chars.specs.Utf8.{Sequence, read, broken, short, sequences, chars}
 use Rattle.items.specs.Items.{Item, items, kept, byte_count, ends_before}

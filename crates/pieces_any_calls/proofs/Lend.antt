@@ -1,7 +1,7 @@
 -- A caller that lends another text memory at every call is given what the caller of crate `pieces` is given with one: a memory too short
 -- costs a call and changes nothing, and of those that are long enough every one serves alike. So `resumes` carries over, from whatever calls.
 use Rattle.refusal.specs.Refusals as refusal
-use Rattle.laws.specs.Choice.{if◌then◌else◌}
+use Rattle.std.specs.Prelude.{if◌then◌else◌}
 use Rattle.laws.proofs.Choice.{by_bool}
 use Rattle.items.specs.Whole.{in_report}
 use Rattle.pieces.specs.declared.State.{State}

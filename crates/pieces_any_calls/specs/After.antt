@@ -1,7 +1,6 @@
 -- Any calls, one after the other: pieces and ends in whatever order, each with a text memory of whatever length, served or refused. What they
 -- took and gave, added up, and the state that they left.
-use Rattle.std.specs.Prelude.{ℕ, ◌<◌, ◌≡◌, Bool, true, false, List, [], ◌∷◌, ◌++◌, take, leb}
-use Rattle.laws.specs.Choice.{if◌then◌else◌}
+use Rattle.std.specs.Prelude.{ℕ, ◌<◌, ◌≡◌, Bool, true, false, List, [], ◌∷◌, ◌++◌, take, leb, if◌then◌else◌}
 use Rattle.refusal.specs.Refusals as refusal
 use Rattle.pieces.specs.declared.State.{State}
 use Rattle.pieces.specs.Bounds.{Stops}

@@ -1,7 +1,6 @@
 -- The caller of crate `pieces`, specs/Drive, with another text memory at every call: `rooms` are their lengths, one for each call. A call
 -- that is refused with 24 is made again with the next memory.
-use Rattle.std.specs.Prelude.{ℕ, suc, ◌+◌, ◌*◌, Bool, false, List, [], ◌∷◌, length, drop, eqb, leb}
-use Rattle.laws.specs.Choice.{if◌then◌else◌}
+use Rattle.std.specs.Prelude.{ℕ, suc, ◌+◌, ◌*◌, Bool, false, List, [], ◌∷◌, length, drop, eqb, leb, if◌then◌else◌}
 use Rattle.refusal.specs.Refusals as refusal
 use Rattle.pieces.specs.declared.State.{State}
 use Rattle.pieces.specs.Calls.{What, item, more, finished, refused, Reply, piece_of, end_of, open_of}

@@ -10,7 +10,7 @@ use lib.Dec.{eqb}
 use native.Mathlib.Numerals.{add-one}
 use native.Mathlib.Omega.{arith}
 use borrow.Author.Tests.{leb-true}
-use Rattle.laws.specs.Choice.{if◌then◌else◌}
+use Rattle.std.specs.Prelude.{if◌then◌else◌}
 use Rattle.laws.proofs.Choice.{if_all, and_true, no_yes, yes_no}
 use Rattle.chars.specs.Encode.{width, is_scalar}
 use Rattle.chars.proofs.Scalar.{scalar_true}

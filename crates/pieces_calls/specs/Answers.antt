@@ -1,7 +1,6 @@
 -- What the code's answers say: document 01's numbers and values for each case of an enum, and the state, whose buffer is lent to the
 -- inner calls.
-use Rattle.std.specs.Prelude.{ℕ, Bool, true, false, List, [], length, eqb}
-use Rattle.laws.specs.Choice.{if◌then◌else◌}
+use Rattle.std.specs.Prelude.{ℕ, Bool, true, false, List, [], length, eqb, if◌then◌else◌}
 use Rattle.refusal.specs.Refusals as refusal
 use Rattle.pieces.specs.declared.Marks.{Marks}
 use Rattle.pieces.specs.declared.Got.{Got}

@@ -1,7 +1,6 @@
 -- What a reading of a text in pieces comes to, by the calls' definition (crate `pieces`, specs/Calls): the cutting says which bytes each call
 -- is handed, and what each call gives is written down.
-use Rattle.std.specs.Prelude.{ℕ, zero, suc, ◌+◌, ◌-◌, ◌*◌, ◌/◌, ◌%◌, ◌^◌, Bool, true, false, List, length, nat_le, nat_lt, slice_set}
-use Rattle.laws.specs.Choice.{if◌then◌else◌}
+use Rattle.std.specs.Prelude.{ℕ, zero, suc, ◌+◌, ◌-◌, ◌*◌, ◌/◌, ◌%◌, ◌^◌, Bool, true, false, List, length, nat_le, nat_lt, slice_set, if◌then◌else◌}
 use Rattle.items.specs.Items.{record_words}
 use Rattle.pieces.specs.declared.State.{State}
 use Rattle.pieces.specs.Calls.{What, item, more, finished, refused, Reply, laid_at, piece_of, end_of, open_of}

@@ -1,6 +1,5 @@
 -- How a case lies in its line: fields between tabs, and `$` for a newline.
-use Rattle.std.specs.Prelude.{ℕ, suc, ◌+◌, ◌-◌, ◌%◌, ◌^◌, List, [], ◌∷◌, length, take, drop, ◌==◌, nat_lt}
-use Rattle.laws.specs.Choice.{if◌then◌else◌}
+use Rattle.std.specs.Prelude.{ℕ, suc, ◌+◌, ◌-◌, ◌%◌, ◌^◌, List, [], ◌∷◌, length, take, drop, ◌==◌, nat_lt, if◌then◌else◌}
 use Rattle.laws.specs.Quoted.{code}
 use Rattle.laws.specs.Texts.{before}
 use Rattle.pieces.specs.Calls.{laid_at}

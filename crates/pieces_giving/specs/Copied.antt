@@ -1,7 +1,6 @@
 -- An item as it is given, by what the code knows of it: its text by its kind and its places, or between which quotes it is decoded.
 -- proofs/Shown shows that this is what specs/Given of the crate pieces says of the item.
-use Rattle.std.specs.Prelude.{ℕ, ◌-◌, Bool, true, ◌&&◌, List, [], ◌∷◌, ◌++◌, length, take, drop, eqb}
-use Rattle.laws.specs.Choice.{if◌then◌else◌}
+use Rattle.std.specs.Prelude.{ℕ, ◌-◌, Bool, true, ◌&&◌, List, [], ◌∷◌, ◌++◌, length, take, drop, eqb, if◌then◌else◌}
 use Rattle.items.specs.Kinds as kind
 use Rattle.items.specs.declared.Quotes.{Quotes}
 use Rattle.items.specs.declared.Quotes.TheVariants.{Double, Lines}

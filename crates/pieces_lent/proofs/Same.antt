@@ -1,7 +1,7 @@
 -- A lent state is a state by value kept as numbers, and a lent call does what the call by value does. So what is proved of the calls by
 -- value holds of the lent ones: number 27 never meets a state that they produced, and however a text is cut they give its items.
 use Rattle.refusal.specs.Refusals as refusal
-use Rattle.laws.specs.Choice.{if◌then◌else◌}
+use Rattle.std.specs.Prelude.{if◌then◌else◌}
 use Rattle.items.specs.Whole.{in_report}
 use Rattle.pieces.specs.declared.Marks.{Marks}
 use Rattle.pieces.specs.declared.State.{State}

@@ -5,7 +5,7 @@ use Rattle.chars.specs.declared.Step.{Step}
 use Rattle.chars.specs.declared.Step.TheVariants as steps
 use Rattle.chars.specs.Encode.{width}
 use Rattle.chars.specs.Machine.{step, told}
-use Rattle.laws.specs.Choice.{if◌then◌else◌}
+use Rattle.std.specs.Prelude.{if◌then◌else◌}
 use Rattle.laws.specs.Quoted.{code}
 use Rattle.laws.proofs.Choice.{by_bool, if_all}
 use Rattle.items.specs.declared.Phase.TheVariants.{AfterHash}

@@ -1,7 +1,6 @@
 -- What the calls do with a state that the caller keeps as numbers: what crate `pieces` says of the state that the words stand for, with
 -- the next state as words again. Words that are the code of no marks, and a buffer of another length, are 27, and stay as they were.
-use Rattle.std.specs.Prelude.{ℕ, Bool, List, length, eqb}
-use Rattle.laws.specs.Choice.{if◌then◌else◌}
+use Rattle.std.specs.Prelude.{ℕ, Bool, List, length, eqb, if◌then◌else◌}
 use Rattle.refusal.specs.Refusals as refusal
 use Rattle.pieces.specs.declared.Marks.{Marks}
 use Rattle.pieces.specs.declared.State.{State}

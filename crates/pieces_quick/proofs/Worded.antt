@@ -16,7 +16,7 @@ use Rattle.pieces.specs.Expected.{longest}
 use Rattle.pieces.specs.Bounds.{is_in_bounds}
 use Rattle.pieces.specs.Calls.{Turn, on, off, Reply, reply, with_depth, turn_of, after, feed_of, piece_stage, piece_of}
 use Rattle.pieces.proofs.Kept.{both}
-use Rattle.laws.specs.Choice.{if◌then◌else◌}
+use Rattle.std.specs.Prelude.{if◌then◌else◌}
 use Rattle.laws.proofs.Choice.{no_yes, if_all}
 use Rattle.pieces_giving.specs.Answers.{state_of}
 use Rattle.pieces_turns.specs.Inner.{reads_on, Sound}

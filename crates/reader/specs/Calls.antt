@@ -1,6 +1,5 @@
 -- Call after call of the reader, each with the text memory that it is lent: what the calls give, and what is due by the items alone.
-use Rattle.std.specs.Prelude.{ℕ, List, [], ◌∷◌, length, leb}
-use Rattle.laws.specs.Choice.{if◌then◌else◌}
+use Rattle.std.specs.Prelude.{ℕ, List, [], ◌∷◌, length, leb, if◌then◌else◌}
 use Rattle.laws.specs.Lent.{written}
 use Rattle.refusal.specs.Refusals as refusal
 use Rattle.items.specs.Items.{Item, depth_after, memory_of, record_of}

@@ -1,6 +1,5 @@
 -- The reader's two calls on memory that the caller lends: what each answers, and what every lent memory then holds.
-use Rattle.std.specs.Prelude.{ℕ, Bool, ◌&&◌, List, [], ◌∷◌, length, eqb, leb}
-use Rattle.laws.specs.Choice.{if◌then◌else◌}
+use Rattle.std.specs.Prelude.{ℕ, Bool, ◌&&◌, List, [], ◌∷◌, length, eqb, leb, if◌then◌else◌}
 use Rattle.laws.specs.Lent.{written}
 use Rattle.refusal.specs.Refusals as refusal
 use Rattle.chars.specs.Encode.{lay}

@@ -1,6 +1,5 @@
 -- A position of the reader as the words that a caller keeps. docs/STATE.md is this page for whoever keeps one.
-use Rattle.std.specs.Prelude.{ℕ, Bool, ◌&&◌, List, [], ◌∷◌, length, get_or, eqb, leb}
-use Rattle.laws.specs.Choice.{if◌then◌else◌}
+use Rattle.std.specs.Prelude.{ℕ, Bool, ◌&&◌, List, [], ◌∷◌, length, get_or, eqb, leb, if◌then◌else◌}
 use Rattle.items.specs.Whole.{limit}
 use Rattle.lexer.specs.declared.Position.{Position}
 

@@ -1,6 +1,5 @@
 -- Calls for an item one after the other, each lent the memory that the one before left.
-use Rattle.std.specs.Prelude.{ℕ, zero, suc, List, [], ◌∷◌, take, eqb}
-use Rattle.laws.specs.Choice.{if◌then◌else◌}
+use Rattle.std.specs.Prelude.{ℕ, zero, suc, List, [], ◌∷◌, take, eqb, if◌then◌else◌}
 use Rattle.refusal.specs.Refusals as refusal
 use Rattle.items.specs.Items.{record_words}
 use Rattle.reader_exports.specs.Reader.{Memory, Left, next_left}

@@ -1,7 +1,6 @@
 -- Calls for an item one after the other, each lent whatever memory the caller has at hand: what the calls leave, and what is due by the items
 -- alone.
-use Rattle.std.specs.Prelude.{ℕ, List, [], ◌∷◌, length, leb}
-use Rattle.laws.specs.Choice.{if◌then◌else◌}
+use Rattle.std.specs.Prelude.{ℕ, List, [], ◌∷◌, length, leb, if◌then◌else◌}
 use Rattle.laws.specs.Lent.{written}
 use Rattle.refusal.specs.Refusals as refusal
 use Rattle.items.specs.Items.{Item, depth_after, memory_of, record_of}

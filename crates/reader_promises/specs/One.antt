@@ -1,8 +1,7 @@
 -- Two answers that a contract permits for one input coincide, and so do the reader and the memory after them. One exception: opening ensures
 -- which bytes the reader holds and not where in memory they lie.
-use Rattle.std.specs.Prelude.{ℕ, ◌≡◌, refl, Bool, List, get_or, eqb}
+use Rattle.std.specs.Prelude.{ℕ, ◌≡◌, refl, Bool, List, get_or, eqb, if◌then◌else◌}
 use Rattle.std.proofs.Common.{sym, ap, ◌∙◌}
-use Rattle.laws.specs.Choice.{if◌then◌else◌}
 use Rattle.items.specs.Items.{own_words}
 use Rattle.meaning.specs.Records.{nine_with}
 use Rattle.lexer.specs.Inner.{deep_at}

@@ -1,7 +1,6 @@
 // The kind of a word by its bytes (document 01, "An item"). Reads the bytes of a word whose extent
 // is known, and answers what the `match` of the Rust's `read_word` does. Internal: used by the lexer and the pieces.
-ghost use Rattle.std.specs.Prelude.{◌≡◌};
-ghost use Rattle.laws.specs.Choice.{if◌then◌else◌};
+ghost use Rattle.std.specs.Prelude.{◌≡◌, if◌then◌else◌};
 ghost use Rattle.laws.specs.Texts.{same};
 ghost use Rattle.items.specs.Kinds as kinds;
 ghost use Rattle.items.specs.Meaning.{word_kind};

@@ -7,7 +7,7 @@ use lib.ListN.{length, drop, length-append}
 use lib.Dec.{eqb, leb}
 use native.Mathlib.Omega.{arith}
 use borrow.Author.Tests.{eqb-false, leb-true, leb-false, ne_eqb}
-use Rattle.laws.specs.Choice.{if◌then◌else◌}
+use Rattle.std.specs.Prelude.{if◌then◌else◌}
 use Rattle.laws.specs.Quoted.{one_of}
 use Rattle.laws.proofs.Choice.{by_bool, impossible}
 use Rattle.laws.proofs.Places.{past}

@@ -1,6 +1,5 @@
 // Words that start with `#`: `read_hash_value`.
-ghost use Rattle.std.specs.Prelude.{◌≡◌, eqb};
-ghost use Rattle.laws.specs.Choice.{if◌then◌else◌};
+ghost use Rattle.std.specs.Prelude.{◌≡◌, eqb, if◌then◌else◌};
 ghost use Rattle.laws.specs.Quoted.{code};
 ghost use Rattle.items.specs.Classes.{after_hash, ends_hash, in_hash};
 ghost use Rattle.items.specs.Readers.{bool_kind, quote_kind, form_kind, or_else, hash_kind};

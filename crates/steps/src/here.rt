@@ -1,7 +1,6 @@
 // Here-strings: `read_here_string`. `#<<` and the rest of its line name the delimiter, carriage returns left out; the body follows, and
 // ends as soon as it ends with the delimiter.
-ghost use Rattle.std.specs.Prelude.{◌≡◌, ℕ, ◌+◌, ◌≤◌, ◌<◌, eqb, length};
-ghost use Rattle.laws.specs.Choice.{if◌then◌else◌};
+ghost use Rattle.std.specs.Prelude.{◌≡◌, ℕ, ◌+◌, ◌≤◌, ◌<◌, eqb, length, if◌then◌else◌};
 ghost use Rattle.laws.specs.Quoted.{code};
 ghost use Rattle.laws.specs.Texts.{before, begins};
 ghost use Rattle.items.specs.Classes.{in_delim};

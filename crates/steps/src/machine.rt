@@ -1,6 +1,5 @@
 // The machine: the first character of an item, each further one, the end of the text, and the scan of an item over all of them.
-ghost use Rattle.std.specs.Prelude.{◌≡◌, ◌+◌, ◌^◌, ◌<◌, ◌≤◌, eqb, length, drop};
-ghost use Rattle.laws.specs.Choice.{if◌then◌else◌};
+ghost use Rattle.std.specs.Prelude.{◌≡◌, ◌+◌, ◌^◌, ◌<◌, ◌≤◌, eqb, length, drop, if◌then◌else◌};
 ghost use Rattle.laws.specs.Quoted.{code};
 ghost use Rattle.chars.specs.Encode.{width};
 ghost use Rattle.chars.specs.Utf8.{chars};

@@ -1,6 +1,5 @@
 // Strings and identifiers in vertical lines: `read_string`, `read_string_escape`, and `read_word` where a vertical line opens the word.
-ghost use Rattle.std.specs.Prelude.{◌≡◌, true, List, ℕ, ◌+◌, ◌^◌, ◌<◌, ◌≤◌, length, drop, eqb};
-ghost use Rattle.laws.specs.Choice.{if◌then◌else◌};
+ghost use Rattle.std.specs.Prelude.{◌≡◌, true, List, ℕ, ◌+◌, ◌^◌, ◌<◌, ◌≤◌, length, drop, eqb, if◌then◌else◌};
 ghost use Rattle.laws.specs.Quoted.{code};
 ghost use Rattle.chars.specs.Encode.{width};
 ghost use Rattle.digits.specs.Hex.{hex_value};

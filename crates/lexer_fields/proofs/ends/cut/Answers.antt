@@ -5,7 +5,7 @@ use mathlib.Core.Bool.{Bool, true, false}
 use mathlib.Core.Logic.{⊎_elim}
 use native.Mathlib.Omega.{arith}
 use lib.ListN.{length}
-use Rattle.laws.specs.Choice.{if◌then◌else◌}
+use Rattle.std.specs.Prelude.{if◌then◌else◌}
 use Rattle.lexer_fields.specs.Fields.{is_in_order}
 use Rattle.lexer_fields.specs.Answers.{between, cutting_of}
 use Rattle.lexer_fields.proofs.Ordered.{ends_done, goes_back, goes_past, end_follows}

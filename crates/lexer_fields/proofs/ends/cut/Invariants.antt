@@ -2,7 +2,7 @@ use Prim.Native.Nat.{◌-◌, ◌≤◌}
 use mathlib.Core.Path.{◌≡◌}
 use mathlib.Core.Bool.{false}
 use lib.ListN.{length, drop}
-use Rattle.laws.specs.Choice.{if◌then◌else◌}
+use Rattle.std.specs.Prelude.{if◌then◌else◌}
 use Rattle.lexer_fields.specs.Fields.{is_in_order}
 use Rattle.lexer_fields.specs.Answers.{between}
 use Rattle.lexer_fields.proofs.ends.cut.Given as goal
