@@ -39,16 +39,14 @@ fn tell(a: CoordinateAnswer, value: &mut f64, place: &mut u64) -> u32
 }
 
 // The coordinate of a text: 0 and the value, or the refusal's number and what it comes with.
-#[unsafe(no_mangle)]
-pub extern "C" fn mihadrena_coordinate(text: &[u8], value: &mut f64, place: &mut u64) -> u32
+pub fn mihadrena_coordinate(text: &[u8], value: &mut f64, place: &mut u64) -> u32
     ensures { (result ≡ number_of (coordinate text.now)) × (value.new ≡ value_or value.old (coordinate text.now)) × (place.new ≡ place_or place.old (coordinate text.now)) }
 {
     tell(coordinates::coordinate(text), value, place)
 }
 
 // The coordinate of a record's extent, by the record's kind and its extent's places, told in the same way.
-#[unsafe(no_mangle)]
-pub extern "C" fn mihadrena_record_coordinate(
+pub fn mihadrena_record_coordinate(
     source: &[u8],
     kind: u32,
     start: u32,
@@ -66,8 +64,7 @@ pub extern "C" fn mihadrena_record_coordinate(
 }
 
 // The value of a record's extent that is a decimal or an integer, told in the same way.
-#[unsafe(no_mangle)]
-pub extern "C" fn mihadrena_record_value(
+pub fn mihadrena_record_value(
     source: &[u8],
     kind: u32,
     start: u32,

@@ -6,8 +6,7 @@ use crate::flat;
 
 // Opens a state of 4,096 bytes and 19 words: 0, or document 01's refusals 25 (with a plain state) and 27 (slices of other lengths, left as
 // they were).
-#[unsafe(no_mangle)]
-pub extern "C" fn mihadrena_open(mode: u32, skip: bool, buf: &mut [u8], words: &mut [u64]) -> u32
+pub fn mihadrena_open(mode: u32, skip: bool, buf: &mut [u8], words: &mut [u64]) -> u32
     ensures { opened result buf.new words.new ≡ open_left mode skip buf.old words.old }
 {
     flat::open(mode, skip, buf, words)
@@ -15,8 +14,7 @@ pub extern "C" fn mihadrena_open(mode: u32, skip: bool, buf: &mut [u8], words: &
 
 // Reads on in a piece: 10 with an item, whose record goes to `item` and whose text to the front of `text`; 11 for "more"; or document 01's
 // refusals 20 to 24, 26 and 27. `values` gets what the refusal comes with, or 0, and how many bytes were taken.
-#[unsafe(no_mangle)]
-pub extern "C" fn mihadrena_piece(
+pub fn mihadrena_piece(
     buf: &mut [u8],
     words: &mut [u64],
     piece: &[u8],
@@ -31,8 +29,7 @@ pub extern "C" fn mihadrena_piece(
 }
 
 // Declares the end of the text: 10 with the next item, 12 once all were given, or a refusal, as a piece call has it.
-#[unsafe(no_mangle)]
-pub extern "C" fn mihadrena_end(
+pub fn mihadrena_end(
     buf: &mut [u8],
     words: &mut [u64],
     text: &mut [u8],

@@ -44,8 +44,7 @@ fn answer(a: ReadAnswer) -> NumberAndValues
 // Reads a whole text. `mode` is 0 for plain and 1 for report; `skip` leaves comments out. The items' records, ten words each, and
 // their decoded texts are written from the front of `records` and `text` on. `values` gets how many items and how many bytes of text
 // were written, or the two values of the refusal; where there is no room for both it is left as it was.
-#[unsafe(no_mangle)]
-pub extern "C" fn mihadrena_read(
+pub fn mihadrena_read(
     source: &[u8],
     mode: u32,
     skip: bool,

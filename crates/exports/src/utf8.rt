@@ -15,8 +15,7 @@ const CUT: u32 = 0x110001;
 const END: u32 = 0x110002;
 
 // How many bytes of a text are good UTF-8: all of them, or those before its first bad sequence.
-#[unsafe(no_mangle)]
-pub extern "C" fn mihadrena_good_bytes(text: &[u8]) -> usize
+pub fn mihadrena_good_bytes(text: &[u8]) -> usize
     ensures { result ≡ good_bytes (length text.now) (first_bad text.now) }
 {
     match chars::first_bad(text) {
@@ -26,8 +25,7 @@ pub extern "C" fn mihadrena_good_bytes(text: &[u8]) -> usize
 }
 
 // The code point of the character at a place, or that the bytes there are bad, cut by the end, or none.
-#[unsafe(no_mangle)]
-pub extern "C" fn mihadrena_code_at(text: &[u8], at: usize) -> u32
+pub fn mihadrena_code_at(text: &[u8], at: usize) -> u32
     ensures { result ≡ code_or (placed at (front (drop at text.now))) }
 {
     match chars::decode_at(text, at) {
@@ -39,8 +37,7 @@ pub extern "C" fn mihadrena_code_at(text: &[u8], at: usize) -> u32
 }
 
 // The place past the character at a place; that place itself where no character stands.
-#[unsafe(no_mangle)]
-pub extern "C" fn mihadrena_next_at(text: &[u8], at: usize) -> usize
+pub fn mihadrena_next_at(text: &[u8], at: usize) -> usize
     ensures { result ≡ next_or at (placed at (front (drop at text.now))) }
 {
     match chars::decode_at(text, at) {
@@ -52,16 +49,14 @@ pub extern "C" fn mihadrena_next_at(text: &[u8], at: usize) -> usize
 }
 
 // Whether a character is blank.
-#[unsafe(no_mangle)]
-pub extern "C" fn mihadrena_is_blank(code: u32) -> bool
+pub fn mihadrena_is_blank(code: u32) -> bool
     ensures { result ≡ is_blank code }
 {
     chars::is_blank(code)
 }
 
 // Writes a character's bytes at the front of `text`; answers how many, 0 for no character or too little room.
-#[unsafe(no_mangle)]
-pub extern "C" fn mihadrena_put_char(code: u32, text: &mut [u8]) -> usize
+pub fn mihadrena_put_char(code: u32, text: &mut [u8]) -> usize
     ensures { (result ≡ laid (encode code) text.old) × (text.new ≡ lay (encode code) text.old) }
 {
     chars::put_char(code, text)

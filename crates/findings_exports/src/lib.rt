@@ -27,8 +27,7 @@ fn tell(a: FindAnswer, values: &mut [u64]) -> u32
 // as fit; `values` gets how many there are and how many of them are errors. `records` is working memory and holds the plan's rows, ten words
 // each, as many as fit; where not all do, the answer is 22, `values` gets how many there are and 0, and `findings` stays as it was. A text
 // that is too long or not UTF-8 has one finding that says so. Where there is no room for both values they are left as they were.
-#[unsafe(no_mangle)]
-pub extern "C" fn mihadrena_find(
+pub fn mihadrena_find(
     source: &[u8],
     records: &mut [u32],
     findings: &mut [u32],

@@ -7,8 +7,7 @@ ghost use Rattle.findings_render.specs.Called.{rendered};
 ghost use Rattle.findings_render.specs.Summed.{summed};
 
 // A finding's bytes, from the front of `out` on, as many as fit; answers how many there are.
-#[unsafe(no_mangle)]
-pub extern "C" fn mihadrena_render(
+pub fn mihadrena_render(
     finding: &[u32],
     source: &[u8],
     name: &[u8],
@@ -23,8 +22,7 @@ pub extern "C" fn mihadrena_render(
 }
 
 // The last lines of a file of which so many findings were told, in the same way.
-#[unsafe(no_mangle)]
-pub extern "C" fn mihadrena_summary(
+pub fn mihadrena_summary(
     name: &[u8],
     findings: usize,
     errors: usize,

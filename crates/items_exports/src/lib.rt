@@ -16,8 +16,7 @@ pub use records::{mihadrena_opener, mihadrena_records_fit};
 const VERSION: u32 = 0x00_1A_00;
 
 // The archive's version.
-#[unsafe(no_mangle)]
-pub extern "C" fn mihadrena_version() -> u32
+pub fn mihadrena_version() -> u32
     ensures { result ≡ version }
 {
     VERSION

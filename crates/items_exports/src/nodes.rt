@@ -22,8 +22,7 @@ fn past(nodes: &[u32], at: usize) -> usize
 }
 
 // The first node that lies beneath a node, or how many nodes there are, where none does.
-#[unsafe(no_mangle)]
-pub extern "C" fn mihadrena_first_child(nodes: &[u32], at: usize) -> usize
+pub fn mihadrena_first_child(nodes: &[u32], at: usize) -> usize
     ensures { result ≡ child_of nodes.now at }
 {
     let count = nodes.len() / NODE_WORDS;
@@ -49,8 +48,7 @@ fn bound(nodes: &[u32], within: usize) -> usize
 
 // The next node beside a node, both directly beneath the node `within`; beneath none, where `within` is how many nodes there are. How many
 // nodes there are, where none follows.
-#[unsafe(no_mangle)]
-pub extern "C" fn mihadrena_next_sibling(nodes: &[u32], within: usize, at: usize) -> usize
+pub fn mihadrena_next_sibling(nodes: &[u32], within: usize, at: usize) -> usize
     ensures { result ≡ sibling_of nodes.now within at }
 {
     let count = nodes.len() / NODE_WORDS;

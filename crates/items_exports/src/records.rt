@@ -51,8 +51,7 @@ fn open_before(records: &[u32], depth: u32, none: usize, p: usize) -> usize
 
 // The bracket in which a record lies, of a close the bracket that it closes: the number of its record, or how many records there are, where
 // the record lies in none or there is no such record.
-#[unsafe(no_mangle)]
-pub extern "C" fn mihadrena_opener(records: &[u32], at: usize) -> usize
+pub fn mihadrena_opener(records: &[u32], at: usize) -> usize
     ensures { result ≡ opener_of records.now at }
 {
     let count = records.len() / RECORD_WORDS;
@@ -119,8 +118,7 @@ fn record_fits(records: &[u32], p: usize, source: usize, text: usize) -> bool
 }
 
 // Whether all records lie in a source and a text memory of these lengths: extent, place and text. Words past the last whole record are none.
-#[unsafe(no_mangle)]
-pub extern "C" fn mihadrena_records_fit(records: &[u32], source: usize, text: usize) -> bool
+pub fn mihadrena_records_fit(records: &[u32], source: usize, text: usize) -> bool
     ensures { result ≡ records_fit records.now source text }
 {
     let mut left = records.len() / RECORD_WORDS;

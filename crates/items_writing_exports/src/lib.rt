@@ -31,8 +31,7 @@ fn answer(a: WriteAnswer) -> NumberAndValue
 
 // Writes the text of records, from the front of `out` on; `text` is the text memory that they name. `values` gets how many bytes it has, or
 // what the refusal comes with; where there is no room for it, it is left as it was.
-#[unsafe(no_mangle)]
-pub extern "C" fn mihadrena_write<'a>(
+pub fn mihadrena_write<'a>(
     records: &[u32],
     source: &'a [u8],
     text: &'a [u8],

@@ -42,8 +42,7 @@ fn tell(a: FieldsAnswer, values: &mut [u64]) -> u32
 // plain and 1 for report; `skip` leaves comments out. A row of four words for each part, the items' records and their decoded texts are
 // written from the front of `rows`, `records` and `text` on. `values` gets how many items and how many bytes of text were written, or the
 // two values of the refusal; where there is no room for both it is left as it was.
-#[unsafe(no_mangle)]
-pub extern "C" fn mihadrena_read_fields(
+pub fn mihadrena_read_fields(
     source: &[u8],
     ends: &[u32],
     mode: u32,

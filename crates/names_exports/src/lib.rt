@@ -11,16 +11,14 @@ use names::Entered;
 use refusal::SERVED;
 
 // Opens a table: its words are cleared.
-#[unsafe(no_mangle)]
-pub extern "C" fn mihadrena_names_open(words: &mut [u32], bytes: &[u8]) -> u32
+pub fn mihadrena_names_open(words: &mut [u32], bytes: &[u8]) -> u32
     ensures { opening result words.new ≡ open_of words.old bytes.now }
 {
     names::open_table(words, bytes)
 }
 
 // A party asks for a name's number.
-#[unsafe(no_mangle)]
-pub extern "C" fn mihadrena_names_enter(
+pub fn mihadrena_names_enter(
     words: &mut [u32],
     bytes: &mut [u8],
     party: u32,
@@ -42,8 +40,7 @@ pub extern "C" fn mihadrena_names_enter(
 }
 
 // Where a number's name lies in `bytes`.
-#[unsafe(no_mangle)]
-pub extern "C" fn mihadrena_names_place(
+pub fn mihadrena_names_place(
     words: &[u32],
     bytes: &[u8],
     number: u32,

@@ -13,8 +13,7 @@ use refusal::UNKNOWN_CHOICE;
 // What a text is as a number by the reader of a choice: the answer's number, and its words at the front of `words`. An unknown choice has
 // no word, a text that is refused one, what the refusal comes with; with too few words for any other answer it is refusal 22, and nothing
 // is written.
-#[unsafe(no_mangle)]
-pub extern "C" fn mihadrena_number_by(choice: u32, text: &[u8], words: &mut [u64]) -> u32
+pub fn mihadrena_number_by(choice: u32, text: &[u8], words: &mut [u64]) -> u32
     ensures { (result ≡ number_or words.old (number_by choice text.now)) × (words.new ≡ lay (flattened (number_by choice text.now)) words.old) }
 {
     match numbers_standard::number_by(choice, text) {
