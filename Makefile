@@ -1,6 +1,6 @@
 # Installs the headers, the archive for a machine, what pkg-config and CMake find them by, and plancheck and lexlist with their manual pages;
 # from the repository, once `.ci/archive` made the archive, or from the folder that dist/make makes, where it lies already. lexlist is for
-# x86-64 alone, and is installed where it lies: in that folder, or after `rt check lexlist` in the repository.
+# x86-64 alone, and is installed where it lies: in that folder, or after `rt run` in crates/lexlist in the repository.
 #
 #     make plancheck                                      target/plancheck, by the C compiler CC
 #     make install PREFIX=/usr/local [TARGET=x86_64-linux-gnu] [DESTDIR=]
@@ -13,7 +13,7 @@ made = lib/$(TARGET) target/$(TARGET)
 lister = bin/$(TARGET)/lexlist
 ifeq ($(TARGET),x86_64-linux-gnu)
 made += target/staticlib
-lister += target/bin/lexlist
+lister += crates/lexlist/out/lexlist
 endif
 # the archive's file, asked when it is wanted: the rule before it may have made it
 archive = $$(ls $(addsuffix /libmihadrena.a,$(made)) 2>/dev/null | head -n 1)
