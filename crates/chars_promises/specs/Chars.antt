@@ -1,8 +1,7 @@
 -- Characters: what each call of crate `chars` ensures is `r ≡` its definition, so that no other answer is permitted.
 use Rattle.std.specs.Prelude.{ℕ, ◌≡◌, refl, true, false, List, [], ◌∷◌, map, drop, replicate}
-use Rattle.std.proofs.Common.{sym, ◌∙◌, arith}
+use Rattle.std.proofs.Common.{arith}
 use Rattle.laws.specs.Quoted.{code, within}
-use Rattle.laws.proofs.Choice.{impossible}
 use Rattle.chars.specs.Encode.{is_scalar, utf8, width, encode, bytes_of, spelled, lay, laid}
 use Rattle.chars.specs.Blank.{is_blank}
 use Rattle.chars.specs.Machine.{start, step}
@@ -11,7 +10,6 @@ use Rattle.chars.specs.declared.Begun.{Begun}
 use Rattle.chars.specs.declared.Step.TheVariants as steps
 use Rattle.chars.specs.declared.Decoded.{Decoded}
 use Rattle.chars.specs.declared.Decoded.TheVariants as decoded
-use Rattle.chars.specs.declared.Utf8.{Utf8}
 use Rattle.chars.specs.declared.Utf8.TheVariants as utf8
 
 -- what n bytes of lent memory hold before a call
@@ -91,13 +89,7 @@ rows = record {
   past_all = refl;
 }
 
--- no program that finds every text good, or none, meets the promise of `first_bad`
-never_fixed : (u : Utf8) → ((s : List ℕ) → u ≡ first_bad s) → ⊥
-never_fixed u h =
-    let e : utf8.Good ≡ utf8.Bad 1 = sym (h (spelled "abc") ∙ rows.good) ∙ (h (code "a" ∷ 0xE2 ∷ 0x82 ∷ []) ∙ rows.short) in
-    impossible cc
-
--- nor one of `put_char` that writes nothing
+-- no program that writes nothing meets the promise of `put_char`
 never_unwritten : lay (encode (code "λ")) (room 2) ≡ room 2 → ⊥
 unfolding within is_scalar utf8 encode lay
 never_unwritten h = let z : ◌≡◌ {A = ℕ} 0xCE 7 = cc in omega (arith, z)

@@ -1,9 +1,8 @@
 -- The number call: `numbers::number` ensures `answered r ≡ number t`. `parse_number` and `is_plain` ensure `r ≡` their definitions.
-use Rattle.std.specs.Prelude.{ℕ, ◌+◌, ◌<◌, ◌≡◌, refl, Bool, true, false, List, [], ◌∷◌, length, ℤ, pos, negsuc}
-use Rattle.std.proofs.Common.{ap, sym, ◌∙◌, arith, lt-ltb}
+use Rattle.std.specs.Prelude.{ℕ, ◌<◌, ◌≡◌, refl, true, false, List, [], ◌∷◌, length, ℤ, pos, negsuc}
+use Rattle.std.proofs.Common.{sym, ◌∙◌, lt-ltb}
 use Rattle.laws.specs.Texts.{span, starts, same}
 use Rattle.laws.specs.Quoted.{code, within}
-use Rattle.laws.proofs.Choice.{impossible}
 use Rattle.refusal.specs.Refusals.{limit}
 use Rattle.chars.specs.Encode.{utf8, bytes_of, spelled}
 use Rattle.chars.specs.Utf8.{first, rest, front, first_bad, sequences}
@@ -16,10 +15,9 @@ use Rattle.numbers.specs.Grammar.{zero_int, zero_real, zero_parts, judged, radix
 use Rattle.numbers.specs.Plain.{plain}
 use Rattle.numbers.specs.declared.Real.{Real}
 use Rattle.numbers.specs.declared.Real.TheVariants.{Integer, Rational}
-use Rattle.numbers.specs.declared.Parts.{Parts}
 use Rattle.numbers.specs.declared.Parts.TheVariants.{Just, Polar}
 use Rattle.numbers.specs.declared.NumberAnswer.{NumberAnswer}
-use Rattle.numbers.specs.Call.{Answer, parts, no_number, error, refused, answered, given, number}
+use Rattle.numbers.specs.Call.{parts, no_number, error, refused, answered, given, number}
 use Rattle.numbers.proofs.Call.{answered_one}
 
 abbrev small : ℤ → Real
@@ -39,7 +37,7 @@ pub record Rows : Type 0 where
   pub plain_sign : plain (spelled "-") ≡ false
   pub plain_zero : plain (spelled "1/0") ≡ false
 
-rows : Rows
+pub rows : Rows
 -- the list only permits the computing
 unfolding number first_bad sequences span starts same utf8 bytes_of within first rest front digit_of sign uinteger value signed whole_of integer
     exponent_marker exponent suffix point_of dotted undotted decimal infnan integral_of rational_of denominator exact or_else ureal real just_of
@@ -60,50 +58,6 @@ rows = record {
 -- two answers that the contract permits for one text coincide
 pub number_one_answer : (t : List ℕ) (a b : NumberAnswer) → answered a ≡ number t → answered b ≡ number t → a ≡ b
 number_one_answer t a b ea eb = answered_one a b (ea ∙ sym eb)
-
--- no program that always answers the same meets the promise, be it "no number" or a refusal
-never_fixed : (a : Answer) → ((t : List ℕ) → a ≡ number t) → ⊥
-never_fixed a h =
-    let e : no_number ≡ error 8 = sym (h (spelled "-") ∙ rows.no_digits) ∙ (h (spelled "1/0") ∙ rows.zero) in
-    impossible cc
-
--- nor does one that refuses everything, each text as it likes
-never_refused : (n m : List ℕ → ℕ) → ((t : List ℕ) → refused (n t) (m t) ≡ number t) → ⊥
-never_refused n m h =
-    let e : refused (n (spelled "-")) (m (spelled "-")) ≡ no_number = h (spelled "-") ∙ rows.no_digits in
-    impossible cc
-
--- what is answered, told apart by a number
-abbrev sort : Answer → ℕ
-sort (parts p) = 0
-sort no_number = 1
-sort (error n) = 2
-sort (refused n a) = 3
-
--- nor one that calls `-5` no number
-never_unread : no_number ≡ number (spelled "-5") → ⊥
-never_unread h = omega (arith, ap sort (h ∙ rows.negative))
-
--- nor one that calls `#xe+1i` a number (E15), or `1/0` (E5), and `1@1/-2` none (E7)
-never_sign_after_e : (p : Parts) → parts p ≡ number (spelled "#xe+1i") → ⊥
-never_sign_after_e p h = omega (arith, ap sort (h ∙ rows.sign_after_e))
-
-never_zero_denominator : (p : Parts) → parts p ≡ number (spelled "1/0") → ⊥
-never_zero_denominator p h = omega (arith, ap sort (h ∙ rows.zero))
-
-never_signless : no_number ≡ number (spelled "1@1/-2") → ⊥
-never_signless h = omega (arith, ap sort (h ∙ rows.signed_denominator))
-
--- nor one of `is_plain` that calls a sign alone a number, or `1/0`
-abbrev bit : Bool → ℕ
-bit true = 1
-bit false = 0
-
-never_plain_sign : plain (spelled "-") ≡ true → ⊥
-never_plain_sign h = omega (arith, ap bit (sym h ∙ rows.plain_sign))
-
-never_plain_zero : plain (spelled "1/0") ≡ true → ⊥
-never_plain_zero h = omega (arith, ap bit (sym h ∙ rows.plain_zero))
 
 -- a text of just the limit is read; a byte more is 20, also where the bytes are no text: 20 before 21
 longest_read : (t : List ℕ) → length t ≡ 4294967295 → first_bad t ≡ Good → number t ≡ given (parse_number t)

@@ -1,9 +1,8 @@
 -- The whole-text call: `lexer::read` ensures `call (answer_of r) records' text' ≡ read_of source mode skip records text`.
-use Rattle.std.specs.Prelude.{ℕ, ◌+◌, ◌-◌, ◌<◌, ◌≤◌, ◌≡◌, refl, Bool, true, false, List, [], ◌∷◌, ◌++◌, length, get_or}
-use Rattle.std.proofs.Common.{ap, sym, ◌∙◌, arith, lt-ltb, le-ltb}
+use Rattle.std.specs.Prelude.{ℕ, ◌+◌, ◌-◌, ◌<◌, ◌≤◌, ◌≡◌, refl, Bool, true, false, List, [], ◌∷◌, ◌++◌, length}
+use Rattle.std.proofs.Common.{lt-ltb, le-ltb}
 use Rattle.laws.specs.Texts.{span, starts, begins, same}
 use Rattle.laws.specs.Quoted.{code, within}
-use Rattle.laws.proofs.Choice.{impossible}
 use Rattle.chars.specs.Encode.{is_scalar, utf8, width, encode, bytes_of, spelled}
 use Rattle.chars.specs.Blank.{is_blank}
 use Rattle.chars.specs.Utf8.{first, rest, front, first_bad, sequences, chars}
@@ -21,10 +20,10 @@ use Rattle.items.specs.Readers.{read_comma, read_item, read_nest, read_quoted, r
 use Rattle.items.specs.Meaning.{lookup, words, word_kind, word_means, run_means, escaped, string_text, lined_text, here_text, char_names, is_delimiter, nameless, hex_named, spelled_out, character_of, unescape}
 use Rattle.items.specs.Items.{extent_items, items_from, past_line, after_pound, items, kept, records, texts}
 use Rattle.items_promises.specs.Shapes.{room, words_for, bare, texted, error, deep}
-use Rattle.items.specs.Whole.{Answer, served, refused, Call, call, limit, items_in, deliver, read_of}
+use Rattle.items.specs.Whole.{served, refused, Call, call, limit, items_in, deliver, read_of}
 
 -- the whole-text call in plain mode, comments kept
-abbrev plainly : List ℕ → ℕ → ℕ → Call
+abbrev pub plainly : List ℕ → ℕ → ℕ → Call
 plainly source r t = read_of source 0 false (room r) (room t)
 
 -- and in report mode
@@ -74,7 +73,7 @@ pub record Rows : Type 0 where
   pub no_mode : read_of (0xFF ∷ []) 2 false [] [] ≡ call (refused 25 2 0) [] []
   pub not_utf8_holds : plainly (code "a" ∷ 0xFF ∷ []) 0 0 ≡ call (refused 21 1 0) [] []
 
-rows : Rows
+pub rows : Rows
 -- the list only permits the computing
 unfolding read_of deliver first_bad sequences chars span starts begins same is_scalar utf8 width encode bytes_of is_blank within first rest front
     digit_of sign uinteger value fit signed whole_of integer hex_digits hex_after_plus hex_value exponent_marker exponent suffix point_of dotted
@@ -111,28 +110,6 @@ rows = record {
   no_mode = refl;
   not_utf8_holds = refl;
 }
-
--- no program that refuses everything meets the promise, whatever it says and leaves: this text is served
-never_refused : (n a b : ℕ) (recs text : List ℕ) → call (refused n a b) recs text ≡ plainly (spelled "[]") (words_for 2 + 1) 0 → ⊥
-never_refused n a b recs text h =
-    let e : refused n a b ≡ served 2 0 = ap (λ (c : Call). c.answer) (h ∙ rows.brackets) in impossible cc
-
--- nor does one that leaves the records as they were
-never_unwritten : (a : Answer) (text : List ℕ) → call a (room (words_for 2 + 1)) text ≡ plainly (spelled "[]") (words_for 2 + 1) 0 → ⊥
-never_unwritten a text h =
-    let e : 7 ≡ kind.OpenParen = ap (λ (c : Call). get_or c.records 0 0) (h ∙ rows.brackets) in omega (arith, e)
-
--- nor one that gives a fixed item list, or leaves the text memory as it was
-never_fixed : (c : Call) → ((source : List ℕ) → c ≡ plainly source (words_for 2 + 1) 0) → ⊥
-never_fixed c h =
-    let e : call (served 2 0) (bare kind.OpenParen kind.Square 0 1 ++ deep 1 (bare kind.CloseParen kind.Square 1 2) ++ room 1) []
-    ≡ call (served 2 0) (bare kind.OpenParen kind.Round 0 1 ++ deep 1 (bare kind.CloseParen kind.Round 1 2) ++ room 1) []
-    = sym (h (spelled "[]") ∙ rows.brackets) ∙ (h (spelled "()") ∙ rows.rounds) in
-    let z : kind.Square ≡ kind.Round = ap (λ (c : Call). get_or c.records 1 0) e in omega (arith, z)
-
-never_undecoded : (a : Answer) (recs : List ℕ) → call a recs (room 2) ≡ plainly (spelled "\"\\n\"") (words_for 1) 2 → ⊥
-unfolding bytes_of utf8
-never_undecoded a recs h = let e : 7 ≡ code "\n" = ap (λ (c : Call). get_or c.text 0 0) (h ∙ rows.decoded) in omega (arith, e)
 
 -- a text of just the limit is read; a byte more is 20, also where the bytes are no text: 20 before 21
 longest_read : (source recs text : List ℕ) (mode : ℕ) (skip : Bool) → mode < 2 → length source ≡ 4294967295 → first_bad source ≡ Good

@@ -1,22 +1,20 @@
 -- The index from pieces, by value and on words: `piece` ensures `fed r index' ≡ piece_of state bytes index`, `end` `told_of r ≡ end_of state
 -- length`; on words `contents words' index' ≡ piece_left words bytes index` and `told_of r ≡ end_for words length`.
-use Rattle.std.specs.Prelude.{ℕ, ◌≡◌, refl, List, [], ◌∷◌, ◌++◌, get_or}
-use Rattle.std.proofs.Common.{ap, ◌∙◌, arith}
+use Rattle.std.specs.Prelude.{ℕ, ◌≡◌, refl, List, [], ◌∷◌, ◌++◌}
 use Rattle.laws.specs.Quoted.{within}
 use Rattle.chars.specs.Utf8.{first}
 use Rattle.chars.specs.Machine.{step, start}
 use Rattle.chars.specs.Encode.{utf8, bytes_of, spelled}
 use Rattle.chars.specs.declared.Begun.{Begun}
 use Rattle.lines.specs.Starts.{newline, Served, Refused}
-use Rattle.lines.specs.Pieces.{Fed, fed, open_of, step_of, fed_of, piece_of, end_of, pieces}
+use Rattle.lines.specs.Pieces.{fed, open_of, step_of, fed_of, piece_of, end_of, pieces}
 use Rattle.lines.specs.Words.{is_a_state, contents, open_left, piece_left, end_for, calls}
-use Rattle.lines.specs.declared.LineState.{LineState}
 
-abbrev room : List ℕ
+abbrev pub room : List ℕ
 room = 9 ∷ 9 ∷ 9 ∷ 9 ∷ []
 
 -- `a`, a newline, λ cut after its first byte, a newline
-abbrev parts : List (List ℕ)
+abbrev pub parts : List (List ℕ)
 parts = (spelled "a" ++ newline ∷ 0xCE ∷ []) ∷ (0xBB ∷ newline ∷ []) ∷ []
 
 -- the same with a sequence after the first newline that the second one breaks off: the byte that shows it is not the sequence's first
@@ -28,7 +26,7 @@ abbrev begun_at2 : Begun
 begun_at2 = record { need = 2; low = 0x80; high = 0xBF; code = 2 }
 
 -- the starts in the memory, the places counted on from piece to piece
-fed-all : pieces (open_of room) parts ≡ fed (record { begun = start; from = 5; at = 5; lines = 2; stop = 0 }) (0 ∷ 2 ∷ 5 ∷ 9 ∷ [])
+pub fed-all : pieces (open_of room) parts ≡ fed (record { begun = start; from = 5; at = 5; lines = 2; stop = 0 }) (0 ∷ 2 ∷ 5 ∷ 9 ∷ [])
 unfolding within first step utf8 bytes_of step_of fed_of piece_of
 fed-all = refl
 
@@ -64,10 +62,6 @@ one_too_many : step_of (record { begun = start; from = 2; at = 4294967295; lines
     ≡ record { begun = start; from = 2; at = 4294967295; lines = 1; stop = 20 }
 unfolding step_of
 one_too_many = refl
-
--- no program that notes nothing meets the promise, whatever state it gives
-never_unwritten : (t : LineState) → fed t room ≡ pieces (open_of room) parts → ⊥
-never_unwritten t h = let e : get_or room 0 0 ≡ 0 = ap (λ (f : Fed). get_or f.memory 0 0) (h ∙ fed-all) in omega (arith, e)
 
 -- on words: the state is written where it lies
 on_words : calls (open_left (7 ∷ 7 ∷ 7 ∷ 7 ∷ 7 ∷ 7 ∷ 7 ∷ 7 ∷ []) room) parts

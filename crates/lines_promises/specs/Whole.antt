@@ -1,13 +1,11 @@
 -- Building and asking. `build` ensures `outcome (told_of r) index' ≡ build_of text index`, `locate` `where_of r ≡ locate_of text index place`, and
 -- `locate_all` `outcome (told_of r) found' ≡ locate_all_of text index places found`.
-use Rattle.std.specs.Prelude.{ℕ, ◌≡◌, refl, List, [], ◌∷◌, ◌++◌, get_or}
-use Rattle.std.proofs.Common.{ap, ◌∙◌, arith}
+use Rattle.std.specs.Prelude.{ℕ, ◌≡◌, refl, List, [], ◌∷◌, ◌++◌}
 use Rattle.laws.specs.Quoted.{within}
 use Rattle.laws.specs.Texts.{same}
-use Rattle.laws.proofs.Choice.{impossible}
 use Rattle.chars.specs.Utf8.{first, rest, front, sequences, first_bad}
 use Rattle.chars.specs.Encode.{utf8, bytes_of, spelled}
-use Rattle.lines.specs.Starts.{newline, starts_from, Told, Served, Refused, Outcome, outcome, build_of}
+use Rattle.lines.specs.Starts.{newline, starts_from, Served, Refused, outcome, build_of}
 use Rattle.lines.specs.Place.{is_index, line_of, column, since, place_of, locate_of}
 use Rattle.lines.specs.Many.{answers, locate_all_of}
 use Rattle.lines.specs.Place as located
@@ -24,7 +22,7 @@ abbrev pub room : List ℕ
 room = 9 ∷ 9 ∷ 9 ∷ 9 ∷ []
 
 -- a start after each newline, the final one too, and the word past them stays
-built : build_of text room ≡ outcome (Served 3) (0 ∷ 2 ∷ 6 ∷ 9 ∷ [])
+pub built : build_of text room ≡ outcome (Served 3) (0 ∷ 2 ∷ 6 ∷ 9 ∷ [])
 unfolding within first rest front sequences first_bad utf8 bytes_of starts_from build_of
 built = refl
 
@@ -38,17 +36,8 @@ bad : build_of (spelled "a" ++ newline ∷ 0xFF ∷ []) [] ≡ outcome (Refused 
 unfolding within first rest front sequences first_bad utf8 bytes_of starts_from build_of
 bad = refl
 
--- no program that refuses everything meets the promise
-never_refused : (n v : ℕ) (m : List ℕ) → outcome (Refused n v) m ≡ build_of text room → ⊥
-never_refused n v m h =
-    let e : Refused n v ≡ Served 3 = ap (λ (o : Outcome). o.answer) (h ∙ built) in impossible cc
-
--- nor does one that leaves the index as it was
-never_unwritten : (a : Told) → outcome a room ≡ build_of text room → ⊥
-never_unwritten a h = let e : get_or room 0 0 ≡ 0 = ap (λ (o : Outcome). get_or o.memory 0 0) (h ∙ built) in omega (arith, e)
-
 -- place 2 starts the second line
-at_start : locate_of text index 2 ≡ located.At 2 1
+pub at_start : locate_of text index 2 ≡ located.At 2 1
 unfolding within same first rest front sequences first_bad utf8 bytes_of starts_from is_index line_of column since place_of locate_of
 at_start = refl
 
@@ -65,9 +54,6 @@ inside = refl
 not_its_own : locate_of text (0 ∷ 2 ∷ []) 0 ≡ located.Refused 48 0
 unfolding within same first rest front sequences first_bad utf8 bytes_of starts_from is_index line_of column since place_of locate_of
 not_its_own = refl
-
-never_34 : (n v : ℕ) → located.Refused n v ≡ locate_of text index 2 → ⊥
-never_34 n v h = let e : located.Refused n v ≡ located.At 2 1 = h ∙ at_start in impossible cc
 
 -- the answers in the order of the places, 0 and the number for a refused one; the word past them stays
 many : locate_all_of text index (4 ∷ 3 ∷ 0 ∷ []) (9 ∷ 9 ∷ 9 ∷ 9 ∷ 9 ∷ 9 ∷ 9 ∷ []) ≡ outcome (Served 3) (2 ∷ 2 ∷ 0 ∷ 34 ∷ 1 ∷ 1 ∷ 9 ∷ [])
