@@ -5,7 +5,6 @@ use Rattle.std.specs.Float.{fin}
 use Rattle.std.specs.Float.Ieee.{round}
 use Rattle.laws.specs.Quoted.{codes, within}
 use Rattle.laws.specs.Texts.{span, starts}
-use Rattle.laws.proofs.Choice.{impossible}
 use Rattle.refusal.specs.Refusals.{not_utf8, out_of_bounds}
 use Rattle.chars.specs.Utf8.{first_bad, sequences, front, rest, first}
 use Rattle.digits.specs.Digits.{digit_of, sign, uinteger, value, signed}
@@ -21,7 +20,7 @@ pub one_record_answer : (s : List ℕ) (k from to : ℕ) (a b : CoordinateAnswer
 one_record_answer s k from to a b h k' = answered_one a b (h ∙ sym k')
 
 -- the number at 3..6 of a source, and no more of it than its extent
-corner : record_coordinate (codes "(a 1.5 2.5)") kind.Number 3 6 ≡ float (fin false 3 (negsuc 0))
+pub corner : record_coordinate (codes "(a 1.5 2.5)") kind.Number 3 6 ≡ float (fin false 3 (negsuc 0))
 -- the list only permits the computing
 unfolding record_coordinate coordinate judged one_decimal point_in of_decimal of_point all_digits scale scaled value decimal dotted undotted suffix
     exponent uinteger point_of signed first_bad sequences front first rest round starts span sign digit_of exponent_marker within
@@ -45,7 +44,3 @@ passes = refl
 goes_back : record_coordinate (codes "1.5") kind.Identifier 3 2 ≡ refused out_of_bounds 0
 unfolding record_coordinate
 goes_back = refl
-
-never_refused : (a : CoordinateAnswer) (n p : ℕ) → answered a ≡ refused n p
-    → answered a ≡ record_coordinate (codes "(a 1.5 2.5)") kind.Number 3 6 → ⊥
-never_refused a n p h k = let e = corner in impossible cc

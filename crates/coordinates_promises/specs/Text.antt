@@ -1,11 +1,10 @@
 -- The coordinate of a text: `coordinates::coordinate` ensures `answered r ≡ coordinate t`.
-use Rattle.std.specs.Prelude.{ℕ, ◌≡◌, refl, true, false, List, [], ◌∷◌, eqb, pos, negsuc, if◌then◌else◌}
-use Rattle.std.proofs.Common.{sym, ap, ◌∙◌, arith}
-use Rattle.std.specs.Float.{nan, inf, fin, binary64}
+use Rattle.std.specs.Prelude.{ℕ, ◌≡◌, refl, true, false, List, [], ◌∷◌, eqb, pos, if◌then◌else◌}
+use Rattle.std.proofs.Common.{sym, ap, ◌∙◌}
+use Rattle.std.specs.Float.{fin, binary64}
 use Rattle.std.specs.Float.Ieee.{of_bits, round}
 use Rattle.laws.specs.Quoted.{codes, within}
 use Rattle.laws.specs.Texts.{span, starts}
-use Rattle.laws.proofs.Choice.{impossible}
 use Rattle.refusal.specs.Refusals.{over_long, not_utf8, out_of_bounds}
 use Rattle.chars.specs.Utf8.{first_bad, sequences, front, rest, first}
 use Rattle.digits.specs.Digits.{digit_of, sign, uinteger, value, signed}
@@ -38,14 +37,14 @@ pub one_answer : (t : List ℕ) (a b : CoordinateAnswer) → answered a ≡ coor
 one_answer t a b h k = answered_one a b (h ∙ sym k)
 
 -- 10 ^ 22 is 5 ^ 22 * 2 ^ 22, the largest power of ten that is exact
-largest_power : coordinate (codes "1e22") ≡ float (fin false 2384185791015625 (pos 22))
+pub largest_power : coordinate (codes "1e22") ≡ float (fin false 2384185791015625 (pos 22))
 -- the list only permits the computing
 unfolding coordinate judged one_decimal point_in of_decimal of_point all_digits scale scaled value decimal dotted undotted suffix exponent uinteger
     point_of signed first_bad sequences front first rest round starts span sign digit_of exponent_marker within
 largest_power = refl
 
 -- zero keeps its sign
-minus_zero : coordinate (codes "-0.0") ≡ float (fin true 0 (pos 0))
+pub minus_zero : coordinate (codes "-0.0") ≡ float (fin true 0 (pos 0))
 -- the list only permits the computing
 unfolding coordinate judged one_decimal point_in of_decimal of_point all_digits scale scaled value decimal dotted undotted suffix exponent uinteger
     point_of signed first_bad sequences front first rest round starts span sign digit_of exponent_marker within
@@ -92,17 +91,3 @@ no_text : coordinate (0x31 ∷ 0x2E ∷ 0xFF ∷ []) ≡ refused not_utf8 2
 unfolding coordinate judged one_decimal point_in of_decimal of_point all_digits scale scaled value decimal dotted undotted suffix exponent uinteger
     point_of signed first_bad sequences front first rest round starts span sign digit_of exponent_marker within
 no_text = refl
-
--- no program that refuses everything meets the promise, and none that answers one value
-never_refused : (a : CoordinateAnswer) (n p : ℕ) → answered a ≡ refused n p → answered a ≡ coordinate (codes "1e22") → ⊥
-never_refused a n p h k = let e = largest_power in impossible cc
-
--- the significant bits of a float
-abbrev bits : Answer → ℕ
-bits (float (fin s m e)) = m
-bits (float nan) = 0
-bits (float (inf s)) = 0
-bits (refused n p) = 0
-
-never_one : (a : CoordinateAnswer) → answered a ≡ coordinate (codes "1e22") → answered a ≡ coordinate (codes "-0.0") → ⊥
-never_one a h k = let e : ◌≡◌ {A = ℕ} 2384185791015625 0 = ap bits (sym (h ∙ largest_power) ∙ k ∙ minus_zero) in omega arith

@@ -1,10 +1,9 @@
 -- Many fields in one call: `lexer_fields::read_fields` ensures
 -- `fields_call (answer_of r) rows' records' text' ≡ fields_of source ends mode skip rows records text`.
-use Rattle.std.specs.Prelude.{ℕ, ◌+◌, ◌-◌, ◌<◌, ◌≡◌, refl, Bool, true, false, List, [], ◌∷◌, ◌++◌, length, get_or, eqb, if◌then◌else◌}
-use Rattle.std.proofs.Common.{ap, sym, ◌∙◌, arith, lt-ltb}
+use Rattle.std.specs.Prelude.{ℕ, ◌<◌, ◌≡◌, refl, Bool, true, false, List, [], ◌∷◌, ◌++◌, length, eqb, if◌then◌else◌}
+use Rattle.std.proofs.Common.{ap, sym, ◌∙◌, lt-ltb}
 use Rattle.laws.specs.Texts.{span, starts, begins, same}
 use Rattle.laws.specs.Quoted.{code, within}
-use Rattle.laws.proofs.Choice.{impossible}
 use Rattle.refusal.specs.Refusals.{no_such_mode, bad_ends, over_long}
 use Rattle.chars.specs.Encode.{is_scalar, utf8, width, encode, bytes_of, spelled}
 use Rattle.chars.specs.Blank.{is_blank}
@@ -23,7 +22,7 @@ use Rattle.items.specs.Meaning.{lookup, words, word_kind, word_means, run_means,
 use Rattle.items.specs.Items.{extent_items, items_from, past_line, after_pound, items, kept, records, texts}
 use Rattle.items.specs.Whole.{Answer, served, refused, limit, is_mode}
 use Rattle.items_promises.specs.Shapes.{room, words_for, bare, texted, error}
-use Rattle.lexer_fields.specs.Fields.{parts, is_in_order, field_of, fields_on, item_count, records_in, texts_in, rows_from, row_words, FieldsCall, fields_call, deliver_fields, fields_of}
+use Rattle.lexer_fields.specs.Fields.{parts, is_in_order, field_of, fields_on, item_count, records_in, texts_in, rows_from, FieldsCall, fields_call, deliver_fields, fields_of}
 use Rattle.lexer_fields.specs.Answers.{answer_of}
 use Rattle.lexer_fields.specs.declared.FieldsAnswer.{FieldsAnswer}
 use Rattle.lexer_fields.specs.declared.FieldsAnswer.TheVariants as told
@@ -36,7 +35,7 @@ abbrev pub name : ℕ → ℕ → List ℕ
 name s e = texted kind.Identifier s e 1 s e
 
 -- the call in plain mode with room for two rows and a word, for so many records and for so many text bytes
-abbrev plainly : List ℕ → List ℕ → ℕ → ℕ → FieldsCall
+abbrev pub plainly : List ℕ → List ℕ → ℕ → ℕ → FieldsCall
 plainly source ends r t = fields_of source ends 0 false (room 9) (room (words_for r)) (room t)
 
 -- what it gives for two parts: the word past their rows stays
@@ -143,24 +142,3 @@ pub too_long : (source ends : List ℕ) (mode : ℕ) (skip : Bool) (w r t : List
     → fields_of source ends mode skip w r t ≡ fields_call (refused 20 4294967295 0) w r t
 unfolding fields_of
 too_long source ends mode skip w r t m o h = rw (m, o, lt-ltb limit (length source) h)
-
--- no program that refuses everything meets the promise, whatever it says and leaves
-never_refused : (n a b : ℕ) (w r t : List ℕ) → fields_call (refused n a b) w r t ≡ plainly (spelled "ab") (1 ∷ 2 ∷ []) 2 0 → ⊥
-never_refused n a b w r t h =
-    let e : refused n a b ≡ served 2 0 = ap (λ (c : FieldsCall). c.answer) (h ∙ rows.extents) in impossible cc
-
--- nor does one that leaves the rows, or the records, as they were
-never_rowless : (a : Answer) (r t : List ℕ) → fields_call a (room 9) r t ≡ plainly (spelled "ab") (1 ∷ 2 ∷ []) 2 0 → ⊥
-never_rowless a r t h = let e : ◌≡◌ {A = ℕ} 7 0 = ap (λ (c : FieldsCall). get_or c.rows 0 0) (h ∙ rows.extents) in omega (arith, e)
-
-never_unwritten : (a : Answer) (w t : List ℕ) → fields_call a w (room (words_for 2)) t ≡ plainly (spelled "ab") (1 ∷ 2 ∷ []) 2 0 → ⊥
-never_unwritten a w t h = let e : 7 ≡ kind.Identifier = ap (λ (c : FieldsCall). get_or c.records 0 0) (h ∙ rows.extents) in omega (arith, e)
-
--- nor one that stops at a part that is not UTF-8, and refuses the call with it
-never_stops : (n : ℕ) (w r t : List ℕ) → fields_call (refused 21 n 0) w r t ≡ plainly (code "a" ∷ code "b" ∷ 0xFF ∷ []) (1 ∷ 3 ∷ []) 2 0 → ⊥
-never_stops n w r t h =
-    let e : refused 21 n 0 ≡ served 1 0 = ap (λ (c : FieldsCall). c.answer) (h ∙ rows.bad_part) in impossible cc
-
--- nor one that writes rows only for parts with records: these have none
-never_skips_rows : (a : Answer) (r t : List ℕ) → fields_call a (room 9) r t ≡ plainly (spelled "¿") (1 ∷ 2 ∷ []) 1 0 → ⊥
-never_skips_rows a r t h = let e : ◌≡◌ {A = ℕ} 7 21 = ap (λ (c : FieldsCall). get_or c.rows 2 0) (h ∙ rows.cut_apart) in omega (arith, e)

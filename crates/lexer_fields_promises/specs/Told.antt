@@ -1,22 +1,18 @@
 -- What C gets: `mihadrena_read_fields` ensures
 -- `left_behind r rows' records' text' values' ≡ fields_left source ends mode skip rows records text values`.
-use Rattle.std.specs.Prelude.{ℕ, ◌≡◌, false, List, [], ◌∷◌, ◌++◌, get_or}
-use Rattle.std.proofs.Common.{sym, ap, ◌∙◌, arith}
-use Rattle.chars.specs.Encode.{spelled, lay}
+use Rattle.std.specs.Prelude.{ℕ, ◌≡◌, false, List, [], ◌∷◌, ◌++◌}
+use Rattle.std.proofs.Common.{sym, ◌∙◌}
+use Rattle.chars.specs.Encode.{spelled}
 use Rattle.items_promises.specs.Shapes.{room, words_for}
-use Rattle.lexer_fields.specs.Fields.{FieldsCall, fields_call, fields_of}
-use Rattle.lexer_fields_exports.specs.Told.{LeftBehind, left_behind, leaving, fields_left}
-use Rattle.lexer_fields_promises.specs.Fields.{row, name, rows}
+use Rattle.lexer_fields_exports.specs.Told.{LeftBehind, left_behind, fields_left}
+use Rattle.lexer_fields_promises.specs.Fields.{row, name}
 
 -- `ab` in two parts, with room for two rows and a word and for so many records
-abbrev leaves : List ℕ → ℕ → List ℕ → LeftBehind
+abbrev pub leaves : List ℕ → ℕ → List ℕ → LeftBehind
 leaves ends r values = fields_left (spelled "ab") ends 0 false (room 9) (room (words_for r)) [] values
 
 abbrev left : ℕ → List ℕ → List ℕ → List ℕ → LeftBehind
 left n w r values = left_behind n w r [] values
-
-by_call : {c d : FieldsCall} (values : List ℕ) → c ≡ d → leaving c values ≡ leaving d values
-by_call values e = ap (λ (c : FieldsCall). leaving c values) e
 
 pub record Rows : Type 0 where
   -- served: 0, the items and the text bytes, and the value behind them stays
@@ -28,23 +24,6 @@ pub record Rows : Type 0 where
   -- with room for one value neither is written, and the parts are all the same
   pub no_values : leaves (1 ∷ 2 ∷ []) 2 (9 ∷ []) ≡ left 0 (row 0 0 0 0 ++ row 1 0 0 0 ++ room 1) (name 0 1 ++ name 0 1) (9 ∷ [])
 
-pub told : Rows
-unfolding fields_left lay
-told = record {
-  served_told = by_call (9 ∷ 9 ∷ 9 ∷ []) rows.extents;
-  few_told = by_call (9 ∷ 9 ∷ []) rows.few_records;
-  ends_told = by_call (9 ∷ 9 ∷ []) rows.passes;
-  mode_told = by_call (9 ∷ 9 ∷ []) rows.no_mode;
-  no_values = by_call (9 ∷ []) rows.extents;
-}
-
 -- two permitted answers coincide
 pub told_one_answer : (x y z : LeftBehind) → x ≡ z → y ≡ z → x ≡ y
 told_one_answer x y z e f = e ∙ sym f
-
--- no program meets the promise that tells every answer as served, or that leaves the values as they were
-never_serves_all : (w r t values : List ℕ) → left_behind 0 w r t values ≡ leaves (1 ∷ 3 ∷ []) 0 (9 ∷ 9 ∷ []) → ⊥
-never_serves_all w r t values h = let e : ◌≡◌ {A = ℕ} 0 38 = ap (λ (x : LeftBehind). x.number) (h ∙ told.ends_told) in omega (arith, e)
-
-never_untold : (n : ℕ) (w r t : List ℕ) → left_behind n w r t (9 ∷ 9 ∷ []) ≡ leaves (1 ∷ 2 ∷ []) 1 (9 ∷ 9 ∷ []) → ⊥
-never_untold n w r t h = let e : ◌≡◌ {A = ℕ} 9 2 = ap (λ (x : LeftBehind). get_or x.values 0 0) (h ∙ told.few_told) in omega (arith, e)

@@ -1,7 +1,6 @@
 -- What an extent means: `meaning` ensures `meant r ≡ sized_all (meaning_of ..)`, which leaves one answer (One, `meaning_one_answer`), `nine_of` and `put`
 -- the record's words, `depth_after` the depth after an item, `place` the place.
 use Rattle.std.specs.Prelude.{ℕ, ◌+◌, ◌≡◌, refl, true, false, List, [], ◌∷◌, ◌++◌}
-use Rattle.std.proofs.Common.{ap, ◌∙◌, arith}
 use Rattle.laws.specs.Lent.{written}
 use Rattle.laws.specs.Texts.{same}
 use Rattle.chars.specs.Encode.{utf8, bytes_of, spelled}
@@ -10,8 +9,6 @@ use Rattle.items_promises.specs.Shapes.{room}
 use Rattle.items.specs.Items.{range, unset, place_of, record_words, words_of, most_open, depth_after}
 use Rattle.items.specs.Meaning.{lookup, words, word_kind, word_means, meaning_of}
 use Rattle.items.specs.declared.Outcome.TheVariants.{Word}
-use Rattle.meaning.specs.declared.Means.{Means}
-use Rattle.meaning.specs.declared.Text.{Text}
 use Rattle.meaning.specs.Meant.{means, sized_all}
 use Rattle.meaning.specs.Places.{range_of}
 use Rattle.meaning.specs.Records.{nine_for}
@@ -40,7 +37,7 @@ pub record Rows : Type 0 where
   -- in report mode an empty range of its own is an error's place too: `"\x;"`
   pub empty_place : place_of true (kind.first_error + kind.InvalidHexEscapeLiteral) (range 3 3) (range 0 4) ≡ range 3 3
 
-rows : Rows
+pub rows : Rows
 unfolding same utf8 bytes_of lookup words word_kind word_means
 rows = record {
   word = refl;
@@ -52,17 +49,3 @@ rows = record {
   item_place = refl;
   empty_place = refl;
 }
-
--- no program whose second item of `+foo` has a text that starts at the plus meets the promise
-abbrev start_of : Text → ℕ
-start_of Nowhere = 0
-start_of (Source a b) = a
-start_of (Decoded n) = 0
-
-abbrev second_start : List Means → ℕ
-second_start [] = 0
-second_start (m ∷ []) = 0
-second_start (m ∷ n ∷ ms) = start_of n.text
-
-never_at_the_plus : (ms : List Means) → second_start ms ≡ 3 → ms ≡ sized_all (meaning_of false Word 3 7 (spelled "+foo")) → ⊥
-never_at_the_plus ms plus h = omega (arith, plus, ap second_start (h ∙ rows.plus))

@@ -1,19 +1,19 @@
 -- The text call: `text_of` ensures `now r ≡ text_in source text k from to`, `text_mark` `r ≡ text_mark ..`, `text_and_mark` both.
-use Rattle.std.specs.Prelude.{ℕ, ◌≡◌, refl, List, [], ◌∷◌}
-use Rattle.std.proofs.Common.{ap, sym, ◌∙◌, arith}
+use Rattle.std.specs.Prelude.{ℕ, ◌≡◌, refl, List, []}
+use Rattle.std.proofs.Common.{sym, ◌∙◌, arith}
 use Rattle.chars.specs.Encode.{utf8, bytes_of, spelled}
 use Rattle.lexer.specs.Text.{text_in, text_mark}
 
 -- the part, and the mark beside it: `text_and_mark` gives both
-record Given : Type 0 where
-  part : List ℕ
-  mark : ℕ
+pub record Given : Type 0 where
+  pub part : List ℕ
+  pub mark : ℕ
 
-abbrev given : List ℕ → ℕ → Given
+abbrev pub given : List ℕ → ℕ → Given
 given t m = record { part = t; mark = m }
 
 -- by the last three words of a record: the text source, the first place and the place past it
-abbrev text : ℕ → ℕ → ℕ → Given
+abbrev pub text : ℕ → ℕ → ℕ → Given
 text k from to = given (text_in (spelled "abc") (spelled "xy") k from to) (text_mark (spelled "abc") (spelled "xy") k from to)
 
 pub record Rows : Type 0 where
@@ -27,7 +27,7 @@ pub record Rows : Type 0 where
   pub past_source : text 1 0 4 ≡ given [] 27
   pub past_memory : text 2 0 3 ≡ given [] 27
 
-rows : Rows
+pub rows : Rows
 unfolding utf8 bytes_of text_in text_mark
 rows = record {
   in_source = refl;
@@ -43,17 +43,3 @@ rows = record {
 never_fixed : (m : ℕ) → ((k from to : ℕ) → m ≡ text_mark (spelled "abc") (spelled "xy") k from to) → ⊥
 unfolding utf8 bytes_of text_mark
 never_fixed m h = let z : ◌≡◌ {A = ℕ} 0 27 = sym (h 1 1 3) ∙ h 0 0 0 in omega (arith, z)
-
--- nor one that gives another mark than 27 where the record has no text, or where its places pass the text memory and not the source
-never_another_mark : (t : List ℕ) (m : ℕ) → given t m ≡ text 0 0 0 → m ≡ 27
-never_another_mark t m h = ap (λ (g : Given). g.mark) (h ∙ rows.no_source)
-
-never_the_other : (t : List ℕ) (m : ℕ) → given t m ≡ text 2 0 3 → m ≡ 27
-never_the_other t m h = ap (λ (g : Given). g.mark) (h ∙ rows.past_memory)
-
--- nor one that gives a part beside 27, for places that go back or that pass the source
-never_a_part_backwards : (t : List ℕ) (m : ℕ) → given t m ≡ text 1 2 1 → t ≡ []
-never_a_part_backwards t m h = ap (λ (g : Given). g.part) (h ∙ rows.backwards)
-
-never_a_part_past : (t : List ℕ) (m : ℕ) → given t m ≡ text 1 0 4 → t ≡ []
-never_a_part_past t m h = ap (λ (g : Given). g.part) (h ∙ rows.past_source)

@@ -1,13 +1,13 @@
 -- The call that asks for a number: `names::enter` ensures `outcome (told_of r) words' bytes' ≡ enter_of words bytes party name`.
 use Rattle.std.specs.Prelude.{ℕ, zero, suc, ◌+◌, ◌-◌, ◌*◌, ◌/◌, ◌%◌, ◌≡◌, refl, List, [], ◌∷◌, ◌++◌, replicate, get_or}
-use Rattle.std.proofs.Common.{arith, sym, ap, ◌∙◌}
+use Rattle.std.proofs.Common.{sym, ap, ◌∙◌}
 use Rattle.laws.specs.Quoted.{codes}
 use Rattle.laws.specs.Texts.{same}
 use Rattle.laws.proofs.Choice.{impossible}
 use Rattle.refusal.specs.Refusals.{out_of_bounds, no_party, no_room}
 use Rattle.names.specs.Layout.{half_names, half_bytes, half_words, first_slot, table_words, table_bytes, place_at, name_at, bears, half_bounds, is_in_bounds}
 use Rattle.names.specs.Call.{rest, mix, slot_of, tag_of, slot_word, proposes, probe, scan, lookup_of, find_of, new_words, laid, new_of, Outcome, outcome, enter_of}
-use Rattle.names.specs.Answers.{Told, Number, Refused, told_of}
+use Rattle.names.specs.Answers.{Number, Refused, told_of}
 use Rattle.names.specs.declared.Entered.{Entered}
 use Rattle.names.specs.declared.Entered.TheVariants as case
 
@@ -50,7 +50,7 @@ unfolding enter_of is_in_bounds half_bounds find_of lookup_of probe scan propose
 first_name = refl
 
 -- the index proposes it at its slot
-indexed : get_or (enter_of words bytes 0 (codes "a")).words (first_slot + slot_of (codes "a")) 0 ≡ slot_word (tag_of (codes "a")) 0
+pub indexed : get_or (enter_of words bytes 0 (codes "a")).words (first_slot + slot_of (codes "a")) 0 ≡ slot_word (tag_of (codes "a")) 0
 unfolding enter_of is_in_bounds half_bounds find_of lookup_of probe scan proposes bears name_at place_at same mix rest new_of new_words laid
 indexed = refl
 
@@ -58,14 +58,6 @@ indexed = refl
 never_refused : (k : ℕ) (w b : List ℕ) → outcome (Refused k) w b ≡ enter_of words bytes 0 (codes "a") → ⊥
 never_refused k w b h =
     let e : Refused k ≡ Number 0 = ap (λ (o : Outcome). o.answer) h ∙ first_name in impossible cc
-
--- nor does one that leaves the words as they were
-never_unwritten : (a : Told) (b : List ℕ) → outcome a words b ≡ enter_of words bytes 0 (codes "a") → ⊥
-unfolding mix rest
-never_unwritten a b h =
-    let e : get_or words (first_slot + slot_of (codes "a")) 0 ≡ slot_word (tag_of (codes "a")) 0 =
-    ap (λ (o : Outcome). get_or o.words (first_slot + slot_of (codes "a")) 0) h ∙ indexed in
-    omega (arith, e)
 
 -- ---- both halves
 

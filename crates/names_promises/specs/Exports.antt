@@ -1,29 +1,17 @@
 -- What C gets. `mihadrena_names_open` ensures `opening r words' ≡ open_of words bytes`, `mihadrena_names_enter` that
 -- `entered r number' words' bytes' ≡ entered_of (enter_of words bytes party name)`, and `mihadrena_names_place` that
 -- `r ≡ mark_of words bytes number` and `placed start' end' ≡ place_of words bytes number`.
-use Rattle.std.specs.Prelude.{ℕ, ◌+◌, ◌<◌, ◌≡◌, refl, List, [], replicate}
+use Rattle.std.specs.Prelude.{ℕ, ◌+◌, ◌<◌, ◌≡◌, refl, List, []}
 use Rattle.std.proofs.Common.{arith, sym, ap, ◌∙◌, ne_eqb}
 use Rattle.laws.specs.Quoted.{codes}
 use Rattle.laws.specs.Texts.{same}
-use Rattle.refusal.specs.Refusals.{out_of_bounds}
-use Rattle.names.specs.Layout.{half_names, table_words, table_bytes, placed, nowhere, place_at, name_at, bears, half_bounds, is_in_bounds}
+use Rattle.names.specs.Layout.{half_names, placed, nowhere, place_at, name_at, bears, half_bounds, is_in_bounds}
 use Rattle.names.specs.Call.{rest, mix, proposes, probe, scan, lookup_of, find_of, new_words, laid, new_of, enter_of}
-use Rattle.names.specs.Call.{Opening, opening, open_of, mark_of, place_of}
+use Rattle.names.specs.Call.{mark_of, place_of}
 use Rattle.names.specs.declared.Place.{Place}
 use Rattle.names.specs.Answers.{Told, Number, Refused}
 use Rattle.names_exports.specs.Marks.{Marked, entered, marked, entered_of}
-use Rattle.names_promises.specs.Opening.{cleared, too_little}
 use Rattle.names_promises.specs.Entering.{words, bytes}
-
--- ---- opening
-
--- no program that refuses everything meets the promise
-never_unopened : (k : ℕ) (w : List ℕ) → 0 < k → opening k w ≡ open_of (replicate (table_words + 1) 7) (replicate table_bytes 9) → ⊥
-never_unopened k w l h = let e : k ≡ 0 = ap (λ (o : Opening). o.mark) (h ∙ cleared) in omega (arith, e, l)
-
--- nor does one that opens everything
-never_opens_all : (w : List ℕ) → opening 0 w ≡ open_of [] [] → ⊥
-never_opens_all w h = let e : 0 ≡ out_of_bounds = ap (λ (o : Opening). o.mark) (h ∙ too_little) in omega (arith, e)
 
 -- ---- entering
 
