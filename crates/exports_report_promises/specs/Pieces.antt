@@ -23,7 +23,7 @@ use Rattle.pieces.specs.declared.Stage.{Stage}
 use Rattle.pieces.specs.declared.Stage.TheVariants.{Idle, Busy}
 use Rattle.pieces.specs.declared.State.{State}
 use Rattle.pieces.specs.Bounds.{is_in_bounds}
-use Rattle.pieces.specs.Calls.{What, item, more, finished, refused, Reply, reply, fresh, whole, at_depth, text_after, turn_of, feed_of, piece_of, end_of, open_of}
+use Rattle.pieces.specs.Calls.{What, item, finished, refused, Reply, reply, fresh, whole, at_depth, text_after, turn_of, feed_of, piece_of, end_of, open_of}
 use Rattle.pieces.specs.Due.{answer, answered}
 use Rattle.pieces.specs.Expected.{longest}
 use Rattle.pieces_promises.specs.Rows.{error, texted, deep, buffer}

@@ -15,7 +15,7 @@ use Rattle.items_writing.specs.declared.WriteAnswer.TheVariants as answer
 use Rattle.items_writing.specs.Written.{word_of, twins, joined, written}
 use Rattle.items_writing.specs.Records.{records_in, records_from, is_whole, is_kind, has_text, text_right, is_right, is_left, judge, text_of, entries_of}
 use Rattle.items_writing.specs.Call.{Answer, served, refused, Call, call, deliver, write_within, write_of, answered}
-use Rattle.items_writing_promises.specs.Shapes.{room, record_of, bare, name, writing, wrote, refuses}
+use Rattle.items_writing_promises.specs.Shapes.{room, record_of, bare, name, writing, refuses}
 
 -- two answers that the contract permits coincide, and so do the memories
 answered_one : (a b : WriteAnswer) → answered a ≡ answered b → a ≡ b
