@@ -1,11 +1,8 @@
 -- What C gets: `mihadrena_write` ensures `sees r values' out' ≡ seen (write_of records source text out) values`.
 use Rattle.std.specs.Prelude.{ℕ, ◌≡◌, refl}
 use Rattle.std.proofs.Common.{sym, ◌∙◌}
-use Rattle.std.proofs.Math.Path.{ap}
 use mathlib.Core.List.{List, [], ◌∷◌, ◌++◌}
-use Rattle.std.proofs.Math.ListN.{get_or}
-use native.Mathlib.Omega.{arith}
-use Rattle.laws.specs.Quoted.{within, code}
+use Rattle.laws.specs.Quoted.{within}
 use Rattle.chars.specs.Encode.{utf8, width, encode, bytes_of, spelled, lay}
 use Rattle.chars.specs.Utf8.{first, rest, front, sequences, first_bad}
 use Rattle.items.specs.Kinds as kind
@@ -17,7 +14,7 @@ use Rattle.items_writing_promises.specs.Shapes.{room, bare}
 use Rattle.items_writing_promises.specs.Write.{brackets}
 
 -- the call for C on records of the text ()
-abbrev told : List ℕ → ℕ → List ℕ → Seen
+abbrev pub told : List ℕ → ℕ → List ℕ → Seen
 told records bytes values = seen (write_of records (spelled "()") [] (room bytes)) values
 
 pub told_one_answer : (records source text out values : List ℕ) (x y : Seen) → x ≡ seen (write_of records source text out) values
@@ -39,28 +36,3 @@ pub rows : Rows
 unfolding first_bad sequences utf8 width encode bytes_of lay within first rest front word_of twins joined written records_from is_whole is_kind
     has_text text_right is_right is_left judge text_of deliver write_within
 rows = record { bytes_told = refl; needed_told = refl; comment-told = refl; alien_told = refl; no_values = refl }
-
-module _ (call : List ℕ → ℕ → List ℕ → Seen) (meets : (records : List ℕ) (bytes : ℕ) (values : List ℕ) → call records bytes values ≡ told records bytes values) where
-  -- it tells every answer as served
-  pub never_serves_all : ((records : List ℕ) (bytes : ℕ) (values : List ℕ) → (call records bytes values).number ≡ 0) → ⊥
-  never_serves_all h =
-      omega (arith, h brackets 2 (9 ∷ 9 ∷ []), ap (λ (s : Seen). s.number) (meets brackets 2 (9 ∷ 9 ∷ []) ∙ rows.needed_told))
-
-  -- it leaves the values as they were
-  pub never_untold : ((records : List ℕ) (bytes : ℕ) (values : List ℕ) → (call records bytes values).values ≡ values) → ⊥
-  never_untold h =
-      omega (
-        arith,
-        ap (λ (v : List ℕ). get_or v 0 0) (h brackets 4 (9 ∷ 9 ∷ [])),
-        ap (λ (s : Seen). get_or s.values 0 0) (meets brackets 4 (9 ∷ 9 ∷ []) ∙ rows.bytes_told),
-      )
-
-  -- it writes no text where it cannot tell how many bytes it has
-  pub never_needs_values : ((records : List ℕ) (bytes : ℕ) → (call records bytes []).out ≡ room bytes) → ⊥
-  unfolding bytes_of utf8
-  never_needs_values h =
-      omega (
-        arith,
-        ap (λ (m : List ℕ). get_or m 0 0) (h brackets 4),
-        ap (λ (s : Seen). get_or s.out 0 0) (meets brackets 4 [] ∙ rows.no_values),
-      )

@@ -1,10 +1,9 @@
 -- What is refused, and the memory: `items_writing::write` ensures `call (answered r) out' ≡ write_of records source text out`.
-use Rattle.std.specs.Prelude.{ℕ, ◌<◌, ◌≤◌, ◌≡◌, refl, true, List, [], ◌∷◌, ◌++◌, length, get_or, eqb, if◌then◌else◌}
-use Rattle.std.proofs.Common.{sym, ap, ◌∙◌, arith}
+use Rattle.std.specs.Prelude.{ℕ, ◌<◌, ◌≤◌, ◌≡◌, refl, true, List, [], ◌∷◌, ◌++◌, length, eqb, if◌then◌else◌}
+use Rattle.std.proofs.Common.{sym, ap, ◌∙◌}
 use borrow.Author.Tests.{lt-ltb, le-ltb}
-use Rattle.laws.specs.Quoted.{within, code}
+use Rattle.laws.specs.Quoted.{within}
 use Rattle.laws.specs.Lent as lent
-use Rattle.laws.proofs.Choice.{impossible}
 use Rattle.refusal.specs.Refusals as refusal
 use Rattle.chars.specs.Encode.{utf8, width, encode, bytes_of, spelled}
 use Rattle.chars.specs.Utf8.{first, rest, front, sequences, first_bad}
@@ -93,21 +92,6 @@ rows = record {
   first_concerned = refl;
   alien_comment = refl;
 }
-
--- no program that refuses everything meets the promise, whatever it says and leaves: these records are served
-never_refused : (n p : ℕ) (out : List ℕ) → call (refused n p) out ≡ write_of brackets (spelled "()") [] (room 5) → ⊥
-never_refused n p out h =
-    let e : refused n p ≡ served 3 = ap (λ (c : Call). c.answer) (h ∙ rows.apart) in impossible cc
-
--- nor does one that refuses nothing
-never_served : (n : ℕ) (out : List ℕ) → call (served n) out ≡ write_of brackets (spelled "()") [] (room 2) → ⊥
-never_served n out h =
-    let e : served n ≡ refused refusal.too_few 3 = ap (λ (c : Call). c.answer) (h ∙ rows.no_room) in impossible cc
-
--- nor one that writes nothing
-never_unwritten : (a : Answer) → call a (room 5) ≡ write_of brackets (spelled "()") [] (room 5) → ⊥
-unfolding bytes_of utf8
-never_unwritten a h = let e : 7 ≡ code "(" = ap (λ (c : Call). get_or c.out 0 0) (h ∙ rows.apart) in omega (arith, e)
 
 -- texts that no row could hold: past the limit 20, also where the memory is too small; a text of just the limit is written
 module _ (records source text out : List ℕ) (fine : judge source text 0 (records_in records) ≡ Fine) where

@@ -1,3 +1,4 @@
 pub mod Meaning
 pub mod Next
 pub mod Text
+pub mod Open

@@ -1,8 +1,7 @@
 -- Opening: `lexer::open` ensures `opening_of r ≡ open_of source mode skip`.
 use Rattle.std.specs.Prelude.{ℕ, ◌<◌, ◌≤◌, ◌≡◌, refl, Bool, true, false, List, [], ◌∷◌, length}
-use Rattle.std.proofs.Common.{◌∙◌, lt-ltb, le-ltb}
+use Rattle.std.proofs.Common.{lt-ltb, le-ltb}
 use Rattle.laws.specs.Quoted.{code, within}
-use Rattle.laws.proofs.Choice.{impossible}
 use Rattle.chars.specs.Encode.{utf8, width, bytes_of, spelled}
 use Rattle.chars.specs.Utf8.{first, rest, front, first_bad, sequences, chars}
 use Rattle.chars.specs.declared.Utf8.TheVariants.{Good}
@@ -13,7 +12,7 @@ use Rattle.lexer.specs.Opening.{opened, refused, line_end, after_hash, start_of,
 use Rattle.lexer.specs.declared.Position.{Position}
 
 -- a position at a place, with no error range and no bracket open
-abbrev position : ℕ → Bool → Bool → Position
+abbrev pub position : ℕ → Bool → Bool → Position
 position at report skip = record { spot = record { at = at; last = range_of unset; second = false; report = report; skip = skip }; depth = 0 }
 
 pub record Rows : Type 0 where
@@ -27,7 +26,7 @@ pub record Rows : Type 0 where
   pub no_mode : open_of (0xFF ∷ []) 2 false ≡ refused 25 2
   pub not_utf8_holds : open_of (code "a" ∷ 0xFF ∷ []) 0 false ≡ refused 21 1
 
-rows : Rows
+pub rows : Rows
 unfolding within utf8 width bytes_of first rest front first_bad sequences chars line_end after_hash start_of open_of
 rows = record {
   plain = refl;
@@ -37,11 +36,6 @@ rows = record {
   no_mode = refl;
   not_utf8_holds = refl;
 }
-
--- no program that refuses everything meets the promise
-never_refused : (n m : ℕ) → refused n m ≡ open_of (spelled "a") 0 true → ⊥
-never_refused n m h =
-    let e : refused n m ≡ opened (position 0 false true) = h ∙ rows.plain in impossible cc
 
 -- a text of just the limit is opened; a byte more is 20, also where the bytes are no text: 20 before 21
 longest_opened : (source : List ℕ) (mode : ℕ) (skip : Bool) → mode < 2 → length source ≡ 4294967295 → first_bad source ≡ Good

@@ -1,7 +1,6 @@
 -- One item a call: `mihadrena_reader_next` ensures `left r memory' ≡ next_left source memory`, the memory being the position's words, the text
 -- memory, the words of a record and the values.
-use Rattle.std.specs.Prelude.{ℕ, ◌<◌, ◌≡◌, refl, List, [], ◌∷◌, ◌++◌, get_or}
-use Rattle.std.proofs.Common.{ap, ◌∙◌, arith}
+use Rattle.std.specs.Prelude.{ℕ, ◌≡◌, refl, List, [], ◌∷◌, ◌++◌}
 use Rattle.laws.specs.Texts.{span, starts, begins, same}
 use Rattle.laws.specs.Quoted.{within}
 use Rattle.chars.specs.Encode.{is_scalar, utf8, width, encode, bytes_of, spelled, lay}
@@ -19,11 +18,11 @@ use Rattle.items.specs.Items.{extent_items}
 use Rattle.lexer.specs.Answers.{give_of, next_of}
 use Rattle.lexer.specs.Reading.{turn_from, turn, next_from, next_at}
 use Rattle.reader_exports.specs.Words.{is_position}
-use Rattle.reader_exports.specs.Reader.{Memory, memory, Left, left, next_left}
+use Rattle.reader_exports.specs.Reader.{Memory, memory, left, next_left}
 use Rattle.reader_exports_promises.specs.Shapes.{room, at, none, bare, texted}
 
 -- the memory of a call at some words, with so much text memory, just the words of a record, and two values
-abbrev lent : List ℕ → ℕ → Memory
+abbrev pub lent : List ℕ → ℕ → Memory
 lent w n = memory w (room n) (room 10) (room 2)
 
 pub record Rows : Type 0 where
@@ -42,7 +41,7 @@ pub record Rows : Type 0 where
   pub no_flag : next_left (spelled "a") (lent (0 ∷ 0 ∷ 0 ∷ 2 ∷ 0 ∷ 0 ∷ 0 ∷ []) 0) ≡ left 27 (memory (0 ∷ 0 ∷ 0 ∷ 2 ∷ 0 ∷ 0 ∷ 0 ∷ []) [] (room 10) none)
   pub too_deep_holds : next_left (spelled "a") (lent (at 0 4294967296) 0) ≡ left 27 (memory (at 0 4294967296) [] (room 10) none)
 
-rows : Rows
+pub rows : Rows
 -- the list only permits the computing
 unfolding span starts begins same within is_scalar utf8 width encode bytes_of lay is_blank first rest front sequences chars digit_of sign
     uinteger value signed whole_of integer exponent_marker exponent suffix point_of dotted undotted decimal infnan integral_of rational_of
@@ -64,11 +63,3 @@ rows = record {
   no_flag = refl;
   too_deep_holds = refl;
 }
-
--- no program that leaves every position where it stands meets the promise
-never_stays : (n : ℕ) (text i values : List ℕ) → left n (memory (at 0 0) text i values) ≡ next_left (spelled "a [") (lent (at 0 0) 0) → ⊥
-never_stays n text i values h = let e : ◌≡◌ {A = ℕ} 0 1 = ap (λ (l : Left). get_or l.memory.words 0 0) (h ∙ rows.first_item) in omega (arith, e)
-
--- nor one that moves every position
-never_goes : (n p d : ℕ) (text i values : List ℕ) → 0 < p → left n (memory (at p d) text i values) ≡ next_left (spelled "\"\\n\\n\"") (lent (at 0 0) 1) → ⊥
-never_goes n p d text i values l h = let e : p ≡ 0 = ap (λ (x : Left). get_or x.memory.words 0 0) (h ∙ rows.no_room) in omega (arith, e, l)

@@ -1,6 +1,5 @@
 -- Opening: `mihadrena_reader_open` ensures `started r position' values' ≡ open_left source mode skip position values`.
 use Rattle.std.specs.Prelude.{ℕ, ◌<◌, ◌≤◌, ◌≡◌, refl, Bool, true, false, List, [], ◌∷◌, length}
-use Rattle.std.proofs.Common.{ap, ◌∙◌, arith}
 use borrow.Author.Tests.{lt-ltb, le-ltb, eq-eqb}
 use Rattle.laws.specs.Quoted.{code, within}
 use Rattle.chars.specs.Encode.{utf8, width, bytes_of, spelled, lay}
@@ -8,7 +7,7 @@ use Rattle.chars.specs.Utf8.{first, rest, front, first_bad, sequences, chars}
 use Rattle.items.specs.Whole.{limit}
 use Rattle.lexer.specs.Opening.{line_end, after_hash, start_of, open_of}
 use Rattle.reader_exports.specs.Words.{reader_words}
-use Rattle.reader_exports.specs.Reader.{Started, started, told, open_left}
+use Rattle.reader_exports.specs.Reader.{started, told, open_left}
 use Rattle.reader_exports_promises.specs.Shapes.{room, at, none}
 
 pub record Rows : Type 0 where
@@ -23,7 +22,7 @@ pub record Rows : Type 0 where
   pub few_words : open_left (spelled "a") 2 false (room 6) (room 2) ≡ started 27 (room 6) none
   pub one_value : open_left (spelled "a") 0 false (room 7) (room 1) ≡ started 0 (at 0 0) (room 1)
 
-rows : Rows
+pub rows : Rows
 unfolding within utf8 width bytes_of lay first rest front first_bad sequences chars line_end after_hash start_of open_of open_left
 rows = record {
   plain = refl;
@@ -34,13 +33,6 @@ rows = record {
   few_words = refl;
   one_value = refl;
 }
-
--- no program that opens everything meets the promise, nor one that refuses everything
-never_open : (words values : List ℕ) → started 0 words values ≡ open_left (0xFF ∷ []) 2 false (room 7) (room 2) → ⊥
-never_open words values h = let e : ◌≡◌ {A = ℕ} 0 25 = ap (λ (s : Started). s.answer) (h ∙ rows.no_mode) in omega (arith, e)
-
-never_refused : (n : ℕ) (words values : List ℕ) → 0 < n → started n words values ≡ open_left (spelled "a") 0 true (room 7) (room 2) → ⊥
-never_refused n words values l h = let e : n ≡ 0 = ap (λ (s : Started). s.answer) (h ∙ rows.plain) in omega (arith, e, l)
 
 module _ (source : List ℕ) (mode : ℕ) (skip : Bool) (words values : List ℕ) (seven : length words ≡ reader_words) where
   -- no other mode is opened, whatever the text: 25 before 20

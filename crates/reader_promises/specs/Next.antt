@@ -1,10 +1,10 @@
 -- One item a call: `reader::next` ensures `moved (given_of t) reader' text' ≡ next_for reader text`.
-use Rattle.std.specs.Prelude.{ℕ, ◌<◌, ◌≡◌, refl, false, List, [], ◌∷◌, ◌++◌, length, get_or}
-use Rattle.std.proofs.Common.{ap, ◌∙◌, arith, lt-ltb}
+use Rattle.std.specs.Prelude.{ℕ, ◌<◌, ◌≡◌, refl, false, List, [], ◌∷◌, ◌++◌, length}
+use Rattle.std.proofs.Common.{lt-ltb}
 use Rattle.std.specs.Borrow.{Bor}
 use Rattle.items_promises.specs.Shapes.{room, bare, texted, deep}
 use Rattle.laws.specs.Texts.{span, starts, begins, same}
-use Rattle.laws.specs.Quoted.{code, within}
+use Rattle.laws.specs.Quoted.{within}
 use Rattle.chars.specs.Encode.{is_scalar, utf8, width, encode, bytes_of, spelled}
 use Rattle.chars.specs.Blank.{is_blank}
 use Rattle.chars.specs.Utf8.{first, rest, front, sequences, chars}
@@ -22,7 +22,7 @@ use Rattle.meaning.specs.Places.{range_of}
 use Rattle.lexer.specs.Answers.{position_at, give_of, next_of}
 use Rattle.lexer.specs.Reading.{turn_from, turn, next_from, next_at}
 use Rattle.lexer.specs.declared.Position.{Position}
-use Rattle.reader.specs.Reading.{What, gives, ends, stops, step_of, Moved, moved, reading, next_for}
+use Rattle.reader.specs.Reading.{gives, ends, stops, step_of, moved, reading, next_for}
 use Rattle.reader.specs.Calls.{told, call_after_call}
 use Rattle.reader.specs.declared.Reader.{Reader}
 
@@ -35,7 +35,7 @@ abbrev reads_in : Bor (List ℕ) → List ℕ → ℕ → ℕ → Reader
 reads_in r text n depth = reading (record { ref_ptr = r.ptr; ghost_name = r.name; now = text }) (at n depth)
 
 -- outside all brackets
-abbrev reads : Bor (List ℕ) → List ℕ → ℕ → Reader
+abbrev pub reads : Bor (List ℕ) → List ℕ → ℕ → Reader
 reads r text n = reads_in r text n 0
 
 pub record Rows (r : Bor (List ℕ)) : Type 0 where
@@ -53,7 +53,7 @@ pub record Rows (r : Bor (List ℕ)) : Type 0 where
   pub again : call_after_call ([] ∷ room 1 ∷ room 1 ∷ []) (reads r (spelled "\"\\n\"") 0)
       ≡ told (stops 22 1 1) [] ∷ told (gives (texted kind.StringLiteral 0 4 2 0 1)) (spelled "\n") ∷ told ends (room 1) ∷ []
 
-rows : (r : Bor (List ℕ)) → Rows r
+pub rows : (r : Bor (List ℕ)) → Rows r
 -- the list only permits the computing
 unfolding span starts begins same within is_scalar utf8 width encode bytes_of is_blank first rest front sequences chars digit_of sign uinteger
     value signed whole_of integer exponent_marker exponent suffix point_of dotted undotted decimal infnan integral_of rational_of denominator
@@ -73,19 +73,6 @@ rows r = record {
   stays_deep = refl;
   again = refl;
 }
-
--- no program that leaves every reader where it stands meets the promise
-never_stays : (r : Bor (List ℕ)) (w : What) (text : List ℕ) → moved w (reads r (spelled "a [") 0) text ≡ next_for (reads r (spelled "a [") 0) [] → ⊥
-never_stays r w text h = let e : ◌≡◌ {A = ℕ} 0 1 = ap (λ (m : Moved). m.reader.position.spot.at) (h ∙ (rows r).first_item) in omega (arith, e)
-
--- nor one that moves every reader
-never_goes : (r : Bor (List ℕ)) (w : What) (n : ℕ) (text : List ℕ) → 0 < n → moved w (reads r (spelled "\"\\n\\n\"") n) text ≡ next_for (reads r (spelled "\"\\n\\n\"") 0) (room 1) → ⊥
-never_goes r w n text l h = let e : n ≡ 0 = ap (λ (m : Moved). m.reader.position.spot.at) (h ∙ (rows r).no_room) in omega (arith, e, l)
-
--- nor one that leaves the text memory as it was
-never_unwritten : (r : Bor (List ℕ)) (w : What) (to : Reader) → moved w to (room 2) ≡ next_for (reads r (spelled "\"\\n\"") 0) (room 2) → ⊥
-unfolding bytes_of utf8
-never_unwritten r w to h = let e : 7 ≡ code "\n" = ap (λ (m : Moved). get_or m.text 0 0) (h ∙ (rows r).decoded) in omega (arith, e)
 
 -- a reader that is put together by hand over a text over the limit: 20, and it stays
 too_long : (r : Reader) (text : List ℕ) → 4294967295 < length r.source.now → next_for r text ≡ moved (stops 20 4294967295 0) r text

@@ -1,6 +1,6 @@
 -- Opening: `reader::open` ensures `opened_as (standing_of standing) source' position' ≡ open_for source mode skip`, of the reader that it gives.
 use Rattle.std.specs.Prelude.{ℕ, ◌<◌, ◌≤◌, ◌≡◌, refl, Bool, true, false, List, [], ◌∷◌, length}
-use Rattle.std.proofs.Common.{ap, ◌∙◌, arith, lt-ltb, le-ltb}
+use Rattle.std.proofs.Common.{lt-ltb, le-ltb}
 use Rattle.laws.specs.Quoted.{code, within}
 use Rattle.chars.specs.Encode.{utf8, width, bytes_of, spelled}
 use Rattle.chars.specs.Utf8.{first, rest, front, first_bad, sequences, chars}
@@ -9,7 +9,7 @@ use Rattle.items.specs.Whole.{limit}
 use Rattle.meaning.specs.Places.{range_of}
 use Rattle.lexer.specs.Opening.{line_end, after_hash, start_of, open_of}
 use Rattle.lexer.specs.declared.Position.{Position}
-use Rattle.reader.specs.Reading.{Stand, stands, refuses_with, start_for, nowhere, OpenedAs, opened_as, open_for}
+use Rattle.reader.specs.Reading.{stands, refuses_with, start_for, nowhere, opened_as, open_for}
 
 -- a position at a place, with no error range and no bracket open
 abbrev position : ℕ → Bool → Bool → Position
@@ -24,7 +24,7 @@ pub record Rows : Type 0 where
   pub no_mode : open_for (0xFF ∷ []) 2 false ≡ opened_as (refuses_with 25 2) [] nowhere
   pub not_utf8_holds : open_for (code "a" ∷ 0xFF ∷ []) 0 false ≡ opened_as (refuses_with 21 1) [] nowhere
 
-rows : Rows
+pub rows : Rows
 unfolding within utf8 width bytes_of first rest front first_bad sequences chars line_end after_hash start_of open_of start_for open_for
 rows = record {
   plain = refl;
@@ -33,17 +33,6 @@ rows = record {
   no_mode = refl;
   not_utf8_holds = refl;
 }
-
-abbrev number_in : Stand → ℕ
-number_in stands = 0
-number_in (refuses_with number value) = number
-
--- no program that opens everything meets the promise, nor one that refuses everything
-never_open : (s : List ℕ) (p : Position) → opened_as stands s p ≡ open_for (0xFF ∷ []) 2 false → ⊥
-never_open s p h = let e : ◌≡◌ {A = ℕ} 0 25 = ap (λ (o : OpenedAs). number_in o.stand) (h ∙ rows.no_mode) in omega (arith, e)
-
-never_refused : (n v : ℕ) (s : List ℕ) (p : Position) → 0 < n → opened_as (refuses_with n v) s p ≡ open_for (spelled "a") 0 true → ⊥
-never_refused n v s p l h = let e : n ≡ 0 = ap (λ (o : OpenedAs). number_in o.stand) (h ∙ rows.plain) in omega (arith, e, l)
 
 -- no other mode is opened, whatever the text: 25 before 20
 no_mode_first : (source : List ℕ) (mode : ℕ) (skip : Bool) → 2 ≤ mode → open_for source mode skip ≡ opened_as (refuses_with 25 mode) [] nowhere
