@@ -5,7 +5,6 @@ use Rattle.laws.specs.Quoted.{code}
 use Rattle.laws.proofs.Choice.{impossible}
 use Rattle.refusal.specs.Refusals as refusal
 use Rattle.chars.specs.Encode.{utf8, bytes_of, spelled}
-use Rattle.items_writing.specs.declared.WriteAnswer.TheVariants as answer
 use Rattle.items_writing.specs.Call.{Answer, served, refused, Call, call, write_of}
 use Rattle.items_writing_promises.specs.Shapes.{room}
 use Rattle.items_writing_promises.specs.Write.{brackets, rows}

@@ -5,7 +5,6 @@ use Rattle.laws.specs.Quoted.{code}
 use Rattle.laws.proofs.Choice.{impossible}
 use Rattle.chars.specs.Encode.{spelled}
 use Rattle.items.specs.Kinds as kind
-use Rattle.items.specs.Items.{records}
 use Rattle.items.specs.Whole.{Answer, served, refused}
 use Rattle.items_promises.specs.Shapes.{room, words_for}
 use Rattle.lexer_fields.specs.Fields.{FieldsCall, fields_call}

@@ -4,7 +4,6 @@ use Rattle.std.proofs.Common.{ap, sym, ◌∙◌, arith}
 use Rattle.laws.specs.Quoted.{code}
 use Rattle.laws.proofs.Choice.{impossible}
 use Rattle.chars.specs.Encode.{utf8, bytes_of, spelled}
-use Rattle.chars.specs.Utf8.{first}
 use Rattle.items.specs.Kinds as kind
 use Rattle.items_promises.specs.Shapes.{room, bare, texted}
 use Rattle.lexer.specs.Answers.{Reply, item, finished, refuses, Replied, replied, next_of}

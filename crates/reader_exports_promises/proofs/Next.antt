@@ -2,7 +2,6 @@
 use Rattle.std.specs.Prelude.{ℕ, ◌<◌, ◌≡◌, List, get_or}
 use Rattle.std.proofs.Common.{ap, ◌∙◌, arith}
 use Rattle.chars.specs.Encode.{spelled}
-use Rattle.items.specs.Meaning.{words}
 use Rattle.reader_exports.specs.Reader.{memory, Left, left, next_left}
 use Rattle.reader_exports_promises.specs.Shapes.{at}
 use Rattle.reader_exports_promises.specs.Next.{lent, rows}
