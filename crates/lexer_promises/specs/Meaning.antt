@@ -9,6 +9,8 @@ use Rattle.items_promises.specs.Shapes.{room}
 use Rattle.items.specs.Items.{range, unset, place_of, record_words, words_of, most_open, depth_after}
 use Rattle.items.specs.Meaning.{lookup, words, word_kind, word_means, meaning_of}
 use Rattle.items.specs.declared.Outcome.TheVariants.{Word}
+use Rattle.meaning.specs.declared.Means.{Means}
+use Rattle.meaning.specs.declared.Text.{Text}
 use Rattle.meaning.specs.Meant.{means, sized_all}
 use Rattle.meaning.specs.Places.{range_of}
 use Rattle.meaning.specs.Records.{nine_for}
@@ -49,3 +51,14 @@ rows = record {
   item_place = refl;
   empty_place = refl;
 }
+
+-- where the text of the second of two items starts
+abbrev start_of : Text → ℕ
+start_of Nowhere = 0
+start_of (Source a b) = a
+start_of (Decoded n) = 0
+
+abbrev pub second_start : List Means → ℕ
+second_start [] = 0
+second_start (m ∷ []) = 0
+second_start (m ∷ n ∷ ms) = start_of n.text
