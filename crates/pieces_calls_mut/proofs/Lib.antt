@@ -1,5 +1,3 @@
 -- Theorems that stand in the docs
 -- `same_piece_mut`, `same_end_mut`
 pub mod Same
--- What they stand on, and what other crates cite
-pub mod Values

@@ -8,7 +8,6 @@ pub mod Stays
 -- What they stand on, and what other crates cite
 pub mod Served
 pub mod Opens
-pub mod Values
 pub mod SmallNumbers
 pub mod Narrowness
 pub mod Rows
