@@ -1,6 +1,6 @@
 -- Words and marks: every marks come back from their words, and words that are a code are the words of what they stand for. So a state
 -- loses nothing by being kept as numbers, and a refused call leaves each word as it was.
-use Prim.Native.Nat.{ℕ, zero, suc, ◌+◌, ◌^◌, ◌≤◌}
+use Prim.Native.Nat.{ℕ, zero, suc, ◌^◌}
 use mathlib.Core.Path.{◌≡◌, refl, sym, ap, ◌∙◌}
 use mathlib.Core.Bool.{Bool, true, false, ◌&&◌}
 use native.Mathlib.Omega.{arith}
@@ -24,10 +24,6 @@ use Rattle.pieces_lent.specs.Coding.{stage_of, row, row_of, standing, bit, quote
 use Rattle.pieces_lent.specs.Coding.{narrow, is_row, is_same_row, is_code, stage_count, Narrowed}
 
 -- ---- numbers
-
--- a number from m on that is not m is past it
-pub past : {m n : ℕ} → m ≤ n → (n ≡ m → ⊥) → m + 1 ≤ n
-past {m} {n} h ne = omega (arith, ne)
 
 -- tests that all held, before the last
 pub last_test : {a b : Bool} → a ≡ true → b ≡ (a && b)

@@ -7,4 +7,4 @@ returns-then-position-ne-READER_WORDS c = no_words _ _ _ _ _ c.if-position-ne-RE
 
 pub returns : goal.returns
 returns c =
-    open_so _ _ _ _ _ c.if-position-ne-READER_WORDS.false c.«open».ensures c.tell_open.ensures
+    open_so _ _ _ _ _ c.if-position-ne-READER_WORDS.false c.open-answer.ensures c.tell_open.ensures

@@ -8,7 +8,7 @@ use Rattle.reader_exports.proofs.tell_next.Goals as goal
 
 pub returns-in-Item : goal.returns-in-Item
 returns-in-Item c =
-    λ old text. item-told _ old _ _ text _ _ (ap reply_of c.in-Item.is)
+    λ old text. item-told c.args.words.now old c.args.item.now _ text _ _ (ap reply_of c.in-Item.is)
     c.put_position.ensures c.put.ensures c.put_values.ensures
 
 pub returns-in-Finished : goal.returns-in-Finished

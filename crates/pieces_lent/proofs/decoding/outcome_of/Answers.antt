@@ -2,7 +2,6 @@
 use native.Mathlib.Omega.{arith}
 use mathlib.Core.Path.{◌≡◌}
 use Rattle.pieces_lent.specs.Coding.{stage_of}
-use Rattle.pieces_lent.proofs.Back.{past}
 use Rattle.pieces_lent.proofs.decoding.outcome_of.Goals as goal
 
 pub returns-in-31 : goal.returns-in-31
@@ -43,8 +42,4 @@ returns-in-39 c = rw c.in-39.is
 
 pub returns-in_default : goal.returns-in_default
 unfolding stage_of
-returns-in_default c = let e : c.args.row.stage ≡ 40 =
-    let h = past (past (past (past (past (past (past (past (past c.requires.0 c.in_default.in_default-own.rest.0.0.0.0.0.0.0.0.1)
-    c.in_default.in_default-own.rest.0.0.0.0.0.0.0.1) c.in_default.in_default-own.rest.0.0.0.0.0.0.1) c.in_default.in_default-own.rest.0.0.0.0.0.1)
-    c.in_default.in_default-own.rest.0.0.0.0.1) c.in_default.in_default-own.rest.0.0.0.1) c.in_default.in_default-own.rest.0.0.1) c.in_default.in_default-own.rest.0.1) c.in_default.in_default-own.rest.1 in
-    omega arith in rw e
+returns-in_default c = let e : c.args.row.stage ≡ 40 = omega arith in rw e

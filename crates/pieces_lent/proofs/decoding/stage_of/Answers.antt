@@ -1,18 +1,11 @@
 -- An arm for each stage; a stage past the last of them is of an item.
 use borrow.Author.Rules.{rules}
-use Prim.Native.Nat.{◌≤◌}
 use native.Mathlib.Omega.{arith}
 use Rattle.pieces_lent.specs.Coding.{stage_of}
-use Rattle.pieces_lent.proofs.Back.{past}
 use Rattle.pieces_lent.proofs.decoding.stage_of.Goals as goal
 
 pub phase_of-requires : goal.phase_of-requires
-phase_of-requires c = let h : 0 ≤ c.args.row.stage = omega arith in (
-  past (past (past (past (past (past (past h c.in_default.in_default-own.rest.0.0.0.0.0.0.1) c.in_default.in_default-own.rest.0.0.0.0.0.1)
-      c.in_default.in_default-own.rest.0.0.0.0.1) c.in_default.in_default-own.rest.0.0.0.1) c.in_default.in_default-own.rest.0.0.1) c.in_default.in_default-own.rest.0.1) c.in_default.in_default-own.rest.1,
-  search rules,
-  search rules,
-)
+phase_of-requires c = (omega arith, search rules, search rules)
 
 pub returns-in-0 : goal.returns-in-0
 unfolding stage_of
