@@ -32,7 +32,7 @@ at n depth = position_at (record { at = n; last = range_of unset; second = false
 
 -- a reader of a text at a place and a depth, wherever the text lies
 abbrev reads_in : Bor (List ℕ) → List ℕ → ℕ → ℕ → Reader
-reads_in r text n depth = reading (record { ref_ptr = r.ptr; ghost_name = r.name; now = text }) (at n depth)
+reads_in r text n depth = reading (record { ref_ptr = r.ref_ptr; now = text }) (at n depth)
 
 -- outside all brackets
 abbrev pub reads : Bor (List ℕ) → List ℕ → ℕ → Reader
