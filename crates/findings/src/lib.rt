@@ -1,6 +1,8 @@
 // What a foreman can act on in a plan: its errors, and what reads well but is hardly meant. A finding is a severity, a code, a detail, a
 // place and a second place. Which findings a plan has, and in which order, is defined in specs/: Told goes row by row, Slips has the
 // warnings' conditions, Lists the one finding about brackets, dots and marks. How a finding reads is for crate `findings_render`.
+#![tactic(auto)]
+
 pub mod codes;
 mod laying;
 mod lines;

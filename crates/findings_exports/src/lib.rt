@@ -1,4 +1,6 @@
 // The call of the crate `findings` for programs in C and Rust: its answer as a number and two values.
+#![tactic(auto)]
+
 ghost use Rattle.std.specs.Prelude.{◌≡◌};
 ghost use Rattle.chars.specs.Encode.{lay};
 ghost use Rattle.findings_exports.specs.Told.{number_in, values_in, left_behind, find_left};

@@ -4,3 +4,4 @@
 // both places of every finding lie in the text (`places_within`). proofs/Written: the places of every finding that `find` writes stand between
 // two characters of the text, so that line and column answer each (`places_in_text`, `places_answered`). proofs/Order: rows come in the order
 // of their extents (`rows_in_order`). It has no code.
+#![tactic(auto)]

@@ -1,6 +1,8 @@
 // The piece calls on a state of crate `pieces` that the caller lends: document 01, "The piece state is lent and updated where the caller keeps
 // it", in the form that it names, a thin layer over the by-value step: the state is taken by `&mut`, the step is called, and the new state is
 // stored. Each call copies the state twice; `pieces_lent::lending` has the quick calls on a state of numbers, and proofs/ shows that both do the same.
+#![tactic(auto)]
+
 ghost use Rattle.std.specs.Prelude.{◌≡◌, length};
 ghost use Rattle.pieces.specs.Calls.{piece_of, end_of, text_after};
 ghost use Rattle.pieces_calls_mut.specs.Kept.{kept};

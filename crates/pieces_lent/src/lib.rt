@@ -2,6 +2,8 @@
 // The state is numbers alone, 4,096 bytes and nineteen words, so that it can stand in the memory of a program in any language.
 //
 // specs/Coding says which words stand for which marks of crate `pieces`, specs/Calls what the calls do. docs/STATE.md lists the words.
+#![tactic(auto)]
+
 use pieces::{Got, LONGEST, Marks, Start};
 
 pub mod calls;

@@ -1,6 +1,8 @@
 // The reader of the crate `lexer` for C and Rust: one item a call, over slices and numbers alone. A position is what a caller keeps as
 // READER_WORDS words (docs/STATE.md); a call's answer is a number, an item's record goes to lent words, and so does what a refusal comes
 // with. What the calls leave is defined in specs/Reader.
+#![tactic(auto)]
+
 ghost use Rattle.std.specs.Prelude.{◌≡◌, List, ℕ, ◌≤◌, length};
 ghost use Rattle.items.specs.Items.{record_words};
 ghost use Rattle.lexer.specs.Opening.{opening_of};
