@@ -39,7 +39,7 @@ words_at n last depth = n ∷ last.from ∷ last.to ∷ 0 ∷ 1 ∷ 0 ∷ depth 
 
 -- a reader of a text there, wherever the text lies
 abbrev reads : Bor (List ℕ) → List ℕ → ℕ → Place → ℕ → Reader
-reads r text n last depth = reading (record { ref_ptr = r.ptr; ghost_name = r.name; now = text }) (at n last depth)
+reads r text n last depth = reading (record { ref_ptr = r.ref_ptr; now = text }) (at n last depth)
 
 -- the memory of a call for C: no text memory, the words of a record, and two values
 abbrev lent : List ℕ → Memory

@@ -22,7 +22,7 @@ use Rattle.items_r7rs.proofs.Unescaped.{unescaped, escaped_none}
 
 module _ (k : Quotes) where
   closing_ascii : ltb (delim_of k) 0x80 ≡ true
-  closing_ascii = elim k [ Double ↦ refl | Lines ↦ refl ]
+  closing_ascii = elim k as (λ q. ltb (delim_of q) 0x80 ≡ true) [ Double ↦ refl | Lines ↦ refl ]
 
   -- the quotes and what stands between them
   abbrev pub between : List ℕ → List ℕ
@@ -48,7 +48,7 @@ module _ (k : Quotes) where
 
   opening_unescaped : (r : List ℕ) → escaped (delim_of k ∷ r) ≡ escaped r
   unfolding escaped
-  opening_unescaped r = elim k [ Double ↦ refl | Lines ↦ refl ]
+  opening_unescaped r = elim k as (λ q. escaped (delim_of q ∷ r) ≡ escaped r) [ Double ↦ refl | Lines ↦ refl ]
 
   pub between_same : {t v : List ℕ} → Quoted k t v → escaped (bytes_of (between t)) ≡ false → t ≡ v
   between_same {t} q h = escaped_none k (delim_of k ∷ []) q (sym (opening_unescaped (bytes_of t ++ (delim_of k ∷ []))) ∙ (rw (between_bytes t) at h))

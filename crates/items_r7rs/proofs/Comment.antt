@@ -25,7 +25,7 @@ use Rattle.items_r7rs.proofs.Reading.{eats, eats_append, eats-whole, got-whole, 
 line_on : (i : SoFar) (cs : List ℕ) {t : List ℕ} → Many InLine t → read_line i (t ++ cs) ≡ read_line (eats i t) cs
 unfolding read_line
 line_on i cs done = refl
-line_on i cs (more {c = c} h m) = rw (not_first (code "\n") (codes "\r") c h, read_line) (line_on _ cs m)
+line_on i cs (more {c = c} h m) = rw (not_first (code "\n") (codes "\r") c h, read_line) (line_on (eat i c) cs m)
 
 line_ends : (i : SoFar) {e cs : List ℕ} → LineEnd e cs → read_line i (e ++ cs) ≡ got comment (eats i e) cs
 unfolding read_line

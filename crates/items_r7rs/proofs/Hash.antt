@@ -9,7 +9,7 @@ use Rattle.chars.specs.Encode.{bytes_of}
 use Rattle.items.specs.declared.Outcome.{Outcome}
 use Rattle.items.specs.declared.HashKind.TheVariants.{Decided}
 use Rattle.items.specs.Classes.{first_of, after_hash, ends_hash, in_hash, value, stops_hash, stays_hash}
-use Rattle.items.specs.Readers.{so_far, got, hash_kind, hash_at, hash_on, read_hash, read_item, SoFar}
+use Rattle.items.specs.Readers.{so_far, got, hash_kind, hash_at, hash_on, read_hash, read_item, SoFar, eat}
 use Rattle.items_r7rs.specs.Delimiter.{hash_delimiters, Ends, at_end, before}
 use Rattle.items_r7rs.specs.Repeated.{Many, done, more}
 use Rattle.items_r7rs.proofs.Classes.{at_one_of}
@@ -22,7 +22,7 @@ Staying c = in_hash c ≡ stays_hash
 pub hash_on_lem : (report : Bool) (i : SoFar) (cs : List ℕ) {t : List ℕ} → Many Staying t → hash_on report i (t ++ cs) ≡ hash_on report (eats i t) cs
 unfolding hash_on
 hash_on_lem report i cs done = refl
-hash_on_lem report i cs (more {c = c} h m) = rw (h, hash_on) (hash_on_lem report _ cs m)
+hash_on_lem report i cs (more {c = c} h m) = rw (h, hash_on) (hash_on_lem report (eat i c) cs m)
 
 stops_hash_lem : (c : ℕ) → one_of hash_delimiters c ≡ true → in_hash c ≡ stops_hash
 unfolding in_hash ends_hash is_blank

@@ -15,7 +15,7 @@ use Rattle.numbers.specs.Grammar.{just_of, zero_parts, judged, parse_number}
 use Rattle.items.specs.declared.Outcome.TheVariants.{Run}
 use Rattle.items.specs.Classes.{starts_run, first_of, stays_run, ends_run, in_run, after_hash, number, stops_run}
 use Rattle.items.specs.Meaning.{run_means, none}
-use Rattle.items.specs.Readers.{so_far, got, read_run, read_hash, read_item, SoFar}
+use Rattle.items.specs.Readers.{so_far, got, read_run, read_hash, read_item, SoFar, eat}
 use Rattle.items.specs.Kinds as kind
 use Rattle.items_r7rs.specs.Delimiter.{number_delimiters, Ends, at_end, before}
 use Rattle.items_r7rs.specs.Number.{Sign, no_sign, plus_sign, minus_sign, Infnan, plus_inf, minus_inf, plus_nan, minus_nan, RealText, a_real, an_infnan}
@@ -36,7 +36,7 @@ Stays c = stays_run c ≡ true
 run_stays : (report : Bool) (i : SoFar) (cs : List ℕ) {t : List ℕ} → Many Stays t → read_run report i (t ++ cs) ≡ read_run report (eats i t) cs
 unfolding read_run in_run
 run_stays report i cs done = refl
-run_stays report i cs (more h m) = rw (h, read_run) (run_stays report _ cs m)
+run_stays report i cs (more {c = c} h m) = rw (h, read_run) (run_stays report (eat i c) cs m)
 
 -- every delimiter ends a run that is a number; a vertical line no other
 stops_run_lem : (report : Bool) (raw : List ℕ) {p : Parts} → parse_number raw ≡ parsed.Is p → (c : ℕ) → one_of (number_delimiters report) c ≡ true → in_run report raw c ≡ stops_run

@@ -75,12 +75,12 @@ module _ (report : Bool) (k : Quotes) where
   hex_on : (from n : ℕ) (i : SoFar) (cs : List ℕ) {h : List ℕ} → Many Hexadecimal h → read_hex report k (code ";") from n i (h ++ cs) ≡ read_hex report k (code ";") from n (eats i h) cs
   unfolding read_quoted
   hex_on from n i cs done = refl
-  hex_on from n i cs (more h m) = rw (digit_in_escape k h, read_hex) (hex_on from n _ cs m)
+  hex_on from n i cs (more {c = c} h m) = rw (digit_in_escape k h, read_hex) (hex_on from n (eat i c) cs m)
 
   pub trim_on : (seen : Bool) (i : SoFar) (cs : List ℕ) {u : List ℕ} → Many Intraline u → read_trim report k seen i (u ++ cs) ≡ read_trim report k seen (eats i u) cs
   unfolding read_quoted
   trim_on seen i cs done = refl
-  trim_on seen i cs (more {c = c} h m) = rw (intraline-space c h, read_trim) (trim_on seen _ cs m)
+  trim_on seen i cs (more {c = c} h m) = rw (intraline-space c h, read_trim) (trim_on seen (eat i c) cs m)
 
   pub line_end_lem : (i : SoFar) (cs : List ℕ) → read_trim report k true i (code "\n" ∷ cs) ≡ read_quoted report k i (code "\n" ∷ cs)
   unfolding read_quoted in_trim

@@ -31,7 +31,7 @@ spaces_ascii (more {c = c} h m) = rw (utf8_low c (at_one_of (λ x. ltb x 0x80) t
 module _ (k : Quotes) where
   pub high_plain : (b : ℕ) → High b → in_quotes k b ≡ plain
   unfolding in_quotes
-  high_plain b h = elim k [
+  high_plain b h = elim k as (λ q. in_quotes q b ≡ plain) [
     | Double ↦ rw (beyond_differs b h (code "\"") refl, beyond_differs b h (code "\\") refl)
     | Lines ↦ rw (beyond_differs b h (code "|") refl, beyond_differs b h (code "\\") refl)
   ]
@@ -111,7 +111,7 @@ module _ (k : Quotes) where
 
   closing_byte : (r : List ℕ) → unescape k (delim_of k ∷ r) ≡ []
   unfolding unescape in_quotes
-  closing_byte r = elim k [ Double ↦ refl | Lines ↦ refl ]
+  closing_byte r = elim k as (λ q. unescape q (delim_of q ∷ r) ≡ []) [ Double ↦ refl | Lines ↦ refl ]
 
   pub unescaped : (r : List ℕ) {t v : List ℕ} → Quoted k t v → unescape k (bytes_of t ++ (delim_of k ∷ r)) ≡ bytes_of v
   unfolding bytes_of

@@ -104,7 +104,7 @@ all_go (more h m) = more (subsequent_goes h) (all_go m)
 pub word_on : (i : SoFar) (cs : List ℕ) {t : List ℕ} → Many Goes t → read_word_on i (t ++ cs) ≡ read_word_on (eats i t) cs
 unfolding read_word_on
 word_on i cs done = refl
-word_on i cs (more h m) = rw (h.goes_on, read_word_on) (word_on _ cs m)
+word_on i cs (more {c = c} h m) = rw (h.goes_on, read_word_on) (word_on (eat i c) cs m)
 
 breaks_word_lem : (c : ℕ) → one_of delimiters c ≡ true → in_word c ≡ breaks
 unfolding in_word breaks_word is_blank

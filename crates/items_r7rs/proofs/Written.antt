@@ -22,7 +22,7 @@ use Rattle.laws.specs.Letters.{lower, is_sign}
 use Rattle.numbers_standard.proofs.Letters.{lower_is, UpperOf}
 use Rattle.numbers_difference.specs.Productions.{Letter, Sign, Prefix}
 use Rattle.numbers_difference.specs.R7rs.{Infnan, RealAt, ImaginaryAt, ComplexAt, URealAt}
-use Rattle.numbers_difference.specs.Conditions.{capital, sign_after_odd_e, somewhere, is_capital}
+use Rattle.numbers_difference.specs.Conditions.{capital, sign_after_odd_e, somewhere, is_capital, is_n}
 use Rattle.numbers_difference.proofs.Runs.{all, all_head, all_tail, all_cons, all_append, all_imp}
 use Rattle.numbers_difference.proofs.Derived.{plain, plain_sign, plain_ureal, Head, head_ureal}
 use Rattle.numbers_difference.proofs.Walk.{other, radix_le}
@@ -149,7 +149,7 @@ all_stay b [] k h = done
 all_stay b (c ∷ s) k h =
     by_bool (is_capital b c)
     (λ e. yes_no (rw e at k))
-    (λ e. more (loose_stays b c (all_head loose c s h) e) (all_stay _ s (rw e at k) (all_tail loose c s h)))
+    (λ e. more (loose_stays b c (all_head loose c s h) e) (all_stay (is_n b c) s (rw e at k) (all_tail loose c s h)))
 
 pub stays_ascii : (c : ℕ) → stays_run c ≡ true → ltb c 0x80 ≡ true
 unfolding stays_run
