@@ -2,7 +2,6 @@
 use Prim.Native.Nat.{◌-◌}
 use mathlib.Core.Path.{refl, sym, ap, ◌∙◌}
 use mathlib.Core.Bool.{Bool, true, false}
-use mathlib.Core.Logic.{⊎_elim}
 use native.Mathlib.Omega.{arith}
 use lib.ListN.{length}
 use Rattle.std.specs.Prelude.{if◌then◌else◌}
@@ -11,6 +10,7 @@ use Rattle.lexer_fields.specs.Answers.{between, cutting_of}
 use Rattle.lexer_fields.proofs.Ordered.{ends_done, goes_back, goes_past, end_follows}
 use Rattle.lexer_fields.proofs.Cuts.{between_done, inside_noted, outside_noted}
 use Rattle.lexer_fields.proofs.ends.cut.Goals as goal
+use Rattle.lexer_fields.proofs.ends.cut.Goals.{then-continues, else-continues}
 
 pub loop-i-init : goal.loop-i-init
 loop-i-init c = (omega arith, refl, refl)
@@ -33,7 +33,7 @@ returns-then-n-end c =
     ∙ c.loop-i.invariant.1)
 
 pub overflow_add-i : goal.overflow_add-i
-overflow_add-i c = omega (arith, c.good)
+overflow_add-i c = omega (arith, c.well_formed)
 
 pub loop-i-smaller : goal.loop-i-smaller
 loop-i-smaller c = omega (arith, c.loop-i-test.true)
@@ -45,10 +45,14 @@ loop-i-preserved c =
       omega (arith, c.loop-i-test.true),
       end_follows (length source) ends c.loop-i.i c.loop-i.from c.loop-i-test.true c.if-end-from.false c.if-n-end.false
           ∙ c.loop-i.invariant.1,
-      ⊎_elim
-          (λ t. rw t.1 (inside_noted source ends c.loop-i.i c.loop-i-test.true c.loop-i.inside c.loop-i.invariant.2 (sym c.continues.ensures ∙ t.0.taken)))
-          (λ t. rw t.1 (outside_noted source ends c.loop-i.i c.loop-i-test.true c.loop-i.inside c.loop-i.invariant.2 (sym c.continues.ensures ∙ t.0.left)))
-          c.if-continues.branch,
+      elim c.if-continues.branch [
+        | then-continues w ↦
+            rw w.inside-is
+            (inside_noted source ends c.loop-i.i c.loop-i-test.true c.loop-i.inside c.loop-i.invariant.2 (sym c.continues.ensures ∙ w.if-continues.true))
+        | else-continues w ↦
+            rw w.inside-is
+            (outside_noted source ends c.loop-i.i c.loop-i-test.true c.loop-i.inside c.loop-i.invariant.2 (sym c.continues.ensures ∙ w.if-continues.false))
+      ],
     )
 
 pub returns-then-inside : goal.returns-then-inside

@@ -11,7 +11,7 @@ loop-i-init c =
     ([], at_start c.args.source.now c.args.ends.now c.args.mode c.args.skip c.requires.fine)
 
 pub offset_bounds-ends-i : goal.offset_bounds-ends-i
-offset_bounds-ends-i c = omega (arith, c.well-formed, c.loop-i-test.true)
+offset_bounds-ends-i c = omega (arith, c.well_formed, c.loop-i-test.true)
 
 pub bounds-ends-i : goal.bounds-ends-i
 bounds-ends-i c = c.loop-i-test.true
@@ -41,7 +41,7 @@ overflow_add-free c =
     omega (arith, sums c.loop-i.invariant.1 c.loop-i-test.true c.requires.fine c.count_part-p.result c.count_part-p.ensures)
 
 pub overflow_add-i : goal.overflow_add-i
-overflow_add-i c = omega (arith, c.well-formed, c.loop-i-test.true)
+overflow_add-i c = omega (arith, c.well_formed, c.loop-i-test.true)
 
 pub loop-i-smaller : goal.loop-i-smaller
 loop-i-smaller c = omega (arith, c.loop-i-test.true)

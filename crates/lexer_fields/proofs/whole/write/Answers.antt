@@ -12,7 +12,7 @@ pub loop-i-init : goal.loop-i-init
 loop-i-init c = writing c.requires.fine c.requires.room
 
 pub offset_bounds-ends-i : goal.offset_bounds-ends-i
-offset_bounds-ends-i c = omega (arith, c.good, c.loop-i-test.true)
+offset_bounds-ends-i c = omega (arith, c.well_formed, c.loop-i-test.true)
 
 pub bounds-ends-i : goal.bounds-ends-i
 bounds-ends-i c = c.loop-i-test.true
