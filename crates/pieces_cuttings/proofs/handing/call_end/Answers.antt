@@ -14,4 +14,4 @@ unfolding end_noted
 returns c =
     let p = c.end-answer in
     call_noted p.result _ (rw (length-replicate room mark) at p.ensures.0) (standing c.args.stand c.args.records.now c.args.counts.now c.args.texts.now)
-    (rw (← c.wrapping_add_usize-taken.ensures) c.note-reading.ensures)
+    (rw (← c.wrapping_add_usize-taken.ensures.value) c.note-reading.ensures)

@@ -16,4 +16,4 @@ returns c =
     let part = c.part in
     call_noted p.result _ (rw (part.ensures, length-replicate room mark) at p.ensures.0)
     (standing c.args.stand c.args.records.now c.args.counts.now c.args.texts.now)
-    (rw (← c.wrapping_add_usize-taken.ensures) c.note-reading.ensures)
+    (rw (← c.wrapping_add_usize-taken.ensures.value) c.note-reading.ensures)

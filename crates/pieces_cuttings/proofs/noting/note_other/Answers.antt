@@ -7,5 +7,5 @@ use Rattle.pieces_cuttings.proofs.noting.note_other.Goals as goal
 
 pub returns-then-before : goal.returns-then-before
 returns-then-before c =
-    let kept : c.marked.result ≡ c.args.kept = c.marked.ensures ∙ ap is_unwritten c.requires ∙ all_marks room ∙ sym c.if-before.true in
+    let kept : c.marked.result ≡ c.args.before.kept = c.marked.ensures ∙ ap is_unwritten c.requires ∙ all_marks room ∙ sym c.if-before.true in
     rw kept
