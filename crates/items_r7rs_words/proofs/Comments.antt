@@ -43,11 +43,11 @@ use Rattle.items_r7rs_words.proofs.Words.{known}
 -- ---- line comments
 
 -- the rest of a line is read
-rest_read : (i : SoFar) (rest : List ℕ) {t : List ℕ} → LineRest rest t → read_line i (t ++ rest) ≡ got comment (eats i t) rest
+rest_read : (rest : List ℕ) (i : SoFar) {t : List ℕ} → LineRest rest t → read_line i (t ++ rest) ≡ got comment (eats i t) rest
 unfolding read_line
-rest_read i rest (text_over e) = rw e
-rest_read i rest newline = refl
-rest_read i rest (more {c = c} h r) = rw (h, read_line) (rest_read (eat i c) rest r)
+rest_read rest i (text_over e) = rw e
+rest_read rest i newline = refl
+rest_read rest i (more {c = c} h r) = rw (h, read_line) (rest_read rest (eat i c) r)
 
 -- and what is read is the rest of a line
 line_back : (i : SoFar) (cs : List ℕ) → (t : List ℕ) × (cs ≡ t ++ (read_line i cs).rest) × LineRest (read_line i cs).rest t
@@ -194,7 +194,7 @@ unfolding is_blank read_item first_of
 comment_read report rest (line t e l k) = line_comment report rest l k
 comment_read report rest (past_return _ u (standard.line {t = t} m) f r) =
     read_token report (code ";") (t ++ (code "\r" ∷ u)) rest kind.Comment 0 refl refl
-    (λ at. rest_read _ rest (line_before m (more refl r)) ∙ ap (λ (i : SoFar). got comment i rest) (eats-whole at (code ";" ∷ t ++ (code "\r" ∷ u))))
+    (λ at. rest_read rest _ (line_before m (more refl r)) ∙ ap (λ (i : SoFar). got comment i rest) (eats-whole at (code ";" ∷ t ++ (code "\r" ∷ u))))
 comment_read report rest (own.nested n) = nested_comment report rest n
 
 module _ (report : Bool) (at end : ℕ) (what : Outcome) (rest raw : List ℕ) where

@@ -146,6 +146,7 @@ all_own [] = true
 all_own (r ∷ rs) = one_of own_kinds r.number && all_own rs
 
 among_own : (rows : List Row) {raw : List ℕ} {k : ℕ} → all_own rows ≡ true → Among rows raw k → one_of own_kinds k ≡ true
+among_own [] h a = elim a [ ]
 among_own (r ∷ rs) h here = by_bool (one_of own_kinds r.number) (λ e. e) (λ e. no_yes (rw e at h))
 among_own (r ∷ rs) h (there a) = among_own rs (by_bool (one_of own_kinds r.number) (λ e. rw e at h) (λ e. no_yes (rw e at h))) a
 
