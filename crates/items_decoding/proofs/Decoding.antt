@@ -168,11 +168,11 @@ module _ (k : Quotes) where
   elements_alone {c} {rest} (more {ps = ps} e es) = more (element_alone (written ps) c rest e) (elements_alone es)
 
   closing_low : ltb (delim_of k) 0x80 ≡ true
-  closing_low = elim k [ Double ↦ refl | Lines ↦ refl ]
+  closing_low = elim k as (λ q. ltb (delim_of q) 0x80 ≡ true) [ Double ↦ refl | Lines ↦ refl ]
 
   closing_byte : unescape k (bytes_of (delim_of k ∷ [])) ≡ []
   unfolding unescape in_quotes bytes_of utf8
-  closing_byte = elim k [ Double ↦ refl | Lines ↦ refl ]
+  closing_byte = elim k as (λ q. unescape q (bytes_of (delim_of q ∷ [])) ≡ []) [ Double ↦ refl | Lines ↦ refl ]
 
   ends_decoded : {after : List ℕ} {ps : List Part} → Elements k after ps → Ends k after → unescape k (bytes_of (written ps ++ closer after)) ≡ value ps
   unfolding unescape bytes_of
@@ -192,12 +192,12 @@ module _ (report : Bool) (k : Quotes) where
 
   last : (j : SoFar) (after : List ℕ) → Ends k after → Last j after (read_quoted report k j after)
   unfolding read_quoted in_quotes
-  last j after (closing rest) = elim k [ Double ↦ record { item = refl; rest = refl } | Lines ↦ record { item = refl; rest = refl } ]
+  last j after (closing rest) = elim k as (λ q. Last j (delim_of q ∷ rest) (read_quoted report q j (delim_of q ∷ rest))) [ Double ↦ record { item = refl; rest = refl } | Lines ↦ record { item = refl; rest = refl } ]
   last j after (text_over h) = record { item = refl; rest = refl }
 
   pub quoted_item : (at : ℕ) (cs : List ℕ) → read_item report at (delim_of k) cs ≡ read_quoted report k (eat (so_far [] at) (delim_of k)) cs
   unfolding read_item first_of starts_run
-  quoted_item at cs = elim k [ Double ↦ refl | Lines ↦ refl ]
+  quoted_item at cs = elim k as (λ q. read_item report at (delim_of q) cs ≡ read_quoted report q (eat (so_far [] at) (delim_of q)) cs) [ Double ↦ refl | Lines ↦ refl ]
 
   decoded_item : (at : ℕ) (cs : List ℕ) → Well (read_quoted report k (eat (so_far [] at) (delim_of k)) cs).what
       → Decoded k cs (read_quoted report k (eat (so_far [] at) (delim_of k)) cs)

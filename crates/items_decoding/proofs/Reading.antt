@@ -37,7 +37,7 @@ module _ (report : Bool) (k : Quotes) where
       → read_hex report k closer from n i (ds ++ cs) ≡ read_hex report k closer from n (eats i ds) cs
   unfolding read_quoted
   hex_on closer from n i cs done = refl
-  hex_on closer from n i cs (many.more h m) = rw (h, read_hex) (hex_on closer from n _ cs m)
+  hex_on closer from n i cs (many.more {c = c} h m) = rw (h, read_hex) (hex_on closer from n (eat i c) cs m)
 
   hex_close : (closer from n : ℕ) (i : SoFar) (cs : List ℕ) {v : ℕ} → in_hex k closer closer ≡ closes → scalar_of (hex_value (drop n i.bytes)) ≡ Scalar v
       → read_hex report k closer from n i (closer ∷ cs) ≡ read_quoted report k (eat i closer) cs

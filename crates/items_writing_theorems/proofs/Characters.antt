@@ -82,7 +82,7 @@ module _ (k : Quotes) (b : ℕ) (h : High b) where
   not_one x e = beyond_differs b h x e
 
   delim_low : ltb (delim_of k) 0x80 ≡ true
-  delim_low = elim k [ Double ↦ refl | Lines ↦ refl ]
+  delim_low = elim k as (λ q. ltb (delim_of q) 0x80 ≡ true) [ Double ↦ refl | Lines ↦ refl ]
 
   high_invalid : after_backslash b ≡ invalid
   unfolding after_backslash

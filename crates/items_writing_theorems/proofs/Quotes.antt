@@ -33,14 +33,14 @@ module _ (k : Quotes) where
 
   closer_simple : after_backslash (delim_of k) ≡ simple (delim_of k)
   unfolding after_backslash
-  closer_simple = elim k [ Double ↦ refl | Lines ↦ refl ]
+  closer_simple = elim k as (λ q. after_backslash (delim_of q) ≡ simple (delim_of q)) [ Double ↦ refl | Lines ↦ refl ]
 
   backslash_simple : after_backslash (code "\\") ≡ simple (code "\\")
   unfolding after_backslash
   backslash_simple = refl
 
   closer_ascii : ltb (delim_of k) 0x80 ≡ true
-  closer_ascii = elim k [ Double ↦ refl | Lines ↦ refl ]
+  closer_ascii = elim k as (λ q. ltb (delim_of q) 0x80 ≡ true) [ Double ↦ refl | Lines ↦ refl ]
 
   -- what is escaped denotes what it was
   pub escape_denotes : (v : List ℕ) → Quoted k (escape k v) v
@@ -92,7 +92,7 @@ module _ (k : Quotes) where
   -- and they are characters
   delim_scalar : is_scalar (delim_of k) ≡ true
   unfolding is_scalar within
-  delim_scalar = elim k [ Double ↦ refl | Lines ↦ refl ]
+  delim_scalar = elim k as (λ q. is_scalar (delim_of q) ≡ true) [ Double ↦ refl | Lines ↦ refl ]
 
   backslash_scalar : is_scalar (code "\\") ≡ true
   unfolding is_scalar within
