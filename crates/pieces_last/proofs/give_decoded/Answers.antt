@@ -50,7 +50,7 @@ returns c =
     (c.is_escaped.ensures (not-false _ c.if-not-is_escaped.false-raw)) in
     let decoded = c.decoded_record-r in
     let copied = subst (λ (x : PieceSpot). Copied x (decoded_means (take x.len c.args.buf.now)) w.depth (take x.len c.args.buf.now)
-    c.args.text.now decoded.new.1.1.1.0 (Of decoded.result)) c.requires.1 decoded.ensures in
+    c.args.text.now decoded.new.text (Of decoded.result)) c.requires.1 decoded.ensures in
     item_given_lem w h.closing c.args.buf.now c.args.text.now h.full h.room (decoded_means raw)
     (decoded_lasts w.stage w.which w.detail w.start raw (decoded_means raw) string.0
     (decoded_ends w.stage w.which w.detail 0 w.start raw string.0 string.1 string.2))

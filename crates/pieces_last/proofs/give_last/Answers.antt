@@ -37,8 +37,8 @@ returns-in-Of c =
     let kept = sym c.skips.ensures ∙ c.if-skips.false in
     let copied = c.copied in
     let gift = subst (λ (q : Gift). Copied c.args.s c.args.m w.depth (take c.args.s.len c.args.buf.now) c.args.text.now
-    copied.new.1.1.1.1.0 q) c.in-Of.is copied.ensures in
-    let k = subst (λ (x : PieceSpot). Copied x c.args.m w.depth (take x.len c.args.buf.now) c.args.text.now copied.new.1.1.1.1.0
+    copied.new.text q) c.in-Of.is copied.ensures in
+    let k = subst (λ (x : PieceSpot). Copied x c.args.m w.depth (take x.len c.args.buf.now) c.args.text.now copied.new.text
     (Of c.in-Of.r)) c.requires.1 gift in
     item_given_lem w h.closing c.args.buf.now c.args.text.now h.full h.room c.args.m c.requires.2 (h.closing.ready.known.held h.item).0 kept _ (omega arith) _ _ k
 
@@ -46,4 +46,4 @@ pub returns-in-Not : goal.returns-in-Not
 returns-in-Not c =
     let copied = c.copied in
     subst (λ (q : Gift). Copied c.args.s c.args.m c.args.w.depth (take c.args.s.len c.args.buf.now) c.args.text.now
-    copied.new.1.1.1.1.0 q) c.in-Not.is copied.ensures
+    copied.new.text q) c.in-Not.is copied.ensures

@@ -15,7 +15,7 @@ returns-in-Given c =
     let a = c.args in
     let m = memory a.buf.now a.words.now a.text.now a.item.now a.values.now in
     let ended = c.end_quickly in
-    let then = ended.last.1.1.0 in
+    let then = ended.new.text in
     let depth = c.in-Given.depth in
     let given = c.in-Given.record in
     let h = subst (λ (q : Last). Ends a.state a.buf.now a.text.now then q) c.in-Given.is ended.ensures in
@@ -28,7 +28,7 @@ returns-in-Finished c =
     let ended = c.end_quickly in
     let a = c.args in
     let m = memory a.buf.now a.words.now a.text.now a.item.now a.values.now in
-    let then = ended.last.1.1.0 in
+    let then = ended.new.text in
     let h = subst (λ (q : Last). Ends a.state a.buf.now a.text.now then q) c.in-Finished.is ended.ensures in
     told_by_lem m _ (told_last (with_end a.state 1) got.Finished) h.0 h.1
     (c.tell_finished.ensures a.item.now a.buf.now then a.text.now
@@ -38,6 +38,6 @@ pub returns-in-Not : goal.returns-in-Not
 returns-in-Not c =
     let ended = c.end_quickly in
     let a = c.args in
-    let then = ended.last.1.1.0 in
+    let then = ended.new.text in
     let h = subst (λ (q : Last). Ends a.state a.buf.now a.text.now then q) c.in-Not.is ended.ensures in
     ends_on (memory a.buf.now a.words.now a.text.now a.item.now a.values.now) a.state then c.requires.2 h c.end_plainly.ensures

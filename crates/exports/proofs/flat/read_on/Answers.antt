@@ -11,13 +11,13 @@ use Rattle.exports.proofs.flat.read_on.Goals as goal
 pub read_plainly-requires : goal.read_plainly-requires
 read_plainly-requires c =
     let moves = c.quickly in
-    let awaits = subst (λ (r : Reached). Answers c.args.state c.args.piece.now c.args.buf.now moves.last.1.0 c.args.text.now
-    moves.last.1.1.1.0 r) c.in-Before.is moves.ensures in (
-      c.put_spot.auto.0 ∙ c.requires.0,
+    let awaits = subst (λ (r : Reached). Answers c.args.state c.args.piece.now c.args.buf.now moves.new.buf c.args.text.now
+    moves.new.text r) c.in-Before.is moves.ensures in (
+      c.put_spot.auto.words ∙ c.requires.0,
       c.requires.1,
       awaits.inside,
       λ _. reads_on (memory c.args.buf.now c.args.words.now c.args.text.now c.args.item.now c.args.values.now) c.args.state
-          (length c.args.piece.now) c.requires.5 c.requires.2 c.in-Before.s c.args.piece.now moves.last.1.0 moves.last.1.1.1.0 _
+          (length c.args.piece.now) c.requires.5 c.requires.2 c.in-Before.s c.args.piece.now moves.new.buf moves.new.text _
           c.put_spot.ensures awaits,
     )
 
@@ -38,21 +38,20 @@ returns-in-Item c =
     c.quickly.new.text c.args.text.now)
 
 pub shape_of-buf-in-Before : goal.shape_of-buf-in-Before
-shape_of-buf-in-Before c = c.read_plainly.auto.0 ∙ c.quickly.auto.1.0
+shape_of-buf-in-Before c = c.read_plainly.auto.buf ∙ c.quickly.auto.buf
 
 pub shape_of-words-in-Before : goal.shape_of-words-in-Before
-shape_of-words-in-Before c = c.read_plainly.auto.1.0 ∙ c.put_spot.auto.0
+shape_of-words-in-Before c = c.read_plainly.auto.words ∙ c.put_spot.auto.words
 
 pub shape_of-text-in-Before : goal.shape_of-text-in-Before
-shape_of-text-in-Before c = c.read_plainly.auto.1.1.1.1.1.0 ∙ (quickly-before
-    c).quickly.kept.1.1.1.0
+shape_of-text-in-Before c = c.read_plainly.auto.text ∙ c.quickly.auto.text
 
 pub returns-in-Before : goal.returns-in-Before
 returns-in-Before c =
     let m = memory c.args.buf.now c.args.words.now c.args.text.now c.args.item.now c.args.values.now in
     let moves = c.quickly in
-    let awaits = subst (λ (r : Reached). Answers c.args.state c.args.piece.now c.args.buf.now moves.last.1.0 c.args.text.now
-    moves.last.1.1.1.0 r) c.in-Before.is moves.ensures in
+    let awaits = subst (λ (r : Reached). Answers c.args.state c.args.piece.now c.args.buf.now moves.new.buf c.args.text.now
+    moves.new.text r) c.in-Before.is moves.ensures in
     c.read_plainly.ensures
-    ∙ goes_on m c.args.state (length c.args.piece.now) c.requires.5 c.requires.2 c.in-Before.s c.args.piece.now moves.last.1.0 moves.last.1.1.1.0 _
+    ∙ goes_on m c.args.state (length c.args.piece.now) c.requires.5 c.requires.2 c.in-Before.s c.args.piece.now moves.new.buf moves.new.text _
     c.put_spot.ensures awaits
