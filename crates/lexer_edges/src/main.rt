@@ -9,8 +9,8 @@ ghost use Rattle.items.specs.Items.{record_words};
 use items::RECORD_WORDS;
 use items::modes::{PLAIN, REPORT};
 use lexer::{ReadAnswer, read};
-use libc::STDOUT_FILENO;
 use refusal::{LIMIT_VALUE, NO_MODE, NOT_UTF8, SERVED, TOO_FEW, TOO_LONG};
+use std::io;
 
 // What both memories hold before a call.
 const MARK_WORD: u32 = 7;
@@ -22,53 +22,53 @@ const RECORD_ROOM: usize = 2 * RECORD_WORDS;
 
 const BYTE_ROOM: usize = 6;
 
-fn number(n: u64) {
-    io::print_decimal(STDOUT_FILENO, n);
-    io::write_all(STDOUT_FILENO, b" ");
+fn number(rt: &impl Print, n: u64) -> io::Result<()> {
+    print!(rt; "{n} ")
 }
 
-fn end_line() {
-    io::write_all(STDOUT_FILENO, b"\n");
+fn end_line(rt: &impl Print) -> io::Result<()> {
+    println!(rt)
 }
 
-fn show_words(words: &[u32]) {
+fn show_words(rt: &impl Print, words: &[u32]) -> io::Result<()> {
     let mut i = 0;
     while i < words.len() {
-        number(words[i] as u64);
+        number(rt, words[i] as u64)?;
         i += 1;
     }
-    end_line();
+    end_line(rt)
 }
 
-fn show_bytes(bytes: &[u8]) {
+fn show_bytes(rt: &impl Print, bytes: &[u8]) -> io::Result<()> {
     let mut i = 0;
     while i < bytes.len() {
-        number(bytes[i] as u64);
+        number(rt, bytes[i] as u64)?;
         i += 1;
     }
-    end_line();
+    end_line(rt)
 }
 
 // 01's number of an answer, SERVED where there is none, and its two values.
-fn show_answer(answer: ReadAnswer) {
+fn show_answer(rt: &impl Print, answer: ReadAnswer) -> io::Result<()> {
     match answer {
-        ReadAnswer::Served(items, text) => show_numbers(SERVED, items as u64, text as u64),
-        ReadAnswer::NoMode(mode) => show_numbers(NO_MODE, mode as u64, 0),
-        ReadAnswer::TooLong => show_numbers(TOO_LONG, LIMIT_VALUE, 0),
-        ReadAnswer::NotUtf8(at) => show_numbers(NOT_UTF8, at as u64, 0),
-        ReadAnswer::NoRoom(items, text) => show_numbers(TOO_FEW, items as u64, text as u64),
+        ReadAnswer::Served(items, text) => show_numbers(rt, SERVED, items as u64, text as u64)?,
+        ReadAnswer::NoMode(mode) => show_numbers(rt, NO_MODE, mode as u64, 0)?,
+        ReadAnswer::TooLong => show_numbers(rt, TOO_LONG, LIMIT_VALUE, 0)?,
+        ReadAnswer::NotUtf8(at) => show_numbers(rt, NOT_UTF8, at as u64, 0)?,
+        ReadAnswer::NoRoom(items, text) => show_numbers(rt, TOO_FEW, items as u64, text as u64)?,
     }
-    end_line();
+    end_line(rt)
 }
 
-fn show_numbers(a: u32, b: u64, c: u64) {
-    number(a as u64);
-    number(b);
-    number(c);
+fn show_numbers(rt: &impl Print, a: u32, b: u64, c: u64) -> io::Result<()> {
+    number(rt, a as u64)?;
+    number(rt, b)?;
+    number(rt, c)
 }
 
 // One call, with the first so many words and bytes lent.
 fn call(
+    rt: &impl Print,
     source: &[u8],
     mode: u32,
     skip: bool,
@@ -76,7 +76,7 @@ fn call(
     text: &mut [u8],
     words: usize,
     bytes: usize,
-)
+) -> io::Result<()>
     requires { (words ≤ length records.old) × (bytes ≤ length text.old) }
 {
     let answer = read(
@@ -86,41 +86,57 @@ fn call(
         &mut records[..words],
         &mut text[..bytes],
     );
-    show_answer(answer);
-    show_words(records);
-    show_bytes(text);
+    show_answer(rt, answer)?;
+    show_words(rt, records)?;
+    show_bytes(rt, text)
 }
 
 // The same on fresh memories.
-fn case(source: &[u8], mode: u32, skip: bool, words: usize, bytes: usize)
+fn case(
+    rt: &impl Print,
+    source: &[u8],
+    mode: u32,
+    skip: bool,
+    words: usize,
+    bytes: usize,
+) -> io::Result<()>
     requires { (words ≤ 2 * record_words) × (bytes ≤ 6) }
 {
     let mut records = [MARK_WORD; RECORD_ROOM];
     let mut text = [MARK_BYTE; BYTE_ROOM];
-    call(source, mode, skip, &mut records, &mut text, words, bytes);
+    call(
+        rt,
+        source,
+        mode,
+        skip,
+        &mut records,
+        &mut text,
+        words,
+        bytes,
+    )
 }
 
-fn main() {
+fn main(rt: HostRuntime) -> io::Result<()> {
     // an empty text, and one blank
-    case(b"", PLAIN, false, 0, 0);
-    case(b" ", PLAIN, false, RECORD_ROOM, 6);
+    case(&rt, b"", PLAIN, false, 0, 0)?;
+    case(&rt, b" ", PLAIN, false, RECORD_ROOM, 6)?;
     // the last character, and past it
-    case(b"\"\\x10FFFF;\"", PLAIN, false, RECORD_ROOM, 6);
-    case(b"\"\\x110000;\"", PLAIN, false, RECORD_ROOM, 6);
+    case(&rt, b"\"\\x10FFFF;\"", PLAIN, false, RECORD_ROOM, 6)?;
+    case(&rt, b"\"\\x110000;\"", PLAIN, false, RECORD_ROOM, 6)?;
     // records: one word short, and exactly enough
-    case(b"(a", PLAIN, false, RECORD_ROOM - 1, 6);
-    case(b"(a", PLAIN, false, RECORD_ROOM, 6);
+    case(&rt, b"(a", PLAIN, false, RECORD_ROOM - 1, 6)?;
+    case(&rt, b"(a", PLAIN, false, RECORD_ROOM, 6)?;
     // text memory: one byte short, and exactly enough
-    case(b"\"\\n\"\"\\t\"", PLAIN, false, RECORD_ROOM, 1);
-    case(b"\"\\n\"\"\\t\"", PLAIN, false, RECORD_ROOM, 2);
+    case(&rt, b"\"\\n\"\"\\t\"", PLAIN, false, RECORD_ROOM, 1)?;
+    case(&rt, b"\"\\n\"\"\\t\"", PLAIN, false, RECORD_ROOM, 2)?;
     // no such mode, before anything else; no UTF-8
-    case(b"\xFF", 2, false, 0, 0);
-    case(b"a\xFF", PLAIN, false, 0, 0);
+    case(&rt, b"\xFF", 2, false, 0, 0)?;
+    case(&rt, b"a\xFF", PLAIN, false, 0, 0)?;
     // E8 in both modes, and with comments skipped
-    case(b"14.7;gps", PLAIN, false, RECORD_ROOM, 0);
-    case(b"14.7;gps", REPORT, false, RECORD_ROOM, 0);
-    case(b"14.7;gps", PLAIN, true, RECORD_ROOM, 0);
+    case(&rt, b"14.7;gps", PLAIN, false, RECORD_ROOM, 0)?;
+    case(&rt, b"14.7;gps", REPORT, false, RECORD_ROOM, 0)?;
+    case(&rt, b"14.7;gps", PLAIN, true, RECORD_ROOM, 0)?;
     // the depth: a close with none open, and a skipped comment
-    case(b")(", PLAIN, false, RECORD_ROOM, 0);
-    case(b"(;a\nb", PLAIN, true, RECORD_ROOM, 0);
+    case(&rt, b")(", PLAIN, false, RECORD_ROOM, 0)?;
+    case(&rt, b"(;a\nb", PLAIN, true, RECORD_ROOM, 0)
 }

@@ -4,4 +4,4 @@ use native.Mathlib.Omega.{arith}
 use Rattle.lexer_edges.proofs.show_bytes.Goals as goal
 
 pub overflow_cast-bytes : goal.overflow_cast-bytes
-overflow_cast-bytes c = omega (arith, c.shared_slice_known-in-loop-i-1.given c.loop-i.i)
+overflow_cast-bytes g c = omega (arith, c.shared_slice_known-in-loop-i-1.given c.loop-i.i)
