@@ -1,6 +1,6 @@
-// Lists the items of what is read from a descriptor on standard output, a line each: kind, start and end, and for an error its place. The
-// text is read in pieces, in plain mode, comments kept. The last line is `end` and the count of items, `refused` and the refusal's
-// number and place, or `unread` where the input cannot be read. Program `lexlist` lists standard input, and `lexlist_edges` some files.
+// Lists the items of what a reader gives on a writer, a line each: kind, start and end, and for an error its place. The text is read in
+// pieces, in plain mode, comments kept. The last line is `end` and the count of items, `refused` and the refusal's number and place, or
+// `unread` where the input cannot be read. Program `lexlist` lists standard input, and `lexlist_edges` some files.
 #![tactic(auto)]
 
 ghost use Rattle.std.specs.Prelude.{◌≡◌, ◌≤◌, length};
@@ -9,10 +9,11 @@ ghost use Rattle.lexlist_listing.specs.Counted.{heed, is_over, PieceListed, EndL
 
 use items::modes::PLAIN;
 use items::{Nine, kinds};
-use libc::STDOUT_FILENO;
 use pieces::{Answer, Got, LONGEST, State};
 use pieces_calls::calls::{end, piece};
 use pieces_calls::opening::open;
+use std::io;
+use std::io::{Read, Write};
 
 // How many bytes are read at once. A piece may have any length: this one keeps the program small.
 const PIECE: usize = 512;
@@ -36,56 +37,71 @@ struct Listing {
     heard: Heard,
 }
 
-fn number(n: u64) {
-    io::print_decimal(STDOUT_FILENO, n);
+// Where the lines go, and what came of writing them: after a write that fails nothing more is written.
+#[derive(Drop)]
+struct Lines<W> {
+    to: W,
+    written: io::Result<()>,
 }
 
-fn space() {
-    io::write_all(STDOUT_FILENO, b" ");
-}
-
-fn end_line() {
-    io::write_all(STDOUT_FILENO, b"\n");
-}
-
-fn list_item(r: Nine) {
-    number(r.kind as u64);
-    space();
-    number(r.start as u64);
-    space();
-    number(r.end as u64);
-    if kinds::FIRST_ERROR < r.kind {
-        space();
-        number(r.from as u64);
-        space();
-        number(r.to as u64);
+fn print<W: Write>(lines: &mut Lines<W>, text: &[u8]) {
+    if lines.written.is_ok() {
+        lines.written = lines.to.write_all(text);
     }
-    end_line();
 }
 
-fn list_refusal(refusal: u32, place: usize) {
-    io::write_all(STDOUT_FILENO, b"refused ");
-    number(refusal as u64);
-    space();
-    number(place as u64);
-    end_line();
+fn number<W: Write>(lines: &mut Lines<W>, n: u64) {
+    if lines.written.is_ok() {
+        lines.written = write!(lines.to, "{n}");
+    }
 }
 
-fn list_count(items: u64) {
-    io::write_all(STDOUT_FILENO, b"end ");
-    number(items);
-    end_line();
+fn space<W: Write>(lines: &mut Lines<W>) {
+    print(lines, b" ");
+}
+
+fn end_line<W: Write>(lines: &mut Lines<W>) {
+    print(lines, b"\n");
+}
+
+fn list_item<W: Write>(lines: &mut Lines<W>, r: Nine) {
+    number(lines, r.kind as u64);
+    space(lines);
+    number(lines, r.start as u64);
+    space(lines);
+    number(lines, r.end as u64);
+    if kinds::FIRST_ERROR < r.kind {
+        space(lines);
+        number(lines, r.from as u64);
+        space(lines);
+        number(lines, r.to as u64);
+    }
+    end_line(lines);
+}
+
+fn list_refusal<W: Write>(lines: &mut Lines<W>, refusal: u32, place: usize) {
+    print(lines, b"refused ");
+    number(lines, refusal as u64);
+    space(lines);
+    number(lines, place as u64);
+    end_line(lines);
+}
+
+fn list_count<W: Write>(lines: &mut Lines<W>, items: u64) {
+    print(lines, b"end ");
+    number(lines, items);
+    end_line(lines);
 }
 
 // The listing after an answer, whose item is printed.
-fn heed(items: u64, answer: Answer) -> Listing
+fn heed<W: Write>(lines: &mut Lines<W>, items: u64, answer: Answer) -> Listing
     ensures { result ≡ heed items answer }
 {
     let state = answer.state;
     let got = answer.got;
     match got {
         Got::Item(r) => {
-            list_item(r.nine);
+            list_item(lines, r.nine);
             Listing {
                 state,
                 items: std::num::wrapping_add_u64(items, 1),
@@ -134,7 +150,12 @@ fn too_few(listing: Listing) -> Listing
 }
 
 // Hands a piece over until all of it is taken: each call takes a byte or gives the second item of a pair that took two.
-fn list_piece(listing: Listing, bytes: &[u8], text: &mut [u8]) -> Listing
+fn list_piece<W: Write>(
+    lines: &mut Lines<W>,
+    listing: Listing,
+    bytes: &[u8],
+    text: &mut [u8],
+) -> Listing
     requires { length bytes.now ≤ 512 }
     ensures { PieceListed (length text.old) listing bytes.now result }
 {
@@ -145,7 +166,7 @@ fn list_piece(listing: Listing, bytes: &[u8], text: &mut [u8]) -> Listing
         let state = now.state;
         let answer = piece(state, &bytes[from..], text);
         let taken = answer.taken;
-        now = heed(now.items, answer);
+        now = heed(lines, now.items, answer);
         let heard = now.heard;
         if is_over(heard) {
             return now;
@@ -160,7 +181,7 @@ fn list_piece(listing: Listing, bytes: &[u8], text: &mut [u8]) -> Listing
 }
 
 // Declares the end, until all items are given.
-fn list_end(listing: Listing, text: &mut [u8]) -> Listing
+fn list_end<W: Write>(lines: &mut Lines<W>, listing: Listing, text: &mut [u8]) -> Listing
     ensures { EndListed (length text.old) listing result }
 {
     let mut now = listing;
@@ -168,7 +189,7 @@ fn list_end(listing: Listing, text: &mut [u8]) -> Listing
     while calls > 0 {
         let state = now.state;
         let answer = end(state, text);
-        now = heed(now.items, answer);
+        now = heed(lines, now.items, answer);
         let heard = now.heard;
         if is_over(heard) {
             return now;
@@ -187,25 +208,31 @@ struct ReadPiece {
 }
 
 // Reads a piece and lists it.
-fn list_some(fd: i32, listing: Listing, text: &mut [u8]) -> ReadPiece {
+fn list_some<R: Read, W: Write>(
+    reader: &mut R,
+    lines: &mut Lines<W>,
+    listing: Listing,
+    text: &mut [u8],
+) -> ReadPiece {
     let mut bytes = [0u8; PIECE];
-    let got = libc::read(fd, &mut bytes);
-    if got < 0 {
-        return ReadPiece {
-            listing,
-            last: true,
-            unread: true,
-        };
-    }
-    if got == 0 {
+    let n = match reader.read(&mut bytes) {
+        Ok(n) => n,
+        Err(_) => {
+            return ReadPiece {
+                listing,
+                last: true,
+                unread: true,
+            };
+        }
+    };
+    if n == 0 {
         return ReadPiece {
             listing,
             last: true,
             unread: false,
         };
     }
-    let n = io::count(got, &bytes);
-    let after = list_piece(listing, &bytes[..n], text);
+    let after = list_piece(lines, listing, &bytes[..n], text);
     let heard = after.heard;
     let last = is_over(heard);
     ReadPiece {
@@ -215,19 +242,22 @@ fn list_some(fd: i32, listing: Listing, text: &mut [u8]) -> ReadPiece {
     }
 }
 
-// Lists all that is read. A proved loop has to end, and nothing says that an input does: so the loop counts its turns down, from a
-// number that no run uses up.
-fn list_all(fd: i32, listing: Listing, text: &mut [u8]) -> ReadPiece {
+// Lists all that is read. A proved loop has to end, and nothing says that an input does: so the turns are counted, up to a number that
+// no run uses up.
+fn list_all<R: Read, W: Write>(
+    reader: &mut R,
+    lines: &mut Lines<W>,
+    listing: Listing,
+    text: &mut [u8],
+) -> ReadPiece {
     let mut now = listing;
-    let mut turns = u64::MAX;
-    while turns > 0 {
-        let step = list_some(fd, now, text);
+    for _ in 0..u64::MAX {
+        let step = list_some(reader, lines, now, text);
         if step.last {
             return step;
         }
         let after = step.listing;
         now = after;
-        turns = turns - 1;
     }
     ReadPiece {
         listing: now,
@@ -237,31 +267,36 @@ fn list_all(fd: i32, listing: Listing, text: &mut [u8]) -> ReadPiece {
 }
 
 // The listing to its end, unless a refusal ended it.
-fn list_rest(listing: Listing, text: &mut [u8]) -> Listing {
+fn list_rest<W: Write>(lines: &mut Lines<W>, listing: Listing, text: &mut [u8]) -> Listing {
     let heard = listing.heard;
     if is_over(heard) {
         return listing;
     }
-    list_end(listing, text)
+    list_end(lines, listing, text)
 }
 
 // The last line.
-fn list_last(listing: Listing) {
+fn list_last<W: Write>(lines: &mut Lines<W>, listing: Listing) {
     let heard = listing.heard;
     match heard {
-        Heard::Going => list_refusal(0, 0),
-        Heard::Finished => list_count(listing.items),
-        Heard::Refused(refusal, place) => list_refusal(refusal, place),
+        Heard::Going => list_refusal(lines, 0, 0),
+        Heard::Finished => list_count(lines, listing.items),
+        Heard::Refused(refusal, place) => list_refusal(lines, refusal, place),
     }
 }
 
-// Lists the items of what is read from a descriptor, to its end, to a refusal, or to a read that fails.
-pub fn list(fd: i32) {
+// Lists the items of what is read, to its end, to a refusal, or to a read that fails. It fails where a write of a line does.
+pub fn list<R: Read, W: Write + Drop>(reader: &mut R, writer: W) -> io::Result<()> {
     let opened = open(PLAIN, false);
     let state = opened.state;
     let mut text = [0u8; LONGEST];
+    let mut lines = Lines {
+        to: writer,
+        written: Ok(()),
+    };
     let listed = list_all(
-        fd,
+        reader,
+        &mut lines,
         Listing {
             state,
             items: 0,
@@ -270,9 +305,11 @@ pub fn list(fd: i32) {
         &mut text,
     );
     if listed.unread {
-        io::write_all(STDOUT_FILENO, b"unread\n");
-        return;
+        print(&mut lines, b"unread\n");
+        return lines.written;
     }
     let all = listed.listing;
-    list_last(list_rest(all, &mut text));
+    let rest = list_rest(&mut lines, all, &mut text);
+    list_last(&mut lines, rest);
+    lines.written
 }

@@ -4,16 +4,16 @@ use Rattle.lexlist_listing.proofs.Calls.{end_said, end_on, no_ends}
 use Rattle.lexlist_listing.proofs.list_end.Goals as goal
 
 pub loop-calls-init : goal.loop-calls-init
-loop-calls-init c = (refl, refl)
+loop-calls-init g c = (refl, refl)
 
 pub returns-then-is_over : goal.returns-then-is_over
-returns-then-is_over c =
+returns-then-is_over g c =
     λ next. let l = c.loop-calls in let p = c.end-answer in
     rw c.heed-now.ensures (sym (end_said _ _ l.calls l.now.items l.now.state p.result _ l.invariant.0 p.ensures.0 (omega arith)
     (rw c.heed-now.ensures at (sym c.is_over.ensures ∙ c.if-is_over.true)) next) ∙ l.invariant.1)
 
 pub loop-calls-preserved : goal.loop-calls-preserved
-loop-calls-preserved c =
+loop-calls-preserved g c =
     let l = c.loop-calls in let p = c.end-answer in (
       omega arith,
       rw c.heed-now.ensures (sym (end_on _ _ l.calls l.now.items l.now.state p.result _ l.invariant.0 p.ensures.0 (omega arith)
@@ -21,4 +21,4 @@ loop-calls-preserved c =
     )
 
 pub returns : goal.returns
-returns c = λ next. let l = c.loop-calls in rw c.too_few.ensures (sym (no_ends _ l.calls l.now.items l.now.state (omega arith)) ∙ l.invariant.1)
+returns g c = λ next. let l = c.loop-calls in rw c.too_few.ensures (sym (no_ends _ l.calls l.now.items l.now.state (omega arith)) ∙ l.invariant.1)

@@ -4,22 +4,22 @@ use Rattle.lexlist_listing.proofs.Calls.{last_word, all_taken, some_left, no_cal
 use Rattle.lexlist_listing.proofs.list_piece.Goals as goal
 
 pub loop-calls-init : goal.loop-calls-init
-loop-calls-init c = (omega arith, refl, λ next. refl)
+loop-calls-init g c = (omega arith, refl, λ next. refl)
 
 pub returns-then-is_over : goal.returns-then-is_over
-returns-then-is_over c =
+returns-then-is_over g c =
     λ next. let l = c.loop-calls in let p = c.piece-answer in
     rw c.heed-now.ensures (sym (last_word _ _ l.from l.calls l.now.items l.now.state _ p.result _ l.invariant.1 p.ensures.0 (omega arith)
     (rw c.heed-now.ensures at (sym c.is_over.ensures ∙ c.if-is_over.true)) next) ∙ l.invariant.2 next)
 
 pub returns-then-bytes-from : goal.returns-then-bytes-from
-returns-then-bytes-from c =
+returns-then-bytes-from g c =
     λ next. let l = c.loop-calls in let p = c.piece-answer in
     rw c.heed-now.ensures (sym (all_taken _ _ l.from l.calls l.now.items l.now.state _ p.result _ l.invariant.1 p.ensures.0 (omega arith)
     c.if-bytes-from.true next) ∙ l.invariant.2 next)
 
 pub loop-calls-preserved : goal.loop-calls-preserved
-loop-calls-preserved c =
+loop-calls-preserved g c =
     let l = c.loop-calls in let p = c.piece-answer in (
       omega arith,
       omega arith,
@@ -28,5 +28,5 @@ loop-calls-preserved c =
     )
 
 pub returns : goal.returns
-returns c = λ next. let l = c.loop-calls in
+returns g c = λ next. let l = c.loop-calls in
     rw c.too_few.ensures (sym (no_calls _ l.calls l.now.items l.now.state _ next (omega arith)) ∙ l.invariant.2 next)
