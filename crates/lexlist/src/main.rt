@@ -1,8 +1,8 @@
 // Lists the items of standard input: document 01, "Program `lexlist`". Crate `lexlist_listing` says what is printed.
 #![tactic(auto)]
 
-use libc::STDIN_FILENO;
+use std::io;
 
-fn main() {
-    lexlist_listing::list(STDIN_FILENO);
+fn main(rt: HostRuntime) -> io::Result<()> {
+    lexlist_listing::list(&mut rt.reader(), io::writer(&rt))
 }
