@@ -1,5 +1,5 @@
-use Prim.Native.Nat.{◌≤◌, ◌-◌}
-use lib.ListN.{length}
+-- Every place that is read lies in the slice.
+use Rattle.std.proofs.Common.{◌-◌, ◌≤◌, length}
 use Rattle.lexer_edges.proofs.show_bytes.Given as goal
 
 abbrev pub invariant-loop-i : goal.invariant-loop-i
