@@ -19,6 +19,8 @@ use pieces_calls::calls::{end, piece};
 use pieces_calls::opening::open;
 use pieces_cuttings::{MARK_BYTE, part};
 use refusal::{LIMIT, TOO_FEW};
+use std::io;
+use std::rt::Files;
 
 // The text memory that the calls ask for, and a byte less.
 const ENOUGH: usize = LONGEST;
@@ -44,66 +46,66 @@ struct CallsStand {
 }
 
 // What a call answers, and the text memory after it.
-fn answer(a: Answer, text: &[u8]) {
+fn answer(rt: &impl Print, a: Answer, text: &[u8]) -> io::Result<()> {
     let got = a.got;
-    print(b"  taken ");
-    number(a.taken as u64);
+    print(rt, b"  taken ")?;
+    number(rt, a.taken as u64)?;
     match got {
         Got::Item(r) => {
-            print(b"item ");
-            record(r);
+            print(rt, b"item ")?;
+            record(rt, r)?;
         }
-        Got::More => print(b"more "),
-        Got::Finished => print(b"finished "),
+        Got::More => print(rt, b"more ")?,
+        Got::Finished => print(rt, b"finished ")?,
         Got::Refused(refusal, place) => {
-            print(b"refused ");
-            number(refusal as u64);
-            number(place as u64);
+            print(rt, b"refused ")?;
+            number(rt, refusal as u64)?;
+            number(rt, place as u64)?;
         }
     }
-    print(b"memory ");
-    runs(text);
-    end_line();
+    print(rt, b"memory ")?;
+    runs(rt, text)?;
+    end_line(rt)
 }
 
 // A piece call, whose answer is printed or not.
-fn on_piece(state: State, bytes: &[u8], told: bool) -> State {
+fn on_piece(rt: &impl Print, state: State, bytes: &[u8], told: bool) -> io::Result<State> {
     let mut text = [MARK_BYTE; ENOUGH];
     let a = piece(state, bytes, &mut text);
     if told {
-        answer(a, &text);
+        answer(rt, a, &text)?;
     }
     let after = a.state;
-    after
+    Ok(after)
 }
 
 // The same with a text memory that is a byte too short.
-fn on_piece_short(state: State, bytes: &[u8]) -> State {
+fn on_piece_short(rt: &impl Print, state: State, bytes: &[u8]) -> io::Result<State> {
     let mut text = [MARK_BYTE; A_BYTE_LESS];
     let a = piece(state, bytes, &mut text);
-    answer(a, &text);
+    answer(rt, a, &text)?;
     let after = a.state;
-    after
+    Ok(after)
 }
 
 // An end call, whose answer is printed or not.
-fn on_end(state: State, told: bool) -> State {
+fn on_end(rt: &impl Print, state: State, told: bool) -> io::Result<State> {
     let mut text = [MARK_BYTE; ENOUGH];
     let a = end(state, &mut text);
     if told {
-        answer(a, &text);
+        answer(rt, a, &text)?;
     }
     let after = a.state;
-    after
+    Ok(after)
 }
 
 // The same with a text memory that is a byte too short.
-fn on_end_short(state: State) -> State {
+fn on_end_short(rt: &impl Print, state: State) -> io::Result<State> {
     let mut text = [MARK_BYTE; A_BYTE_LESS];
     let a = end(state, &mut text);
-    answer(a, &text);
+    answer(rt, a, &text)?;
     let after = a.state;
-    after
+    Ok(after)
 }
 
 // A plain state, comments kept.
@@ -114,21 +116,21 @@ fn fresh() -> State {
 }
 
 // Opening in a mode that there is not: refused, with a plain state.
-fn no_mode() {
-    print(b"mode 2\n");
+fn no_mode(rt: &impl Print) -> io::Result<()> {
+    print(rt, b"mode 2\n")?;
     let no = open(UNKNOWN_MODE, false);
     let start = no.start;
     let state = no.state;
     match start {
-        Start::Ready => print(b"  ready"),
+        Start::Ready => print(rt, b"  ready")?,
         Start::Refused(refusal, mode) => {
-            print(b"  refused ");
-            number(refusal as u64);
-            number(mode as u64);
+            print(rt, b"  refused ")?;
+            number(rt, refusal as u64)?;
+            number(rt, mode as u64)?;
         }
     }
-    end_line();
-    standing::show(state);
+    end_line(rt)?;
+    standing::show(rt, state)
 }
 
 // A character begun that wants no more bytes.
@@ -188,97 +190,97 @@ fn forge(state: State, letter: u8) -> State {
 }
 
 // The state after a call, by a letter.
-fn call(state: State, letter: u8, bytes: &[u8]) -> State {
+fn call(rt: &impl Print, state: State, letter: u8, bytes: &[u8]) -> io::Result<State> {
     match letter {
-        b'p' => on_piece(state, bytes, true),
-        b'q' => on_piece(state, bytes, false),
-        b'e' => on_end(state, true),
-        b'f' => on_end(state, false),
-        _ => forge(state, letter),
+        b'p' => on_piece(rt, state, bytes, true),
+        b'q' => on_piece(rt, state, bytes, false),
+        b'e' => on_end(rt, state, true),
+        b'f' => on_end(rt, state, false),
+        _ => Ok(forge(state, letter)),
     }
 }
 
 // The same with a text memory that is a byte too short.
-fn call_short(state: State, letter: u8, bytes: &[u8]) -> State {
+fn call_short(rt: &impl Print, state: State, letter: u8, bytes: &[u8]) -> io::Result<State> {
     if letter == b'p' {
-        return on_piece_short(state, bytes);
+        return on_piece_short(rt, state, bytes);
     }
-    on_end_short(state)
+    on_end_short(rt, state)
 }
 
 // What a letter prints beside answers.
-fn tell(state: State, letter: u8, name: &[u8]) {
+fn tell(rt: &impl Print, state: State, letter: u8, name: &[u8]) -> io::Result<()> {
     if letter == b's' {
-        standing::show(state);
-        return;
+        return standing::show(rt, state);
     }
-    print(name);
-    end_line();
+    print(rt, name)?;
+    end_line(rt)
 }
 
 // The state after a line that calls or forges.
-fn after(stand: CallsStand, letter: u8, rest: &[u8]) -> CallsStand {
+fn after(rt: &impl Print, stand: CallsStand, letter: u8, rest: &[u8]) -> io::Result<CallsStand> {
     let state = stand.state;
     if stand.little {
-        return CallsStand {
-            state: call_short(state, letter, rest),
+        return Ok(CallsStand {
+            state: call_short(rt, state, letter, rest)?,
             little: true,
-        };
+        });
     }
-    CallsStand {
-        state: call(state, letter, rest),
+    Ok(CallsStand {
+        state: call(rt, state, letter, rest)?,
         little: false,
-    }
+    })
 }
 
 // Where the calls stand after a line, by its letter and what follows.
-fn step(stand: CallsStand, letter: u8, rest: &[u8]) -> CallsStand {
+fn step(rt: &impl Print, stand: CallsStand, letter: u8, rest: &[u8]) -> io::Result<CallsStand> {
     let state = stand.state;
     match letter {
         b'#' | b's' => {
-            tell(state, letter, rest);
-            stand
+            tell(rt, state, letter, rest)?;
+            Ok(stand)
         }
-        b'o' => CallsStand {
+        b'o' => Ok(CallsStand {
             state: fresh(),
             little: false,
-        },
-        b'-' => CallsStand {
+        }),
+        b'-' => Ok(CallsStand {
             state,
             little: true,
-        },
-        _ => after(stand, letter, rest),
+        }),
+        _ => after(rt, stand, letter, rest),
     }
 }
 
 // The same, with the line whole.
-fn step_line(stand: CallsStand, line: &[u8]) -> CallsStand {
-    step(stand, first(line), field(line, 1))
+fn step_line(rt: &impl Print, stand: CallsStand, line: &[u8]) -> io::Result<CallsStand> {
+    step(rt, stand, first(line), field(line, 1))
 }
 
 // The lines of the file, one after the other.
-fn follow(from: CallsStand, file: &[u8]) {
+fn follow(rt: &impl Print, from: CallsStand, file: &[u8]) -> io::Result<()> {
     let mut stand = from;
     let mut at: usize = 0;
     let mut left = MOST_LINES;
     while left > 0 {
         if file.len() <= at {
-            return;
+            return Ok(());
         }
-        stand = step_line(stand, line(file, at));
+        stand = step_line(rt, stand, line(file, at))?;
         at = past_line(file, at);
         left = left - 1;
     }
+    Ok(())
 }
 
 // All of them.
-pub(crate) fn edge() {
-    no_mode();
+pub(crate) fn edge(rt: &(impl Files + Print)) -> io::Result<()> {
+    no_mode(rt)?;
     let mut file = [0u8; FILE_ROOM];
-    let count = load(b"calls", &mut file);
+    let count = load(rt, "calls", &mut file)?;
     let opened = CallsStand {
         state: fresh(),
         little: false,
     };
-    follow(opened, part(&file, 0, count));
+    follow(rt, opened, part(&file, 0, count))
 }

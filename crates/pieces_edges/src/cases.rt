@@ -3,6 +3,8 @@ use crate::files::{FILE_ROOM, MOST_LINES, line, load, past_line};
 use crate::long::LongItem;
 use crate::{cuts, long};
 use pieces_cuttings::{Cutting, part};
+use std::io;
+use std::rt::Files;
 
 // What is done with each case of a file.
 #[derive(Clone, Copy)]
@@ -15,31 +17,33 @@ pub enum Job {
     Read(Cutting),
 }
 
-fn case(job: Job, line: &[u8]) {
+fn case(rt: &impl Print, job: Job, line: &[u8]) -> io::Result<()> {
     match job {
-        Job::Items(run) => long::case(run, line),
-        Job::Cut => cuts::cut_case(line),
-        Job::Read(cutting) => cuts::read_case(cutting, line),
+        Job::Items(run) => long::case(rt, run, line)?,
+        Job::Cut => cuts::cut_case(rt, line)?,
+        Job::Read(cutting) => cuts::read_case(rt, cutting, line)?,
     }
+    Ok(())
 }
 
 // Does it with each line.
-fn each(job: Job, file: &[u8]) {
+fn each(rt: &impl Print, job: Job, file: &[u8]) -> io::Result<()> {
     let mut at: usize = 0;
     let mut left = MOST_LINES;
     while left > 0 {
         if file.len() <= at {
-            return;
+            return Ok(());
         }
-        case(job, line(file, at));
+        case(rt, job, line(file, at))?;
         at = past_line(file, at);
         left = left - 1;
     }
+    Ok(())
 }
 
 // Does it with the cases of a file.
-pub(crate) fn cases(job: Job, name: &[u8]) {
+pub(crate) fn cases(rt: &(impl Files + Print), job: Job, name: &str) -> io::Result<()> {
     let mut file = [0u8; FILE_ROOM];
-    let count = load(name, &mut file);
-    each(job, part(&file, 0, count));
+    let count = load(rt, name, &mut file)?;
+    each(rt, job, part(&file, 0, count))
 }

@@ -3,6 +3,8 @@ use crate::cases::{Job, cases};
 use crate::files::{field, newlines, put};
 use crate::show;
 use pieces_cuttings::{Cutting, part};
+use std::io;
+use std::rt::Files;
 
 // More bytes than a text here has.
 const REST: usize = 100;
@@ -18,59 +20,60 @@ fn continues(byte: u8) -> bool {
 }
 
 // Reads a text in two pieces, cut at a place.
-fn cut_at(text: &[u8], at: usize) {
-    show::print(b"cut at ");
-    show::number(at as u64);
-    show::end_line();
+fn cut_at(rt: &impl Print, text: &[u8], at: usize) -> io::Result<()> {
+    show::print(rt, b"cut at ")?;
+    show::number(rt, at as u64)?;
+    show::end_line(rt)?;
     let cutting = Cutting {
         first: at,
         low: REST,
         high: REST,
     };
-    show::reading(text, cutting, false);
+    show::reading(rt, text, cutting, false)
 }
 
 // The same at each place inside a character.
-fn each_cut(text: &[u8]) {
+fn each_cut(rt: &impl Print, text: &[u8]) -> io::Result<()> {
     let mut at: usize = 0;
     while at < text.len() {
         if continues(text[at]) {
-            cut_at(text, at);
+            cut_at(rt, text, at)?;
         }
         at += 1;
     }
+    Ok(())
 }
 
 // The text of a line, cut at each such place.
-pub(crate) fn cut_case(line: &[u8]) {
+pub(crate) fn cut_case(rt: &impl Print, line: &[u8]) -> io::Result<()> {
     let mut source = [0u8; REST];
-    show::print(field(line, 0));
-    show::end_line();
+    show::print(rt, field(line, 0))?;
+    show::end_line(rt)?;
     let all = put(&mut source, 0, field(line, 1));
     newlines(&mut source);
-    each_cut(part(&source, 0, all));
+    each_cut(rt, part(&source, 0, all))
 }
 
 // Beyond a string, as a word, in a string, in a comment, as a character; in a first line; blanks (U+0085, U+3000); in vertical lines, in a
 // delimiter, in a nested comment, after a backslash.
-pub(crate) fn characters() {
-    cases(Job::Cut, b"cut_inside");
+pub(crate) fn characters(rt: &(impl Files + Print)) -> io::Result<()> {
+    cases(rt, Job::Cut, "cut_inside")
 }
 
 // The text of a line, under a cutting.
-pub(crate) fn read_case(cutting: Cutting, line: &[u8]) {
-    show::print(field(line, 0));
-    show::end_line();
-    show::reading(field(line, 1), cutting, false);
+pub(crate) fn read_case(rt: &impl Print, cutting: Cutting, line: &[u8]) -> io::Result<()> {
+    show::print(rt, field(line, 0))?;
+    show::end_line(rt)?;
+    show::reading(rt, field(line, 1), cutting, false)
 }
 
 // Bytes after a bracket and a word that has not ended: the bracket is given, and the stop comes at the byte that shows it, a byte after
 // which no valid text can follow.
-pub(crate) fn not_utf8(cutting: Cutting) {
-    cases(Job::Read(cutting), b"not_utf8");
+pub(crate) fn not_utf8(rt: &(impl Files + Print), cutting: Cutting) -> io::Result<()> {
+    cases(rt, Job::Read(cutting), "not_utf8")
 }
 
 // The same with a character that the end cuts, at each place.
-pub(crate) fn cut_by_end(cutting: Cutting) {
-    cases(Job::Read(cutting), b"cut_by_end");
+pub(crate) fn cut_by_end(rt: &(impl Files + Print), cutting: Cutting) -> io::Result<()> {
+    cases(rt, Job::Read(cutting), "cut_by_end")
 }

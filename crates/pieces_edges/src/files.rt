@@ -2,12 +2,15 @@
 ghost use Rattle.std.specs.Prelude.{◌≡◌, ◌+◌, ◌%◌, ◌^◌, map, drop, slice_index};
 ghost use Rattle.laws.specs.Quoted.{code};
 ghost use Rattle.laws.specs.Texts.{before};
-ghost use Rattle.io.specs.Counts.{IsPrefixLen};
+ghost use Rattle.std.specs.Io.{ReadsAtMost};
 ghost use Rattle.pieces_cuttings.specs.Parts.{part_of};
 ghost use Rattle.pieces_edges.specs.Fields.{still_of, past_tabs, field_of, real_of, put_at, past_put};
 
 use byte_runs::find;
 use pieces_cuttings::{copy, part};
+use std::io::Read;
+use std::rt::Files;
+use std::{fs, io};
 
 // What stands for a newline in a text.
 const FOR_NEWLINE: u8 = b'$';
@@ -18,18 +21,27 @@ pub const FILE_ROOM: usize = 2048;
 // More lines than a file has.
 pub const MOST_LINES: u32 = 1000;
 
-// Reads a file to the front of a memory; how many bytes it has.
-pub fn load(name: &[u8], file: &mut [u8]) -> usize
-    ensures { IsPrefixLen result file.new }
+// Reads until a memory is full or the file ends; how many bytes were read to its front.
+fn read_full(from: &mut impl Read, file: &mut [u8]) -> io::Result<usize>
+    ensures { ReadsAtMost result file.new }
 {
-    let fd = os::open_read(name);
-    if fd < 0 {
-        os::fail(name);
-        return 0;
+    let mut done = 0;
+    while done < file.len() {
+        let n = from.read(&mut file[done..])?;
+        if n == 0 {
+            break;
+        }
+        done += n;
     }
-    let count = io::read_full(fd, file);
-    libc::close(fd);
-    count
+    Ok(done)
+}
+
+// Reads a file to the front of a memory; how many bytes it has.
+pub fn load(rt: &impl Files, name: &str, file: &mut [u8]) -> io::Result<usize>
+    ensures { ReadsAtMost result file.new }
+{
+    let mut from = fs::open(rt, name)?;
+    read_full(&mut from, file)
 }
 
 // The line that starts at a place.

@@ -5,6 +5,8 @@ use crate::files::{field, first, newlines, put};
 use crate::show;
 use pieces::LONGEST;
 use pieces_cuttings::{Cutting, part};
+use std::io;
+use std::rt::Files;
 
 // The longest text.
 const LONG_ROOM: usize = 6000;
@@ -43,7 +45,14 @@ fn open_size(how: LongItem, close: &[u8]) -> usize {
 }
 
 // An item: a head, one byte again and again, and what closes it. It stands after a blank, and something beyond it.
-fn item(how: LongItem, head: &[u8], byte: u8, close: &[u8], beyond: &[u8]) {
+fn item(
+    rt: &impl Print,
+    how: LongItem,
+    head: &[u8],
+    byte: u8,
+    close: &[u8],
+    beyond: &[u8],
+) -> io::Result<()> {
     let mut source = [0u8; LONG_ROOM];
     let blank = put(&mut source, 0, b" ");
     let headed = put(&mut source, blank, head);
@@ -53,20 +62,21 @@ fn item(how: LongItem, head: &[u8], byte: u8, close: &[u8], beyond: &[u8]) {
     let all = put(&mut source, closed, beyond);
     newlines(&mut source);
     let cutting = how.cutting;
-    show::reading(part(&source, 0, all), cutting, how.skip);
+    show::reading(rt, part(&source, 0, all), cutting, how.skip)
 }
 
 // The item of a line.
-pub(crate) fn case(how: LongItem, line: &[u8]) {
-    show::print(field(line, 0));
-    show::end_line();
+pub(crate) fn case(rt: &impl Print, how: LongItem, line: &[u8]) -> io::Result<()> {
+    show::print(rt, field(line, 0))?;
+    show::end_line(rt)?;
     item(
+        rt,
         how,
         field(line, 1),
         first(field(line, 2)),
         field(line, 3),
         field(line, 4),
-    );
+    )
 }
 
 // An item of so many bytes.
@@ -80,45 +90,45 @@ fn sized(cutting: Cutting, size: usize, skip: bool) -> Job {
 }
 
 // Every sort of item, of so many bytes, and skipped comments.
-fn sorts(cutting: Cutting, size: usize) {
+fn sorts(rt: &(impl Files + Print), cutting: Cutting, size: usize) -> io::Result<()> {
     let kept = sized(cutting, size, false);
-    cases(kept, b"words");
-    cases(kept, b"characters");
-    cases(kept, b"strings");
-    cases(kept, b"lines");
-    cases(kept, b"comments");
-    cases(kept, b"quoted_errors");
-    cases(kept, b"unclosed");
-    show::print(b"comments skipped\n");
-    cases(sized(cutting, size, true), b"comments");
+    cases(rt, kept, "words")?;
+    cases(rt, kept, "characters")?;
+    cases(rt, kept, "strings")?;
+    cases(rt, kept, "lines")?;
+    cases(rt, kept, "comments")?;
+    cases(rt, kept, "quoted_errors")?;
+    cases(rt, kept, "unclosed")?;
+    show::print(rt, b"comments skipped\n")?;
+    cases(rt, sized(cutting, size, true), "comments")
 }
 
 // Every sort of item at the longest, and a byte longer.
-pub(crate) fn edge(cutting: Cutting) {
-    show::print(b"-- 4096 bytes\n");
-    sorts(cutting, LONGEST);
-    show::print(b"-- 4097 bytes\n");
-    sorts(cutting, LONGEST + 1);
+pub(crate) fn edge(rt: &(impl Files + Print), cutting: Cutting) -> io::Result<()> {
+    show::print(rt, b"-- 4096 bytes\n")?;
+    sorts(rt, cutting, LONGEST)?;
+    show::print(rt, b"-- 4097 bytes\n")?;
+    sorts(rt, cutting, LONGEST + 1)
 }
 
 // A character of two, three and four bytes whose last byte makes the item too long, the first byte not yet.
-pub(crate) fn wide_ends(cutting: Cutting) {
+pub(crate) fn wide_ends(rt: &(impl Files + Print), cutting: Cutting) -> io::Result<()> {
     let how = LongItem {
         cutting,
         size: LONGEST - 1,
         before_close: true,
         skip: false,
     };
-    cases(Job::Items(how), b"wide_ends");
+    cases(rt, Job::Items(how), "wide_ends")
 }
 
 // What is no item may be longer: blanks, and a first line that starts with #!.
-pub(crate) fn no_items(cutting: Cutting) {
-    cases(sized(cutting, LONG, false), b"blanks");
+pub(crate) fn no_items(rt: &(impl Files + Print), cutting: Cutting) -> io::Result<()> {
+    cases(rt, sized(cutting, LONG, false), "blanks")?;
     let mut source = [0u8; LONG_ROOM];
     let headed = put(&mut source, 0, b"#!");
     let filled = fill(&mut source, headed, LONG, b'x');
     let all = put(&mut source, filled, b"\na)");
-    show::print(b"first line\n");
-    show::reading(part(&source, 0, all), cutting, false);
+    show::print(rt, b"first line\n")?;
+    show::reading(rt, part(&source, 0, all), cutting, false)
 }

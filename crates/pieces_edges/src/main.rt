@@ -5,6 +5,8 @@
 #![tactic(auto)]
 
 use pieces_cuttings::Cutting;
+use std::io;
+use std::rt::Files;
 
 mod calls;
 mod cases;
@@ -21,42 +23,45 @@ const ALL: usize = 6000;
 const SMALL: usize = 99;
 
 // Readings that must print the same under every cutting.
-fn read(name: &[u8], cutting: Cutting) {
-    show::print(name);
-    long::edge(cutting);
-    long::wide_ends(cutting);
-    long::no_items(cutting);
-    cuts::not_utf8(cutting);
-    cuts::cut_by_end(cutting);
+fn read(rt: &(impl Files + Print), name: &[u8], cutting: Cutting) -> io::Result<()> {
+    show::print(rt, name)?;
+    long::edge(rt, cutting)?;
+    long::wide_ends(rt, cutting)?;
+    long::no_items(rt, cutting)?;
+    cuts::not_utf8(rt, cutting)?;
+    cuts::cut_by_end(rt, cutting)
 }
 
-fn main() {
+fn main(rt: HostRuntime) -> io::Result<()> {
     read(
+        &rt,
         b"== byte by byte\n",
         Cutting {
             first: 1,
             low: 1,
             high: 1,
         },
-    );
+    )?;
     read(
+        &rt,
         b"== in pieces of 0 to 99 bytes\n",
         Cutting {
             first: 0,
             low: 0,
             high: SMALL,
         },
-    );
+    )?;
     read(
+        &rt,
         b"== in one piece\n",
         Cutting {
             first: ALL,
             low: ALL,
             high: ALL,
         },
-    );
-    show::print(b"== cuts inside characters\n");
-    cuts::characters();
-    show::print(b"== single calls\n");
-    calls::edge();
+    )?;
+    show::print(&rt, b"== cuts inside characters\n")?;
+    cuts::characters(&rt)?;
+    show::print(&rt, b"== single calls\n")?;
+    calls::edge(&rt)
 }

@@ -3,25 +3,24 @@ ghost use Rattle.std.specs.Prelude.{◌≡◌};
 
 use items::Record;
 use items::modes::PLAIN;
-use libc::STDOUT_FILENO;
 use pieces_cuttings::{Cutting, Reading, part, record_at};
+use std::io;
 
 // The words or bytes of the memories that a reading is written to.
 const READING_ROOM: usize = 8192;
 
-pub fn print(text: &[u8])
+pub fn print(rt: &impl Print, text: &[u8]) -> io::Result<()>
     ensures { text.now ≡ text.now }
 {
-    io::write_all(STDOUT_FILENO, text);
+    rt.write_all(text)
 }
 
-pub fn number(n: u64) {
-    io::print_decimal(STDOUT_FILENO, n);
-    print(b" ");
+pub fn number(rt: &impl Print, n: u64) -> io::Result<()> {
+    print!(rt; "{n} ")
 }
 
-pub fn end_line() {
-    print(b"\n");
+pub fn end_line(rt: &impl Print) -> io::Result<()> {
+    print(rt, b"\n")
 }
 
 fn wide(b: u8) -> u64 {
@@ -40,14 +39,13 @@ fn ends_run(bytes: &[u8], at: usize) -> bool {
 }
 
 // So many times a byte.
-fn run(count: u64, byte: u8) {
-    io::print_decimal(STDOUT_FILENO, count);
-    print(b"*");
-    number(wide(byte));
+fn run(rt: &impl Print, count: u64, byte: u8) -> io::Result<()> {
+    print!(rt; "{count}*")?;
+    number(rt, wide(byte))
 }
 
 // Bytes, each run of the same byte as its count and the byte: 2*97 1*98 for aab.
-pub fn runs(bytes: &[u8])
+pub fn runs(rt: &impl Print, bytes: &[u8]) -> io::Result<()>
     ensures { bytes.now ≡ bytes.now }
 {
     let mut count: u64 = 0;
@@ -56,77 +54,85 @@ pub fn runs(bytes: &[u8])
         let byte = bytes[i];
         count = std::num::wrapping_add_u64(count, 1);
         if ends_run(bytes, i) {
-            run(count, byte);
+            run(rt, count, byte)?;
             count = 0;
         }
         i += 1;
     }
+    Ok(())
 }
 
 // The words of a record.
-pub fn record(r: Record) {
+pub fn record(rt: &impl Print, r: Record) -> io::Result<()> {
     let nine = r.nine;
-    number(nine.kind as u64);
-    number(nine.detail as u64);
-    number(nine.start as u64);
-    number(nine.end as u64);
-    number(nine.from as u64);
-    number(nine.to as u64);
-    number(nine.source as u64);
-    number(nine.first as u64);
-    number(nine.past as u64);
-    number(r.depth as u64);
+    number(rt, nine.kind as u64)?;
+    number(rt, nine.detail as u64)?;
+    number(rt, nine.start as u64)?;
+    number(rt, nine.end as u64)?;
+    number(rt, nine.from as u64)?;
+    number(rt, nine.to as u64)?;
+    number(rt, nine.source as u64)?;
+    number(rt, nine.first as u64)?;
+    number(rt, nine.past as u64)?;
+    number(rt, r.depth as u64)
 }
 
 // An item on a line: how many bytes were taken when it was given, its record, its text.
-fn item(taken: usize, r: Record, text: &[u8]) {
-    print(b"  at ");
-    number(taken as u64);
-    print(b"item ");
-    record(r);
-    runs(text);
-    end_line();
+fn item(rt: &impl Print, taken: usize, r: Record, text: &[u8]) -> io::Result<()> {
+    print(rt, b"  at ")?;
+    number(rt, taken as u64)?;
+    print(rt, b"item ")?;
+    record(rt, r)?;
+    runs(rt, text)?;
+    end_line(rt)
 }
 
 // The items of a reading.
-fn items(count: usize, records: &[u32], counts: &[usize], texts: &[u8]) {
+fn items(
+    rt: &impl Print,
+    count: usize,
+    records: &[u32],
+    counts: &[usize],
+    texts: &[u8],
+) -> io::Result<()> {
     let mut at: usize = 0;
     let mut n: usize = 0;
     while n < count {
         if counts.len() <= n {
-            return;
+            return Ok(());
         }
         let taken = counts[n];
         let r = record_at(records, n);
         let next = std::num::wrapping_add_usize(at, r.nine.past as usize);
-        item(taken, r, part(texts, at, next));
+        item(rt, taken, r, part(texts, at, next))?;
         at = next;
         n = n + 1;
     }
+    Ok(())
 }
 
 // How a reading ended, after so many bytes, and whether a call changed text memory that it should not.
-fn ending(r: Reading) {
-    print(b"  at ");
-    number(r.taken as u64);
+fn ending(rt: &impl Print, r: Reading) -> io::Result<()> {
+    print(rt, b"  at ")?;
+    number(rt, r.taken as u64)?;
     if r.refusal == 0 {
-        print(b"finished");
+        print(rt, b"finished")?;
     } else {
-        print(b"refused ");
-        number(r.refusal as u64);
-        number(r.place as u64);
+        print(rt, b"refused ")?;
+        number(rt, r.refusal as u64)?;
+        number(rt, r.place as u64)?;
     }
     if !r.kept {
-        print(b" text memory changed");
+        print(rt, b" text memory changed")?;
     }
     if !r.over {
-        print(b" no end");
+        print(rt, b" no end")?;
     }
-    end_line();
+    end_line(rt)
 }
 
 // Reads a text in plain mode under a cutting, and prints what is given.
-pub fn reading(source: &[u8], cutting: Cutting, skip: bool)
+pub fn reading(rt: &impl Print, source: &[u8], cutting: Cutting, skip: bool) -> io::Result<()>
     ensures { source.now ≡ source.now }
 {
     let mut records = [0u32; READING_ROOM];
@@ -141,6 +147,6 @@ pub fn reading(source: &[u8], cutting: Cutting, skip: bool)
         &mut counts,
         &mut texts,
     );
-    items(r.items, &records, &counts, &texts);
-    ending(r);
+    items(rt, r.items, &records, &counts, &texts)?;
+    ending(rt, r)
 }

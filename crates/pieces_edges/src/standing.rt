@@ -2,96 +2,101 @@
 use crate::show::{end_line, number, print, runs};
 use items::Phase;
 use pieces::{Beyond, Marks, Part, Stage, State};
+use std::io;
 
-fn phase(p: Phase) {
+fn phase(rt: &impl Print, p: Phase) -> io::Result<()> {
     match p {
-        Phase::InWord => print(b"InWord "),
+        Phase::InWord => print(rt, b"InWord ")?,
         Phase::Nest(depth) => {
-            print(b"Nest ");
-            number(depth as u64);
+            print(rt, b"Nest ")?;
+            number(rt, depth as u64)?;
         }
-        _ => print(b"another phase "),
+        _ => print(rt, b"another phase ")?,
     }
+    Ok(())
 }
 
-fn beyond(b: Beyond) {
+fn beyond(rt: &impl Print, b: Beyond) -> io::Result<()> {
     match b {
-        Beyond::End => print(b"End "),
+        Beyond::End => print(rt, b"End ")?,
         Beyond::Char(c) => {
-            print(b"Char ");
-            number(c as u64);
+            print(rt, b"Char ")?;
+            number(rt, c as u64)?;
         }
     }
+    Ok(())
 }
 
-fn stage(s: Stage) {
+fn stage(rt: &impl Print, s: Stage) -> io::Result<()> {
     match s {
-        Stage::Opening => print(b"Opening "),
-        Stage::Pound => print(b"Pound "),
-        Stage::FirstLine => print(b"FirstLine "),
-        Stage::Idle => print(b"Idle "),
+        Stage::Opening => print(rt, b"Opening ")?,
+        Stage::Pound => print(rt, b"Pound ")?,
+        Stage::FirstLine => print(rt, b"FirstLine ")?,
+        Stage::Idle => print(rt, b"Idle ")?,
         Stage::Busy(start, p) => {
-            print(b"Busy ");
-            number(start as u64);
-            phase(p);
+            print(rt, b"Busy ")?;
+            number(rt, start as u64)?;
+            phase(rt, p)?;
         }
         Stage::Waiting(start, b) => {
-            print(b"Waiting ");
-            number(start as u64);
-            beyond(b);
+            print(rt, b"Waiting ")?;
+            number(rt, start as u64)?;
+            beyond(rt, b)?;
         }
         Stage::Stopped(refusal, place) => {
-            print(b"Stopped ");
-            number(refusal as u64);
-            number(place as u64);
+            print(rt, b"Stopped ")?;
+            number(rt, refusal as u64)?;
+            number(rt, place as u64)?;
         }
     }
+    Ok(())
 }
 
-fn part(p: Part) {
+fn part(rt: &impl Print, p: Part) -> io::Result<()> {
     let begun = p.state;
-    print(b"part ");
-    number(p.count as u64);
-    number(begun.need as u64);
-    number(begun.low as u64);
-    number(begun.high as u64);
-    number(begun.code as u64);
+    print(rt, b"part ")?;
+    number(rt, p.count as u64)?;
+    number(rt, begun.need as u64)?;
+    number(rt, begun.low as u64)?;
+    number(rt, begun.high as u64)?;
+    number(rt, begun.code as u64)
 }
 
-fn yes(said: bool, name: &[u8]) {
+fn yes(rt: &impl Print, said: bool, name: &[u8]) -> io::Result<()> {
     if said {
-        print(name);
+        print(rt, name)?;
     }
+    Ok(())
 }
 
-fn marks(m: Marks) {
+fn marks(rt: &impl Print, m: Marks) -> io::Result<()> {
     let s = m.stage;
     let p = m.part;
-    print(b"mode ");
-    number(m.mode as u64);
-    yes(m.skip, b"skip ");
-    yes(m.ended, b"ended ");
-    print(b"stage ");
-    stage(s);
-    print(b"at ");
-    number(m.at as u64);
-    part(p);
-    print(b"range ");
-    number(m.from as u64);
-    number(m.to as u64);
-    print(b"len ");
-    number(m.len as u64);
-    print(b"depth ");
-    number(m.depth as u64);
+    print(rt, b"mode ")?;
+    number(rt, m.mode as u64)?;
+    yes(rt, m.skip, b"skip ")?;
+    yes(rt, m.ended, b"ended ")?;
+    print(rt, b"stage ")?;
+    stage(rt, s)?;
+    print(rt, b"at ")?;
+    number(rt, m.at as u64)?;
+    part(rt, p)?;
+    print(rt, b"range ")?;
+    number(rt, m.from as u64)?;
+    number(rt, m.to as u64)?;
+    print(rt, b"len ")?;
+    number(rt, m.len as u64)?;
+    print(rt, b"depth ")?;
+    number(rt, m.depth as u64)
 }
 
 // A state, on a line of its own.
-pub(crate) fn show(state: State) {
+pub(crate) fn show(rt: &impl Print, state: State) -> io::Result<()> {
     let m = state.marks;
     let buf = state.buf;
-    print(b"  state ");
-    marks(m);
-    print(b"buffer ");
-    runs(&buf);
-    end_line();
+    print(rt, b"  state ")?;
+    marks(rt, m)?;
+    print(rt, b"buffer ")?;
+    runs(rt, &buf)?;
+    end_line(rt)
 }

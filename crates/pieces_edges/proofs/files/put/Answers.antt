@@ -10,6 +10,6 @@ pub returns : goal.returns
 returns c =
     let a = c.args in
     let fits = c.if-source-at.false in (
-      rw (le-ltb _ _ fits) c.wrapping_add_usize.ensures,
+      rw (le-ltb _ _ fits) c.wrapping_add_usize.ensures.value,
       rw (le-ltb _ _ fits) (copied_in a.at a.bytes.now a.source.now c.copy.ensures),
     )
