@@ -1,5 +1,10 @@
 // The frames of the list: compare/replay/src/frame.rs says what the bytes of a head are.
 
+ghost use Rattle.std.specs.Io.{ReadsAtMost};
+
+use std::io;
+use std::io::Read;
+
 // How many bytes a head has.
 pub const HEAD: usize = 22;
 
@@ -75,15 +80,30 @@ pub(crate) fn head(b: &[u8; HEAD]) -> FrameHead {
     }
 }
 
+// Reads until a slice is full or the input ends; how many bytes were read to its front.
+pub(crate) fn read_full(file: &mut impl Read, to: &mut [u8]) -> io::Result<usize>
+    ensures { ReadsAtMost result to.new }
+{
+    let mut done = 0;
+    while done < to.len() {
+        let n = file.read(&mut to[done..])?;
+        if n == 0 {
+            break;
+        }
+        done += n;
+    }
+    Ok(done)
+}
+
 // Reads so many bytes to the front of a slice; whether they were there and fit.
-pub(crate) fn fill(fd: i32, to: &mut [u8], n: usize) -> bool {
+pub(crate) fn fill(file: &mut impl Read, to: &mut [u8], n: usize) -> io::Result<bool> {
     if n == 0 {
-        return true;
+        return Ok(true);
     }
     if to.len() < n {
-        return false;
+        return Ok(false);
     }
-    io::read_full(fd, &mut to[..n]) == n
+    Ok(read_full(file, &mut to[..n])? == n)
 }
 
 // The word spelled from a place on; 0 where the bytes end before it does.

@@ -4,9 +4,11 @@
 // compare/replay/src/frame.rs says how they are written.
 #![tactic(auto)]
 
-use frame::{FrameHead, HEAD};
+use frame::{FrameHead, HEAD, read_full};
 use judge::Verdict;
-use libc::STDOUT_FILENO;
+use std::io::Read;
+use std::rt::Files;
+use std::{fs, io};
 
 mod cut;
 mod frame;
@@ -26,18 +28,13 @@ struct Done {
     over: bool,
 }
 
-fn print(text: &[u8]) {
-    io::write_all(STDOUT_FILENO, text);
-}
-
 // How many answers were met.
-fn print_done(list: &[u8], done: Done) {
-    print(list);
-    print(b": ");
-    io::print_decimal(STDOUT_FILENO, done.whole);
-    print(b" answers replayed whole, ");
-    io::print_decimal(STDOUT_FILENO, done.pieces);
-    print(b" byte by byte and in pieces of 0 to 4 bytes: ");
+fn print_done(rt: &impl Print, list: &str, done: Done) -> io::Result<()> {
+    print!(rt; "{list}: {} answers replayed whole, ", done.whole)?;
+    print!(rt;
+        "{} byte by byte and in pieces of 0 to 4 bytes: ",
+        done.pieces
+    )
 }
 
 // The same, when nothing is left to replay.
@@ -50,29 +47,33 @@ fn over(done: Done) -> Done {
 }
 
 // Says that all answers were met.
-fn met(list: &[u8], done: Done) -> Done {
-    print_done(list, done);
-    print(b"none differs\n");
-    over(done)
+fn met(rt: &impl Print, list: &str, done: Done) -> io::Result<Done> {
+    print_done(rt, list, done)?;
+    println!(rt; "none differs")?;
+    Ok(over(done))
 }
 
 // Names the text whose answer differs, after those met, and the calls that answer it so.
-fn differs(list: &[u8], done: Done, calls: &[u8], source: &[u8], count: usize) -> Done {
-    print_done(list, done);
-    print(b"then one differs, ");
-    print(calls);
-    print(b", on the text: ");
+fn differs(
+    rt: &impl Print,
+    list: &str,
+    done: Done,
+    calls: &str,
+    source: &[u8],
+    count: usize,
+) -> io::Result<Done> {
+    print_done(rt, list, done)?;
+    print!(rt; "then one differs, {calls}, on the text: ")?;
     if count <= source.len() {
-        print(&source[..count]);
+        rt.write_all(&source[..count])?;
     }
-    print(b"\n");
-    over(done)
+    println!(rt)?;
+    Ok(over(done))
 }
 
-fn broken(list: &[u8], done: Done) -> Done {
-    print(list);
-    print(b" is no list of answers\n");
-    over(done)
+fn broken(rt: &impl Print, list: &str, done: Done) -> io::Result<Done> {
+    println!(rt; "{list} is no list of answers")?;
+    Ok(over(done))
 }
 
 // One more, if a frame is told of it.
@@ -84,58 +85,74 @@ fn more(count: u64, told: bool) -> u64 {
 }
 
 // What was met after a frame, which is named if its answer differs.
-fn after(list: &[u8], done: Done, f: FrameHead, verdict: Verdict, source: &[u8]) -> Done {
+fn after(
+    rt: &impl Print,
+    list: &str,
+    done: Done,
+    f: FrameHead,
+    verdict: Verdict,
+    source: &[u8],
+) -> io::Result<Done> {
     match verdict {
-        Verdict::Met => Done {
+        Verdict::Met => Ok(Done {
             whole: more(done.whole, f.whole),
             pieces: more(done.pieces, f.pieces),
             over: false,
-        },
-        Verdict::Whole => differs(list, done, b"whole", source, f.source),
-        Verdict::Bytes => differs(list, done, b"byte by byte", source, f.source),
-        Verdict::Pieces => differs(list, done, b"in pieces of 0 to 4 bytes", source, f.source),
-        Verdict::Broken => broken(list, done),
+        }),
+        Verdict::Whole => differs(rt, list, done, "whole", source, f.source),
+        Verdict::Bytes => differs(rt, list, done, "byte by byte", source, f.source),
+        Verdict::Pieces => differs(
+            rt,
+            list,
+            done,
+            "in pieces of 0 to 4 bytes",
+            source,
+            f.source,
+        ),
+        Verdict::Broken => broken(rt, list, done),
     }
 }
 
 // Reads one frame and judges it, in lent memory.
 fn judged(
-    fd: i32,
-    list: &[u8],
+    rt: &impl Print,
+    file: &mut impl Read,
+    list: &str,
     done: Done,
     source: &mut [u8],
     words: &mut [u8],
     memory: &mut [u8],
     records: &mut [u32],
     text: &mut [u8],
-) -> Done {
+) -> io::Result<Done> {
     let mut b = [0u8; HEAD];
-    if io::read_full(fd, &mut b) == 0 {
-        return met(list, done);
+    if read_full(file, &mut b)? == 0 {
+        return met(rt, list, done);
     }
     let f = frame::head(&b);
-    if !frame::fill(fd, source, f.source) {
-        return broken(list, done);
+    if !frame::fill(file, source, f.source)? {
+        return broken(rt, list, done);
     }
-    if !frame::fill(fd, words, f.words) {
-        return broken(list, done);
+    if !frame::fill(file, words, f.words)? {
+        return broken(rt, list, done);
     }
-    if !frame::fill(fd, memory, f.memory) {
-        return broken(list, done);
+    if !frame::fill(file, memory, f.memory)? {
+        return broken(rt, list, done);
     }
     let verdict = judge::frame(f, source, words, memory, records, text);
-    after(list, done, f, verdict, source)
+    after(rt, list, done, f, verdict, source)
 }
 
 // The same, in memory of its own.
-fn one(fd: i32, list: &[u8], done: Done) -> Done {
+fn one(rt: &impl Print, file: &mut impl Read, list: &str, done: Done) -> io::Result<Done> {
     let mut source = [0u8; MEMORY_ROOM];
     let mut words = [0u8; MEMORY_ROOM];
     let mut memory = [0u8; MEMORY_ROOM];
     let mut records = [0u32; MEMORY_ROOM];
     let mut text = [0u8; MEMORY_ROOM];
     judged(
-        fd,
+        rt,
+        file,
         list,
         done,
         &mut source,
@@ -147,7 +164,7 @@ fn one(fd: i32, list: &[u8], done: Done) -> Done {
 }
 
 // Replays a list, frame by frame.
-fn replay(fd: i32, list: &[u8]) {
+fn replay(rt: &impl Print, file: &mut impl Read, list: &str) -> io::Result<()> {
     let mut done = Done {
         whole: 0,
         pieces: 0,
@@ -155,26 +172,24 @@ fn replay(fd: i32, list: &[u8]) {
     };
     let mut frames = MOST_FRAMES;
     while frames > 0 {
-        done = one(fd, list, done);
+        done = one(rt, file, list, done)?;
         if done.over {
-            return;
+            return Ok(());
         }
         frames = frames - 1;
     }
+    Ok(())
 }
 
-// Replays the list of a file.
-fn replay_file(list: &[u8]) {
-    let fd = os::open_read(list);
-    if fd < 0 {
-        os::fail(list);
-        return;
+// Replays the list of a file. What cannot be opened is told on standard error.
+fn replay_file(rt: &(impl Files + Print + Eprint), list: &str) -> io::Result<()> {
+    match fs::open(rt, list) {
+        Ok(mut file) => replay(rt, &mut file, list),
+        Err(e) => eprintln!(rt; "{list}: {e}"),
     }
-    replay(fd, list);
-    libc::close(fd);
 }
 
-fn main() {
-    replay_file(b"answers");
-    replay_file(b"stops");
+fn main(rt: HostRuntime) -> io::Result<()> {
+    replay_file(&rt, "answers")?;
+    replay_file(&rt, "stops")
 }

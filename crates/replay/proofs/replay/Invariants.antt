@@ -2,7 +2,7 @@
 use Rattle.replay.proofs.replay.Given as goal
 
 abbrev pub invariant-loop-frames : goal.invariant-loop-frames
-invariant-loop-frames l = Unit {0}
+invariant-loop-frames g l = Unit {0}
 
 abbrev pub decreases-loop-frames : goal.decreases-loop-frames
-decreases-loop-frames l = l.frames
+decreases-loop-frames g l = l.frames
