@@ -2,12 +2,16 @@
 // examples/bad, and a clean one.
 #![tactic(auto)]
 
-ghost use Rattle.std.specs.Prelude.{◌≤◌, ◌<◌};
+ghost use Rattle.std.specs.Prelude.{◌≤◌, ◌<◌, IfOk};
+ghost use Rattle.std.specs.Io.{ReadsAtMost};
 
 use findings::FindAnswer;
 use findings::codes::FINDING_WORDS;
 use findings_render::FULL;
-use libc::STDOUT_FILENO;
+use std::env::FillError;
+use std::io::Read;
+use std::rt::{Env, Files};
+use std::{fs, io};
 
 const MOST_FINDINGS: usize = 100;
 
@@ -20,6 +24,9 @@ const FAILED: u32 = 2;
 // How much memory a plan, and what is rendered of it, may take.
 const PLAN_ROOM: usize = 65536;
 
+// How many bytes the name of a plan may have.
+const NAME_ROOM: usize = 4096;
+
 // The first bytes of a memory.
 fn front(t: &[u8], n: usize) -> &[u8] {
     if t.len() <= n {
@@ -28,10 +35,10 @@ fn front(t: &[u8], n: usize) -> &[u8] {
     &t[..n]
 }
 
-fn print_finding(finding: &[u32], source: &[u8], name: &[u8]) {
+fn print_finding(rt: &impl Print, finding: &[u32], source: &[u8], name: &[u8]) -> io::Result<()> {
     let mut out = [0u8; PLAN_ROOM];
     let needed = findings_render::render(finding, source, name, FULL, false, &mut out);
-    io::write_all(STDOUT_FILENO, front(&out, needed));
+    rt.write_all(front(&out, needed))
 }
 
 // The words of a finding.
@@ -46,20 +53,33 @@ fn nth(findings: &[u32], i: usize) -> &[u32]
     &findings[from..to]
 }
 
-fn print_findings(findings: &[u32], told: usize, source: &[u8], name: &[u8])
+fn print_findings(
+    rt: &impl Print,
+    findings: &[u32],
+    told: usize,
+    source: &[u8],
+    name: &[u8],
+) -> io::Result<()>
     requires { told ≤ 100 }
 {
     let mut i = 0;
     while i < told {
-        print_finding(nth(findings, i), source, name);
+        print_finding(rt, nth(findings, i), source, name)?;
         i += 1;
     }
+    Ok(())
 }
 
-fn print_summary(name: &[u8], found: usize, errors: usize, told: usize) {
+fn print_summary(
+    rt: &impl Print,
+    name: &[u8],
+    found: usize,
+    errors: usize,
+    told: usize,
+) -> io::Result<()> {
     let mut out = [0u8; PLAN_ROOM];
     let needed = findings_render::summary(name, found, errors, told, FULL, &mut out);
-    io::write_all(STDOUT_FILENO, front(&out, needed));
+    rt.write_all(front(&out, needed))
 }
 
 fn told_of(found: usize) -> usize
@@ -72,51 +92,79 @@ fn told_of(found: usize) -> usize
 }
 
 // The findings of a plan, and the status.
-fn check(source: &[u8], name: &[u8]) -> u32
-    ensures { result < 3 }
+fn check(rt: &impl Print, source: &[u8], name: &[u8]) -> io::Result<u32>
+    ensures { IfOk result (λ status. status < 3) }
 {
     let mut rows = [0u32; 16384];
     let mut findings = [0u32; 700];
     match findings::find(source, &mut rows, &mut findings) {
         FindAnswer::Found(found, errors) => {
             let told = told_of(found);
-            print_findings(&findings, told, source, name);
-            print_summary(name, found, errors, told);
+            print_findings(rt, &findings, told, source, name)?;
+            print_summary(rt, name, found, errors, told)?;
             if found == 0 {
-                return NOTHING_FOUND;
+                return Ok(NOTHING_FOUND);
             }
-            FOUND
+            Ok(FOUND)
         }
-        FindAnswer::TooFew(_) => FAILED,
+        FindAnswer::TooFew(_) => Ok(FAILED),
     }
 }
 
-// Reads a file to the front of a memory; how many bytes it has.
-fn load(fd: i32, memory: &mut [u8]) -> usize {
-    let count = io::read_full(fd, memory);
-    libc::close(fd);
-    count
-}
-
-fn check_file(name: &[u8]) -> u32
-    ensures { result < 3 }
+// Reads a file to the front of a memory, as far as there is room; how many bytes were read.
+fn load(file: &mut impl Read, memory: &mut [u8]) -> io::Result<usize>
+    ensures { ReadsAtMost result memory.new }
 {
-    let fd = os::open_read(name);
-    if fd < 0 {
-        os::fail(name);
-        return FAILED;
+    let mut done = 0;
+    while done < memory.len() {
+        let n = file.read(&mut memory[done..])?;
+        if n == 0 {
+            break;
+        }
+        done += n;
     }
-    let mut memory = [0u8; PLAN_ROOM];
-    let count = load(fd, &mut memory);
-    check(front(&memory, count), name)
+    Ok(done)
 }
 
-fn check_argument(i: usize) -> u32
-    ensures { result < 3 }
+fn check_file(rt: &(impl Files + Print + Eprint), name: &str) -> io::Result<u32>
+    ensures { IfOk result (λ status. status < 3) }
 {
-    let mut name = [0u8; 4096];
-    let count = os::arg(i, &mut name);
-    check_file(front(&name, count))
+    match fs::open(rt, name) {
+        Ok(mut file) => {
+            let mut memory = [0u8; PLAN_ROOM];
+            let count = load(&mut file, &mut memory)?;
+            check(rt, front(&memory, count), name.as_bytes())
+        }
+        Err(e) => {
+            eprintln!(rt; "{name}: {e}")?;
+            Ok(FAILED)
+        }
+    }
+}
+
+fn check_argument(rt: &(impl Env + Files + Print + Eprint), i: usize) -> io::Result<u32>
+    ensures { IfOk result (λ status. status < 3) }
+{
+    let mut name = [0u8; NAME_ROOM];
+    let count = rt.arg(i, &mut name).unwrap_or(0);
+    match str::from_utf8(front(&name, count)) {
+        Ok(name) => check_file(rt, name),
+        Err(e) => {
+            eprintln!(rt; "argument {i}: {e}")?;
+            Ok(FAILED)
+        }
+    }
+}
+
+// How many arguments there are, the program's name among them.
+fn arg_count(rt: &impl Env) -> usize {
+    let mut name = [0u8; NAME_ROOM];
+    for i in 0..usize::MAX {
+        if let Err(FillError::NotPresent) = rt.arg(i, &mut name) {
+            return i;
+        }
+    }
+    usize::MAX
 }
 
 fn greater(x: u32, y: u32) -> u32
@@ -130,19 +178,13 @@ fn greater(x: u32, y: u32) -> u32
     x
 }
 
-fn print_status(status: u32) {
-    io::write_all(STDOUT_FILENO, b"status ");
-    io::print_decimal(STDOUT_FILENO, status as u64);
-    io::write_all(STDOUT_FILENO, b"\n");
-}
-
-fn main() {
-    let count = os::arg_count();
+fn main(rt: HostRuntime) -> io::Result<()> {
+    let count = arg_count(&rt);
     let mut status: u32 = NOTHING_FOUND;
     let mut i = 1;
     while i < count {
-        status = greater(status, check_argument(i));
+        status = greater(status, check_argument(&rt, i)?);
         i += 1;
     }
-    print_status(status);
+    println!(rt; "status {status}")
 }

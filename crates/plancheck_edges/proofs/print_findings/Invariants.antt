@@ -3,7 +3,7 @@ use Prim.Native.Nat.{◌-◌, ◌≤◌}
 use Rattle.plancheck_edges.proofs.print_findings.Given as goal
 
 abbrev pub invariant-loop-i : goal.invariant-loop-i
-invariant-loop-i l = l.i ≤ l.told
+invariant-loop-i g l = l.i ≤ l.told
 
 abbrev pub decreases-loop-i : goal.decreases-loop-i
-decreases-loop-i l = l.told - l.i
+decreases-loop-i g l = l.told - l.i
