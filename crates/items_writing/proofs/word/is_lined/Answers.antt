@@ -5,6 +5,7 @@ use mathlib.Core.List.{List, [], ◌∷◌}
 use Prim.Native.Nat.{ℕ}
 use denote.Enum.Declared.{tag_of}
 use types.Run.{OneOf, miss}
+use borrow.Enum.Refused.{opened}
 use Rattle.items.specs.declared.Outcome.{Outcome}
 use Rattle.items.specs.declared.Outcome.TheVariants.{Token, Str, HereStr, Word, Run, Lined, Keyword, Character, Error, ErrorAt}
 use Rattle.items.specs.contracts.Outcome.{the_type}
@@ -33,4 +34,4 @@ unfolding is_lined
 returns-in-Lined c = rw c.in-Lined.is
 
 pub returns-in_default : goal.returns-in_default
-returns-in_default c = none c.args.what c.in_default.in_default-own.keys2
+returns-in_default c = none c.args.what (opened c.in_default.in_default-own.keys2)

@@ -1,4 +1,5 @@
 -- A word by what it spells, a run by whether it is a number; all others are none (law `other_none`).
+use borrow.Enum.Refused.{opened}
 use Rattle.items_writing.specs.Decide.{is_name}
 use Rattle.items_writing.proofs.WordTurns.{name_number, name_none, name_zero, other_none}
 use Rattle.items_writing.proofs.word.is_name.Goals as goal
@@ -22,4 +23,4 @@ unfolding is_name
 returns-in-ZeroDenominator c = rw c.in-Run.is (name_zero _ c.parse_number.ensures c.in-ZeroDenominator.is)
 
 pub returns-in_default : goal.returns-in_default
-returns-in_default c = let f = c.args in (other_none f.what c.in_default.in_default-own.keys3 f.raw.now).0
+returns-in_default c = let f = c.args in (other_none f.what (opened c.in_default.in_default-own.keys3) f.raw.now).0

@@ -2,6 +2,7 @@
 use mathlib.Core.Path.{ap}
 use mathlib.Core.Bool.{not}
 use lib.ListN.{length}
+use borrow.Enum.Refused.{opened}
 use borrow.Author.Tests.{lt-ltb, le-ltb}
 use Rattle.items_writing.specs.Decide.{is_pair_of}
 use Rattle.items_writing.proofs.WordTurns.{other_none}
@@ -21,4 +22,4 @@ unfolding is_pair_of
 returns-else-t-gt0 c = rw (c.in-Run.is, le-ltb 0 (length c.args.t.now) c.if-t-gt0.false)
 
 pub returns-in_default : goal.returns-in_default
-returns-in_default c = let f = c.args in (other_none f.what c.in_default.in_default-own.keys3 f.t.now).1
+returns-in_default c = let f = c.args in (other_none f.what (opened c.in_default.in_default-own.keys3) f.t.now).1
