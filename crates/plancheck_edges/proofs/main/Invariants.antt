@@ -3,7 +3,7 @@ use Prim.Native.Nat.{◌-◌, ◌<◌}
 use Rattle.plancheck_edges.proofs.main.Given as goal
 
 abbrev pub invariant-loop-i : goal.invariant-loop-i
-invariant-loop-i g l = l.status < 3
+invariant-loop-i l = l.status < 3
 
 abbrev pub decreases-loop-i : goal.decreases-loop-i
-decreases-loop-i g l = l.count - l.i
+decreases-loop-i l = l.count - l.i
