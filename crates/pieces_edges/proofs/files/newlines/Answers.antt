@@ -1,5 +1,5 @@
 -- The loop keeps: the bytes before the place are replaced, those from it on are as they were.
-use Rattle.std.proofs.Common.{◌-◌, refl, ◌∙◌, arith, length-set}
+use Rattle.std.proofs.Common.{refl, ◌∙◌, arith, length-set}
 use Rattle.pieces_edges.proofs.Newlines.{replaced_none, replaced_next, replaced_all}
 use Rattle.pieces_edges.proofs.files.newlines.Goals as goal
 

@@ -1,5 +1,5 @@
 -- The loop keeps: the place past the tabs that are left, from here on, is the place past all.
-use Rattle.std.proofs.Common.{◌-◌, ◌<◌, drop, ap, ◌∙◌, arith, drop_of_length-le}
+use Rattle.std.proofs.Common.{◌<◌, drop, ap, ◌∙◌, arith, drop_of_length-le}
 use Rattle.pieces_edges.specs.Fields.{past_tabs}
 use Rattle.pieces_edges.proofs.Tabs.{no_tabs, tabs_end, tabs_on}
 use Rattle.pieces_edges.proofs.files.past_tabs.Goals as goal
