@@ -70,13 +70,13 @@ fn every_constant_is_the_headers() {
     assert_eq!(constants, header_constants());
 }
 
-/// `TOO_LONG` of `tooLong`.
+/// `TOO_FEW` of `too_few`. Two names of the definitions had another meaning there already.
 fn shouted(name: &str) -> String {
-    let letters = name.chars().map(|letter| match letter {
-        'A'..='Z' => format!("_{letter}"),
-        _ => letter.to_ascii_uppercase().to_string(),
-    });
-    letters.collect()
+    match name {
+        "over_long" => "TOO_LONG".to_string(),
+        "no_such_mode" => "NO_MODE".to_string(),
+        _ => name.to_ascii_uppercase(),
+    }
 }
 
 /// The numbers of 32 bits that crate `refusal` has for the code.
