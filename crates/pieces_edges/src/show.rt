@@ -10,7 +10,7 @@ use std::io;
 const READING_ROOM: usize = 8192;
 
 pub fn print(rt: &impl Print, text: &[u8]) -> io::Result<()>
-    ensures { text.now ≡ text.now }
+    ensures { text.exit.now ≡ text.entry.now }
 {
     rt.write_all(text)
 }
@@ -46,7 +46,7 @@ fn run(rt: &impl Print, count: u64, byte: u8) -> io::Result<()> {
 
 // Bytes, each run of the same byte as its count and the byte: 2*97 1*98 for aab.
 pub fn runs(rt: &impl Print, bytes: &[u8]) -> io::Result<()>
-    ensures { bytes.now ≡ bytes.now }
+    ensures { bytes.exit.now ≡ bytes.entry.now }
 {
     let mut count: u64 = 0;
     let mut i = 0;
@@ -133,7 +133,7 @@ fn ending(rt: &impl Print, r: Reading) -> io::Result<()> {
 
 // Reads a text in plain mode under a cutting, and prints what is given.
 pub fn reading(rt: &impl Print, source: &[u8], cutting: Cutting, skip: bool) -> io::Result<()>
-    ensures { source.now ≡ source.now }
+    ensures { source.exit.now ≡ source.entry.now }
 {
     let mut records = [0u32; READING_ROOM];
     let mut counts = [0usize; READING_ROOM];
